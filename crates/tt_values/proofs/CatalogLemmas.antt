@@ -1,0 +1,93 @@
+-- The tables of a catalogue, as its map keeps them.
+use Rattle.std.proofs.Common.{◌≡◌, ℕ, ◌<◌, ◌≤◌, Bool, true, false, cond, not, ◌||◌, nat_le, nat_lt, List, [], ◌∷◌, ◌++◌, map, length, Some, None, is_some, slice_get, IsTrue, String, Global, refl, sym, ap, subst, ◌∙◌, arith, length-append}
+use Rattle.std.specs.List.{list_any, position}
+use Rattle.std.specs.Option.{option_map}
+use Rattle.std.proofs.lemmas.Option.{slice_get-map, slice_get_within, get_or_from_slice_get}
+use Rattle.std.specs.Map.{keys_of, lookup}
+use Rattle.std.specs.Str.{bytes_eq}
+use Rattle.std.specs.String.{string_bytes, string_eq}
+use Rattle.std.proofs.lemmas.List.Elements.{All-push}
+use Rattle.std.proofs.lemmas.Bool.Decides.{nat_tests}
+use Rattle.indexmap.specs.IndexMap.{insert_entry}
+use Rattle.tt_values.proofs.Positions.{position-map}
+use Rattle.tt_values.proofs.FaultLemmas.{NoneHolds, none_holds}
+use Rattle.tt_values.specs.declared.TheConstants.{MAX_TABLES, MAX_COLUMNS}
+use Rattle.tt_values.specs.declared.table.TableDef.{TableDef}
+use Rattle.tt_values.specs.Tables.{Tables, table_position, is_key_int, IsTable, IsCatalog}
+use Rattle.tt_values.specs.Catalog.{table_tests, table_fault}
+
+-- the tables of a map's entries
+abbrev pub tables_of : List (String Global × TableDef) → Tables
+tables_of es = map (λ t. (string_bytes t.0, t.1)) es
+
+-- a table's position is that of its name among the map's keys
+pub table_position-keys : (es : List (String Global × TableDef)) (name : List ℕ) → table_position (tables_of es) name ≡ position (λ k. bytes_eq name (string_bytes k)) (keys_of es)
+table_position-keys es name = position-map (λ t. bytes_eq name t.0) (λ t. (string_bytes t.0, t.1)) es ∙ sym (position-map (λ k. bytes_eq name (string_bytes k)) (λ e. e.0) es)
+
+-- a name is a table's where the map has it as a key
+pub is_some-lookup : (es : List (String Global × TableDef)) (name : List ℕ) → is_some (lookup (λ k. bytes_eq name (string_bytes k)) es) ≡ list_any (λ t. bytes_eq name t.0) (tables_of es)
+is_some-lookup [] name = refl
+is_some-lookup (e ∷ es) name =
+    elim (bytes_eq name (string_bytes e.0)) as (λ b. is_some (cond b (Some e.1) (lookup (λ k. bytes_eq name (string_bytes k)) es)) ≡ (b || list_any (λ t. bytes_eq name t.0) (tables_of es))) [ true ↦ refl | false ↦ is_some-lookup es name ]
+
+-- a new key of the map is a table at the end
+pub tables_of-insert : (es : List (String Global × TableDef)) (key : String Global) (def : TableDef) → list_any (λ t. bytes_eq (string_bytes key) t.0) (tables_of es) ≡ false → tables_of (insert_entry string_eq es key def) ≡ tables_of es ++ (string_bytes key, def) ∷ []
+tables_of-insert [] key def h = refl
+tables_of-insert (e ∷ es) key def h = by (string_eq key e.0) h (tables_of-insert es key def)
+  where
+    by : (b : Bool) → (b || list_any (λ t. bytes_eq (string_bytes key) t.0) (tables_of es)) ≡ false
+        → (list_any (λ t. bytes_eq (string_bytes key) t.0) (tables_of es) ≡ false → tables_of (insert_entry string_eq es key def) ≡ tables_of es ++ (string_bytes key, def) ∷ [])
+        → tables_of (cond b ((e.0, def) ∷ es) (e ∷ insert_entry string_eq es key def)) ≡ tables_of (e ∷ es) ++ (string_bytes key, def) ∷ []
+    by true g rest = cc
+    by false g rest = ap (λ ts. (string_bytes e.0, e.1) ∷ ts) (rest g)
+
+is_true_from_not : (b : Bool) → not b ≡ false → IsTrue b
+is_true_from_not true e = refl
+is_true_from_not false e = cc
+
+-- neither number is past its bound
+both_within : (m n : ℕ) → (nat_le MAX_TABLES m || nat_lt MAX_COLUMNS n) ≡ false → (m < MAX_TABLES) × (n ≤ MAX_COLUMNS)
+both_within m n h = (grind (arith, nat_tests), grind (arith, nat_tests))
+
+-- what a catalogue knows of a table that it doesn't refuse
+pub record IsAccepted (tables : Tables) (name : List ℕ) (def : TableDef) : Type 0 where
+  pub is_new : list_any (λ t. bytes_eq name t.0) tables ≡ false
+  pub key_is_int : IsTrue (is_key_int def.columns)
+  pub has_room : length tables < MAX_TABLES
+  pub few_columns : length def.columns ≤ MAX_COLUMNS
+
+pub accepted_without_fault : (tables : Tables) (name : List ℕ) (def : TableDef) → table_fault tables name def ≡ None → IsAccepted tables name def
+accepted_without_fault tables name def h =
+    let none = none_holds (table_tests tables name def) h in
+    record {
+      is_new = none.1.0;
+      key_is_int = is_true_from_not (is_key_int def.columns) none.1.1.1.0;
+      has_room = (room none).0;
+      few_columns = (room none).1;
+    }
+  where
+    room : NoneHolds (table_tests tables name def) → (length tables < MAX_TABLES) × (length def.columns ≤ MAX_COLUMNS)
+    room none = both_within (length tables) (length def.columns) none.1.1.1.1.1.0
+
+-- a catalogue with a further table that it doesn't refuse is a catalogue
+pub catalog_with : (tables : Tables) (name : List ℕ) (def : TableDef) → IsCatalog tables → IsAccepted tables name def → IsCatalog (tables ++ (name, def) ∷ [])
+catalog_with tables name def old new =
+    let table : IsTable def = record { key_is_int = new.key_is_int; few_columns = new.few_columns } in
+    record {
+      few_tables = omega (arith, length-append tables ((name, def) ∷ []), new.has_room);
+      sound = All-push (λ t. IsTable t.1) tables (name, def) old.sound table;
+    }
+
+-- what the map's tables are after the insert of a table that isn't refused
+pub tables_after : (es : List (String Global × TableDef)) (key : String Global) (def : TableDef) → table_fault (tables_of es) (string_bytes key) def ≡ None → tables_of (insert_entry string_eq es key def) ≡ tables_of es ++ (string_bytes key, def) ∷ []
+tables_after es key def h = tables_of-insert es key def (accepted_without_fault (tables_of es) (string_bytes key) def h).is_new
+
+pub catalog_after : (es : List (String Global × TableDef)) (key : String Global) (def : TableDef) → IsCatalog (tables_of es) → table_fault (tables_of es) (string_bytes key) def ≡ None → IsCatalog (tables_of (insert_entry string_eq es key def))
+catalog_after es key def old h = subst IsCatalog (sym (tables_after es key def h)) (catalog_with (tables_of es) (string_bytes key) def old (accepted_without_fault (tables_of es) (string_bytes key) def h))
+
+-- each table of the map is one that a catalogue takes
+pub sound_at : (es : List (String Global × TableDef)) (i : ℕ) (key : String Global) (def : TableDef) → IsCatalog (tables_of es) → Some (key, def) ≡ slice_get es i → IsTable def
+sound_at es i key def catalog there =
+    let table : List ℕ × TableDef = (string_bytes key, def) in
+    let at : slice_get (tables_of es) i ≡ Some table = slice_get-map (λ t. (string_bytes t.0, t.1)) es i ∙ ap (option_map (λ t. (string_bytes t.0, t.1))) (sym there) in
+    subst (λ t. IsTable t.1) (get_or_from_slice_get (tables_of es) i table table at) (catalog.sound i table (slice_get_within (tables_of es) i table at))

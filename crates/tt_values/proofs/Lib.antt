@@ -1,0 +1,5 @@
+pub mod Positions
+pub mod FaultLemmas
+pub mod CatalogLemmas
+pub mod ContentLemmas
+pub mod RowWritesLemmas

@@ -1,0 +1,83 @@
+-- What slots add to the row writes of those before them.
+use Rattle.std.proofs.Common.{◌≡◌, ℕ, zero, suc, ◌+◌, ◌<◌, ◌≤◌, Bool, true, false, cond, nat_le, List, [], ◌∷◌, ◌++◌, map, filter, length, ℤ, Option, None, Some, slice_get, refl, ap, ◌∙◌, arith, append-nil, zero-add, fold, ◌-◌}
+use Rattle.std.proofs.lemmas.Bool.Decides.{nat_tests}
+use Rattle.std.specs.Option.{unwrap_or}
+use Rattle.tt_values.specs.declared.row.Row.{Row}
+use Rattle.tt_values.specs.declared.statement.Write.{Write}
+use Rattle.tt_values.specs.Content.{Content, RowWrite, written, content_at, no_rows, up_to}
+use Rattle.tt_values.specs.Effect.{table_of, effect}
+use Rattle.tt_values.specs.RowWrites.{Slots, slot_after, slot_writes, row_writes}
+use Rattle.tt_values.specs.Laws.{SlotsFollow, LaterSlotsChangeNothing, PastStays}
+
+slice_get-append_left : {X : Type 0} → (xs ys : List X) (i : ℕ) → i < length xs → slice_get (xs ++ ys) i ≡ slice_get xs i
+slice_get-append_left [] ys i h = absurd (omega arith)
+slice_get-append_left (x ∷ xs) ys zero h = refl
+slice_get-append_left (x ∷ xs) ys (suc i) h = slice_get-append_left xs ys i (omega arith)
+
+slice_get-append_at : {X : Type 0} → (xs ys : List X) → slice_get (xs ++ ys) (length xs) ≡ slice_get ys 0
+slice_get-append_at [] ys = refl
+slice_get-append_at (x ∷ xs) ys = slice_get-append_at xs ys
+
+-- the first slots of a list are those of its beginning
+pub slot_after-append : (W V : Slots) (n : ℕ) → n < length W → slot_after (W ++ V) n ≡ slot_after W n
+slot_after-append W V n h = ap (λ s. unwrap_or s None) (slice_get-append_left W V n h)
+
+-- the slot after all of W is the next one
+pub slot_after-next : (W : Slots) (s : Option Write) → slot_after (W ++ s ∷ []) (length W) ≡ s
+slot_after-next W s = ap (λ s. unwrap_or s None) (slice_get-append_at W (s ∷ []))
+
+pub later_slots_change_nothing : LaterSlotsChangeNothing
+unfolding row_writes
+later_slots_change_nothing W V zero h = refl
+later_slots_change_nothing W V (suc n) h =
+    let same = later_slots_change_nothing W V n (omega arith) in
+    let slot = slot_after-append W V n (omega arith) in
+    λ i. same i ++ slot_writes (suc n) (slot i) (content_at (same i) n)
+
+pub slots_follow : SlotsFollow
+unfolding row_writes
+slots_follow W s =
+    let n = length W in
+    let same = later_slots_change_nothing W (s ∷ []) n (omega arith) in
+    (refl, λ i. same i ++ slot_writes (suc n) (slot_after-next W s i) (content_at (same i) n))
+
+filter-append : {X : Type 0} → (p : X → Bool) (xs ys : List X) → filter p (xs ++ ys) ≡ filter p xs ++ filter p ys
+filter-append p [] ys = refl
+filter-append p (x ∷ xs) ys =
+    elim (p x) as (λ b. cond b (x ∷ filter p (xs ++ ys)) (filter p (xs ++ ys)) ≡ cond b (x ∷ filter p xs) (filter p xs) ++ filter p ys) [
+      | true ↦ ap (λ zs. x ∷ zs) (filter-append p xs ys)
+      | false ↦ filter-append p xs ys
+    ]
+
+late : (time later : ℕ) → time < later → nat_le later time ≡ false
+late time later h = grind (arith, nat_tests)
+
+-- row writes at a later time aren't among those up to an earlier one
+up_to-late : (time later table : ℕ) → time < later → (es : List (ℤ × Option Row)) → up_to time (map (λ e. record { time = later; table = table; key = e.0; row = e.1 }) es) ≡ []
+up_to-late time later table h [] = refl
+up_to-late time later table h (e ∷ es) =
+    let rest = map (λ d. record { time = later; table = table; key = d.0; row = d.1 }) es in
+    let first : RowWrite = record { time = later; table = table; key = e.0; row = e.1 } in
+    ap (λ b. cond b (first ∷ up_to time rest) (up_to time rest)) (late time later h) ∙ up_to-late time later table h es
+
+up_to-slot_writes : (time later : ℕ) → time < later → (s : Option Write) (X : Content) → up_to time (slot_writes later s X) ≡ []
+up_to-slot_writes time later h None X = refl
+up_to-slot_writes time later h (Some w) X = up_to-late time later (table_of w) h (effect w X)
+
+up_to-suc : (W : Slots) (n time : ℕ) → time ≤ n → up_to time (row_writes W (suc n)) ≡ up_to time (row_writes W n)
+unfolding row_writes
+up_to-suc W n time h =
+    filter-append (λ w. nat_le w.time time) (row_writes W n) (slot_writes (suc n) (slot_after W n) (content_at (row_writes W n) n))
+    ∙ ap (λ ws. up_to time (row_writes W n) ++ ws) (up_to-slot_writes time (suc n) (omega arith) (slot_after W n) (content_at (row_writes W n) n))
+    ∙ append-nil (up_to time (row_writes W n))
+
+up_to-more : (W : Slots) (n more time : ℕ) → time ≤ n → up_to time (row_writes W (more + n)) ≡ up_to time (row_writes W n)
+up_to-more W n zero time h = ap (λ m. up_to time (row_writes W m)) (zero-add n)
+up_to-more W n (suc more) time h =
+    let next : suc more + n ≡ suc (more + n) = omega arith in
+    ap (λ m. up_to time (row_writes W m)) next ∙ up_to-suc W (more + n) time (omega arith) ∙ up_to-more W n more time h
+
+pub past_stays : PastStays
+past_stays W n m time early later =
+    let apart : m ≡ (m - n) + n = omega arith in
+    ap (λ k. content_at (row_writes W k) time) apart ∙ ap (fold written no_rows) (up_to-more W n (m - n) time early)

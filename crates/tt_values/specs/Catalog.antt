@@ -1,0 +1,30 @@
+-- What a catalogue accepts.
+use Rattle.std.specs.Prelude.{ℕ, Bool, not, ◌&&◌, ◌||◌, nat_lt, nat_le, ◌==◌, List, [], ◌∷◌, length, Option, None, Some}
+use Rattle.std.specs.List.{list_all, list_any}
+use Rattle.std.specs.Str.{bytes_eq}
+use Rattle.tt_values.specs.declared.TheConstants.{MAX_TABLES, MAX_COLUMNS}
+use Rattle.tt_values.specs.declared.table.TableDef.{TableDef}
+use Rattle.tt_values.specs.declared.catalog.CatalogError.{CatalogError}
+use Rattle.tt_values.specs.declared.catalog.CatalogError.TheVariants as errors
+use Rattle.tt_values.specs.Faults.{first_fault}
+use Rattle.tt_values.specs.Tables.{Tables, is_name, is_key_int, has_same_name}
+
+-- what a catalogue looks for in a further table, in order
+abbrev pub table_tests : Tables → List ℕ → TableDef → List (Bool × CatalogError)
+table_tests tables name def =
+    (not (is_name name && list_all (λ c. is_name c.name) def.columns), errors.BadName)
+    ∷ (list_any (λ t. bytes_eq name t.0) tables, errors.SameTable)
+    ∷ (length def.columns == 0, errors.NoColumns)
+    ∷ (not (is_key_int def.columns), errors.KeyNotInt)
+    ∷ (has_same_name def.columns, errors.SameColumn)
+    ∷ (nat_le MAX_TABLES (length tables) || nat_lt MAX_COLUMNS (length def.columns), errors.TooMany)
+    ∷ []
+
+-- why a catalogue refuses a further table, if it does
+abbrev pub table_fault : Tables → List ℕ → TableDef → Option CatalogError
+table_fault tables name def = first_fault (table_tests tables name def)
+
+-- the fault that an error tells, where it isn't want of memory
+abbrev pub memory_aside : CatalogError → Option CatalogError
+memory_aside errors.Memory = None
+memory_aside e = Some e

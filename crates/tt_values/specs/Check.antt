@@ -1,0 +1,68 @@
+-- What a statement has to obey on a catalogue.
+use Rattle.std.specs.Prelude.{Bool, false, not, nat_lt, nat_le, ◌==◌, List, [], ◌∷◌, length, Option, None, Some, IsSome, slice_get}
+use Rattle.std.specs.List.{list_any, zip}
+use Rattle.tt_values.specs.declared.TheConstants.{MAX_EQUALS}
+use Rattle.tt_values.specs.declared.value.Value.{Value}
+use Rattle.tt_values.specs.declared.table.Column.{Column}
+use Rattle.tt_values.specs.declared.statement.Equal.{Equal}
+use Rattle.tt_values.specs.declared.statement.Select.{Select}
+use Rattle.tt_values.specs.declared.statement.Write.{Write}
+use Rattle.tt_values.specs.declared.statement.Write.TheVariants.{Insert}
+use Rattle.tt_values.specs.declared.checking.CheckError.{CheckError}
+use Rattle.tt_values.specs.declared.checking.CheckError.TheVariants as errors
+use Rattle.tt_values.specs.Faults.{first_fault}
+use Rattle.tt_values.specs.Value.{is_of_kind, is_long_text}
+use Rattle.tt_values.specs.Row.{first_int}
+use Rattle.tt_values.specs.Tables.{Tables, columns_at}
+
+-- whether a value is of another kind than the column, where there is one
+abbrev pub is_wrong_kind : Option Column → Value → Bool
+is_wrong_kind None v = false
+is_wrong_kind (Some c) v = not (is_of_kind c.kind v)
+
+-- what is looked for in a row, in order. Kinds are judged in the positions that row and table both have
+abbrev pub row_tests : List Column → List Value → List (Bool × CheckError)
+row_tests columns vs =
+    (list_any (λ p. not (is_of_kind p.0.kind p.1)) (zip columns vs), errors.WrongKind)
+    ∷ (not (length vs == length columns), errors.WrongWidth)
+    ∷ (list_any is_long_text vs, errors.TextTooLong)
+    ∷ []
+
+-- whether an equality is on a column that isn't there; on one of another kind; with too long a text. Whether there are too many
+abbrev pub has_no_column : List Column → List Equal → Bool
+has_no_column columns qs = list_any (λ q. nat_le (length columns) q.column) qs
+
+abbrev pub has_wrong_kind : List Column → List Equal → Bool
+has_wrong_kind columns qs = list_any (λ q. is_wrong_kind (slice_get columns q.column) q.value) qs
+
+abbrev pub has_long_text : List Equal → Bool
+has_long_text qs = list_any (λ q. is_long_text q.value) qs
+
+abbrev pub has_too_many : List Equal → Bool
+has_too_many qs = nat_lt MAX_EQUALS (length qs)
+
+-- what is looked for in the equalities of a statement, in order
+abbrev pub equals_tests : List Column → List Equal → List (Bool × CheckError)
+equals_tests columns qs =
+    (has_no_column columns qs, errors.NoColumn)
+    ∷ (has_wrong_kind columns qs, errors.WrongKind)
+    ∷ (has_long_text qs, errors.TextTooLong)
+    ∷ (has_too_many qs, errors.TooManyEquals)
+    ∷ []
+
+-- the first fault of a statement on a table: that the table isn't there, or else what is found by its columns
+abbrev pub fault_on : Option (List Column) → (List Column → List (Bool × CheckError)) → Option CheckError
+fault_on None tests = Some errors.NoTable
+fault_on (Some columns) tests = first_fault (tests columns)
+
+-- why a write can't be carried out, if it can't
+abbrev pub write_fault : Tables → Write → Option CheckError
+write_fault tables (Insert table row) = fault_on (columns_at tables table) (λ columns. row_tests columns row.values)
+
+-- why a select can't be answered, if it can't
+abbrev pub select_fault : Tables → Select → Option CheckError
+select_fault tables s = fault_on (columns_at tables s.table) (λ columns. equals_tests columns s.equals)
+
+-- the row of an insert has a key
+abbrev pub HasKey : Write → Type 0
+HasKey (Insert table row) = IsSome (first_int row.values)

@@ -1,0 +1,54 @@
+-- What the tables contain at a time, as the row writes so far say it.
+use Rattle.std.specs.Prelude.{ℕ, not, ◌&&◌, nat_le, ◌==◌, ℤ, List, [], ◌∷◌, fold, filter, Option, None, Some, if◌then◌else◌}
+use Rattle.std.specs.Ordering.{int_cmp, int_eq}
+use Rattle.std.specs.FinMap.Entries as sorted
+use Rattle.tt_values.specs.declared.row.Row.{Row}
+
+-- the rows of a table, by rising key
+abbrev pub RowsByKey : Type 0
+RowsByKey = List (ℤ × Row)
+
+-- for each table, by its position, its rows
+abbrev pub Content : Type 0
+Content = ℕ → RowsByKey
+
+abbrev pub no_rows : Content
+no_rows table = []
+
+-- the row with a key
+abbrev pub row_at : RowsByKey → ℤ → Option Row
+row_at rows key = sorted.find int_cmp key rows
+
+-- the rows once a key has that row, or none (the row is gone)
+abbrev pub with_row : RowsByKey → ℤ → Option Row → RowsByKey
+with_row rows key None = sorted.where_key int_cmp (λ k. not (int_eq k key)) rows
+with_row rows key (Some row) = sorted.put int_cmp key row rows
+
+-- a row write: at a time, the key of a table got this row, or lost it
+pub record RowWrite : Type 0 where
+  pub time : ℕ
+  pub table : ℕ
+  pub key : ℤ
+  pub row : Option Row
+
+-- the content after one more row write
+abbrev pub written : Content → RowWrite → Content
+written X w table = if table == w.table then with_row (X table) w.key w.row else X table
+
+-- the row writes up to a time
+abbrev pub up_to : ℕ → List RowWrite → List RowWrite
+up_to time ws = filter (λ w. nat_le w.time time) ws
+
+-- the content at a time: that of the row writes up to it, one after another
+abbrev pub content_at : List RowWrite → ℕ → Content
+content_at ws time = fold written no_rows (up_to time ws)
+
+-- what the last row write of a list says, none where there is none
+abbrev pub last_said : List RowWrite → Option Row
+last_said [] = None
+last_said (w ∷ []) = w.row
+last_said (w ∷ v ∷ ws) = last_said (v ∷ ws)
+
+-- the row writes for a key of a table
+abbrev pub for_key : ℕ → ℤ → List RowWrite → List RowWrite
+for_key table key ws = filter (λ w. (table == w.table) && int_eq key w.key) ws

@@ -1,0 +1,11 @@
+pub mod Faults
+pub mod Value
+pub mod Row
+pub mod Matches
+pub mod Tables
+pub mod Catalog
+pub mod Check
+pub mod Content
+pub mod Effect
+pub mod RowWrites
+pub mod Laws

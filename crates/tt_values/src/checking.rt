@@ -1,0 +1,161 @@
+ghost use Rattle.std.specs.Prelude.{◌≡◌, ◌==◌, not, length, None, OnOk};
+ghost use Rattle.std.specs.List.{list_any, zip};
+ghost use Rattle.std.specs.Option.{option_copied};
+ghost use Rattle.tt_values.specs.Faults.{first_fault, TellsFault};
+ghost use Rattle.tt_values.specs.Value.{is_of_kind, is_long_text};
+ghost use Rattle.tt_values.specs.Check.{row_tests, equals_tests, write_fault, select_fault, has_no_column, has_wrong_kind, has_long_text, has_too_many, is_wrong_kind, HasKey};
+
+use crate::catalog::Catalog;
+use crate::items::item_at;
+use crate::statement::{Equal, Select, Write};
+use crate::table::Column;
+use crate::value::Value;
+use crate::{MAX_EQUALS, MAX_TEXT_BYTES};
+use thiserror::Error;
+
+/// Why a statement can't be carried out on a catalogue. Each fault is looked for in the whole
+/// statement before the next.
+#[derive(Clone, Copy, Debug, PartialEq, Eq, Error)]
+pub enum CheckError {
+    /// The catalogue has no such table.
+    #[error("no such table")]
+    NoTable,
+    /// The table has no such column.
+    #[error("no such column")]
+    NoColumn,
+    /// A value is of another kind than its column.
+    #[error("value of the wrong kind")]
+    WrongKind,
+    /// The row has more or fewer values than the table has columns.
+    #[error("row of the wrong width")]
+    WrongWidth,
+    /// A text has more than 1,024 bytes.
+    #[error("text too long")]
+    TextTooLong,
+    /// The statement has more than 32 equalities.
+    #[error("too many equalities")]
+    TooManyEquals,
+}
+
+/// Whether a write can be carried out on the catalogue. Takes no memory.
+pub fn check(catalog: &Catalog, write: &Write) -> Result<(), CheckError>
+    ensures fault { TellsFault result (write_fault catalog.now write.now) }
+    ensures keyed { OnOk result (HasKey write.now) }
+{
+    match write {
+        Write::Insert { table, row } => {
+            let Some(def) = catalog.table(*table) else {
+                return Err(CheckError::NoTable);
+            };
+            told(row_fault(def.columns.as_slice(), row.values.as_slice()))
+        }
+    }
+}
+
+/// Whether a select can be answered on the catalogue. Takes no memory.
+pub fn check_select(catalog: &Catalog, select: &Select) -> Result<(), CheckError>
+    ensures { TellsFault result (select_fault catalog.now select.now) }
+{
+    let Some(def) = catalog.table(select.table) else {
+        return Err(CheckError::NoTable);
+    };
+    told(equals_fault(def.columns.as_slice(), select.equals.as_slice()))
+}
+
+fn told(fault: Option<CheckError>) -> Result<(), CheckError>
+    ensures { TellsFault result fault }
+{
+    match fault {
+        Some(fault) => Err(fault),
+        None => Ok(()),
+    }
+}
+
+fn row_fault(columns: &[Column], values: &[Value]) -> Option<CheckError>
+    ensures { result ≡ first_fault (row_tests columns.now values.now) }
+{
+    if has_misfit(columns, values) {
+        return Some(CheckError::WrongKind);
+    }
+    if values.len() != columns.len() {
+        return Some(CheckError::WrongWidth);
+    }
+    if has_long_value(values) {
+        return Some(CheckError::TextTooLong);
+    }
+    None
+}
+
+fn equals_fault(columns: &[Column], equals: &[Equal]) -> Option<CheckError>
+    ensures { result ≡ first_fault (equals_tests columns.now equals.now) }
+{
+    if has_no_column(columns, equals) {
+        return Some(CheckError::NoColumn);
+    }
+    if has_wrong_kind(columns, equals) {
+        return Some(CheckError::WrongKind);
+    }
+    if has_long_text(equals) {
+        return Some(CheckError::TextTooLong);
+    }
+    if equals.len() > MAX_EQUALS {
+        return Some(CheckError::TooManyEquals);
+    }
+    None
+}
+
+fn has_misfit(columns: &[Column], values: &[Value]) -> bool
+    ensures { result ≡ list_any (λ p. not (is_of_kind p.0.kind p.1)) (zip columns.now values.now) }
+{
+    columns
+        .iter()
+        .zip(values)
+        .any(|(column, value)| !value.is_of_kind(column.kind))
+}
+
+fn has_long_value(values: &[Value]) -> bool
+    ensures { result ≡ list_any is_long_text values.now }
+{
+    values.iter().any(|value| is_long_text(value))
+}
+
+fn is_long_text(value: &Value) -> bool
+    ensures { result ≡ is_long_text value.now }
+{
+    match value {
+        Value::Int(_) => false,
+        Value::Text(text) => text.len() > MAX_TEXT_BYTES,
+    }
+}
+
+fn has_no_column(columns: &[Column], equals: &[Equal]) -> bool
+    ensures { result ≡ has_no_column columns.now equals.now }
+{
+    equals
+        .iter()
+        .any(|equal| columns.len() <= usize::from(equal.column))
+}
+
+fn has_wrong_kind(columns: &[Column], equals: &[Equal]) -> bool
+    ensures { result ≡ has_wrong_kind columns.now equals.now }
+{
+    equals.iter().any(|equal| is_wrong_kind(
+        item_at(columns, usize::from(equal.column)),
+        &equal.value,
+    ))
+}
+
+fn is_wrong_kind(column: Option<&Column>, value: &Value) -> bool
+    ensures { result ≡ is_wrong_kind (option_copied column.entry) value.now }
+{
+    match column {
+        Some(column) => !value.is_of_kind(column.kind),
+        None => false,
+    }
+}
+
+fn has_long_text(equals: &[Equal]) -> bool
+    ensures { result ≡ has_long_text equals.now }
+{
+    equals.iter().any(|equal| is_long_text(&equal.value))
+}

@@ -1,0 +1,29 @@
+//! Laws of the definitions that the contracts of this crate and of those above it speak by. Each is
+//! the contract of a function without a body.
+ghost use Rattle.tt_values.specs.Laws.{TellsLastRowWrite, RowsRise, SlotsFollow, LaterSlotsChangeNothing, PastStays};
+
+/// A content at a time has, for each table and key, what the last row write for it up to that time
+/// says: no row where there is none, or where it says that the row is gone.
+pub fn content_tells_the_last_row_write()
+    ensures { TellsLastRowWrite }
+{}
+
+/// The rows of a table stand by rising key, each key once.
+pub fn rows_stand_by_rising_key()
+    ensures { RowsRise }
+{}
+
+/// One more slot adds its effect on the content that the slots before it left, at the next time.
+pub fn slots_follow_one_another()
+    ensures { SlotsFollow }
+{}
+
+/// The row writes of the first slots don't depend on later ones.
+pub fn later_slots_change_no_earlier_row_write()
+    ensures { LaterSlotsChangeNothing }
+{}
+
+/// Further slots leave the content at each earlier time as it was.
+pub fn later_slots_change_no_earlier_content()
+    ensures { PastStays }
+{}

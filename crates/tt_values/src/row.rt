@@ -1,0 +1,33 @@
+ghost use Rattle.std.specs.Prelude.{◌≡◌, Some, IsSome, IfOk};
+
+use crate::items::Items;
+use crate::value::Value;
+use std::alloc::AllocError;
+
+/// A row: a value for each column of its table. Its first value is its key.
+#[derive(Clone, Debug, PartialEq, Drop)]
+pub struct Row {
+    pub values: Items<Value>,
+}
+
+impl Row {
+    ghost use Rattle.tt_values.specs.Row.{first_int};
+
+    /// The number that names the row over all its versions.
+    pub fn key(&self) -> i64
+        requires { IsSome (first_int self.now.values) }
+        ensures { first_int self.now.values ≡ Some result }
+    {
+        match self.values.as_slice() {
+            [Value::Int(key), ..] => *key,
+            _ => unreachable!(),
+        }
+    }
+
+    /// The same row, in memory of its own.
+    pub fn copy(&self) -> Result<Row, AllocError>
+        ensures { IfOk result (λ copy. copy ≡ self.now) }
+    {
+        self.clone()
+    }
+}

@@ -1,0 +1,49 @@
+ghost use Rattle.std.specs.Prelude.{◌≡◌, IfOk};
+
+use crate::text::Text;
+use std::alloc::AllocError;
+
+/// What a column holds.
+#[derive(Clone, Copy, Debug, PartialEq, Eq)]
+pub enum Kind {
+    Int,
+    Text,
+}
+
+/// One value of a row.
+#[derive(Clone, Debug, PartialEq, Drop)]
+pub enum Value {
+    Int(i64),
+    Text(Text),
+}
+
+impl Value {
+    ghost use Rattle.tt_values.specs.Value.{is_of_kind, is_same};
+
+    pub fn is_of_kind(&self, kind: Kind) -> bool
+        ensures { result ≡ is_of_kind kind self.now }
+    {
+        match (kind, self) {
+            (Kind::Int, Value::Int(_)) | (Kind::Text, Value::Text(_)) => true,
+            (Kind::Int, Value::Text(_)) | (Kind::Text, Value::Int(_)) => false,
+        }
+    }
+
+    /// Whether the two are of one kind, and the same number or text.
+    pub fn is_same(&self, other: &Value) -> bool
+        ensures { result ≡ is_same self.now other.now }
+    {
+        match (self, other) {
+            (Value::Int(number), Value::Int(other)) => number == other,
+            (Value::Text(text), Value::Text(other)) => text == other,
+            (Value::Int(_), Value::Text(_)) | (Value::Text(_), Value::Int(_)) => false,
+        }
+    }
+
+    /// The same value, a text in memory of its own.
+    pub fn copy(&self) -> Result<Value, AllocError>
+        ensures { IfOk result (λ copy. copy ≡ self.now) }
+    {
+        self.clone()
+    }
+}
