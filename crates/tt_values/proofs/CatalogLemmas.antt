@@ -1,6 +1,6 @@
 -- The tables of a catalogue, as its map keeps them.
-use Rattle.std.proofs.Common.{◌≡◌, ℕ, ◌<◌, ◌≤◌, Bool, true, false, cond, not, ◌||◌, nat_le, nat_lt, List, [], ◌∷◌, ◌++◌, map, length, Some, None, is_some, slice_get, IsTrue, String, Global, refl, sym, ap, subst, ◌∙◌, arith, length-append}
-use Rattle.std.specs.List.{list_any, position}
+use Rattle.std.proofs.Common.{◌≡◌, ℕ, ◌<◌, ◌≤◌, Bool, true, false, cond, not, ◌||◌, ◌&&◌, nat_le, nat_lt, List, [], ◌∷◌, ◌++◌, map, length, Some, None, is_some, slice_get, IsTrue, String, Global, refl, sym, ap, subst, ◌∙◌, arith, length-append}
+use Rattle.std.specs.List.{list_any, list_all, position}
 use Rattle.std.specs.Option.{option_map}
 use Rattle.std.proofs.lemmas.Option.{slice_get-map, slice_get_within, get_or_from_slice_get}
 use Rattle.std.specs.Map.{keys_of, lookup}
@@ -11,9 +11,9 @@ use Rattle.std.proofs.lemmas.Bool.Decides.{nat_tests}
 use Rattle.indexmap.specs.IndexMap.{insert_entry}
 use Rattle.tt_values.proofs.Positions.{position-map}
 use Rattle.tt_values.proofs.FaultLemmas.{NoneHolds, none_holds}
-use Rattle.tt_values.specs.declared.TheConstants.{MAX_TABLES, MAX_COLUMNS}
+use Rattle.tt_values.specs.Limits.{most_tables, most_columns}
 use Rattle.tt_values.specs.declared.table.TableDef.{TableDef}
-use Rattle.tt_values.specs.Tables.{Tables, table_position, is_key_int, IsTable, IsCatalog}
+use Rattle.tt_values.specs.Tables.{Tables, table_position, is_key_int, IsTable, IsCatalog, is_name, has_same_name}
 use Rattle.tt_values.specs.Catalog.{table_tests, table_fault}
 
 -- the tables of a map's entries
@@ -46,15 +46,17 @@ is_true_from_not true e = refl
 is_true_from_not false e = cc
 
 -- neither number is past its bound
-both_within : (m n : ℕ) → (nat_le MAX_TABLES m || nat_lt MAX_COLUMNS n) ≡ false → (m < MAX_TABLES) × (n ≤ MAX_COLUMNS)
+both_within : (m n : ℕ) → (nat_le most_tables m || nat_lt most_columns n) ≡ false → (m < most_tables) × (n ≤ most_columns)
 both_within m n h = (grind (arith, nat_tests), grind (arith, nat_tests))
 
 -- what a catalogue knows of a table that it doesn't refuse
 pub record IsAccepted (tables : Tables) (name : List ℕ) (def : TableDef) : Type 0 where
   pub is_new : list_any (λ t. bytes_eq name t.0) tables ≡ false
   pub key_is_int : IsTrue (is_key_int def.columns)
-  pub has_room : length tables < MAX_TABLES
-  pub few_columns : length def.columns ≤ MAX_COLUMNS
+  pub has_room : length tables < most_tables
+  pub few_columns : length def.columns ≤ most_columns
+  pub named : (is_name name && list_all (λ c. is_name c.name) def.columns) ≡ true
+  pub names_differ : has_same_name def.columns ≡ false
 
 pub accepted_without_fault : (tables : Tables) (name : List ℕ) (def : TableDef) → table_fault tables name def ≡ None → IsAccepted tables name def
 accepted_without_fault tables name def h =
@@ -64,19 +66,28 @@ accepted_without_fault tables name def h =
       key_is_int = is_true_from_not (is_key_int def.columns) none.1.1.1.0;
       has_room = (room none).0;
       few_columns = (room none).1;
+      named = is_true_from_not (is_name name && list_all (λ c. is_name c.name) def.columns) none.0;
+      names_differ = none.1.1.1.1.0;
     }
   where
-    room : NoneHolds (table_tests tables name def) → (length tables < MAX_TABLES) × (length def.columns ≤ MAX_COLUMNS)
+    room : NoneHolds (table_tests tables name def) → (length tables < most_tables) × (length def.columns ≤ most_columns)
     room none = both_within (length tables) (length def.columns) none.1.1.1.1.1.0
 
 -- a catalogue with a further table that it doesn't refuse is a catalogue
 pub catalog_with : (tables : Tables) (name : List ℕ) (def : TableDef) → IsCatalog tables → IsAccepted tables name def → IsCatalog (tables ++ (name, def) ∷ [])
 catalog_with tables name def old new =
-    let table : IsTable def = record { key_is_int = new.key_is_int; few_columns = new.few_columns } in
+    let table : IsTable def = record { key_is_int = new.key_is_int; few_columns = new.few_columns; columns_are_named = both_named.1; names_differ = new.names_differ } in
     record {
       few_tables = omega (arith, length-append tables ((name, def) ∷ []), new.has_room);
       sound = All-push (λ t. IsTable t.1) tables (name, def) old.sound table;
+      named = All-push (λ t. IsTrue (is_name t.0)) tables (name, def) old.named both_named.0;
     }
+  where
+    split : (a b : Bool) → (a && b) ≡ true → IsTrue a × IsTrue b
+    split true b h = (refl, h)
+    split false b h = cc
+    both_named : IsTrue (is_name name) × IsTrue (list_all (λ c. is_name c.name) def.columns)
+    both_named = split _ _ new.named
 
 -- what the map's tables are after the insert of a table that isn't refused
 pub tables_after : (es : List (String Global × TableDef)) (key : String Global) (def : TableDef) → table_fault (tables_of es) (string_bytes key) def ≡ None → tables_of (insert_entry string_eq es key def) ≡ tables_of es ++ (string_bytes key, def) ∷ []

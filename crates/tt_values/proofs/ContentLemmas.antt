@@ -4,7 +4,7 @@ use Rattle.std.specs.Ordering.{int_cmp, int_eq, is_eq}
 use Rattle.std.specs.Cmp.{int_cmp_total}
 use Rattle.std.specs.FinMap.Entries as sorted
 use Rattle.tt_values.specs.declared.row.Row.{Row}
-use Rattle.tt_values.specs.Content.{RowsByKey, Content, row_at, with_row, RowWrite, written, no_rows, up_to, for_key, last_said}
+use Rattle.tt_values.specs.Content.{RowsByKey, Content, row_at, with_row, RowWrite, written, no_rows, up_to, for_key, last_row_written}
 use Rattle.tt_values.specs.Laws.{TellsLastRowWrite, RowsRise}
 
 turned : {A : Type 0} → (b : Bool) (x : A) (y : A) → cond (not b) x y ≡ cond b y x
@@ -38,13 +38,13 @@ said_or-cond : (b : Bool) (d : Option Row) (w : RowWrite) (ws : List RowWrite) �
 said_or-cond true d w ws = refl
 said_or-cond false d w ws = refl
 
-said_or-None : (d : Option Row) (w : RowWrite) (ws : List RowWrite) → said_or d (w ∷ ws) ≡ last_said (w ∷ ws)
+said_or-None : (d : Option Row) (w : RowWrite) (ws : List RowWrite) → said_or d (w ∷ ws) ≡ last_row_written (w ∷ ws)
 said_or-None d w [] = refl
 said_or-None d w (v ∷ ws) = said_or-None w.row v ws
 
-pub last_said-said_or : (ws : List RowWrite) → said_or None ws ≡ last_said ws
-last_said-said_or [] = refl
-last_said-said_or (w ∷ ws) = said_or-None None w ws
+pub last_row_written-said_or : (ws : List RowWrite) → said_or None ws ≡ last_row_written ws
+last_row_written-said_or [] = refl
+last_row_written-said_or (w ∷ ws) = said_or-None None w ws
 
 -- what row writes leave at a key of a content: what the last for it says, or else what was there
 pub row_at-fold : (ws : List RowWrite) (X : Content) (table : ℕ) (q : ℤ) → row_at (fold written X ws table) q ≡ said_or (row_at (X table) q) (for_key table q ws)
@@ -55,7 +55,7 @@ row_at-fold (w ∷ ws) X table q =
     ∙ sym (said_or-cond ((table == w.table) && int_eq q w.key) (row_at (X table) q) w (for_key table q ws))
 
 pub tells_last_row_write : TellsLastRowWrite
-tells_last_row_write ws time table key = row_at-fold (up_to time ws) no_rows table key ∙ last_said-said_or (for_key table key (up_to time ws))
+tells_last_row_write ws time table key = row_at-fold (up_to time ws) no_rows table key ∙ last_row_written-said_or (for_key table key (up_to time ws))
 
 is_sorted-fold : (ws : List RowWrite) (X : Content) (table : ℕ) → T (sorted.is_sorted int_cmp (X table)) → T (sorted.is_sorted int_cmp (fold written X ws table))
 is_sorted-fold [] X table h = h

@@ -1,5 +1,6 @@
 -- What slots add to the row writes of those before them.
-use Rattle.std.proofs.Common.{◌≡◌, ℕ, zero, suc, ◌+◌, ◌<◌, ◌≤◌, Bool, true, false, cond, nat_le, List, [], ◌∷◌, ◌++◌, map, filter, length, ℤ, Option, None, Some, slice_get, refl, ap, ◌∙◌, arith, append-nil, zero-add, fold, ◌-◌}
+use Rattle.std.proofs.Common.{sym, ◌≡◌, ℕ, zero, suc, ◌+◌, ◌<◌, ◌≤◌, Bool, true, false, cond, nat_le, List, [], ◌∷◌, ◌++◌, map, filter, length, ℤ, Option, None, Some, slice_get, refl, ap, ◌∙◌, arith, append-nil, zero-add, fold, ◌-◌}
+use Rattle.std.proofs.lemmas.List.Sums.{fold-append}
 use Rattle.std.proofs.lemmas.Bool.Decides.{nat_tests}
 use Rattle.std.specs.Option.{unwrap_or}
 use Rattle.tt_values.specs.declared.row.Row.{Row}
@@ -7,7 +8,7 @@ use Rattle.tt_values.specs.declared.statement.Write.{Write}
 use Rattle.tt_values.specs.Content.{Content, RowWrite, written, content_at, no_rows, up_to}
 use Rattle.tt_values.specs.Effect.{table_of, effect}
 use Rattle.tt_values.specs.RowWrites.{Slots, slot_after, slot_writes, row_writes}
-use Rattle.tt_values.specs.Laws.{SlotsFollow, LaterSlotsChangeNothing, PastStays}
+use Rattle.tt_values.specs.Laws.{SlotsFollow, LaterSlotsChangeNothing, PastStays, LastContentStays, NextContent}
 
 slice_get-append_left : {X : Type 0} → (xs ys : List X) (i : ℕ) → i < length xs → slice_get (xs ++ ys) i ≡ slice_get xs i
 slice_get-append_left [] ys i h = absurd (omega arith)
@@ -81,3 +82,39 @@ pub past_stays : PastStays
 past_stays W n m time early later =
     let apart : m ≡ (m - n) + n = omega arith in
     ap (λ k. content_at (row_writes W k) time) apart ∙ ap (fold written no_rows) (up_to-more W n (m - n) time early)
+
+soon : (time later : ℕ) → later ≤ time → nat_le later time ≡ true
+soon time later h = grind (arith, nat_tests)
+
+-- row writes at a time are among those up to it and up to each later one
+up_to-soon : (time later table : ℕ) → later ≤ time → (es : List (ℤ × Option Row)) → let ws : List RowWrite = map (λ e. record { time = later; table = table; key = e.0; row = e.1 }) es in up_to time ws ≡ ws
+up_to-soon time later table h [] = refl
+up_to-soon time later table h (e ∷ es) =
+    let rest : List RowWrite = map (λ d. record { time = later; table = table; key = d.0; row = d.1 }) es in
+    let first : RowWrite = record { time = later; table = table; key = e.0; row = e.1 } in
+    ap (λ b. cond b (first ∷ up_to time rest) (up_to time rest)) (soon time later h) ∙ ap (λ r. first ∷ r) (up_to-soon time later table h es)
+
+up_to-slot : (time later : ℕ) → later ≤ time → (s : Option Write) (X : Content) → up_to time (slot_writes later s X) ≡ slot_writes later s X
+up_to-slot time later h None X = refl
+up_to-slot time later h (Some w) X = up_to-soon time later (table_of w) h (effect w X)
+
+-- all row writes of n slots are at times up to n
+up_to-all : (W : Slots) (n time : ℕ) → n ≤ time → up_to time (row_writes W n) ≡ row_writes W n
+unfolding row_writes
+up_to-all W zero time h = refl
+up_to-all W (suc n) time h =
+    let sw = slot_writes (suc n) (slot_after W n) (content_at (row_writes W n) n) in
+    filter-append (λ w. nat_le w.time time) (row_writes W n) sw
+    ∙ (λ i. up_to-all W n time (omega arith) i ++ up_to-slot time (suc n) h (slot_after W n) (content_at (row_writes W n) n) i)
+
+pub last_content_stays : LastContentStays
+last_content_stays W n time h = ap (fold written no_rows) (up_to-all W n time h ∙ sym (up_to-all W n n (omega arith)))
+
+pub next_content : NextContent
+unfolding row_writes
+next_content W n =
+    let X = content_at (row_writes W n) n in
+    let sw = slot_writes (suc n) (slot_after W n) X in
+    ap (fold written no_rows) (up_to-all W (suc n) (suc n) (omega arith))
+    ∙ fold-append written no_rows (row_writes W n) sw
+    ∙ ap (λ ws. fold written (fold written no_rows ws) sw) (sym (up_to-all W n n (omega arith)))

@@ -2,7 +2,7 @@
 use Rattle.std.specs.Prelude.{ℕ, Bool, not, ◌&&◌, ◌||◌, nat_lt, nat_le, ◌==◌, List, [], ◌∷◌, length, Option, None, Some}
 use Rattle.std.specs.List.{list_all, list_any}
 use Rattle.std.specs.Str.{bytes_eq}
-use Rattle.tt_values.specs.declared.TheConstants.{MAX_TABLES, MAX_COLUMNS}
+use Rattle.tt_values.specs.Limits.{most_tables, most_columns}
 use Rattle.tt_values.specs.declared.table.TableDef.{TableDef}
 use Rattle.tt_values.specs.declared.catalog.CatalogError.{CatalogError}
 use Rattle.tt_values.specs.declared.catalog.CatalogError.TheVariants as errors
@@ -17,7 +17,7 @@ table_tests tables name def =
     ∷ (length def.columns == 0, errors.NoColumns)
     ∷ (not (is_key_int def.columns), errors.KeyNotInt)
     ∷ (has_same_name def.columns, errors.SameColumn)
-    ∷ (nat_le MAX_TABLES (length tables) || nat_lt MAX_COLUMNS (length def.columns), errors.TooMany)
+    ∷ (nat_le most_tables (length tables) || nat_lt most_columns (length def.columns), errors.TooMany)
     ∷ []
 
 -- why a catalogue refuses a further table, if it does

@@ -1,7 +1,7 @@
 -- What a statement has to obey on a catalogue.
 use Rattle.std.specs.Prelude.{Bool, false, not, nat_lt, nat_le, ◌==◌, List, [], ◌∷◌, length, Option, None, Some, IsSome, slice_get}
 use Rattle.std.specs.List.{list_any, zip}
-use Rattle.tt_values.specs.declared.TheConstants.{MAX_EQUALS}
+use Rattle.tt_values.specs.Limits.{most_equals}
 use Rattle.tt_values.specs.declared.value.Value.{Value}
 use Rattle.tt_values.specs.declared.table.Column.{Column}
 use Rattle.tt_values.specs.declared.statement.Equal.{Equal}
@@ -28,18 +28,21 @@ row_tests columns vs =
     ∷ (list_any is_long_text vs, errors.TextTooLong)
     ∷ []
 
--- whether an equality is on a column that isn't there; on one of another kind; with too long a text. Whether there are too many
+-- whether an equality is on a column that isn't there
 abbrev pub has_no_column : List Column → List Equal → Bool
 has_no_column columns qs = list_any (λ q. nat_le (length columns) q.column) qs
 
+-- whether an equality is on a column of another kind than its value
 abbrev pub has_wrong_kind : List Column → List Equal → Bool
 has_wrong_kind columns qs = list_any (λ q. is_wrong_kind (slice_get columns q.column) q.value) qs
 
+-- whether an equality has too long a text
 abbrev pub has_long_text : List Equal → Bool
 has_long_text qs = list_any (λ q. is_long_text q.value) qs
 
+-- whether there are too many equalities
 abbrev pub has_too_many : List Equal → Bool
-has_too_many qs = nat_lt MAX_EQUALS (length qs)
+has_too_many qs = nat_lt most_equals (length qs)
 
 -- what is looked for in the equalities of a statement, in order
 abbrev pub equals_tests : List Column → List Equal → List (Bool × CheckError)

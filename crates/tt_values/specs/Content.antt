@@ -44,10 +44,10 @@ abbrev pub content_at : List RowWrite → ℕ → Content
 content_at ws time = fold written no_rows (up_to time ws)
 
 -- what the last row write of a list says, none where there is none
-abbrev pub last_said : List RowWrite → Option Row
-last_said [] = None
-last_said (w ∷ []) = w.row
-last_said (w ∷ v ∷ ws) = last_said (v ∷ ws)
+abbrev pub last_row_written : List RowWrite → Option Row
+last_row_written [] = None
+last_row_written (w ∷ []) = w.row
+last_row_written (w ∷ v ∷ ws) = last_row_written (v ∷ ws)
 
 -- the row writes for a key of a table
 abbrev pub for_key : ℕ → ℤ → List RowWrite → List RowWrite

@@ -12,14 +12,14 @@ use Rattle.tt_values.specs.Matches.{matches}
 use Rattle.tt_values.specs.Content.{RowsByKey, Content, row_at}
 
 -- the rows that match, by rising key, each with its key
-abbrev pub matching : List Equal → RowsByKey → RowsByKey
-matching qs rows = filter (λ e. matches qs e.1) rows
+abbrev pub matching_rows : List Equal → RowsByKey → RowsByKey
+matching_rows qs rows = filter (λ e. matches qs e.1) rows
 
 -- the table that a write is on
 abbrev pub table_of : Write → ℕ
 table_of (Insert table row) = table
 
--- the rows that a write makes on a table's rows, by rising key: each key with its row then, or with none where the row is gone
+-- the pairs that a write makes on a content, by rising key: each key with its row then, or with none where the row is gone
 abbrev pub effect : Write → Content → List (ℤ × Option Row)
 effect (Insert table row) X = if is_some (row_at (X table) (key_of row)) then [] else (key_of row, Some row) ∷ []
 
@@ -29,4 +29,4 @@ reply_of (Insert table row) X = if is_some (row_at (X table) (key_of row)) then 
 
 -- what a select answers
 abbrev pub answer_of : Select → Content → Reply
-answer_of q X = Rows (map (λ e. e.1) (matching q.equals (X q.table)))
+answer_of q X = Rows (map (λ e. e.1) (matching_rows q.equals (X q.table)))

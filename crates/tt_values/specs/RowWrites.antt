@@ -1,5 +1,5 @@
 -- The row writes of a list of slots. A slot is a write, or none where it was cancelled.
-use Rattle.std.specs.Prelude.{ℕ, zero, suc, List, [], ◌++◌, map, Option, None, Some, slice_get}
+use Rattle.std.specs.Prelude.{ℕ, zero, suc, List, [], ◌++◌, map, length, Option, None, Some, slice_get}
 use Rattle.std.specs.Option.{unwrap_or}
 use Rattle.tt_values.specs.declared.statement.Write.{Write}
 use Rattle.tt_values.specs.declared.reply.Reply.{Reply}
@@ -29,6 +29,6 @@ unfoldable pub row_writes : Slots → ℕ → List RowWrite
 row_writes W zero = []
 row_writes W (suc n) = row_writes W n ++ slot_writes (suc n) (slot_after W n) (content_at (row_writes W n) n)
 
--- the content at a time that the first n slots leave
-abbrev pub content_of : Slots → ℕ → ℕ → Content
-content_of W n time = content_at (row_writes W n) time
+-- the content at a time that all slots of a list leave
+abbrev pub content_of : Slots → ℕ → Content
+content_of W time = content_at (row_writes W (length W)) time

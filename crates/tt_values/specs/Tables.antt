@@ -1,9 +1,9 @@
 -- Tables, by name and by position.
-use Rattle.std.specs.Prelude.{ℕ, ◌≤◌, ◌^◌, if◌then◌else◌, nat_lt, Bool, true, false, ◌&&◌, ◌||◌, nat_le, ◌==◌, List, [], ◌∷◌, length, Option, None, Some, IsTrue, All, slice_get, position}
+use Rattle.std.specs.Prelude.{◌≡◌, ℕ, ◌≤◌, ◌^◌, if◌then◌else◌, nat_lt, Bool, true, false, ◌&&◌, ◌||◌, nat_le, ◌==◌, List, [], ◌∷◌, length, Option, None, Some, IsTrue, All, slice_get, position}
 use Rattle.std.specs.List.{list_all, list_any}
 use Rattle.std.specs.Option.{option_map}
 use Rattle.std.specs.Str.{bytes_eq}
-use Rattle.tt_values.specs.declared.TheConstants.{MAX_NAME_BYTES, MAX_TABLES, MAX_COLUMNS}
+use Rattle.tt_values.specs.Limits.{most_name_bytes, most_tables, most_columns}
 use Rattle.tt_values.specs.declared.value.Kind.{Kind}
 use Rattle.tt_values.specs.declared.value.Kind.TheVariants as kinds
 use Rattle.tt_values.specs.declared.table.Column.{Column}
@@ -22,9 +22,9 @@ abbrev pub column_position : List Column → List ℕ → Option ℕ
 column_position columns name = position (λ c. bytes_eq name c.name) columns
 
 -- a position, where it is one that a `u16` can tell
-abbrev pub told_position : Option ℕ → Option ℕ
-told_position None = None
-told_position (Some i) = if nat_lt i (2 ^ 16) then Some i else None
+abbrev pub position_as_u16 : Option ℕ → Option ℕ
+position_as_u16 None = None
+position_as_u16 (Some i) = if nat_lt i (2 ^ 16) then Some i else None
 
 -- the columns of the table at a position
 abbrev pub columns_at : Tables → ℕ → Option (List Column)
@@ -36,7 +36,7 @@ is_name_byte b = (nat_le 97 b && nat_le b 122) || (nat_le 65 b && nat_le b 90) |
 
 -- whether a text is a name
 abbrev pub is_name : List ℕ → Bool
-is_name name = nat_le 1 (length name) && nat_le (length name) MAX_NAME_BYTES && list_all is_name_byte name
+is_name name = nat_le 1 (length name) && nat_le (length name) most_name_bytes && list_all is_name_byte name
 
 -- whether a kind is Int
 abbrev pub is_int : Kind → Bool
@@ -56,9 +56,12 @@ has_same_name (c ∷ cs) = list_any (λ d. bytes_eq c.name d.name) cs || has_sam
 -- a table has a first column of kind Int, and no more columns than a table may have
 pub record IsTable (def : TableDef) : Type 0 where
   pub key_is_int : IsTrue (is_key_int def.columns)
-  pub few_columns : length def.columns ≤ MAX_COLUMNS
+  pub few_columns : length def.columns ≤ most_columns
+  pub columns_are_named : IsTrue (list_all (λ c. is_name c.name) def.columns)
+  pub names_differ : has_same_name def.columns ≡ false
 
 -- what holds of every catalogue
 pub record IsCatalog (tables : Tables) : Type 0 where
-  pub few_tables : length tables ≤ MAX_TABLES
+  pub few_tables : length tables ≤ most_tables
   pub sound : All (λ t. IsTable t.1) tables
+  pub named : All (λ t. IsTrue (is_name t.0)) tables

@@ -1,10 +1,10 @@
 ghost use Rattle.std.specs.Prelude.{◌≡◌, ◌==◌, [], ◌∷◌, ◌++◌, length, slice_get, ◌||◌, nat_le, nat_lt, None, IfSome, OnOk, OnErr, IfErr, ◌≤◌};
 ghost use Rattle.std.specs.List.{list_any};
 ghost use Rattle.std.specs.Str.{bytes_eq};
-ghost use Rattle.tt_values.specs.declared.TheConstants.{MAX_TABLES, MAX_COLUMNS};
+ghost use Rattle.tt_values.specs.Limits.{most_tables, most_columns};
 ghost use Rattle.std.specs.Option.{option_copied, option_map};
 
-use crate::naming::{are_names, has_same_name, is_key_int};
+use crate::naming::{has_valid_names, has_same_name, is_key_int};
 use crate::table::TableDef;
 use crate::{MAX_COLUMNS, MAX_TABLES};
 use indexmap::IndexMap;
@@ -13,7 +13,7 @@ use std::marker::Model;
 use thiserror::Error;
 
 /// Why a catalogue refuses a table.
-#[derive(Clone, Copy, Debug, PartialEq, Eq, Drop, Error)]
+#[derive(Clone, Copy, Debug, PartialEq, Eq, Error)]
 pub enum CatalogError {
     /// A name of the table or of a column isn't 1 to 64 ASCII letters, digits or underscores.
     #[error("a name is not 1 to 64 ASCII letters, digits or underscores")]
@@ -57,7 +57,7 @@ impl Model for Catalog {
 }
 
 impl Catalog {
-    ghost use Rattle.tt_values.specs.Tables.{Tables, table_position, IsTable};
+    ghost use Rattle.tt_values.specs.Tables.{Tables, table_position, IsTable, IsCatalog};
     ghost use Rattle.tt_values.specs.Catalog.{table_fault, memory_aside};
 
     /// A catalogue without tables. Takes no memory; what `add` takes comes from this allocator.
@@ -72,7 +72,7 @@ impl Catalog {
     /// How many tables there are.
     pub fn len(&self) -> usize
         ensures count { result ≡ length self.now }
-        ensures few { result ≤ MAX_TABLES }
+        ensures sound { IsCatalog self.now }
     {
         self.tables.len()
     }
@@ -132,7 +132,7 @@ impl Catalog {
     }
 
     fn has_no_room(&self, def: &TableDef) -> bool
-        ensures { result ≡ (nat_le MAX_TABLES (length self.now) || nat_lt MAX_COLUMNS (length def.now.columns)) }
+        ensures { result ≡ (nat_le most_tables (length self.now) || nat_lt most_columns (length def.now.columns)) }
     {
         self.len() >= MAX_TABLES || def.columns.len() > MAX_COLUMNS
     }
@@ -141,7 +141,7 @@ impl Catalog {
     fn fault(&self, name: &str, def: &TableDef) -> Option<CatalogError>
         ensures { result ≡ table_fault self.now name.now def.now }
     {
-        if !are_names(name, def) {
+        if !has_valid_names(name, def) {
             return Some(CatalogError::BadName);
         }
         if self.has_table(name) {

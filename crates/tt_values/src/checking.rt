@@ -47,7 +47,7 @@ pub fn check(catalog: &Catalog, write: &Write) -> Result<(), CheckError>
             let Some(def) = catalog.table(*table) else {
                 return Err(CheckError::NoTable);
             };
-            told(row_fault(def.columns.as_slice(), row.values.as_slice()))
+            ok_unless(row_fault(def.columns.as_slice(), row.values.as_slice()))
         }
     }
 }
@@ -59,10 +59,10 @@ pub fn check_select(catalog: &Catalog, select: &Select) -> Result<(), CheckError
     let Some(def) = catalog.table(select.table) else {
         return Err(CheckError::NoTable);
     };
-    told(equals_fault(def.columns.as_slice(), select.equals.as_slice()))
+    ok_unless(equals_fault(def.columns.as_slice(), select.equals.as_slice()))
 }
 
-fn told(fault: Option<CheckError>) -> Result<(), CheckError>
+fn ok_unless(fault: Option<CheckError>) -> Result<(), CheckError>
     ensures { TellsFault result fault }
 {
     match fault {
@@ -74,7 +74,7 @@ fn told(fault: Option<CheckError>) -> Result<(), CheckError>
 fn row_fault(columns: &[Column], values: &[Value]) -> Option<CheckError>
     ensures { result ≡ first_fault (row_tests columns.now values.now) }
 {
-    if has_misfit(columns, values) {
+    if has_wrong_kind_in_row(columns, values) {
         return Some(CheckError::WrongKind);
     }
     if values.len() != columns.len() {
@@ -104,7 +104,7 @@ fn equals_fault(columns: &[Column], equals: &[Equal]) -> Option<CheckError>
     None
 }
 
-fn has_misfit(columns: &[Column], values: &[Value]) -> bool
+fn has_wrong_kind_in_row(columns: &[Column], values: &[Value]) -> bool
     ensures { result ≡ list_any (λ p. not (is_of_kind p.0.kind p.1)) (zip columns.now values.now) }
 {
     columns

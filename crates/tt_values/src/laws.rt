@@ -1,6 +1,6 @@
 //! Laws of the definitions that the contracts of this crate and of those above it speak by. Each is
 //! the contract of a function without a body.
-ghost use Rattle.tt_values.specs.Laws.{TellsLastRowWrite, RowsRise, SlotsFollow, LaterSlotsChangeNothing, PastStays};
+ghost use Rattle.tt_values.specs.Laws.{TellsLastRowWrite, RowsRise, SlotsFollow, LaterSlotsChangeNothing, PastStays, LastContentStays, NextContent};
 
 /// A content at a time has, for each table and key, what the last row write for it up to that time
 /// says: no row where there is none, or where it says that the row is gone.
@@ -27,3 +27,15 @@ pub fn later_slots_change_no_earlier_row_write()
 pub fn later_slots_change_no_earlier_content()
     ensures { PastStays }
 {}
+
+/// Past the last slot the content stays.
+pub fn the_last_content_stays()
+    ensures { LastContentStays }
+{
+}
+
+/// The content after one more slot is that before it with the slot's row writes.
+pub fn the_next_content_has_the_slot()
+    ensures { NextContent }
+{
+}

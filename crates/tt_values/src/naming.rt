@@ -33,13 +33,13 @@ fn is_name_byte(byte: u8) -> bool
 }
 
 /// Whether the name and those of all columns are names.
-pub(crate) fn are_names(name: &str, def: &TableDef) -> bool
+pub(crate) fn has_valid_names(name: &str, def: &TableDef) -> bool
     ensures { result ≡ (is_name name.now && list_all (λ c. is_name c.name) def.now.columns) }
 {
-    is_name(name) && have_names(def.columns.as_slice())
+    is_name(name) && has_valid_column_names(def.columns.as_slice())
 }
 
-fn have_names(columns: &[Column]) -> bool
+fn has_valid_column_names(columns: &[Column]) -> bool
     ensures { result ≡ list_all (λ c. is_name c.name) columns.now }
 {
     columns.iter().all(|column| is_name(column.name.as_str()))

@@ -1,5 +1,5 @@
-ghost use Rattle.std.specs.Prelude.{◌≡◌};
-ghost use Rattle.tt_values.specs.Tables.{column_position, told_position};
+ghost use Rattle.std.specs.Prelude.{◌≡◌, ◌≤◌, ◌^◌, length};
+ghost use Rattle.tt_values.specs.Tables.{column_position, position_as_u16};
 
 use crate::items::Items;
 use crate::text::Text;
@@ -25,7 +25,8 @@ impl TableDef {
     /// The position of the column with the name, the first where there are several.
     /// None also where it's past 65,535, which no table of a catalogue has.
     pub fn find(&self, name: &str) -> Option<u16>
-        ensures { result ≡ told_position (column_position self.now.columns name.now) }
+        ensures position { result ≡ position_as_u16 (column_position self.now.columns name.now) }
+        ensures whole { length self.now.columns ≤ 2 ^ 16 → result ≡ column_position self.now.columns name.now }
     {
         let position = position_of(self.columns.as_slice(), name)?;
         u16::try_from(position).ok()

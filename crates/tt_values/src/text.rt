@@ -4,7 +4,7 @@ ghost use Rattle.std.specs.String.{string_bytes, string_len};
 use std::alloc::AllocError;
 use std::marker::Model;
 
-/// A text of a row, in UTF-8. Contracts see its bytes.
+/// A text in UTF-8: a value of a row, or a name. Contracts see its bytes.
 #[derive(Debug, Drop)]
 pub struct Text {
     text: String,

@@ -1,0 +1,2 @@
+pub mod VersionLemmas
+pub mod HistoryLemmas

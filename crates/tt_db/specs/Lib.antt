@@ -1,0 +1,5 @@
+pub mod Limits
+pub mod State
+pub mod Told
+pub mod Versions
+pub mod Database

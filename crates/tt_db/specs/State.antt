@@ -1,0 +1,79 @@
+-- The sequential table: its states, what it refuses, how an event moves it and what it tells.
+use Rattle.std.specs.Prelude.{◌≡◌, ℕ, ◌+◌, Bool, ◌==◌, List, [], ◌∷◌, ◌++◌, length, fold, Option, None, Some, if◌then◌else◌}
+use Rattle.std.specs.Option.{option_map}
+use Rattle.tt_values.specs.declared.statement.Write.{Write}
+use Rattle.tt_values.specs.Tables.{Tables}
+use Rattle.tt_values.specs.Check.{write_fault}
+use Rattle.tt_values.specs.Content.{Content}
+use Rattle.tt_values.specs.Effect.{reply_of}
+use Rattle.tt_values.specs.RowWrites.{Slots, content_of}
+use Rattle.tt_db.specs.declared.limits.Limits.{Limits}
+use Rattle.tt_db.specs.declared.event.Event.{Event}
+use Rattle.tt_db.specs.declared.event.Event.TheVariants as events
+use Rattle.tt_db.specs.declared.event.Entry.{Entry}
+use Rattle.tt_db.specs.declared.outcome.Outcome.{Outcome}
+use Rattle.tt_db.specs.declared.outcome.Outcome.TheVariants.{Written}
+use Rattle.tt_db.specs.declared.errors.DbError.{DbError}
+use Rattle.tt_db.specs.declared.errors.DbError.TheVariants as errors
+
+-- what the table is busy with
+pub data Phase : Type 0 where
+  Idle : Phase
+
+-- the slots of the current generation, its number, how many events were accepted, and what the table is busy with
+pub record State : Type 0 where
+  pub slots : Slots
+  pub generation : ℕ
+  pub events : ℕ
+  pub phase : Phase
+
+-- the state before the first event
+abbrev pub start : State
+start = record { slots = []; generation = 0; events = 0; phase = Idle }
+
+-- the time of the last slot
+abbrev pub now_of : State → ℕ
+now_of S = length S.slots
+
+-- the current content at a time
+abbrev pub current_at : State → ℕ → Content
+current_at S time = content_of S.slots time
+
+-- the first of some refusals that is there
+abbrev pub first_refusal : List (Option DbError) → Option DbError
+first_refusal [] = None
+first_refusal (None ∷ refusals) = first_refusal refusals
+first_refusal (Some e ∷ refusals) = Some e
+
+-- full where a count has reached its limit
+abbrev pub full_at : ℕ → ℕ → Option DbError
+full_at count limit = if count == limit then Some (errors.Full limit) else None
+
+-- why the table refuses an event, if it does
+abbrev pub refusal : Tables → Limits → State → Event → Option DbError
+refusal tables limits S (events.Write w) = first_refusal
+  ( option_map errors.Statement (write_fault tables w)
+  ∷ full_at (now_of S) limits.slots
+  ∷ full_at S.events limits.events
+  ∷ [] )
+
+-- the state after an event that isn't refused
+abbrev pub moved : State → Event → State
+moved S (events.Write w) = record S { slots = S.slots ++ Some w ∷ []; events = S.events + 1 }
+
+-- what the table tells of an event that isn't refused
+abbrev pub told : State → Event → Outcome
+told S (events.Write w) = Written (now_of S + 1) (reply_of w (current_at S (now_of S)))
+
+-- the state after a history
+abbrev pub after : List Entry → State
+after history = fold (λ S e. moved S e.event) start history
+
+-- each event of a history, from a state on, isn't refused at its point
+abbrev pub IsLegalFrom : Tables → Limits → State → List Entry → Type 0
+IsLegalFrom tables limits S [] = Unit {0}
+IsLegalFrom tables limits S (e ∷ history) = (refusal tables limits S e.event ≡ None) × IsLegalFrom tables limits (moved S e.event) history
+
+-- no event of a history is refused
+abbrev pub IsLegal : Tables → Limits → List Entry → Type 0
+IsLegal tables limits history = IsLegalFrom tables limits start history

@@ -1,0 +1,16 @@
+use tt_values::{Reply, Write};
+
+/// What an accepted event answers.
+#[derive(Clone, Debug, PartialEq, Drop)]
+pub enum Outcome {
+    /// A write took the slot of this number, counted from 1, and answered so.
+    Written { slot: u64, reply: Reply },
+}
+
+/// A slot of the current generation: a write and what it answered. Both are None where the slot was
+/// cancelled.
+#[derive(Clone, Debug, PartialEq, Drop)]
+pub struct Slot {
+    pub write: Option<Write>,
+    pub reply: Option<Reply>,
+}

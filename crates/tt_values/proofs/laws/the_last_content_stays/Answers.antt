@@ -1,0 +1,5 @@
+use Rattle.tt_values.proofs.RowWritesLemmas.{last_content_stays}
+use Rattle.tt_values.proofs.laws.the_last_content_stays.Goals as goal
+
+pub returns : goal.returns
+returns c = last_content_stays
