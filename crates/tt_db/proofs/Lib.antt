@@ -1,2 +1,3 @@
 pub mod VersionLemmas
 pub mod HistoryLemmas
+pub mod PlacedLemmas

@@ -1,13 +1,12 @@
 -- What versions show, and where a further one goes.
-use Rattle.std.proofs.Common.{◌≡◌, ℕ, zero, suc, ◌+◌, ◌-◌, ◌<◌, ◌≤◌, ℤ, Bool, true, false, cond, not, ◌&&◌, ◌||◌, nat_le, nat_lt, ◌==◌, int_lt, List, [], ◌∷◌, ◌++◌, map, filter, take, drop, length, insert, position, Option, None, Some, is_some, refl, sym, ap, subst, ◌∙◌, arith}
+use Rattle.std.proofs.Common.{◌≡◌, ℕ, suc, ◌+◌, ◌≤◌, ℤ, Bool, true, false, cond, not, ◌&&◌, ◌||◌, nat_lt, int_lt, List, [], ◌∷◌, map, filter, length, position, Option, None, Some, is_some, refl, sym, ap, ◌∙◌, arith}
 use Rattle.std.specs.Option.{unwrap_or}
-use Rattle.std.specs.Ordering.{int_cmp, int_eq}
-use Rattle.std.specs.List.{list_any, list_all, prefix_len, position_or_len}
-use Rattle.std.specs.FinMap.Entries as sorted
+use Rattle.std.specs.Ordering.{int_eq}
+use Rattle.std.specs.List.{list_any, prefix_len, position_or_len}
 use Rattle.std.proofs.lemmas.Bool.Decides.{nat_tests}
-use Rattle.tt_values.specs.Content.{RowsByKey, row_at}
+use Rattle.tt_values.specs.Content.{row_at}
 use Rattle.tt_db.specs.declared.version.Version.{Version}
-use Rattle.tt_db.specs.Versions.{is_visible, seen, place_of, placed, Rise}
+use Rattle.tt_db.specs.Versions.{is_visible, seen, place_of}
 
 -- a version that shows stands in front of what the others show
 pub seen-cons : (v : Version) (vs : List Version) (table time : ℕ) → seen (v ∷ vs) table time ≡ cond (is_visible table time v) ((v.key, v.row) ∷ seen vs table time) (seen vs table time)
@@ -29,6 +28,7 @@ any_shows-row_at (v ∷ vs) table time key =
   where
     any : Bool
     any = list_any (λ v. is_visible table time v && int_eq key v.key) vs
+
     by : (b : Bool) → any ≡ is_some (row_at (seen vs table time) key)
         → ((b && int_eq key v.key) || any) ≡ is_some (row_at (cond b ((v.key, v.row) ∷ seen vs table time) (seen vs table time)) key)
     by true h = or-is_some (int_eq key v.key) any v.row (row_at (seen vs table time) key) h
@@ -52,4 +52,3 @@ position-or_end p xs = by (nat_lt (position_or_len p xs) (length xs)) refl
     by : (b : Bool) → nat_lt (position_or_len p xs) (length xs) ≡ b → unwrap_or (cond b (Some (position_or_len p xs)) None) (length xs) ≡ position_or_len p xs
     by true e = refl
     by false e = grind (arith, nat_tests, prefix_len-within (λ x. not (p x)) xs)
-

@@ -1,13 +1,12 @@
 -- A database as contracts see it, and what it keeps.
-use Rattle.std.specs.Prelude.{◌≡◌, ℕ, ◌<◌, ◌≤◌, List, length, Option, Some, slice_get}
+use Rattle.std.specs.Prelude.{◌≡◌, ℕ, ◌<◌, ◌≤◌, List, length, Some, slice_get}
 use Rattle.tt_values.specs.Tables.{Tables}
-use Rattle.tt_values.specs.RowWrites.{row_writes}
 use Rattle.tt_db.specs.declared.limits.Limits.{Limits}
 use Rattle.tt_db.specs.declared.event.Entry.{Entry}
 use Rattle.tt_db.specs.declared.outcome.Slot.{Slot}
 use Rattle.tt_db.specs.declared.version.Version.{Version}
 use Rattle.tt_db.specs.Limits.{Fits}
-use Rattle.tt_db.specs.State.{State, after, now_of, IsLegal}
+use Rattle.tt_db.specs.State.{State, after, now_of, current_at, IsLegal}
 use Rattle.tt_db.specs.Told.{slot_told}
 use Rattle.tt_db.specs.Versions.{Shows, Rise}
 
@@ -34,5 +33,5 @@ pub record Keeps (tables : Tables) (limits : Limits) (history : List Entry) (slo
   pub few_slots : now_of (after history) ≤ limits.slots
   pub slots_kept : KeepsSlots (after history) slots
   pub generation_kept : generation ≡ (after history).generation
-  pub shows : Shows versions (row_writes (after history).slots (now_of (after history)))
+  pub shows : Shows versions (current_at (after history))
   pub rise : Rise versions

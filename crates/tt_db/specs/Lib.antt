@@ -3,3 +3,4 @@ pub mod State
 pub mod Told
 pub mod Versions
 pub mod Database
+pub mod Run

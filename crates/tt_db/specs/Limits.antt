@@ -1,5 +1,5 @@
 -- How much a database may take in.
-use Rattle.std.specs.Prelude.{ℕ, ◌≤◌}
+use Rattle.std.specs.Prelude.{◌≤◌}
 use Rattle.tt_db.specs.declared.limits.Limits.{Limits}
 
 -- the largest limits

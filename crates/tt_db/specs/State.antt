@@ -1,9 +1,8 @@
 -- The sequential table: its states, what it refuses, how an event moves it and what it tells.
-use Rattle.std.specs.Prelude.{◌≡◌, ℕ, ◌+◌, Bool, ◌==◌, List, [], ◌∷◌, ◌++◌, length, fold, Option, None, Some, if◌then◌else◌}
+use Rattle.std.specs.Prelude.{◌≡◌, ℕ, ◌+◌, ◌==◌, List, [], ◌∷◌, ◌++◌, length, fold, Option, None, Some, if◌then◌else◌}
 use Rattle.std.specs.Option.{option_map}
-use Rattle.tt_values.specs.declared.statement.Write.{Write}
 use Rattle.tt_values.specs.Tables.{Tables}
-use Rattle.tt_values.specs.Check.{write_fault}
+use Rattle.tt_values.specs.Check.{write_fault, HasKey}
 use Rattle.tt_values.specs.Content.{Content}
 use Rattle.tt_values.specs.Effect.{reply_of}
 use Rattle.tt_values.specs.RowWrites.{Slots, content_of}
@@ -52,10 +51,14 @@ full_at count limit = if count == limit then Some (errors.Full limit) else None
 -- why the table refuses an event, if it does
 abbrev pub refusal : Tables → Limits → State → Event → Option DbError
 refusal tables limits S (events.Write w) = first_refusal
-  ( option_map errors.Statement (write_fault tables w)
-  ∷ full_at (now_of S) limits.slots
-  ∷ full_at S.events limits.events
-  ∷ [] )
+    (option_map errors.Statement (write_fault tables w)
+    ∷ full_at (now_of S) limits.slots
+    ∷ full_at S.events limits.events
+    ∷ [])
+
+-- the rows that an event inserts have keys
+abbrev pub HasKeys : Event → Type 0
+HasKeys (events.Write w) = HasKey w
 
 -- the state after an event that isn't refused
 abbrev pub moved : State → Event → State

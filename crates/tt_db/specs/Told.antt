@@ -1,5 +1,5 @@
 -- What a database tells of its history: places, slots and right answers.
-use Rattle.std.specs.Prelude.{◌≡◌, ℕ, zero, suc, ◌<◌, nat_lt, List, length, Option, None, Some, Result, Ok, Err, IsOk, slice_get, if◌then◌else◌}
+use Rattle.std.specs.Prelude.{◌≡◌, ℕ, zero, suc, nat_lt, List, Option, None, Some, Result, Ok, Err, IsOk, slice_get, if◌then◌else◌}
 use Rattle.tt_values.specs.declared.statement.Select.{Select}
 use Rattle.tt_values.specs.declared.reply.Reply.{Reply}
 use Rattle.tt_values.specs.declared.checking.CheckError.{CheckError}

@@ -1,4 +1,4 @@
-ghost use Rattle.std.specs.Prelude.{◌≡◌, [], ◌∷◌, ◌++◌, ◌+◌, length, None, OnOk, IfOk, IfErr};
+ghost use Rattle.std.specs.Prelude.{◌≡◌, [], ◌∷◌, ◌++◌, ◌+◌, length, None, OnOk, OnErr, IfOk, IfErr, IfNone};
 ghost use Rattle.std.specs.Option.{option_copied};
 ghost use Rattle.tt_db.specs.Told.{at_place};
 
@@ -6,11 +6,11 @@ use crate::errors::{DbError, ReadError};
 use crate::event::{Entry, Event};
 use crate::limits::Limits;
 use crate::outcome::{Outcome, Slot};
-use crate::version::{Version, rows_seen};
+use crate::version::{Version, rows_seen, written};
 use std::alloc::{AllocError, Global};
 use std::marker::Model;
 use std::sync::Arc;
-use tt_values::{Catalog, CheckError, Items, Reply, Select, Write, check, check_select};
+use tt_values::{Catalog, Items, Reply, Select, Write, check, check_select};
 
 /// A database: a catalogue, limits, and the history of the events that were accepted.
 #[derive(Drop)]
@@ -34,10 +34,12 @@ impl Model for Db {
 }
 
 impl Db {
+    ghost use Rattle.tt_values.specs.Check.{HasKey};
     ghost use Rattle.tt_db.specs.Limits.{Fits};
-    ghost use Rattle.tt_db.specs.State.{now_of, current_at, refusal, told};
+    ghost use Rattle.tt_db.specs.State.{now_of, current_at, refusal, told, HasKeys, IsLegal};
     ghost use Rattle.tt_db.specs.Told.{at_place, slot_at, memory_aside, right_select, Answers};
     ghost use Rattle.tt_db.specs.Database.{Database, state_of};
+    ghost use Rattle.tt_db.specs.Run.{IsRun};
 
     /// A database without rows. Takes no memory; what events take comes from this allocator.
     pub fn new(alloc: Global, catalog: Arc<Catalog>, limits: Limits) -> Db
@@ -77,7 +79,8 @@ impl Db {
 
     /// How many entries the history has.
     pub fn events(&self) -> u64
-        ensures { result ≡ length self.now.history }
+        ensures count { result ≡ length self.now.history }
+        ensures legal { IsLegal self.now.catalog self.now.limits self.now.history }
     {
         self.journal.len() as u64
     }
@@ -94,6 +97,153 @@ impl Db {
         ensures { option_copied result ≡ slot_at (state_of self.now) number }
     {
         at_place(&self.slots, number)
+    }
+
+    /// Takes an event in: answers the database after it and what it tells, or why it's refused.
+    /// This database stays as it is.
+    pub fn apply(&self, entry: Entry) -> Result<(Db, Outcome), DbError>
+        ensures state { IfOk result (λ r. r.0 ≡ record self.now { history = self.now.history ++ entry ∷ [] }) }
+        ensures outcome { IfOk result (λ r. r.1 ≡ told (state_of self.now) entry.event) }
+        ensures accepted { OnOk result (refusal self.now.catalog self.now.limits (state_of self.now) entry.event ≡ None) }
+        ensures refused { IfErr result (λ e. refusal self.now.catalog self.now.limits (state_of self.now) entry.event ≡ memory_aside e) }
+    {
+        if let Some(refusal) = self.refusal(&entry.event) {
+            return Err(refusal);
+        }
+        match self.moved(entry) {
+            Ok(moved) => Ok(moved),
+            Err(AllocError) => Err(DbError::Memory),
+        }
+    }
+
+    /// Why the event is refused, memory aside.
+    fn refusal(&self, event: &Event) -> Option<DbError>
+        ensures refusal { result ≡ refusal self.now.catalog self.now.limits (state_of self.now) event.now }
+        ensures keyed { IfNone result (HasKeys event.now) }
+    {
+        match event {
+            Event::Write(write) => {
+                if let Err(fault) = check(&self.catalog, write) {
+                    return Some(DbError::Statement(fault));
+                }
+                if self.now() == self.limits.slots {
+                    return Some(DbError::Full {
+                        limit: self.limits.slots,
+                    });
+                }
+                if self.events() == self.limits.events {
+                    return Some(DbError::Full {
+                        limit: self.limits.events,
+                    });
+                }
+                None
+            }
+        }
+    }
+
+    /// The database after an event that isn't refused.
+    fn moved(&self, entry: Entry) -> Result<(Db, Outcome), AllocError>
+        requires none { refusal self.now.catalog self.now.limits (state_of self.now) entry.event ≡ None }
+        requires keyed { HasKeys entry.event }
+        ensures state { IfOk result (λ r. r.0 ≡ record self.now { history = self.now.history ++ entry ∷ [] }) }
+        ensures outcome { IfOk result (λ r. r.1 ≡ told (state_of self.now) entry.event) }
+    {
+        let Entry { worker, event } = entry;
+        match event {
+            Event::Write(write) => {
+                let taken = self.taken(worker, write)?;
+                Ok(taken)
+            }
+        }
+    }
+
+    /// The database after a write that isn't refused.
+    fn taken(&self, worker: u32, write: Write) -> Result<(Db, Outcome), AllocError>
+        requires none { refusal self.now.catalog self.now.limits (state_of self.now) (Event.Write write) ≡ None }
+        requires keyed { HasKey write }
+        ensures state { IfOk result (λ r. r.0 ≡ record self.now { history = self.now.history ++ record { worker = worker; event = Event.Write write } ∷ [] }) }
+        ensures outcome { IfOk result (λ r. r.1 ≡ told (state_of self.now) (Event.Write write)) }
+    {
+        let now = self.now();
+        let (versions, reply) = written(&self.versions, &write, now)?;
+        let slot = Slot {
+            write: Some(write.copy()?),
+            reply: Some(reply.copy()?),
+        };
+        let slots = with_slot(&self.slots, slot)?;
+        let entry = Entry {
+            worker,
+            event: Event::Write(write),
+        };
+        let journal = with_entry(&self.journal, entry)?;
+        let catalog = Arc::try_clone(&self.catalog)?;
+        let db = Db {
+            catalog,
+            limits: self.limits,
+            journal,
+            slots,
+            generation: self.generation,
+            versions,
+        };
+        let outcome = Outcome::Written {
+            slot: now + 1,
+            reply,
+        };
+        Ok((db, outcome))
+    }
+
+    /// Takes entries in, one after another, and answers each: one that is refused, or that there
+    /// was no memory for, is passed over. An error means that there was no memory for the answers,
+    /// and leaves the database as it was.
+    pub fn apply_all(
+        &mut self,
+        alloc: Global,
+        entries: &[Entry],
+    ) -> Result<Vec<Result<Outcome, DbError>>, AllocError>
+        ensures run { IfOk result (λ answers. IsRun self.old.catalog self.old.limits self.old.history entries.now answers.items self.new.history) }
+        ensures legal { OnOk result (IsLegal self.new.catalog self.new.limits self.new.history) }
+        ensures catalog { self.new.catalog ≡ self.old.catalog }
+        ensures limits { self.new.limits ≡ self.old.limits }
+        ensures err { OnErr result (self.new ≡ self.old) }
+    {
+        let mut answers = Vec::with_capacity(alloc, entries.len())?;
+        for entry in entries {
+            let answer = self.advance(entry);
+            answers.push_reserved(answer);
+        }
+        let _ = &self.limits;
+        Ok(answers)
+    }
+
+    /// Becomes the database after the entry, or stays where it isn't taken in.
+    fn advance(&mut self, entry: &Entry) -> Result<Outcome, DbError>
+        ensures ok { OnOk result (self.new ≡ record self.old { history = self.old.history ++ entry.now ∷ [] }) }
+        ensures outcome { IfOk result (λ o. o ≡ told (state_of self.old) entry.now.event) }
+        ensures accepted { OnOk result (refusal self.old.catalog self.old.limits (state_of self.old) entry.now.event ≡ None) }
+        ensures refused { IfErr result (λ e. refusal self.old.catalog self.old.limits (state_of self.old) entry.now.event ≡ memory_aside e) }
+        ensures err { OnErr result (self.new ≡ self.old) }
+    {
+        if let Some(refusal) = self.refusal(&entry.event) {
+            return Err(refusal);
+        }
+        match self.moved_by(entry) {
+            Ok((db, outcome)) => {
+                *self = db;
+                Ok(outcome)
+            }
+            Err(AllocError) => Err(DbError::Memory),
+        }
+    }
+
+    fn moved_by(&self, entry: &Entry) -> Result<(Db, Outcome), AllocError>
+        requires none { refusal self.now.catalog self.now.limits (state_of self.now) entry.now.event ≡ None }
+        requires keyed { HasKeys entry.now.event }
+        ensures state { IfOk result (λ r. r.0 ≡ record self.now { history = self.now.history ++ entry.now ∷ [] }) }
+        ensures outcome { IfOk result (λ r. r.1 ≡ told (state_of self.now) entry.now.event) }
+    {
+        let entry = entry.copy()?;
+        let moved = self.moved(entry)?;
+        Ok(moved)
     }
 
     /// The rows that match now, by rising key.
@@ -123,4 +273,25 @@ fn at_place<T>(items: &[T], place: u64) -> Option<&T>
 {
     let index = place.checked_sub(1)?;
     items.get(index as usize)
+}
+
+/// The slots with one more.
+fn with_slot(slots: &Vec<Slot>, slot: Slot) -> Result<Vec<Slot>, AllocError>
+    ensures { IfOk result (λ with. with.items ≡ slots.now.items ++ slot ∷ []) }
+{
+    let mut with = Vec::new(*slots.allocator());
+    for kept in slots {
+        with.push(kept.copy()?)?;
+    }
+    with.push(slot)?;
+    Ok(with)
+}
+
+/// The entries with one more.
+fn with_entry(journal: &Vec<Entry>, entry: Entry) -> Result<Vec<Entry>, AllocError>
+    ensures { IfOk result (λ with. with.items ≡ journal.now.items ++ entry ∷ []) }
+{
+    let mut with = journal.clone()?;
+    with.push(entry)?;
+    Ok(with)
 }

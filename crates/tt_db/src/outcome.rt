@@ -1,3 +1,6 @@
+ghost use Rattle.std.specs.Prelude.{◌≡◌, IfOk};
+
+use std::alloc::AllocError;
 use tt_values::{Reply, Write};
 
 /// What an accepted event answers.
@@ -13,4 +16,13 @@ pub enum Outcome {
 pub struct Slot {
     pub write: Option<Write>,
     pub reply: Option<Reply>,
+}
+
+impl Slot {
+    /// The same slot, in memory of its own.
+    pub fn copy(&self) -> Result<Slot, AllocError>
+        ensures { IfOk result (λ copy. copy ≡ self.now) }
+    {
+        self.clone()
+    }
 }

@@ -1,12 +1,13 @@
-ghost use Rattle.std.specs.Prelude.{◌≡◌, ◌≤◌, ◌&&◌, map, length, position, int_lt, is_some, IfOk};
+ghost use Rattle.std.specs.Prelude.{◌≡◌, ◌≤◌, ◌<◌, ◌^◌, ◌&&◌, map, length, position, int_lt, is_some, IfOk};
 ghost use Rattle.std.specs.List.{list_any};
 ghost use Rattle.std.specs.Ordering.{int_eq};
-ghost use Rattle.tt_values.specs.Effect.{matching_rows};
+ghost use Rattle.tt_values.specs.Effect.{matching_rows, reply_of};
+ghost use Rattle.tt_values.specs.Check.{HasKey};
 ghost use Rattle.tt_values.specs.Content.{row_at};
-ghost use Rattle.tt_db.specs.Versions.{is_visible, seen, place_of, placed};
+ghost use Rattle.tt_db.specs.Versions.{is_visible, seen, content_seen, place_of, placed, versions_after};
 
 use std::alloc::{AllocError, Global};
-use tt_values::{Equal, Row, matches};
+use tt_values::{Equal, Reply, Row, Write, matches};
 
 /// A version of a row: the row that a key of a table has from a time on.
 #[derive(Clone, Debug, Drop)]
@@ -63,7 +64,10 @@ fn first_above(versions: &[Version], further: &Version) -> Option<usize>
 }
 
 /// The versions with one more.
-pub(crate) fn with_version(versions: &Vec<Version>, version: Version) -> Result<Vec<Version>, AllocError>
+pub(crate) fn with_version(
+    versions: &Vec<Version>,
+    version: Version,
+) -> Result<Vec<Version>, AllocError>
     ensures { IfOk result (λ with. with.items ≡ placed version versions.now.items) }
 {
     let place = place_of(versions, &version);
@@ -96,4 +100,32 @@ pub(crate) fn rows_seen(
         }
     }
     Ok(rows)
+}
+
+/// The versions after a write that takes the slot after `now`, and what it answers.
+pub(crate) fn written(
+    versions: &Vec<Version>,
+    write: &Write,
+    now: u64,
+) -> Result<(Vec<Version>, Reply), AllocError>
+    requires keyed { HasKey write.now }
+    requires early { now < 2 ^ 63 }
+    ensures versions { IfOk result (λ r. r.0.items ≡ versions_after write.now now versions.now.items) }
+    ensures reply { IfOk result (λ r. r.1 ≡ reply_of write.now (content_seen versions.now.items now)) }
+{
+    match write {
+        Write::Insert { table, row } => {
+            let key = row.key();
+            if is_live(versions, *table, key, now) {
+                return Ok((copied(versions)?, Reply::Duplicate));
+            }
+            let version = Version {
+                table: *table,
+                key,
+                row: row.copy()?,
+                start: now + 1,
+            };
+            Ok((with_version(versions, version)?, Reply::Inserted))
+        }
+    }
 }

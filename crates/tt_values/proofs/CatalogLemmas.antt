@@ -86,6 +86,7 @@ catalog_with tables name def old new =
     split : (a b : Bool) → (a && b) ≡ true → IsTrue a × IsTrue b
     split true b h = (refl, h)
     split false b h = cc
+
     both_named : IsTrue (is_name name) × IsTrue (list_all (λ c. is_name c.name) def.columns)
     both_named = split _ _ new.named
 

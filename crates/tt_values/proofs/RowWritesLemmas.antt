@@ -1,5 +1,5 @@
 -- What slots add to the row writes of those before them.
-use Rattle.std.proofs.Common.{sym, ◌≡◌, ℕ, zero, suc, ◌+◌, ◌<◌, ◌≤◌, Bool, true, false, cond, nat_le, List, [], ◌∷◌, ◌++◌, map, filter, length, ℤ, Option, None, Some, slice_get, refl, ap, ◌∙◌, arith, append-nil, zero-add, fold, ◌-◌}
+use Rattle.std.proofs.Common.{sym, length-append, ◌≡◌, ℕ, zero, suc, ◌+◌, ◌<◌, ◌≤◌, Bool, true, false, cond, nat_le, List, [], ◌∷◌, ◌++◌, map, filter, length, ℤ, Option, None, Some, slice_get, refl, ap, ◌∙◌, arith, append-nil, zero-add, fold, ◌-◌}
 use Rattle.std.proofs.lemmas.List.Sums.{fold-append}
 use Rattle.std.proofs.lemmas.Bool.Decides.{nat_tests}
 use Rattle.std.specs.Option.{unwrap_or}
@@ -7,15 +7,15 @@ use Rattle.tt_values.specs.declared.row.Row.{Row}
 use Rattle.tt_values.specs.declared.statement.Write.{Write}
 use Rattle.tt_values.specs.Content.{Content, RowWrite, written, content_at, no_rows, up_to}
 use Rattle.tt_values.specs.Effect.{table_of, effect}
-use Rattle.tt_values.specs.RowWrites.{Slots, slot_after, slot_writes, row_writes}
+use Rattle.tt_values.specs.RowWrites.{Slots, slot_after, slot_writes, row_writes, content_of}
 use Rattle.tt_values.specs.Laws.{SlotsFollow, LaterSlotsChangeNothing, PastStays, LastContentStays, NextContent}
 
-slice_get-append_left : {X : Type 0} → (xs ys : List X) (i : ℕ) → i < length xs → slice_get (xs ++ ys) i ≡ slice_get xs i
+pub slice_get-append_left : {X : Type 0} → (xs ys : List X) (i : ℕ) → i < length xs → slice_get (xs ++ ys) i ≡ slice_get xs i
 slice_get-append_left [] ys i h = absurd (omega arith)
 slice_get-append_left (x ∷ xs) ys zero h = refl
 slice_get-append_left (x ∷ xs) ys (suc i) h = slice_get-append_left xs ys i (omega arith)
 
-slice_get-append_at : {X : Type 0} → (xs ys : List X) → slice_get (xs ++ ys) (length xs) ≡ slice_get ys 0
+pub slice_get-append_at : {X : Type 0} → (xs ys : List X) → slice_get (xs ++ ys) (length xs) ≡ slice_get ys 0
 slice_get-append_at [] ys = refl
 slice_get-append_at (x ∷ xs) ys = slice_get-append_at xs ys
 
@@ -118,3 +118,23 @@ next_content W n =
     ap (fold written no_rows) (up_to-all W (suc n) (suc n) (omega arith))
     ∙ fold-append written no_rows (row_writes W n) sw
     ∙ ap (λ ws. fold written (fold written no_rows ws) sw) (sym (up_to-all W n n (omega arith)))
+
+-- one more slot leaves the content up to now as it was
+pub content_of-stays : (W : Slots) (s : Option Write) (time : ℕ) → time ≤ length W → content_of (W ++ s ∷ []) time ≡ content_of W time
+content_of-stays W s time h =
+    let n = length W in
+    let next : length (W ++ s ∷ []) ≡ suc n = omega (arith, length-append W (s ∷ [])) in
+    ap (λ m. content_at (row_writes (W ++ s ∷ []) m) time) next
+    ∙ past_stays (W ++ s ∷ []) n (suc n) time h (omega arith)
+    ∙ ap (λ ws. content_at ws time) (later_slots_change_nothing W (s ∷ []) n (omega arith))
+
+-- and from the next time on the content is that now with the slot's row writes
+pub content_of-next : (W : Slots) (s : Option Write) (time : ℕ) → suc (length W) ≤ time → let X = content_of W (length W) in content_of (W ++ s ∷ []) time ≡ fold written X (slot_writes (suc (length W)) s X)
+content_of-next W s time h =
+    let n = length W in
+    let next : length (W ++ s ∷ []) ≡ suc n = omega (arith, length-append W (s ∷ [])) in
+    let same = later_slots_change_nothing W (s ∷ []) n (omega arith) in
+    ap (λ m. content_at (row_writes (W ++ s ∷ []) m) time) next
+    ∙ last_content_stays (W ++ s ∷ []) (suc n) time h
+    ∙ next_content (W ++ s ∷ []) n
+    ∙ (λ i. fold written (content_at (same i) n) (slot_writes (suc n) (slot_after-next W s i) (content_at (same i) n)))

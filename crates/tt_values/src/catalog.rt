@@ -4,7 +4,7 @@ ghost use Rattle.std.specs.Str.{bytes_eq};
 ghost use Rattle.tt_values.specs.Limits.{most_tables, most_columns};
 ghost use Rattle.std.specs.Option.{option_copied, option_map};
 
-use crate::naming::{has_valid_names, has_same_name, is_key_int};
+use crate::naming::{has_same_name, has_valid_names, is_key_int};
 use crate::table::TableDef;
 use crate::{MAX_COLUMNS, MAX_TABLES};
 use indexmap::IndexMap;

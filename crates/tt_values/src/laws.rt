@@ -31,11 +31,9 @@ pub fn later_slots_change_no_earlier_content()
 /// Past the last slot the content stays.
 pub fn the_last_content_stays()
     ensures { LastContentStays }
-{
-}
+{}
 
 /// The content after one more slot is that before it with the slot's row writes.
 pub fn the_next_content_has_the_slot()
     ensures { NextContent }
-{
-}
+{}

@@ -1,4 +1,4 @@
-use Rattle.std.proofs.Common.{◌≡◌, ◌∙◌, ap, w64, is_some}
+use Rattle.std.proofs.Common.{◌∙◌, ap, w64, is_some}
 use Rattle.std.proofs.lemmas.Int.{to_z-of_z}
 use Rattle.tt_values.specs.Content.{row_at}
 use Rattle.tt_db.specs.Versions.{seen}

@@ -1,4 +1,4 @@
-use Rattle.std.proofs.Common.{◌≡◌, ◌∙◌, ap, length}
+use Rattle.std.proofs.Common.{◌∙◌, ap, length}
 use Rattle.std.specs.Option.{unwrap_or}
 use Rattle.tt_db.proofs.VersionLemmas.{position-or_end, place_of-within}
 use Rattle.tt_db.proofs.version.place_of.Goals as goal

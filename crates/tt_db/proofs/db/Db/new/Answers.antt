@@ -1,5 +1,4 @@
 -- An empty database keeps nothing, as the definitions say of no history.
-use Rattle.std.proofs.Common.{◌≡◌, ◌<◌, refl, arith}
 use Rattle.tt_db.proofs.HistoryLemmas.{keeps_nothing}
 use Rattle.tt_db.proofs.db.Db.new.Goals as goal
 

@@ -1,0 +1,20 @@
+-- A whole run: entries that a database is given one after another, and its answers.
+use Rattle.std.specs.Prelude.{◌≡◌, List, [], ◌∷◌, ◌++◌, None, Result, Ok, Err}
+use Rattle.tt_values.specs.Tables.{Tables}
+use Rattle.tt_db.specs.declared.limits.Limits.{Limits}
+use Rattle.tt_db.specs.declared.event.Entry.{Entry}
+use Rattle.tt_db.specs.declared.outcome.Outcome.{Outcome}
+use Rattle.tt_db.specs.declared.errors.DbError.{DbError}
+use Rattle.tt_db.specs.State.{after, refusal, told}
+use Rattle.tt_db.specs.Told.{memory_aside}
+
+-- given entries from a history on, the answers are those of the sequential table at each point: an accepted entry joins the history
+-- and is answered by what the table tells; another is answered by the table's refusal, or by want of memory where there is none
+abbrev pub IsRun : Tables → Limits → List Entry → List Entry → List (Result Outcome DbError) → List Entry → Type 0
+IsRun tables limits before [] [] last = last ≡ before
+IsRun tables limits before (e ∷ entries) (Ok outcome ∷ answers) last =
+    (refusal tables limits (after before) e.event ≡ None) × (outcome ≡ told (after before) e.event) × IsRun tables limits (before ++ e ∷ []) entries answers last
+IsRun tables limits before (e ∷ entries) (Err error ∷ answers) last =
+    (refusal tables limits (after before) e.event ≡ memory_aside error) × IsRun tables limits before entries answers last
+IsRun tables limits before [] (answer ∷ answers) last = ⊥
+IsRun tables limits before (e ∷ entries) [] last = ⊥
