@@ -3,3 +3,4 @@ pub mod FaultLemmas
 pub mod CatalogLemmas
 pub mod ContentLemmas
 pub mod RowWritesLemmas
+pub mod WorkedRows
