@@ -1,0 +1,8 @@
+//! Workloads of a small time-travel database: the document that tells one, and its texts.
+#![tactic(auto)]
+
+mod document;
+mod fault;
+
+pub use document::{Ask, Call, Document, SharedCatalog};
+pub use fault::DocFault;
