@@ -3,6 +3,7 @@
 
 mod document;
 mod fault;
+mod reader;
 
 pub use document::{Ask, Call, Document, SharedCatalog};
 pub use fault::DocFault;
