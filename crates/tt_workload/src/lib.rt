@@ -4,6 +4,7 @@
 mod document;
 mod fault;
 mod reader;
+mod taker;
 
 pub use document::{Ask, Call, Document, SharedCatalog};
 pub use fault::DocFault;

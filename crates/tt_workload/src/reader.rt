@@ -15,7 +15,7 @@ const WRONG_TYPE: &str = "wrong type";
 const OUT_OF_RANGE: &str = "out of range";
 
 /// Reads the values of one place of the grammar.
-pub(crate) trait Reader {
+pub(crate) trait Reader: Drop {
     type Output;
 
     /// What a value spells, or its first fault.
@@ -122,6 +122,7 @@ fn missing(alloc: Global, name: &str) -> DocFault
 }
 
 /// A text, in memory of its own.
+#[derive(Drop)]
 pub(crate) struct TextReader;
 
 impl Reader for TextReader {
@@ -137,6 +138,7 @@ impl Reader for TextReader {
 }
 
 /// True or false.
+#[derive(Drop)]
 pub(crate) struct FlagReader;
 
 impl Reader for FlagReader {
@@ -153,6 +155,7 @@ impl Reader for FlagReader {
 }
 
 /// A count within bounds.
+#[derive(Drop)]
 pub(crate) struct CountReader {
     pub(crate) least: u32,
     pub(crate) most: u32,
