@@ -1,2 +1,3 @@
 pub mod JsonLemmas
+pub mod MembersLemmas
 pub mod QuotingLemmas

@@ -1,3 +1,4 @@
 pub mod Reading
 pub mod Json
+pub mod Members
 pub mod Quoting

@@ -41,7 +41,14 @@ impl DocFault {
     pub(crate) fn here(alloc: Global, cause: &str) -> DocFault
         ensures { IsFault result (fault_here cause.now) }
     {
-        match String::from_str(alloc, cause) {
+        DocFault::because(alloc, String::from_str(alloc, cause))
+    }
+
+    /// The same, of a cause that was made for it.
+    pub(crate) fn because(alloc: Global, cause: Result<String, AllocError>) -> DocFault
+        ensures { MatchResult cause (λ text. result ≡ fault_here (string_bytes text)) (λ _. result ≡ DocFault.Memory) }
+    {
+        match cause {
             Ok(cause) => DocFault::At {
                 path: Text::new(String::new(alloc)),
                 cause: Text::new(cause),

@@ -3,6 +3,7 @@
 
 mod document;
 mod fault;
+mod members;
 mod quoting;
 mod reader;
 mod taker;

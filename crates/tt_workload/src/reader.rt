@@ -8,7 +8,7 @@ ghost use Rattle.tt_workload.specs.Json.{object, text, flag, count, count_within
 
 use crate::fault::DocFault;
 use serde_json::Value;
-use std::alloc::{AllocError, Global};
+use std::alloc::Global;
 use tt_values::Text;
 
 const WRONG_TYPE: &str = "wrong type";
@@ -115,10 +115,7 @@ fn member_value<R: Reader>(
 fn missing(alloc: Global, name: &str) -> DocFault
     ensures { IsFault result (fault_here (codes "missing member " ++ name.now)) }
 {
-    match format!(in alloc; "missing member {name}") {
-        Ok(cause) => DocFault::here(alloc, cause.as_str()),
-        Err(AllocError) => DocFault::Memory,
-    }
+    DocFault::because(alloc, format!(in alloc; "missing member {name}"))
 }
 
 /// A text, in memory of its own.
