@@ -11,8 +11,8 @@ use serde_json::Value;
 use std::alloc::Global;
 use tt_values::Text;
 
-const WRONG_TYPE: &str = "wrong type";
-const OUT_OF_RANGE: &str = "out of range";
+pub(crate) const WRONG_TYPE: &str = "wrong type";
+pub(crate) const OUT_OF_RANGE: &str = "out of range";
 
 /// Reads the values of one place of the grammar.
 pub(crate) trait Reader: Drop {
