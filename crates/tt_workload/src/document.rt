@@ -1,6 +1,10 @@
 ghost use Rattle.std.specs.Prelude.{◌≡◌};
 ghost use Rattle.std.specs.Arc.{arc_value};
 
+use crate::fault::DocFault;
+use crate::reading::from_members;
+use serde_json::Value;
+use std::alloc::Global;
 use std::marker::Model;
 use std::sync::Arc;
 use tt_values::{Catalog, Items, Select, Write};
@@ -12,6 +16,25 @@ pub struct Document {
     /// How many workers there are, from 1.
     pub workers: u32,
     pub calls: Items<Call>,
+}
+
+impl Document {
+    ghost use Rattle.std.specs.Prelude.{◌≡◌, Ok, IfOk, IfErr};
+    ghost use Rattle.serde_json.specs.View.{view};
+    ghost use Rattle.tt_workload.specs.Reading.{Fails};
+    ghost use Rattle.tt_workload.specs.Grammar.{document_of};
+
+    /// The document that a JSON value spells, or its first fault. Want of memory can come before
+    /// the fault is found.
+    pub fn from_value(alloc: Global, value: &Value) -> Result<Document, DocFault>
+        ensures spelled { IfOk result (λ document. document_of (view value.now) ≡ Ok document) }
+        ensures fault { IfErr result (λ fault. Fails fault (document_of (view value.now))) }
+    {
+        match from_members(alloc, value) {
+            Ok(document) => Ok(document),
+            Err(fault) => Err(fault.in_document(alloc)),
+        }
+    }
 }
 
 /// One call, and the number of the worker that makes it.

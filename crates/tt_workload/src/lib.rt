@@ -2,13 +2,22 @@
 #![tactic(auto)]
 
 mod causes;
+mod calls;
 mod document;
 mod fault;
 mod members;
 mod quoting;
 mod reader;
+mod reading;
+mod statements;
 mod tables;
 mod taker;
 
 pub use document::{Ask, Call, Document, SharedCatalog};
 pub use fault::DocFault;
+
+/// The most workers that a document has.
+pub const MAX_WORKERS: u32 = 15;
+
+/// The most calls that a document has.
+pub const MAX_CALLS: usize = 100_000;

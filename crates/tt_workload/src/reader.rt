@@ -3,7 +3,7 @@ ghost use Rattle.std.specs.Prelude.{◌≡◌, ◌++◌, Result, map, codes};
 ghost use Rattle.serde_json.specs.Data.{Data};
 ghost use Rattle.serde_json.specs.View.{view};
 ghost use Rattle.tt_workload.specs.declared.fault.DocFault.{DocFault};
-ghost use Rattle.tt_workload.specs.Reading.{Gives, GivesSeen, IsFault, fault_here, with_path, member_path};
+ghost use Rattle.tt_workload.specs.Reading.{Gives, GivesSeen, IsFault, fault_here, with_path, member_path, item_path};
 ghost use Rattle.tt_workload.specs.Json.{object, text, flag, count, count_within, array, member, optional};
 
 use crate::fault::DocFault;
@@ -109,6 +109,21 @@ fn member_value<R: Reader>(
     match reader.read(alloc, value) {
         Ok(spelled) => Ok(spelled),
         Err(fault) => Err(fault.in_member(alloc, name)),
+    }
+}
+
+/// What an item of an array spells.
+pub(crate) fn item<R: Reader>(
+    alloc: Global,
+    index: usize,
+    value: &Value,
+    reader: &R,
+) -> Result<R::Output, DocFault>
+    ensures { Gives result (with_path (item_path index) (R.spelled reader.now (view value.now))) }
+{
+    match reader.read(alloc, value) {
+        Ok(spelled) => Ok(spelled),
+        Err(fault) => Err(fault.in_item(alloc, index)),
     }
 }
 

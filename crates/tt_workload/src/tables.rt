@@ -1,7 +1,7 @@
 //! Reading of the tables of a document.
 ghost use Rattle.std.specs.Prelude.{◌≡◌};
 ghost use Rattle.tt_workload.specs.Reading.{Gives};
-ghost use Rattle.tt_workload.specs.Grammar.{kind_named, kind, column, with_table, table_after, tables};
+ghost use Rattle.tt_workload.specs.Grammar.{kind_named, kind, column, with_table, table_after, catalog};
 
 use crate::causes::cause_of_catalog;
 use crate::fault::DocFault;
@@ -19,7 +19,7 @@ pub(crate) struct TablesReader;
 impl Reader for TablesReader {
     type Output = Catalog;
 
-    ghost spelled = { λ _. tables };
+    ghost spelled = { λ _. catalog };
 
     fn read(&self, alloc: Global, value: &Value) -> Result<Catalog, DocFault> {
         let items = array(alloc, value)?;
