@@ -21,3 +21,6 @@ pub const MAX_WORKERS: u32 = 15;
 
 /// The most calls that a document has.
 pub const MAX_CALLS: usize = 100_000;
+
+#[cfg(test)]
+mod tests;
