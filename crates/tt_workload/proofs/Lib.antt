@@ -1,0 +1,3 @@
+pub mod JsonLemmas
+pub mod MembersLemmas
+pub mod QuotingLemmas

@@ -1,0 +1,10 @@
+-- The items that the array is seen as are those of its slice.
+use Rattle.std.proofs.Common.{◌≡◌, map, refl, sym, ap, ◌∙◌, Some, Ok, option_map}
+use Rattle.serde_json.specs.View.{view}
+use Rattle.tt_workload.specs.Json.{array, typed, list_of}
+use Rattle.tt_workload.proofs.JsonLemmas.{list_of-items_of}
+use Rattle.tt_workload.proofs.reader.array.Goals as goal
+
+pub returns-in-Some : goal.returns-in-Some
+returns-in-Some c =
+    ap (λ o. typed (option_map list_of o)) (sym c.in-Some.ensures) ∙ ap Ok (list_of-items_of _ ∙ ap (map view) (sym c.as_slice.ensures.value))

@@ -1,0 +1,25 @@
+-- The texts of the faults of a catalogue and of a statement.
+use Rattle.std.specs.Prelude.{ℕ, List, codes}
+use Rattle.tt_values.specs.declared.catalog.CatalogError.{CatalogError}
+use Rattle.tt_values.specs.declared.catalog.CatalogError.TheVariants as tables
+use Rattle.tt_values.specs.declared.checking.CheckError.{CheckError}
+use Rattle.tt_values.specs.declared.checking.CheckError.TheVariants as statements
+
+-- why a table isn't taken (want of memory is no fault of the document)
+abbrev pub cause_of_catalog : CatalogError → List ℕ
+cause_of_catalog tables.BadName = codes "bad name"
+cause_of_catalog tables.SameTable = codes "table named twice"
+cause_of_catalog tables.NoColumns = codes "no columns"
+cause_of_catalog tables.KeyNotInt = codes "first column is not int"
+cause_of_catalog tables.SameColumn = codes "column named twice"
+cause_of_catalog tables.TooMany = codes "too many tables or columns"
+cause_of_catalog tables.Memory = codes "want of memory"
+
+-- why a statement can't be carried out
+abbrev pub cause_of_check : CheckError → List ℕ
+cause_of_check statements.NoTable = codes "no such table"
+cause_of_check statements.NoColumn = codes "no such column"
+cause_of_check statements.WrongKind = codes "value of the wrong kind"
+cause_of_check statements.WrongWidth = codes "row of the wrong width"
+cause_of_check statements.TextTooLong = codes "text too long"
+cause_of_check statements.TooManyEquals = codes "too many equalities"

@@ -1,0 +1,186 @@
+-- What a document spells, object by object, or its first fault.
+use Rattle.std.specs.Prelude.{ℕ, ℤ, Bool, false, is_some, nat_lt, if◌then◌else◌, List, [], ◌∷◌, ◌++◌, length, Option, Some, None, option_and_then, unwrap_or, Result, Ok, codes, ⊤}
+use Rattle.std.specs.Str.{bytes_eq}
+use Rattle.serde_json.specs.Data.{Data}
+use Rattle.serde_json.specs.Find.{get, as_number, as_str, as_i64}
+use Rattle.tt_values.specs.declared.value.Kind.{Kind}
+use Rattle.tt_values.specs.declared.value.Kind.TheVariants as kinds
+use Rattle.tt_values.specs.declared.value.Value.{Value}
+use Rattle.tt_values.specs.declared.value.Value.TheVariants as values
+use Rattle.tt_values.specs.declared.table.Column.{Column}
+use Rattle.tt_values.specs.declared.table.TableDef.{TableDef}
+use Rattle.tt_values.specs.declared.statement.Equal.{Equal}
+use Rattle.tt_values.specs.declared.statement.Select.{Select}
+use Rattle.tt_values.specs.declared.statement.Write.{Write}
+use Rattle.tt_values.specs.declared.statement.Write.TheVariants.{Insert}
+use Rattle.tt_values.specs.declared.checking.CheckError.{CheckError}
+use Rattle.tt_values.specs.Tables.{Tables, table_position, column_position, columns_at}
+use Rattle.tt_values.specs.Catalog.{table_fault}
+use Rattle.tt_values.specs.Check.{write_fault, select_fault}
+use Rattle.tt_workload.specs.declared.TheConstants.{MAX_WORKERS, MAX_CALLS}
+use Rattle.tt_workload.specs.declared.document.Document.{Document}
+use Rattle.tt_workload.specs.declared.document.Call.{Call}
+use Rattle.tt_workload.specs.declared.document.Ask.{Ask}
+use Rattle.tt_workload.specs.declared.document.Ask.TheVariants as asks
+use Rattle.tt_workload.specs.declared.fault.DocFault.{DocFault}
+use Rattle.tt_workload.specs.Reading.{◌>>=◌, refuse, with_path, item_path, document_path}
+use Rattle.tt_workload.specs.Json.{found_or, typed, object, text, flag, array, count_within, member, optional, take_all, each, array_of}
+use Rattle.tt_workload.specs.Members.{is_one_of, no_members_but}
+use Rattle.tt_workload.specs.Causes.{cause_of_catalog, cause_of_check}
+
+-- the object as a whole has no fault, or else this one
+abbrev pub judge : {E : Type 0} → (E → List ℕ) → Option E → Result ⊤ DocFault
+judge cause_of None = Ok tt
+judge cause_of (Some fault) = refuse (cause_of fault)
+
+-- the kind of a column: one of two texts
+abbrev pub kind_named : List ℕ → Option Kind
+kind_named name = if bytes_eq name (codes "int") then Some kinds.Int else (if bytes_eq name (codes "text") then Some kinds.Text else None)
+
+abbrev pub kind : Data → Result Kind DocFault
+kind v = do
+  name ← text v
+  found_or (codes "out of range") (kind_named name)
+
+-- a column: its name, its kind, and whether it's a partition column, which it isn't where that is left out
+unfoldable pub column : Data → Result Column DocFault
+column v = do
+  _ ← object v
+  name ← member (codes "name") text v
+  kind ← member (codes "kind") kind v
+  partition ← optional (codes "partition") flag v
+  _ ← no_members_but (is_one_of (codes "kind" ∷ codes "name" ∷ codes "partition" ∷ [])) v
+  Ok (record { name = name; kind = kind; partition = unwrap_or partition false })
+
+-- the tables with a further one at their end, which has to be one that a catalogue takes
+abbrev pub with_table : Tables → List ℕ → TableDef → Result Tables DocFault
+with_table tables name def = do
+  _ ← judge cause_of_catalog (table_fault tables name def)
+  Ok (tables ++ (name, def) ∷ [])
+
+-- a table: its name and its columns
+unfoldable pub table_after : Tables → Data → Result Tables DocFault
+table_after tables v = do
+  _ ← object v
+  name ← member (codes "name") text v
+  columns ← member (codes "columns") (array_of column) v
+  _ ← no_members_but (is_one_of (codes "columns" ∷ codes "name" ∷ [])) v
+  with_table tables name (record { columns = columns })
+
+-- the catalogue that the tables make
+abbrev pub catalog : Data → Result Tables DocFault
+catalog v = do
+  ds ← array v
+  take_all table_after 0 [] ds
+
+-- a value: a text, or an Int
+abbrev pub text_or_int : Option (List ℕ) → Option ℤ → Option Value
+text_or_int (Some t) n = Some (values.Text t)
+text_or_int None (Some n) = Some (values.Int n)
+text_or_int None None = None
+
+abbrev pub value : Data → Result Value DocFault
+value v = typed (text_or_int (as_str v) (option_and_then as_i64 (as_number v)))
+
+-- a table of the catalogue, by its name: its position
+abbrev pub table_named : Tables → Data → Result ℕ DocFault
+table_named tables v = do
+  name ← text v
+  found_or (codes "no such table") (table_position tables name)
+
+-- a column of a table, by its name: its position
+abbrev pub column_with : Tables → ℕ → List ℕ → Option ℕ
+column_with tables table name = option_and_then (λ columns. column_position columns name) (columns_at tables table)
+
+abbrev pub column_named : Tables → ℕ → Data → Result ℕ DocFault
+column_named tables table v = do
+  name ← text v
+  found_or (codes "no such column") (column_with tables table name)
+
+-- an array of two items
+abbrev pub two : List Data → Option (Data × Data)
+two [] = None
+two (d ∷ []) = None
+two (d ∷ e ∷ []) = Some (d, e)
+two (d ∷ e ∷ f ∷ ds) = None
+
+abbrev pub pair : Data → Result (Data × Data) DocFault
+pair v = do
+  ds ← array v
+  typed (two ds)
+
+-- a condition on a table: a column and a value
+unfoldable pub condition : Tables → ℕ → Data → Result Equal DocFault
+condition tables table v = do
+  items ← pair v
+  column ← with_path (item_path 0) (column_named tables table items.0)
+  value ← with_path (item_path 1) (value items.1)
+  Ok (record { column = column; value = value })
+
+-- a statement that can be carried out, or why it can't
+abbrev pub checked : {S : Type 0} → S → Option CheckError → Result S DocFault
+checked statement fault = do
+  _ ← judge cause_of_check fault
+  Ok statement
+
+-- an insert: the table, and the values of its row
+unfoldable pub insert : Tables → Data → Result Write DocFault
+insert tables v = do
+  table ← member (codes "insert") (table_named tables) v
+  values ← member (codes "row") (array_of value) v
+  _ ← no_members_but (is_one_of (codes "insert" ∷ codes "row" ∷ codes "worker" ∷ [])) v
+  let statement : Write = Insert table (record { values = values })
+  checked statement (write_fault tables statement)
+
+-- a select: the table, and the conditions
+unfoldable pub select : Tables → Data → Result Select DocFault
+select tables v = do
+  table ← member (codes "select") (table_named tables) v
+  equals ← member (codes "where") (array_of (condition tables table)) v
+  _ ← no_members_but (is_one_of (codes "select" ∷ codes "where" ∷ codes "worker" ∷ [])) v
+  let statement : Select = record { table = table; equals = equals }
+  checked statement (select_fault tables statement)
+
+-- whether an object has a member
+abbrev pub has : List ℕ → Data → Bool
+has name v = is_some (get name v)
+
+-- what a call asks for, by the first kind that's there
+unfoldable pub ask : Tables → Data → Result Ask DocFault
+ask tables v =
+    if has (codes "insert") v then (insert tables v >>= λ write. Ok (asks.Write write)) else (
+    if has (codes "select") v then (select tables v >>= λ select. Ok (asks.Read select)) else
+    refuse (codes "missing one of insert, update, delete, select, preview"))
+
+-- a call: its worker, and what it asks for
+unfoldable pub call : Tables → ℕ → Data → Result Call DocFault
+call tables workers v = do
+  _ ← object v
+  worker ← member (codes "worker") (count_within 1 workers) v
+  ask ← ask tables v
+  Ok (record { worker = worker; ask = ask })
+
+-- an array's length within its limit
+abbrev pub at_most : ℕ → List Data → Result ⊤ DocFault
+at_most limit ds = if nat_lt limit (length ds) then refuse (codes "out of range") else Ok tt
+
+abbrev pub calls : Tables → ℕ → Data → Result (List Call) DocFault
+calls tables workers v = do
+  ds ← array v
+  _ ← at_most MAX_CALLS ds
+  each (call tables workers) ds
+
+-- a document: its version, its tables, how many workers there are, and their calls
+unfoldable pub members_of_document : Data → Result Document DocFault
+members_of_document v = do
+  _ ← object v
+  _ ← member (codes "version") (count_within 1 1) v
+  tables ← member (codes "tables") catalog v
+  workers ← member (codes "workers") (count_within 1 MAX_WORKERS) v
+  calls ← member (codes "calls") (calls tables workers) v
+  _ ← no_members_but (is_one_of (codes "calls" ∷ codes "tables" ∷ codes "version" ∷ codes "workers" ∷ [])) v
+  Ok (record { catalog = tables; workers = workers; calls = calls })
+
+-- the document that a JSON value spells, or its first fault, with the path from the root
+abbrev pub document_of : Data → Result Document DocFault
+document_of v = with_path document_path (members_of_document v)

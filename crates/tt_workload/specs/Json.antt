@@ -1,0 +1,84 @@
+-- JSON values of the types that a document wants.
+use Rattle.std.specs.Prelude.{ℕ, suc, ℤ, Bool, List, [], ◌∷◌, ◌++◌, Option, Some, None, option_map, option_and_then, Result, Ok, Err, codes, ⊤, nat_lt, ◌||◌, if◌then◌else◌}
+use Rattle.serde_json.specs.Data.{Data, Items, no_items, item}
+use Rattle.serde_json.specs.Find.{get, as_bool, as_number, as_str, as_array, as_object, as_i64, as_u64}
+use Rattle.tt_workload.specs.declared.fault.DocFault.{DocFault}
+use Rattle.tt_workload.specs.Reading.{◌>>=◌, refuse, with_path, member_path, item_path}
+
+-- what is found, or else a fault of the value
+abbrev pub found_or : {T : Type 0} → List ℕ → Option T → Result T DocFault
+found_or cause None = refuse cause
+found_or cause (Some x) = Ok x
+
+abbrev pub typed : {T : Type 0} → Option T → Result T DocFault
+typed = found_or (codes "wrong type")
+
+-- a value that has to be an object; a text; true or false; a count
+abbrev pub object : Data → Result ⊤ DocFault
+object v = typed (option_map (λ _. tt) (as_object v))
+
+abbrev pub text : Data → Result (List ℕ) DocFault
+text v = typed (as_str v)
+
+abbrev pub flag : Data → Result Bool DocFault
+flag v = typed (as_bool v)
+
+abbrev pub count : Data → Result ℕ DocFault
+count v = typed (option_and_then as_u64 (as_number v))
+
+-- the items of an array
+abbrev pub list_of : Items → List Data
+list_of no_items = []
+list_of (item d ds) = d ∷ list_of ds
+
+abbrev pub array : Data → Result (List Data) DocFault
+array v = typed (option_map list_of (as_array v))
+
+-- a count within bounds
+abbrev pub within : ℕ → ℕ → ℕ → Result ℕ DocFault
+within least most n = if nat_lt n least || nat_lt most n then refuse (codes "out of range") else Ok n
+
+abbrev pub count_within : ℕ → ℕ → Data → Result ℕ DocFault
+count_within least most v = do
+  n ← count v
+  within least most n
+
+-- the value of a member that has to be there, read at its path
+abbrev pub read_member : {T : Type 0} → List ℕ → (Data → Result T DocFault) → Option Data → Result T DocFault
+read_member name reader None = refuse (codes "missing member " ++ name)
+read_member name reader (Some d) = with_path (member_path name) (reader d)
+
+abbrev pub member : {T : Type 0} → List ℕ → (Data → Result T DocFault) → Data → Result T DocFault
+member name reader v = read_member name reader (get name v)
+
+-- the value of a member that may be left out
+abbrev pub read_optional : {T : Type 0} → List ℕ → (Data → Result T DocFault) → Option Data → Result (Option T) DocFault
+read_optional name reader None = Ok None
+read_optional name reader (Some d) = do
+  x ← with_path (member_path name) (reader d)
+  Ok (Some x)
+
+abbrev pub optional : {T : Type 0} → List ℕ → (Data → Result T DocFault) → Data → Result (Option T) DocFault
+optional name reader v = read_optional name reader (get name v)
+
+-- the state that the items of an array leave, one after another from the front, the first of them with this number
+abbrev pub take_all : {S : Type 0} → (S → Data → Result S DocFault) → ℕ → S → List Data → Result S DocFault
+take_all after i state [] = Ok state
+take_all after i state (d ∷ ds) = do
+  next ← with_path (item_path i) (after state d)
+  take_all after (suc i) next ds
+
+-- a list with what a further item spells
+abbrev pub with_item : {T : Type 0} → (Data → Result T DocFault) → List T → Data → Result (List T) DocFault
+with_item reader xs d = do
+  x ← reader d
+  Ok (xs ++ x ∷ [])
+
+-- what each item of an array spells, in order
+abbrev pub each : {T : Type 0} → (Data → Result T DocFault) → List Data → Result (List T) DocFault
+each reader ds = take_all (with_item reader) 0 [] ds
+
+abbrev pub array_of : {T : Type 0} → (Data → Result T DocFault) → Data → Result (List T) DocFault
+array_of reader v = do
+  ds ← array v
+  each reader ds

@@ -1,0 +1,6 @@
+pub mod Reading
+pub mod Json
+pub mod Members
+pub mod Causes
+pub mod Grammar
+pub mod Quoting

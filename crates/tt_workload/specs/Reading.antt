@@ -1,0 +1,54 @@
+-- Reading: a value, or the first fault, with its path and its cause.
+use Rattle.std.specs.Prelude.{◌≡◌, ℕ, List, [], ◌++◌, Result, Ok, Err, codes}
+use Rattle.std.specs.Fmt.{decimal}
+use Rattle.tt_workload.specs.declared.fault.DocFault.{DocFault}
+use Rattle.tt_workload.specs.declared.fault.DocFault.TheVariants.{At, Memory}
+
+infixl 10 ◌>>=◌
+abbrev pub ◌>>=◌ : {A B : Type 0} → Result A DocFault → (A → Result B DocFault) → Result B DocFault
+(Ok x) >>= f = f x
+(Err fault) >>= f = Err fault
+
+-- a fault of the value that is read, itself
+abbrev pub fault_here : List ℕ → DocFault
+fault_here cause = At [] cause
+
+abbrev pub refuse : {T : Type 0} → List ℕ → Result T DocFault
+refuse cause = Err (fault_here cause)
+
+-- a fault, its path changed
+abbrev pub moved : (List ℕ → List ℕ) → DocFault → DocFault
+moved path_of (At path cause) = At (path_of path) cause
+moved path_of Memory = Memory
+
+abbrev pub with_path : {T : Type 0} → (List ℕ → List ℕ) → Result T DocFault → Result T DocFault
+with_path path_of (Ok x) = Ok x
+with_path path_of (Err fault) = Err (moved path_of fault)
+
+-- paths: of a member, of an item, and of the whole document
+abbrev pub member_path : List ℕ → List ℕ → List ℕ
+member_path name path = codes "." ++ (name ++ path)
+
+abbrev pub item_path : ℕ → List ℕ → List ℕ
+item_path i path = codes "[" ++ (decimal i ++ (codes "]" ++ path))
+
+abbrev pub document_path : List ℕ → List ℕ
+document_path path = codes "$" ++ path
+
+-- what a function answers is what reading gives; want of memory leaves it open
+abbrev pub IsFault : DocFault → DocFault → Type 0
+IsFault Memory fault = Unit {0}
+IsFault (At path cause) fault = fault ≡ At path cause
+
+abbrev pub Fails : {T : Type 0} → DocFault → Result T DocFault → Type 0
+Fails Memory reading = Unit {0}
+Fails (At path cause) reading = reading ≡ Err (At path cause)
+
+abbrev pub Gives : {T : Type 0} → Result T DocFault → Result T DocFault → Type 0
+Gives (Ok x) reading = reading ≡ Ok x
+Gives (Err fault) reading = Fails fault reading
+
+-- the same of what is seen through a view
+abbrev pub GivesSeen : {S T : Type 0} → (S → T) → Result S DocFault → Result T DocFault → Type 0
+GivesSeen view (Ok x) reading = reading ≡ Ok (view x)
+GivesSeen view (Err fault) reading = Fails fault reading

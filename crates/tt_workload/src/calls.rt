@@ -1,0 +1,88 @@
+//! Reading of the calls of a document.
+ghost use Rattle.std.specs.Prelude.{◌≡◌};
+ghost use Rattle.serde_json.specs.View.{view};
+ghost use Rattle.tt_workload.specs.Reading.{Gives};
+ghost use Rattle.tt_workload.specs.Grammar.{has, ask, call, calls};
+
+use crate::MAX_CALLS;
+use crate::document::{Ask, Call};
+use crate::fault::DocFault;
+use crate::reader::{CountReader, OUT_OF_RANGE, Reader, array, member, object};
+use crate::statements::{insert, select};
+use crate::taker::read_items;
+use serde_json::Value;
+use std::alloc::Global;
+use tt_values::{Catalog, Items};
+
+const NO_KIND: &str = "missing one of insert, update, delete, select, preview";
+
+/// The calls of workers on a catalogue, of which there may be too many.
+#[derive(Drop)]
+pub(crate) struct CallsReader<'a> {
+    pub(crate) catalog: &'a Catalog,
+    pub(crate) workers: u32,
+}
+
+impl Reader for CallsReader<'_> {
+    type Output = Items<Call>;
+
+    ghost spelled = { λ r. calls r.catalog.now r.workers };
+
+    fn read(&self, alloc: Global, value: &Value) -> Result<Items<Call>, DocFault> {
+        let items = array(alloc, value)?;
+        if items.len() > MAX_CALLS {
+            return Err(DocFault::here(alloc, OUT_OF_RANGE));
+        }
+        let reader = CallReader {
+            catalog: self.catalog,
+            workers: self.workers,
+        };
+        read_items(alloc, &reader, items)
+    }
+}
+
+#[derive(Drop)]
+struct CallReader<'a> {
+    catalog: &'a Catalog,
+    workers: u32,
+}
+
+impl Reader for CallReader<'_> {
+    type Output = Call;
+
+    ghost spelled = { λ r. call r.catalog.now r.workers };
+
+    #[tactic(auto, unfolding(crate::specs::Grammar::call))]
+    fn read(&self, alloc: Global, value: &Value) -> Result<Call, DocFault> {
+        object(alloc, value)?;
+        let workers = CountReader {
+            least: 1,
+            most: self.workers,
+        };
+        let worker = member(alloc, value, "worker", &workers)?;
+        let ask = ask(alloc, self.catalog, value)?;
+        Ok(Call { worker, ask })
+    }
+}
+
+/// What a call asks for, by the first kind that's there.
+#[tactic(auto, unfolding(crate::specs::Grammar::ask))]
+fn ask(alloc: Global, catalog: &Catalog, value: &Value) -> Result<Ask, DocFault>
+    ensures { Gives result (ask catalog.now (view value.now)) }
+{
+    if has(value, "insert") {
+        let write = insert(alloc, catalog, value)?;
+        return Ok(Ask::Write(write));
+    }
+    if has(value, "select") {
+        let select = select(alloc, catalog, value)?;
+        return Ok(Ask::Read { select });
+    }
+    Err(DocFault::here(alloc, NO_KIND))
+}
+
+fn has(object: &Value, name: &str) -> bool
+    ensures { result ≡ has name.now (view object.now) }
+{
+    object.get(name).is_some()
+}

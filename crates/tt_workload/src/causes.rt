@@ -1,0 +1,34 @@
+//! The texts of the faults of a catalogue and of a statement.
+ghost use Rattle.std.specs.Prelude.{◌≡◌};
+ghost use Rattle.tt_workload.specs.Causes.{cause_of_catalog, cause_of_check};
+
+use tt_values::{CatalogError, CheckError};
+
+/// Why a table isn't taken. Want of memory is no fault of the document.
+pub(crate) fn cause_of_catalog(error: CatalogError) -> &'static str
+    ensures { result.now ≡ cause_of_catalog error }
+{
+    match error {
+        CatalogError::BadName => "bad name",
+        CatalogError::SameTable => "table named twice",
+        CatalogError::NoColumns => "no columns",
+        CatalogError::KeyNotInt => "first column is not int",
+        CatalogError::SameColumn => "column named twice",
+        CatalogError::TooMany => "too many tables or columns",
+        CatalogError::Memory => "want of memory",
+    }
+}
+
+/// Why a statement can't be carried out.
+pub(crate) fn cause_of_check(error: CheckError) -> &'static str
+    ensures { result.now ≡ cause_of_check error }
+{
+    match error {
+        CheckError::NoTable => "no such table",
+        CheckError::NoColumn => "no such column",
+        CheckError::WrongKind => "value of the wrong kind",
+        CheckError::WrongWidth => "row of the wrong width",
+        CheckError::TextTooLong => "text too long",
+        CheckError::TooManyEquals => "too many equalities",
+    }
+}

@@ -1,0 +1,188 @@
+//! Reading of JSON values.
+ghost use Rattle.std.specs.Prelude.{◌≡◌, ◌++◌, Result, map, codes};
+ghost use Rattle.serde_json.specs.Data.{Data};
+ghost use Rattle.serde_json.specs.View.{view};
+ghost use Rattle.tt_workload.specs.declared.fault.DocFault.{DocFault};
+ghost use Rattle.tt_workload.specs.Reading.{Gives, GivesSeen, IsFault, fault_here, with_path, member_path, item_path};
+ghost use Rattle.tt_workload.specs.Json.{object, text, flag, count, count_within, array, member, optional};
+
+use crate::fault::DocFault;
+use serde_json::Value;
+use std::alloc::Global;
+use tt_values::Text;
+
+pub(crate) const WRONG_TYPE: &str = "wrong type";
+pub(crate) const OUT_OF_RANGE: &str = "out of range";
+
+/// Reads the values of one place of the grammar.
+pub(crate) trait Reader: Drop {
+    type Output;
+
+    /// What a value spells, or its first fault.
+    ghost spelled: { Self → Data → Result Self.Output DocFault };
+
+    fn read(&self, alloc: Global, value: &Value) -> Result<Self::Output, DocFault>
+        ensures { Gives result (spelled self.now (view value.now)) };
+}
+
+/// Asks that the value is an object.
+pub(crate) fn object(alloc: Global, value: &Value) -> Result<(), DocFault>
+    ensures { Gives result (object (view value.now)) }
+{
+    match value.as_object() {
+        Some(_) => Ok(()),
+        None => Err(DocFault::here(alloc, WRONG_TYPE)),
+    }
+}
+
+/// The text that the value is.
+pub(crate) fn text(alloc: Global, value: &Value) -> Result<&str, DocFault>
+    ensures { GivesSeen (λ s. s.now) result (text (view value.now)) }
+{
+    match value.as_str() {
+        Some(text) => Ok(text),
+        None => Err(DocFault::here(alloc, WRONG_TYPE)),
+    }
+}
+
+/// The count that the value is.
+pub(crate) fn count(alloc: Global, value: &Value) -> Result<u64, DocFault>
+    ensures { Gives result (count (view value.now)) }
+{
+    match value.as_u64() {
+        Some(count) => Ok(count),
+        None => Err(DocFault::here(alloc, WRONG_TYPE)),
+    }
+}
+
+/// The items of the array that the value is.
+pub(crate) fn array(alloc: Global, value: &Value) -> Result<&[Value], DocFault>
+    ensures { GivesSeen (λ items. map view items.now) result (array (view value.now)) }
+{
+    match value.as_array() {
+        Some(items) => Ok(items.as_slice()),
+        None => Err(DocFault::here(alloc, WRONG_TYPE)),
+    }
+}
+
+/// What a member that has to be there spells.
+pub(crate) fn member<R: Reader>(
+    alloc: Global,
+    object: &Value,
+    name: &str,
+    reader: &R,
+) -> Result<R::Output, DocFault>
+    ensures { Gives result (member name.now (R.spelled reader.now) (view object.now)) }
+{
+    match object.get(name) {
+        Some(value) => member_value(alloc, value, name, reader),
+        None => Err(missing(alloc, name)),
+    }
+}
+
+/// What a member spells, if it's there.
+pub(crate) fn optional<R: Reader>(
+    alloc: Global,
+    object: &Value,
+    name: &str,
+    reader: &R,
+) -> Result<Option<R::Output>, DocFault>
+    ensures { Gives result (optional name.now (R.spelled reader.now) (view object.now)) }
+{
+    match object.get(name) {
+        Some(value) => {
+            let spelled = member_value(alloc, value, name, reader)?;
+            Ok(Some(spelled))
+        }
+        None => Ok(None),
+    }
+}
+
+fn member_value<R: Reader>(
+    alloc: Global,
+    value: &Value,
+    name: &str,
+    reader: &R,
+) -> Result<R::Output, DocFault>
+    ensures { Gives result (with_path (member_path name.now) (R.spelled reader.now (view value.now))) }
+{
+    match reader.read(alloc, value) {
+        Ok(spelled) => Ok(spelled),
+        Err(fault) => Err(fault.in_member(alloc, name)),
+    }
+}
+
+/// What an item of an array spells.
+pub(crate) fn item<R: Reader>(
+    alloc: Global,
+    index: usize,
+    value: &Value,
+    reader: &R,
+) -> Result<R::Output, DocFault>
+    ensures { Gives result (with_path (item_path index) (R.spelled reader.now (view value.now))) }
+{
+    match reader.read(alloc, value) {
+        Ok(spelled) => Ok(spelled),
+        Err(fault) => Err(fault.in_item(alloc, index)),
+    }
+}
+
+fn missing(alloc: Global, name: &str) -> DocFault
+    ensures { IsFault result (fault_here (codes "missing member " ++ name.now)) }
+{
+    DocFault::because(alloc, format!(in alloc; "missing member {name}"))
+}
+
+/// A text, in memory of its own.
+#[derive(Drop)]
+pub(crate) struct TextReader;
+
+impl Reader for TextReader {
+    type Output = Text;
+
+    ghost spelled = { λ _. text };
+
+    fn read(&self, alloc: Global, value: &Value) -> Result<Text, DocFault> {
+        let text = text(alloc, value)?;
+        let text = String::from_str(alloc, text)?;
+        Ok(Text::new(text))
+    }
+}
+
+/// True or false.
+#[derive(Drop)]
+pub(crate) struct FlagReader;
+
+impl Reader for FlagReader {
+    type Output = bool;
+
+    ghost spelled = { λ _. flag };
+
+    fn read(&self, alloc: Global, value: &Value) -> Result<bool, DocFault> {
+        match value.as_bool() {
+            Some(flag) => Ok(flag),
+            None => Err(DocFault::here(alloc, WRONG_TYPE)),
+        }
+    }
+}
+
+/// A count within bounds.
+#[derive(Drop)]
+pub(crate) struct CountReader {
+    pub(crate) least: u32,
+    pub(crate) most: u32,
+}
+
+impl Reader for CountReader {
+    type Output = u32;
+
+    ghost spelled = { λ c. count_within c.least c.most };
+
+    fn read(&self, alloc: Global, value: &Value) -> Result<u32, DocFault> {
+        let count = count(alloc, value)?;
+        if count < u64::from(self.least) || count > u64::from(self.most) {
+            return Err(DocFault::here(alloc, OUT_OF_RANGE));
+        }
+        Ok(count as u32)
+    }
+}
