@@ -4,3 +4,5 @@ pub mod Members
 pub mod Causes
 pub mod Grammar
 pub mod Quoting
+pub mod Printing
+pub mod Report

@@ -2,19 +2,23 @@
 #![tactic(auto)]
 
 mod causes;
+mod alone;
 mod calls;
 mod document;
 mod fault;
 mod members;
+mod printing;
 mod quoting;
 mod reader;
 mod reading;
+mod run_fault;
 mod statements;
 mod tables;
 mod taker;
 
 pub use document::{Ask, Call, Document, SharedCatalog};
 pub use fault::DocFault;
+pub use run_fault::RunFault;
 
 /// The most workers that a document has.
 pub const MAX_WORKERS: u32 = 15;

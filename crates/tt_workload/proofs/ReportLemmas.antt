@@ -1,0 +1,62 @@
+-- Lines of a report, one after another.
+use Rattle.std.proofs.Common.{◌≡◌, ℕ, zero, suc, ◌+◌, List, [], ◌∷◌, ◌++◌, drop, Option, Some, None, slice_get, refl, sym, ap, ◌∙◌, arith, append_assoc}
+use Rattle.tt_values.specs.declared.table.TableDef.{TableDef}
+use Rattle.tt_values.specs.Tables.{Tables}
+use Rattle.tt_db.specs.State.{State}
+use Rattle.std.specs.Option.{option_map}
+use Rattle.tt_db.specs.State.{after}
+use Rattle.tt_db.specs.Limits.{largest}
+use Rattle.tt_db.specs.Database.{Database, state_of}
+use Rattle.tt_workload.specs.declared.document.Document.{Document}
+use Rattle.tt_workload.specs.Report.{table_line, table_lines, call_lines, end_line, history_of, alone}
+
+drop-at : {X : Type 0} → (xs : List X) (i : ℕ) (x : X) → slice_get xs i ≡ Some x → drop i xs ≡ x ∷ drop (suc i) xs
+drop-at [] i x h = cc
+drop-at (y ∷ ys) zero x h = let same : y ≡ x = cc in ap (λ z. z ∷ ys) same
+drop-at (y ∷ ys) (suc i) x h = drop-at ys i x h
+
+-- the next line, and those after it
+pub table_lines-next : (S : State) (tables : Tables) (i : ℕ) (t : List ℕ × TableDef) (out all : List ℕ) → slice_get tables i ≡ Some t
+    → out ++ table_lines S i (drop i tables) ≡ all → (out ++ table_line S i t.0) ++ table_lines S (i + 1) (drop (i + 1) tables) ≡ all
+table_lines-next S tables i t out all there h =
+    let next : i + 1 ≡ suc i = omega arith in
+    append_assoc out (table_line S i t.0) (table_lines S (i + 1) (drop (i + 1) tables))
+    ∙ ap (λ ts. out ++ (table_line S i t.0 ++ table_lines S (i + 1) ts)) (ap (λ j. drop j tables) next)
+    ∙ ap (λ ts. out ++ table_lines S i ts) (sym (drop-at tables i t there))
+    ∙ h
+
+-- the same, where the table is known by its name
+pub table_lines-named : (S : State) (tables : Tables) (i : ℕ) (name out all new : List ℕ) → Some name ≡ option_map (λ t. t.0) (slice_get tables i)
+    → out ++ table_lines S i (drop i tables) ≡ all → new ≡ out ++ table_line S i name → new ++ table_lines S (i + 1) (drop (i + 1) tables) ≡ all
+table_lines-named S tables i name out all new there h pushed = by (slice_get tables i) refl there
+  where
+    by : (o : Option (List ℕ × TableDef)) → slice_get tables i ≡ o → Some name ≡ option_map (λ t. t.0) o → new ++ table_lines S (i + 1) (drop (i + 1) tables) ≡ all
+    by None e g = cc
+    by (Some t) e g =
+        let same : name ≡ t.0 = cc in
+        ap (λ ls. ls ++ table_lines S (i + 1) (drop (i + 1) tables)) (pushed ∙ ap (λ n. out ++ table_line S i n) same) ∙ table_lines-next S tables i t out all e h
+
+-- the pieces of a report, one after another
+pub report-pieces : (document : Document) (new db : Database) (none calls tables all : List ℕ)
+    → new ≡ record { catalog = document.catalog; limits = largest; history = [] }
+    → none ≡ []
+    → db ≡ record new { history = history_of document.calls }
+    → calls ≡ none ++ call_lines 1 [] document.calls
+    → tables ≡ calls ++ table_lines (state_of db) 0 db.catalog
+    → all ≡ tables ++ end_line (state_of db)
+    → all ≡ alone document
+report-pieces document new db none calls tables all made empty moved called tabled ended =
+    let is : db ≡ record { catalog = document.catalog; limits = largest; history = history_of document.calls } =
+        moved ∙ ap (λ (d : Database). record d { history = history_of document.calls }) made in
+    let lines = call_lines 1 [] document.calls in
+    let last = after (history_of document.calls) in
+    ended ∙ ap (λ ts. ts ++ end_line (state_of db)) (tabled ∙ ap (λ cs. cs ++ table_lines (state_of db) 0 db.catalog) (called ∙ ap (λ n. n ++ lines) empty))
+    ∙ ap (λ (d : Database). (lines ++ table_lines (state_of d) 0 d.catalog) ++ end_line (state_of d)) is
+    ∙ append_assoc lines (table_lines last 0 document.catalog) (end_line last)
+
+-- two labelled numbers and an end, pushed one after another
+pub labelled-twice : (old first second all label_1 number_1 label_2 number_2 end : List ℕ)
+    → first ≡ old ++ (label_1 ++ number_1) → second ≡ first ++ (label_2 ++ number_2) → all ≡ second ++ end
+    → all ≡ old ++ (label_1 ++ (number_1 ++ (label_2 ++ (number_2 ++ end))))
+labelled-twice old first second all label_1 number_1 label_2 number_2 end p q r =
+    r ∙ ap (λ s. s ++ end) (q ∙ ap (λ f. f ++ (label_2 ++ number_2)) p) ∙ simp append_assoc

@@ -1,0 +1,87 @@
+-- The history of a document that runs alone, and its report in bytes.
+use Rattle.std.specs.Prelude.{◌≡◌, ℕ, ◌+◌, ◌<◌, ◌≤◌, List, [], ◌∷◌, ◌++◌, length, None, codes}
+use Rattle.std.specs.List.{flat_map}
+use Rattle.std.specs.Fmt.{decimal}
+use Rattle.tt_values.specs.Tables.{Tables}
+use Rattle.tt_values.specs.Check.{write_fault, select_fault}
+use Rattle.tt_values.specs.Effect.{answer_of}
+use Rattle.tt_db.specs.declared.event.Event.TheVariants as events
+use Rattle.tt_db.specs.declared.event.Entry.{Entry}
+use Rattle.tt_db.specs.declared.outcome.Outcome.{Outcome}
+use Rattle.tt_db.specs.declared.outcome.Outcome.TheVariants.{Written}
+use Rattle.tt_db.specs.State.{State, after, told, now_of, current_at}
+use Rattle.tt_db.specs.Database.{Database, state_of}
+use Rattle.tt_workload.specs.declared.document.Document.{Document}
+use Rattle.tt_workload.specs.declared.document.Call.{Call}
+use Rattle.tt_workload.specs.declared.document.Ask.{Ask}
+use Rattle.tt_workload.specs.declared.document.Ask.TheVariants as asks
+use Rattle.tt_workload.specs.Printing.{reply_text}
+
+-- the end of a write's line: its slot and its reply
+abbrev pub outcome_text : Outcome → List ℕ
+outcome_text (Written slot reply) = codes " slot " ++ (decimal slot ++ (codes " " ++ (reply_text reply ++ codes "\n")))
+
+-- the end of a call's line, in a state: what a write is told, and the right answer to a select, at the current time
+abbrev pub ask_text : State → Ask → List ℕ
+ask_text S (asks.Write w) = outcome_text (told S (events.Write w))
+ask_text S (asks.Read q) = codes " time " ++ (decimal (now_of S) ++ (codes " " ++ (reply_text (answer_of q (current_at S (now_of S))) ++ codes "\n")))
+
+-- the line of a call, in the state that stands when its turn comes
+abbrev pub call_line : ℕ → State → Call → List ℕ
+call_line number S call = codes "call " ++ (decimal number ++ (codes " worker " ++ (decimal call.worker ++ ask_text S call.ask)))
+
+-- what an ask adds to the history: a write its entry, under its worker's number
+abbrev pub entries_of_ask : ℕ → Ask → List Entry
+entries_of_ask worker (asks.Write w) = record { worker = worker; event = events.Write w } ∷ []
+entries_of_ask worker (asks.Read q) = []
+
+abbrev pub entries_of : Call → List Entry
+entries_of call = entries_of_ask call.worker call.ask
+
+-- the history that calls make
+abbrev pub history_of : List Call → List Entry
+history_of calls = flat_map entries_of calls
+
+-- the lines of calls, numbered from a number on, after a history
+abbrev pub call_lines : ℕ → List Entry → List Call → List ℕ
+call_lines number history [] = []
+call_lines number history (call ∷ calls) = call_line number (after history) call ++ call_lines (number + 1) (history ++ entries_of call) calls
+
+-- the line of a table: its name and all its rows now
+abbrev pub table_line : State → ℕ → List ℕ → List ℕ
+table_line S table name =
+    codes "table " ++ (name ++ (codes " " ++ (reply_text (answer_of (record { table = table; equals = [] }) (current_at S (now_of S))) ++ codes "\n")))
+
+-- the lines of tables, from a position on
+abbrev pub table_lines : State → ℕ → Tables → List ℕ
+table_lines S table [] = []
+table_lines S table (t ∷ tables) = table_line S table t.0 ++ table_lines S (table + 1) tables
+
+-- the last line
+abbrev pub end_line : State → List ℕ
+end_line S = codes "end generation " ++ (decimal S.generation ++ (codes " time " ++ (decimal (now_of S) ++ codes "\n")))
+
+-- the report of a document that runs alone: a line for each call, for each table, and the last one
+abbrev pub alone : Document → List ℕ
+alone document =
+    let last = after (history_of document.calls) in
+    call_lines 1 [] document.calls ++ (table_lines last 0 document.catalog ++ end_line last)
+
+-- a database that can take a further write in
+pub record HasRoom (db : Database) : Type 0 where
+  pub slots : now_of (state_of db) < db.limits.slots
+  pub events : (state_of db).events < db.limits.events
+
+-- what a call asks can be carried out on the tables
+abbrev pub IsSoundAsk : Tables → Ask → Type 0
+IsSoundAsk tables (asks.Write w) = write_fault tables w ≡ None
+IsSoundAsk tables (asks.Read q) = select_fault tables q ≡ None
+
+abbrev pub AreSound : Tables → List Call → Type 0
+AreSound tables [] = Unit {0}
+AreSound tables (call ∷ calls) = IsSoundAsk tables call.ask × AreSound tables calls
+
+-- a document that can be run: every call can be carried out, and there aren't too many
+pub record IsSound (document : Document) : Type 0 where
+  pub calls : AreSound document.catalog document.calls
+  pub few : length document.calls ≤ 100000
