@@ -19,12 +19,7 @@ pub(crate) trait Taker {
     /// What an item leaves of a state, or the item's first fault.
     ghost after: { Self → Self.State → Data → Result Self.State DocFault };
 
-    fn take(
-        &self,
-        alloc: Global,
-        state: Self::State,
-        item: &Value,
-    ) -> Result<Self::State, DocFault>
+    fn take(&self, alloc: Global, state: Self::State, item: &Value) -> Result<Self::State, DocFault>
         ensures { Gives result (after self.now state (view item.now)) };
 }
 
