@@ -168,7 +168,7 @@ abbrev pub calls : Tables → ℕ → Data → Result (List Call) DocFault
 calls tables workers v = do
   ds ← array v
   _ ← at_most MAX_CALLS ds
-  each (call tables workers) ds
+  each (call tables workers) 0 ds
 
 -- a document: its version, its tables, how many workers there are, and their calls
 unfoldable pub members_of_document : Data → Result Document DocFault

@@ -117,7 +117,7 @@ pub(crate) fn read_items<R: Reader>(
 ) -> Result<Items<R::Output>, DocFault>
 where
     R::Output: Drop,
-    ensures { Gives result (each (R.spelled reader.now) (map view items.now)) }
+    ensures { Gives result (each (R.spelled reader.now) 0 (map view items.now)) }
 {
     let start = Items::new(Vec::new(alloc));
     take_all(alloc, &Collector { reader }, start, items)
