@@ -2,3 +2,4 @@ pub mod JsonLemmas
 pub mod MembersLemmas
 pub mod QuotingLemmas
 pub mod ReportLemmas
+pub mod SoundLemmas

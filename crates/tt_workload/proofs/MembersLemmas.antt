@@ -51,16 +51,16 @@ find-map : (q : List ℕ → Bool) (ks : List (String Global)) → find q (map s
 find-map q [] = refl
 find-map q (k ∷ ks) =
     elim (q (string_bytes k)) as (λ b. cond b (Some (string_bytes k)) (find q (map string_bytes ks)) ≡ option_map string_bytes (cond b (Some k) (find (λ l. q (string_bytes l)) ks)))
-      [ true ↦ refl | false ↦ find-map q ks ]
+    [ true ↦ refl | false ↦ find-map q ks ]
 
 -- the least of an object's names that pass a test is the first key that passes it
 pub least-filter : (q : List ℕ → Bool) (es : List (String Global × Value)) → IsStrictlySortedBy string_cmp (keys_of es)
     → least (filter q (member_names (members_view es))) ≡ option_map string_bytes (find (λ k. q (string_bytes k)) (keys_of es))
 least-filter q es h =
     rw (names-members_view es) (
-      least-sorted _ (IsStrictlySortedBy-filter (slice_cmp nat_cmp) q _ (sorted_names (keys_of es) h))
-      ∙ first-filter q (map string_bytes (keys_of es))
-      ∙ find-map q (keys_of es))
+    least-sorted _ (IsStrictlySortedBy-filter (slice_cmp nat_cmp) q _ (sorted_names (keys_of es) h))
+    ∙ first-filter q (map string_bytes (keys_of es))
+    ∙ find-map q (keys_of es))
 
 -- the first key that a test doesn't know is the least unknown name
 pub first_is_least : (is_known : List ℕ → Bool) (es : List (String Global × Value)) (object : Option Members) (found : Option (String Global))

@@ -1,12 +1,12 @@
 -- A text in quotes is a text: an escape stands in place of an ASCII character, and the bytes of any other one stay.
-use Rattle.std.proofs.Common.{◌≡◌, ℕ, ◌+◌, ◌/◌, ◌%◌, ◌<◌, ◌≤◌, Bool, true, false, cond, nat_lt, ◌==◌, ◌&&◌, List, [], ◌∷◌, ◌++◌, Option, Some, None, inl, inr, refl, sym, ap, subst, ◌∙◌, arith}
+use Rattle.std.proofs.Common.{◌≡◌, ℕ, ◌+◌, ◌/◌, ◌%◌, ◌<◌, ◌≤◌, Bool, true, false, cond, nat_lt, ◌==◌, ◌&&◌, List, [], ◌∷◌, Option, Some, None, inl, inr, refl, sym, ap, subst, arith}
 use Rattle.std.specs.List.{flat_map}
 use Rattle.std.specs.Str.{IsUtf8}
 use Rattle.std.proofs.lemmas.Bool.Decides.{nat_tests}
 use Rattle.std.proofs.lemmas.Grind.{flat_map-append}
 use Rattle.std.proofs.lemmas.Str.{IsUtf8-nil, IsUtf8-encode, IsUtf8-append, encode_ascii}
 use Rattle.std.proofs.lemmas.Bool.{cases_lt}
-use lib.Utf8.{scalar, scalars, encode, encodes, next, low_scalar}
+use lib.Utf8.{scalar, scalars, encode, encodes, low_scalar}
 use Rattle.tt_workload.specs.Quoting.{letter_of, hex_digit, escape_by, escape, quoted}
 
 -- each byte is past ASCII; each is ASCII
@@ -39,10 +39,11 @@ and_parts false y e = cc
 low_escape : (o : Option ℕ) (b : ℕ) → LowLetter o → b < 128 → AllLow (escape_by o b)
 low_escape (Some l) b p h = (omega arith, (p, tt))
 low_escape None b p h =
-    elim (nat_lt b 32) as (λ t. (b / 16 < 16) → (b % 16 < 16) → AllLow (cond t (92 ∷ 117 ∷ 48 ∷ 48 ∷ hex_digit (b / 16) ∷ hex_digit (b % 16) ∷ []) (b ∷ [])))
-      [ true ↦ (λ d m. (omega arith, (omega arith, (omega arith, (omega arith, (low_digit (b / 16) d, (low_digit (b % 16) m, tt)))))))
-      | false ↦ (λ d m. (h, tt)) ]
-      (omega arith) (omega arith)
+    elim (nat_lt b 32) as (λ t. (b / 16 < 16) → (b % 16 < 16) → AllLow (cond t (92 ∷ 117 ∷ 48 ∷ 48 ∷ hex_digit (b / 16) ∷ hex_digit (b % 16) ∷ []) (b ∷ []))) [
+      | true ↦ (λ d m. (omega arith, (omega arith, (omega arith, (omega arith, (low_digit (b / 16) d, (low_digit (b % 16) m, tt)))))))
+      | false ↦ (λ d m. (h, tt))
+    ]
+    (omega arith) (omega arith)
 
 IsUtf8-from_low : (bs : List ℕ) → AllLow bs → IsUtf8 bs
 IsUtf8-from_low [] h = IsUtf8-nil
@@ -70,8 +71,9 @@ high_bytes c h =
 -- a character, escaped, is a text
 escaped_character : (c : ℕ) → scalar c ≡ true → IsUtf8 (flat_map escape (encode c))
 escaped_character c s = elim (cases_lt c 128) [
-      inl h ↦ subst (λ bs. IsUtf8 (flat_map escape bs)) (sym (encode_ascii c h)) (IsUtf8-append (escape c) [] (IsUtf8-from_low (escape c) (low_escape (letter_of c) c (low_letter c) h)) IsUtf8-nil)
-    | inr h ↦ subst IsUtf8 (sym (plain_all (encode c) (high_bytes c h))) (IsUtf8-encode c s) ]
+  | inl h ↦ subst (λ bs. IsUtf8 (flat_map escape bs)) (sym (encode_ascii c h)) (IsUtf8-append (escape c) [] (IsUtf8-from_low (escape c) (low_escape (letter_of c) c (low_letter c) h)) IsUtf8-nil)
+  | inr h ↦ subst IsUtf8 (sym (plain_all (encode c) (high_bytes c h))) (IsUtf8-encode c s)
+]
 
 escaped_characters : (cs : List ℕ) → scalars cs ≡ true → IsUtf8 (flat_map escape (encodes cs))
 escaped_characters [] s = IsUtf8-nil

@@ -1,7 +1,7 @@
 -- JSON values of the types that a document wants.
-use Rattle.std.specs.Prelude.{ℕ, suc, ℤ, Bool, List, [], ◌∷◌, ◌++◌, Option, Some, None, option_map, option_and_then, Result, Ok, Err, codes, ⊤, nat_lt, ◌||◌, if◌then◌else◌}
+use Rattle.std.specs.Prelude.{ℕ, suc, Bool, List, [], ◌∷◌, ◌++◌, Option, Some, None, option_map, option_and_then, Result, Ok, codes, ⊤, nat_lt, ◌||◌, if◌then◌else◌}
 use Rattle.serde_json.specs.Data.{Data, Items, no_items, item}
-use Rattle.serde_json.specs.Find.{get, as_bool, as_number, as_str, as_array, as_object, as_i64, as_u64}
+use Rattle.serde_json.specs.Find.{get, as_bool, as_number, as_str, as_array, as_object, as_u64}
 use Rattle.tt_workload.specs.declared.fault.DocFault.{DocFault}
 use Rattle.tt_workload.specs.Reading.{◌>>=◌, refuse, with_path, member_path, item_path}
 
@@ -61,7 +61,20 @@ read_optional name reader (Some d) = do
 abbrev pub optional : {T : Type 0} → List ℕ → (Data → Result T DocFault) → Data → Result (Option T) DocFault
 optional name reader v = read_optional name reader (get name v)
 
--- the state that the items of an array leave, one after another from the front, the first of them with this number
+-- what each item of an array spells, in order, the first of them with this number
+abbrev pub each : {T : Type 0} → (Data → Result T DocFault) → ℕ → List Data → Result (List T) DocFault
+each reader i [] = Ok []
+each reader i (d ∷ ds) = do
+  x ← with_path (item_path i) (reader d)
+  xs ← each reader (suc i) ds
+  Ok (x ∷ xs)
+
+abbrev pub array_of : {T : Type 0} → (Data → Result T DocFault) → Data → Result (List T) DocFault
+array_of reader v = do
+  ds ← array v
+  each reader 0 ds
+
+-- what the items of an array leave of a state, each of what the ones before it left, the first of them with this number
 abbrev pub take_all : {S : Type 0} → (S → Data → Result S DocFault) → ℕ → S → List Data → Result S DocFault
 take_all after i state [] = Ok state
 take_all after i state (d ∷ ds) = do
@@ -73,12 +86,3 @@ abbrev pub with_item : {T : Type 0} → (Data → Result T DocFault) → List T 
 with_item reader xs d = do
   x ← reader d
   Ok (xs ++ x ∷ [])
-
--- what each item of an array spells, in order
-abbrev pub each : {T : Type 0} → (Data → Result T DocFault) → List Data → Result (List T) DocFault
-each reader ds = take_all (with_item reader) 0 [] ds
-
-abbrev pub array_of : {T : Type 0} → (Data → Result T DocFault) → Data → Result (List T) DocFault
-array_of reader v = do
-  ds ← array v
-  each reader ds

@@ -1,9 +1,9 @@
 //! Workloads of a small time-travel database: the document that tells one, and its texts.
 #![tactic(auto)]
 
-mod causes;
 mod alone;
 mod calls;
+mod causes;
 mod document;
 mod fault;
 mod members;

@@ -16,11 +16,7 @@ use serde_json::{Map, Value};
 use std::alloc::{AllocError, Global};
 
 /// Asks that an object has members of these names alone.
-pub(crate) fn no_members_but(
-    alloc: Global,
-    object: &Value,
-    known: &[&str],
-) -> Result<(), DocFault>
+pub(crate) fn no_members_but(alloc: Global, object: &Value, known: &[&str]) -> Result<(), DocFault>
     ensures { Gives result (no_members_but (λ name. list_any (λ k. bytes_eq name k.now) known.now) (view object.now)) }
 {
     match least_unknown(object, known) {

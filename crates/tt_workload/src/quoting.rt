@@ -38,7 +38,14 @@ fn push_escape(out: &mut Vec<u8>, byte: u8) -> Result<(), AllocError>
     if let Some(letter) = letter_of(byte) {
         out.extend_from_slice(&[b'\\', letter])?;
     } else if byte < 32 {
-        out.extend_from_slice(&[b'\\', b'u', b'0', b'0', hex_digit(byte / 16), hex_digit(byte % 16)])?;
+        out.extend_from_slice(&[
+            b'\\',
+            b'u',
+            b'0',
+            b'0',
+            hex_digit(byte / 16),
+            hex_digit(byte % 16),
+        ])?;
     } else {
         out.push(byte)?;
     }

@@ -12,6 +12,7 @@ use std::alloc::Global;
 use tt_values::Text;
 
 pub(crate) const WRONG_TYPE: &str = "wrong type";
+
 pub(crate) const OUT_OF_RANGE: &str = "out of range";
 
 /// Reads the values of one place of the grammar.

@@ -16,6 +16,7 @@ use std::alloc::Global;
 use tt_values::{Catalog, Equal, Row, Select, Text, Write, check, check_select};
 
 const NO_TABLE: &str = "no such table";
+
 const NO_COLUMN: &str = "no such column";
 
 /// The insert that the members of an object spell.
@@ -24,7 +25,9 @@ pub(crate) fn insert(alloc: Global, catalog: &Catalog, value: &Value) -> Result<
     ensures { Gives result (insert catalog.now (view value.now)) }
 {
     let table = member(alloc, value, "insert", &TableNameReader { catalog })?;
-    let reader = ArrayReader { reader: ValueReader };
+    let reader = ArrayReader {
+        reader: ValueReader,
+    };
     let values = member(alloc, value, "row", &reader)?;
     no_members_but(alloc, value, &["insert", "row", "worker"])?;
     let row = Row { values };
@@ -37,7 +40,9 @@ pub(crate) fn select(alloc: Global, catalog: &Catalog, value: &Value) -> Result<
     ensures { Gives result (select catalog.now (view value.now)) }
 {
     let table = member(alloc, value, "select", &TableNameReader { catalog })?;
-    let reader = ArrayReader { reader: ConditionReader { catalog, table } };
+    let reader = ArrayReader {
+        reader: ConditionReader { catalog, table },
+    };
     let equals = member(alloc, value, "where", &reader)?;
     no_members_but(alloc, value, &["select", "where", "worker"])?;
     checked_select(alloc, catalog, Select { table, equals })

@@ -6,7 +6,9 @@ ghost use Rattle.tt_workload.specs.Grammar.{kind_named, kind, column, with_table
 use crate::causes::cause_of_catalog;
 use crate::fault::DocFault;
 use crate::members::no_members_but;
-use crate::reader::{FlagReader, OUT_OF_RANGE, Reader, TextReader, array, member, object, optional, text};
+use crate::reader::{
+    FlagReader, OUT_OF_RANGE, Reader, TextReader, array, member, object, optional, text,
+};
 use crate::taker::{ArrayReader, Taker, take_all};
 use serde_json::Value;
 use std::alloc::Global;
@@ -39,7 +41,9 @@ impl Taker for TableTaker {
     fn take(&self, alloc: Global, state: Catalog, item: &Value) -> Result<Catalog, DocFault> {
         object(alloc, item)?;
         let name = member(alloc, item, "name", &TextReader)?;
-        let reader = ArrayReader { reader: ColumnReader };
+        let reader = ArrayReader {
+            reader: ColumnReader,
+        };
         let columns = member(alloc, item, "columns", &reader)?;
         no_members_but(alloc, item, &["columns", "name"])?;
         with_table(alloc, state, name.as_str(), TableDef { columns })

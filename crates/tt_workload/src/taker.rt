@@ -19,12 +19,7 @@ pub(crate) trait Taker {
     /// What an item leaves of a state, or the item's first fault.
     ghost after: { Self → Self.State → Data → Result Self.State DocFault };
 
-    fn take(
-        &self,
-        alloc: Global,
-        state: Self::State,
-        item: &Value,
-    ) -> Result<Self::State, DocFault>
+    fn take(&self, alloc: Global, state: Self::State, item: &Value) -> Result<Self::State, DocFault>
         ensures { Gives result (after self.now state (view item.now)) };
 }
 
@@ -122,7 +117,7 @@ pub(crate) fn read_items<R: Reader>(
 ) -> Result<Items<R::Output>, DocFault>
 where
     R::Output: Drop,
-    ensures { Gives result (each (R.spelled reader.now) (map view items.now)) }
+    ensures { Gives result (each (R.spelled reader.now) 0 (map view items.now)) }
 {
     let start = Items::new(Vec::new(alloc));
     take_all(alloc, &Collector { reader }, start, items)

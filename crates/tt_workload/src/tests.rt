@@ -5,7 +5,8 @@ use std::process::Abort;
 use std::test::Fail;
 use tt_values::{Catalog, Column, Equal, Items, Kind, Row, Select, Text, Value, Write};
 
-const TABLE: &str = r#"{"name":"acct","columns":[{"name":"id","kind":"int"},{"name":"owner","kind":"text","partition":true},{"name":"bal","kind":"int"}]}"#;
+const TABLE: &str =
+    r#"{"name":"acct","columns":[{"name":"id","kind":"int"},{"name":"owner","kind":"text","partition":true},{"name":"bal","kind":"int"}]}"#;
 
 /// A document with that table, one worker and these calls.
 fn with_calls(alloc: Global, calls: &str) -> Result<String, AllocError> {
@@ -24,10 +25,12 @@ fn read(rt: &impl Abort, alloc: Global, text: &str) -> Result<Document, DocFault
 
 fn refuses(rt: &impl Abort, alloc: Global, text: &str, path: &str, cause: &str) {
     match read(rt, alloc, text) {
-        Err(DocFault::At {
-            path: found,
-            cause: because,
-        }) => {
+        Err(
+            DocFault::At {
+                path: found,
+                cause: because,
+            },
+        ) => {
             assert_eq!(rt; found.as_str(), path, "{text}");
             assert_eq!(rt; because.as_str(), cause, "{text}");
         }
@@ -71,10 +74,7 @@ fn column(alloc: Global, name: &str, kind: Kind, partition: bool) -> Result<Colu
 
 fn insert_of_ann(alloc: Global) -> Result<Call, AllocError> {
     let ann = text(alloc, "ann")?;
-    let values = Vec::from_array(
-        alloc,
-        [Value::Int(1), Value::Text(ann), Value::Int(10)],
-    )?;
+    let values = Vec::from_array(alloc, [Value::Int(1), Value::Text(ann), Value::Int(10)])?;
     let row = Row {
         values: Items::new(values),
     };
@@ -103,7 +103,9 @@ fn tables_and_calls(rt: HostRuntime) -> Result<(), Fail> {
         rt.alloc(),
         r#"{"worker":1,"insert":"acct","row":[1,"ann",10]},{"worker":1,"select":"acct","where":[["owner","ann"]]}"#,
     )?;
-    let document = read(&rt, rt.alloc(), text.as_str()).ok().ok_or("a document")?;
+    let document = read(&rt, rt.alloc(), text.as_str())
+        .ok()
+        .ok_or("a document")?;
     let calls = Vec::from_array(
         rt.alloc(),
         [insert_of_ann(rt.alloc())?, select_of_ann(rt.alloc())?],
@@ -125,7 +127,9 @@ fn tables_and_calls(rt: HostRuntime) -> Result<(), Fail> {
 #[test]
 fn nothing_to_do(rt: HostRuntime) -> Result<(), Fail> {
     let text = with_tables(rt.alloc(), "")?;
-    let document = read(&rt, rt.alloc(), text.as_str()).ok().ok_or("a document")?;
+    let document = read(&rt, rt.alloc(), text.as_str())
+        .ok()
+        .ok_or("a document")?;
     assert_eq!(rt; document.workers, 1);
     assert!(rt; document.calls.is_empty());
     assert!(rt; document.catalog.as_catalog().is_empty());
@@ -194,7 +198,11 @@ fn most_workers(rt: HostRuntime) -> Result<(), Fail> {
 fn faults_of_tables(rt: HostRuntime) {
     for (tables, path, cause) in [
         (r#"{"name":"a b","columns":[]}"#, "$.tables[0]", "bad name"),
-        (r#"{"name":"a","columns":[]},7"#, "$.tables[0]", "no columns"),
+        (
+            r#"{"name":"a","columns":[]},7"#,
+            "$.tables[0]",
+            "no columns",
+        ),
         (
             r#"{"name":"a","columns":[{"name":"k","kind":"float"}]}"#,
             "$.tables[0].columns[0].kind",

@@ -1,5 +1,5 @@
 -- The first unknown key is the least unknown name.
-use Rattle.std.proofs.Common.{◌≡◌, Some, None, refl, sym, ap, ◌∙◌}
+use Rattle.std.proofs.Common.{Some, None, ap, ◌∙◌}
 use Rattle.tt_workload.proofs.MembersLemmas.{first_is_least}
 use Rattle.tt_workload.proofs.members.least_unknown.Goals as goal
 

@@ -1,6 +1,4 @@
 -- The bytes are UTF-8, since the text is.
-use Rattle.std.proofs.Common.{sym, subst}
-use Rattle.std.specs.Str.{IsUtf8}
 use Rattle.tt_workload.proofs.QuotingLemmas.{IsUtf8-quoted}
 use Rattle.tt_workload.proofs.quoting.quoted_text.Goals as goal
 

@@ -1,7 +1,7 @@
 -- The items that the array is seen as are those of its slice.
-use Rattle.std.proofs.Common.{◌≡◌, map, refl, sym, ap, ◌∙◌, Some, Ok, option_map}
+use Rattle.std.proofs.Common.{map, sym, ap, ◌∙◌, Ok, option_map}
 use Rattle.serde_json.specs.View.{view}
-use Rattle.tt_workload.specs.Json.{array, typed, list_of}
+use Rattle.tt_workload.specs.Json.{typed, list_of}
 use Rattle.tt_workload.proofs.JsonLemmas.{list_of-items_of}
 use Rattle.tt_workload.proofs.reader.array.Goals as goal
 

@@ -1,0 +1,44 @@
+//! The command line.
+use clap::{Command, Error};
+use std::alloc::Global;
+use tt_workload::Options;
+
+const ABOUT: &str = "A time-travel database: replays a workload and prints its report";
+
+const DOCUMENT: &str = r#"A workload is a JSON document on standard input. It declares tables, and lists the
+calls that workers make, in order:
+
+  {"version":1,
+   "tables":[{"name":"acct","columns":[
+     {"name":"id","kind":"int"},
+     {"name":"owner","kind":"text","partition":true},
+     {"name":"bal","kind":"int"}]}],
+   "workers":1,
+   "calls":[
+     {"worker":1,"insert":"acct","row":[1,"ann",10]},
+     {"worker":1,"select":"acct","where":[["owner","ann"]]}]}
+
+The report goes to standard output: a line for each call, one for each table, and a last one."#;
+
+/// What the command line asks for.
+#[derive(Clone, Copy, Debug, PartialEq, Eq)]
+pub struct Cli {
+    pub options: Options,
+}
+
+/// Reads the words of the command line, the program's name first. An error is a fault of usage,
+/// or a text that was asked for, as help.
+pub fn command_of<'a>(alloc: Global, words: &'a [String]) -> Result<Cli, Error> {
+    let replay = Command::new(alloc, "replay")
+        .about("Runs the calls one after another, in one thread")
+        .after_help(DOCUMENT);
+    let command = Command::new(alloc, "timetravel")
+        .about(ABOUT)
+        .after_help(DOCUMENT)
+        .subcommand_required(true)
+        .subcommand(replay)?;
+    command.try_get_matches_from(words)?;
+    Ok(Cli {
+        options: Options::usual(),
+    })
+}
