@@ -4,3 +4,4 @@ pub mod Members
 pub mod Causes
 pub mod Grammar
 pub mod Quoting
+pub mod Ends

@@ -4,17 +4,21 @@
 mod causes;
 mod calls;
 mod document;
+mod ends;
 mod fault;
 mod members;
 mod quoting;
 mod reader;
 mod reading;
+mod run_fault;
 mod statements;
 mod tables;
 mod taker;
 
 pub use document::{Ask, Call, Document, SharedCatalog};
+pub use ends::{read_document, write_text};
 pub use fault::DocFault;
+pub use run_fault::RunFault;
 
 /// The most workers that a document has.
 pub const MAX_WORKERS: u32 = 15;
@@ -24,3 +28,6 @@ pub const MAX_CALLS: usize = 100_000;
 
 #[cfg(test)]
 mod tests;
+
+#[cfg(test)]
+mod tests_ends;
