@@ -3,3 +3,5 @@ pub mod MembersLemmas
 pub mod QuotingLemmas
 pub mod ReportLemmas
 pub mod SoundLemmas
+pub mod EndsLemmas
+pub mod RunLemmas

@@ -6,3 +6,6 @@ pub mod Grammar
 pub mod Quoting
 pub mod Printing
 pub mod Report
+pub mod Ends
+pub mod Options
+pub mod Run

@@ -52,9 +52,7 @@ fn push_write(
     ensures state { OnOk result (db.new ≡ record db.old { history = db.old.history ++ entries_of_ask worker (Ask.Write write.now) }) }
     ensures err { IfErr result (λ e. e ≡ RunFault.Memory) }
 {
-    let Ok(write) = write.copy() else {
-        return Err(RunFault::Memory);
-    };
+    let write = write.copy()?;
     let entry = Entry {
         worker,
         event: Event::Write(write),
@@ -62,10 +60,8 @@ fn push_write(
     match db.apply(entry) {
         Ok((next, outcome)) => {
             *db = next;
-            match push_outcome(out, &outcome) {
-                Ok(()) => Ok(()),
-                Err(AllocError) => Err(RunFault::Memory),
-            }
+            push_outcome(out, &outcome)?;
+            Ok(())
         }
         Err(error) => Err(RunFault::of_event(alloc, error)),
     }
@@ -86,10 +82,8 @@ fn push_read(
         Ok(reply) => reply,
         Err(error) => return Err(RunFault::of_read(alloc, error)),
     };
-    match push_answer(out, db.now(), &reply) {
-        Ok(()) => Ok(()),
-        Err(AllocError) => Err(RunFault::Memory),
-    }
+    push_answer(out, db.now(), &reply)?;
+    Ok(())
 }
 
 fn push_answer(out: &mut Vec<u8>, time: u64, reply: &Reply) -> Result<(), AllocError>
@@ -117,9 +111,7 @@ fn push_call(
     ensures state { OnOk result (db.new ≡ record db.old { history = db.old.history ++ entries_of call.now }) }
     ensures err { IfErr result (λ e. e ≡ RunFault.Memory) }
 {
-    if let Err(AllocError) = push_caller(out, number, call.worker) {
-        return Err(RunFault::Memory);
-    }
+    push_caller(out, number, call.worker)?;
     match &call.ask {
         Ask::Write(write) => push_write(alloc, out, db, call.worker, write),
         Ask::Read { select } => push_read(alloc, out, db, select),
@@ -167,10 +159,8 @@ fn push_table(
         Ok(reply) => reply,
         Err(error) => return Err(RunFault::of_read(alloc, error)),
     };
-    match push_named(out, name, &reply) {
-        Ok(()) => Ok(()),
-        Err(AllocError) => Err(RunFault::Memory),
-    }
+    push_named(out, name, &reply)?;
+    Ok(())
 }
 
 fn push_named(out: &mut Vec<u8>, name: &str, reply: &Reply) -> Result<(), AllocError>
@@ -233,15 +223,11 @@ pub(crate) fn report_of(alloc: Global, document: &Document) -> Result<Vec<u8>, R
     ensures ok { IfOk result (λ text. text.items ≡ alone document.now) }
     ensures err { IfErr result (λ e. e ≡ RunFault.Memory) }
 {
-    let Ok(catalog) = document.catalog.share() else {
-        return Err(RunFault::Memory);
-    };
+    let catalog = document.catalog.share()?;
     let mut db = Db::new(alloc, catalog, Limits::usual());
     let mut out = Vec::new(alloc);
     push_calls(alloc, &mut out, &mut db, document.calls.as_slice())?;
     push_tables(alloc, &mut out, &db)?;
-    match push_end(&mut out, &db) {
-        Ok(()) => Ok(out),
-        Err(AllocError) => Err(RunFault::Memory),
-    }
+    push_end(&mut out, &db)?;
+    Ok(out)
 }

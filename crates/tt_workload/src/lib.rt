@@ -5,19 +5,25 @@ mod alone;
 mod calls;
 mod causes;
 mod document;
+mod ends;
 mod fault;
 mod members;
+mod options;
 mod printing;
 mod quoting;
 mod reader;
 mod reading;
+mod run;
 mod run_fault;
 mod statements;
 mod tables;
 mod taker;
 
 pub use document::{Ask, Call, Document, SharedCatalog};
+pub use ends::{read_document, write_text};
 pub use fault::DocFault;
+pub use options::Options;
+pub use run::run_alone;
 pub use run_fault::RunFault;
 
 /// The most workers that a document has.
@@ -28,3 +34,6 @@ pub const MAX_CALLS: usize = 100_000;
 
 #[cfg(test)]
 mod tests;
+
+#[cfg(test)]
+mod tests_ends;

@@ -1,18 +1,43 @@
 ghost use Rattle.std.specs.Prelude.{◌≡◌};
 
 use crate::fault::DocFault;
-use std::alloc::{AllocError, Global};
+use std::alloc::{AllocError, AllocFailed, Global};
 use tt_db::{DbError, ReadError};
 use tt_values::Text;
 
-/// Why a run ended early.
+/// Why a run of a workload isn't done.
 #[derive(Debug, PartialEq, Drop)]
 pub enum RunFault {
+    /// The reader failed, or was interrupted too often.
     Read,
+    /// What was read isn't a document. The fault is never want of memory.
     Document(DocFault),
+    /// The store refused what a document may ask of it. The text says what.
     Store(Text),
+    /// The writer failed, took no byte, or was interrupted too often.
     Write,
+    /// There was no memory left.
     Memory,
+}
+
+impl From<AllocError> for RunFault {
+    ghost use Rattle.tt_workload.specs.declared.run_fault.RunFault.TheVariants.{Memory};
+
+    ghost from_gives = { λ _ e. e ≡ Memory };
+
+    fn from(_error: AllocError) -> RunFault {
+        RunFault::Memory
+    }
+}
+
+impl<T: Drop> From<AllocFailed<T>> for RunFault {
+    ghost use Rattle.tt_workload.specs.declared.run_fault.RunFault.TheVariants.{Memory};
+
+    ghost from_gives = { λ _ e. e ≡ Memory };
+
+    fn from(_error: AllocFailed<T>) -> RunFault {
+        RunFault::Memory
+    }
 }
 
 impl RunFault {

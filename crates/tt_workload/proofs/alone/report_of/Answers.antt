@@ -8,12 +8,12 @@ use Rattle.tt_workload.specs.Report.{history_of, call_lines}
 use Rattle.tt_workload.proofs.ReportLemmas.{report-pieces}
 use Rattle.tt_workload.proofs.alone.report_of.Goals as goal
 
-pub returns-in-Ok-push_end-clause-ok : goal.returns-in-Ok-push_end-clause-ok
-returns-in-Ok-push_end-clause-ok c =
+pub returns-clause-ok : goal.returns-clause-ok
+returns-clause-ok c =
     let new : Database = c.new-db.result in
     let empty : Tables → Limits → Database = λ tables limits. record { catalog = tables; limits = limits; history = [] } in
-    let made = c.new-db.ensures ∙ ap (λ (ts : Tables). empty ts c.usual.result) c.in-Ok.ensures ∙ ap (λ (l : Limits). empty c.args.document.now.catalog l) c.usual.ensures in
+    let made = c.new-db.ensures ∙ ap (λ (ts : Tables). empty ts c.usual.result) c.in_ok-catalog.ensures ∙ ap (λ (l : Limits). empty c.args.document.now.catalog l) c.usual.ensures in
     let state = c.in_ok-push_calls.ensures.state ∙ ap (λ (cs : List Call). record new { history = history_of cs }) c.as_slice.ensures in
     let lines = c.in_ok-push_calls.ensures.lines ∙ ap (λ (cs : List Call). c.new-out.result.items ++ call_lines 1 [] cs) c.as_slice.ensures in
     report-pieces c.args.document.now new c.push_calls.new.db c.new-out.result.items c.push_calls.new.out.items c.push_tables.new.out.items c.push_end.new.out.items
-    made c.new-out.ensures.items state lines c.in_ok-push_tables.ensures.text c.in-Ok-push_end.ensures
+    made c.new-out.ensures.items state lines c.in_ok-push_tables.ensures.text c.in_ok-push_end.ensures

@@ -1,0 +1,13 @@
+-- How a run repairs.
+use Rattle.std.specs.Prelude.{◌≤◌}
+use Rattle.tt_workload.specs.declared.options.Options.{Options}
+
+-- what holds where nothing else is asked for
+abbrev pub usual : Options
+usual = record { batch = 16; rounds = 8 }
+
+-- both within their ranges
+pub record AreWithin (options : Options) : Type 0 where
+  pub some_batch : 1 ≤ options.batch
+  pub batch : options.batch ≤ 10000
+  pub rounds : options.rounds ≤ 1000

@@ -1,0 +1,244 @@
+//! The two ends of a run: the document that is read, and the text that is written.
+ghost use Rattle.std.specs.Prelude.{◌≡◌, ◌+◌, ◌-◌, ◌<◌, ◌≤◌, ◌++◌, Ok, IfOk, IfErr, IfSome, OnOk, OnErr, IsTrue, length, take};
+ghost use Rattle.std.specs.Io.{ReadsAtMost, WritesAtMost};
+ghost use Rattle.std.specs.Io.KnownBytes.{Keeps, Appends, Consumes, IsAtEnd};
+ghost use Rattle.tt_workload.specs.Ends.{most_read, document_read, TakesAtMost, AppendsFront, IsFaultOf, IsOfReading, IsOfReader};
+ghost use Rattle.tt_workload.specs.Reading.{refuse, with_path, document_path};
+ghost use Rattle.tt_workload.specs.Grammar.{document_of};
+ghost use Rattle.tt_workload.specs.Report.{IsSound};
+ghost use Rattle.serde_json.specs.View.{view};
+
+use crate::document::Document;
+use crate::fault::DocFault;
+use crate::run_fault::RunFault;
+use serde_json::Value;
+use std::alloc::{AllocError, Global};
+use std::io::{Error, ErrorKind, Read, Write};
+
+const MOST_BYTES: usize = 16_777_216;
+
+const MOST_READ: usize = MOST_BYTES + 1;
+
+const MOST_RETRIES: u32 = 1_000;
+
+/// The most bytes that the reader is asked for at once.
+const PIECE: usize = 65_536;
+
+const TOO_LONG: &str = "longer than 16777216 bytes";
+
+const NOT_JSON: &str = "not JSON";
+
+/// Reads a document from a reader, to its end. Of a longer one only the first 16,777,217 bytes
+/// are taken, and it's refused. An interrupted read is tried again, 1,000 times at most.
+pub fn read_document<R: Read>(alloc: Global, reader: &mut R) -> Result<Document, RunFault>
+    ensures ok { IfOk result (λ d. IfSome (R.remaining reader.old) (λ xs. document_read (take most_read xs) ≡ Ok d)) }
+    ensures fault { IfErr result (λ e. IfSome (R.remaining reader.old) (λ xs. IsFaultOf e (document_read (take most_read xs)))) }
+    ensures kind { IfErr result IsOfReading }
+    ensures sound { IfOk result IsSound }
+    ensures most { TakesAtMost most_read (R.remaining reader.old) (R.remaining reader.new) }
+{
+    let bytes = read_bytes(alloc, reader)?;
+    document_from(alloc, &bytes)
+}
+
+/// The document that the bytes spell.
+fn document_from(alloc: Global, bytes: &[u8]) -> Result<Document, RunFault>
+    ensures ok { IfOk result (λ d. document_read bytes.now ≡ Ok d) }
+    ensures fault { IfErr result (λ e. IsFaultOf e (document_read bytes.now)) }
+    ensures kind { IfErr result IsOfReading }
+    ensures sound { IfOk result IsSound }
+{
+    if bytes.len() > MOST_BYTES {
+        return Err(refused(alloc, TOO_LONG));
+    }
+    match Value::from_slice(alloc, bytes) {
+        Ok(value) => document_of(alloc, &value),
+        Err(error) if error.is_memory() => Err(RunFault::Memory),
+        Err(_) => Err(refused(alloc, NOT_JSON)),
+    }
+}
+
+fn document_of(alloc: Global, value: &Value) -> Result<Document, RunFault>
+    ensures ok { IfOk result (λ d. document_of (view value.now) ≡ Ok d) }
+    ensures fault { IfErr result (λ e. IsFaultOf e (document_of (view value.now))) }
+    ensures kind { IfErr result IsOfReading }
+    ensures sound { IfOk result IsSound }
+{
+    match Document::from_value(alloc, value) {
+        Ok(document) => Ok(document),
+        Err(DocFault::Memory) => Err(RunFault::Memory),
+        Err(fault) => Err(RunFault::Document(fault)),
+    }
+}
+
+/// The fault of a whole document, with this cause.
+fn refused(alloc: Global, cause: &str) -> RunFault
+    ensures fault { IsFaultOf result (with_path document_path (refuse cause.now)) }
+    ensures kind { IsOfReading result }
+{
+    match DocFault::here(alloc, cause).in_document(alloc) {
+        DocFault::Memory => RunFault::Memory,
+        fault => RunFault::Document(fault),
+    }
+}
+
+/// What the reader has left, or the first bytes of it, one more than a document may have.
+fn read_bytes<R: Read>(alloc: Global, reader: &mut R) -> Result<Vec<u8>, RunFault>
+    ensures ok { IfOk result (λ bytes. IfSome (R.remaining reader.old) (λ xs. bytes.items ≡ take most_read xs)) }
+    ensures fault { IfErr result IsOfReader }
+    ensures most { TakesAtMost most_read (R.remaining reader.old) (R.remaining reader.new) }
+{
+    let mut buffer = zeros(alloc, PIECE)?;
+    read_pieces(alloc, reader, &mut buffer)
+}
+
+fn zeros(alloc: Global, count: usize) -> Result<Vec<u8>, AllocError>
+    ensures { IfOk result (λ buffer. length buffer.items ≡ count) }
+{
+    vec![in alloc; 0; count]
+}
+
+/// The same, by reads into a buffer.
+fn read_pieces<R: Read>(
+    alloc: Global,
+    reader: &mut R,
+    buffer: &mut [u8],
+) -> Result<Vec<u8>, RunFault>
+    requires { 0 < length buffer.old }
+    ensures ok { IfOk result (λ bytes. IfSome (R.remaining reader.old) (λ xs. bytes.items ≡ take most_read xs)) }
+    ensures fault { IfErr result IsOfReader }
+    ensures most { TakesAtMost most_read (R.remaining reader.old) (R.remaining reader.new) }
+{
+    let mut bytes = Vec::new(alloc);
+    let mut retries = MOST_RETRIES;
+    while bytes.len() < MOST_READ {
+        let count = read_piece(reader, &mut bytes, buffer, &mut retries)?;
+        if count == 0 {
+            return Ok(bytes);
+        }
+    }
+    Ok(bytes)
+}
+
+/// Appends what one read gives, and answers how many bytes that is: none only at the reader's end.
+fn read_piece<R: Read>(
+    reader: &mut R,
+    bytes: &mut Vec<u8>,
+    buffer: &mut [u8],
+    retries: &mut u32,
+) -> Result<usize, RunFault>
+    requires few { length bytes.old.items < most_read }
+    requires room { 0 < length buffer.old }
+    ensures ok { IfOk result (λ n. bytes.new.items ≡ bytes.old.items ++ take n buffer.new) }
+    ensures taken { IfOk result (λ n. Consumes (R.remaining reader.old) (R.remaining reader.new) (take n buffer.new)) }
+    ensures within { IfOk result (λ n. length bytes.new.items ≤ most_read) }
+    ensures longer { IfOk result (λ n. length bytes.new.items ≡ length bytes.old.items + n) }
+    ensures end { IfOk result (λ n. n ≡ 0 → IsAtEnd (R.remaining reader.new)) }
+    ensures fault { IfErr result IsOfReader }
+    ensures most { OnErr result (TakesAtMost (most_read - length bytes.old.items) (R.remaining reader.old) (R.remaining reader.new)) }
+{
+    let room = buffer.len().min(MOST_READ - bytes.len());
+    let count = read_front(reader, buffer, room, retries)?;
+    bytes.extend_from_slice(&buffer[..count])?;
+    Ok(count)
+}
+
+/// One read into the front of a buffer.
+fn read_front<R: Read>(
+    reader: &mut R,
+    buffer: &mut [u8],
+    room: usize,
+    retries: &mut u32,
+) -> Result<usize, RunFault>
+    requires some { 0 < room }
+    requires fits { room ≤ length buffer.old }
+    ensures bound { IfOk result (λ n. n ≤ room) }
+    ensures ok { IfOk result (λ n. Consumes (R.remaining reader.old) (R.remaining reader.new) (take n buffer.new)) }
+    ensures end { IfOk result (λ n. n ≡ 0 → IsAtEnd (R.remaining reader.new)) }
+    ensures kept { OnErr result (Keeps (R.remaining reader.old) (R.remaining reader.new)) }
+    ensures fault { IfErr result (λ e. e ≡ RunFault.Read) }
+{
+    read_once(reader, &mut buffer[..room], retries)
+}
+
+/// One read, tried again where it's interrupted, as long as there are retries.
+fn read_once<R: Read>(
+    reader: &mut R,
+    buffer: &mut [u8],
+    retries: &mut u32,
+) -> Result<usize, RunFault>
+    ensures bound { ReadsAtMost result buffer.new }
+    ensures ok { IfOk result (λ n. Consumes (R.remaining reader.old) (R.remaining reader.new) (take n buffer.new)) }
+    ensures end { IfOk result (λ n. n ≡ 0 → 0 < length buffer.old → IsAtEnd (R.remaining reader.new)) }
+    ensures kept { OnErr result (Keeps (R.remaining reader.old) (R.remaining reader.new)) }
+    ensures fault { IfErr result (λ e. e ≡ RunFault.Read) }
+{
+    loop {
+        match reader.read(buffer) {
+            Ok(count) => return Ok(count),
+            Err(error) => {
+                if !takes_retry(&error, retries) {
+                    return Err(RunFault::Read);
+                }
+            }
+        }
+    }
+}
+
+/// Whether a failed call is made again: it was interrupted, and there are retries left.
+fn takes_retry(error: &Error, retries: &mut u32) -> bool
+    ensures fewer { IsTrue result → retries.new < retries.old }
+{
+    if error.kind() != ErrorKind::Interrupted || *retries == 0 {
+        return false;
+    }
+    *retries -= 1;
+    true
+}
+
+/// Writes a text, and flushes the writer. After an error a front part of the text is written.
+/// An interrupted write is tried again, 1,000 times at most. Takes no memory.
+pub fn write_text<W: Write>(writer: &mut W, text: &[u8]) -> Result<(), RunFault>
+    ensures ok { OnOk result (Appends (W.contents writer.old) (W.contents writer.new) text.now) }
+    ensures err { IfErr result (λ e. e ≡ RunFault.Write) }
+    ensures front { AppendsFront (W.contents writer.old) (W.contents writer.new) text.now }
+{
+    let mut retries = MOST_RETRIES;
+    let mut written = 0;
+    while written < text.len() {
+        written += write_once(writer, &text[written..], &mut retries)?;
+    }
+    flush(writer)
+}
+
+/// One write of at least one byte, tried again where it's interrupted, as long as there are
+/// retries.
+fn write_once<W: Write>(writer: &mut W, text: &[u8], retries: &mut u32) -> Result<usize, RunFault>
+    ensures bound { WritesAtMost result text.now }
+    ensures some { IfOk result (λ n. 0 < n) }
+    ensures ok { IfOk result (λ n. Appends (W.contents writer.old) (W.contents writer.new) (take n text.now)) }
+    ensures kept { OnErr result (Keeps (W.contents writer.old) (W.contents writer.new)) }
+    ensures fault { IfErr result (λ e. e ≡ RunFault.Write) }
+{
+    loop {
+        match writer.write(text) {
+            Ok(0) => return Err(RunFault::Write),
+            Ok(count) => return Ok(count),
+            Err(error) => {
+                if !takes_retry(&error, retries) {
+                    return Err(RunFault::Write);
+                }
+            }
+        }
+    }
+}
+
+fn flush<W: Write>(writer: &mut W) -> Result<(), RunFault>
+    ensures kept { Keeps (W.contents writer.old) (W.contents writer.new) }
+    ensures fault { IfErr result (λ e. e ≡ RunFault.Write) }
+{
+    match writer.flush() {
+        Ok(()) => Ok(()),
+        Err(_) => Err(RunFault::Write),
+    }
+}
