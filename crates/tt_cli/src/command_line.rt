@@ -1,4 +1,7 @@
 //! The command line.
+ghost use Rattle.std.specs.Prelude.{IfOk};
+ghost use Rattle.tt_workload.specs.Options.{AreWithin};
+
 use clap::{Command, Error};
 use std::alloc::Global;
 use tt_workload::Options;
@@ -28,7 +31,9 @@ pub struct Cli {
 
 /// Reads the words of the command line, the program's name first. An error is a fault of usage,
 /// or a text that was asked for, as help.
-pub fn command_of<'a>(alloc: Global, words: &'a [String]) -> Result<Cli, Error> {
+pub fn command_of<'a>(alloc: Global, words: &'a [String]) -> Result<Cli, Error>
+    ensures { IfOk result (λ cli. AreWithin cli.options) }
+{
     let replay = Command::new(alloc, "replay")
         .about("Runs the calls one after another, in one thread")
         .after_help(DOCUMENT);

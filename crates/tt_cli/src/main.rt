@@ -1,6 +1,8 @@
 //! The program `timetravel`.
 #![tactic(auto)]
 
+ghost use Rattle.tt_workload.specs.Options.{AreWithin};
+
 use command_line::{Cli, command_of};
 use status::{print_fault, status_of};
 use std::alloc::Global;
@@ -42,7 +44,9 @@ fn words_of(rt: &(impl Env + AllocGlobal)) -> io::Result<Vec<String>> {
 }
 
 /// Runs the document on standard input alone, and prints its report.
-fn replay(rt: &(impl Input + Print + Eprint + AllocGlobal), cli: &Cli) -> u8 {
+fn replay(rt: &(impl Input + Print + Eprint + AllocGlobal), cli: &Cli) -> u8
+    requires { AreWithin cli.now.options }
+{
     let mut reader = rt.reader();
     let mut writer = io::writer(rt);
     match run_alone(rt.alloc(), &mut reader, &mut writer, &cli.options) {
@@ -64,7 +68,7 @@ fn print_words_fault(rt: &impl Eprint, error: &io::Error) -> u8 {
 }
 
 fn print_usage(rt: &(impl Print + Eprint), error: &clap::Error) -> u8 {
-    if error.kind() == clap::ErrorKind::OutOfMemory {
+    if error.kind() == clap::error::ErrorKind::OutOfMemory {
         let _ = eprintln!(rt; "timetravel: want of memory");
         return NO_MEMORY;
     }
