@@ -1,3 +1,4 @@
 pub mod VersionLemmas
 pub mod HistoryLemmas
 pub mod PlacedLemmas
+mod WorkedRows

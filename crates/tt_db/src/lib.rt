@@ -7,6 +7,8 @@ mod errors;
 mod event;
 mod limits;
 mod outcome;
+#[cfg(test)]
+mod tests;
 mod version;
 
 pub use db::Db;
