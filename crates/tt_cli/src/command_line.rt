@@ -8,7 +8,8 @@ use tt_workload::Options;
 
 const ABOUT: &str = "A time-travel database: replays a workload and prints its report";
 
-const DOCUMENT: &str = r#"A workload is a JSON document on standard input. It declares tables, and lists the
+const DOCUMENT: &str =
+    r#"A workload is a JSON document on standard input. It declares tables, and lists the
 calls that workers make, in order:
 
   {"version":1,
@@ -38,6 +39,7 @@ pub fn command_of<'a>(alloc: Global, words: &'a [String]) -> Result<Cli, Error>
         .about("Runs the calls one after another, in one thread")
         .after_help(DOCUMENT);
     let command = Command::new(alloc, "timetravel")
+        .bin_name("timetravel")?
         .about(ABOUT)
         .after_help(DOCUMENT)
         .subcommand_required(true)

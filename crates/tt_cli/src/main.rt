@@ -6,11 +6,10 @@ ghost use Rattle.tt_workload.specs.Options.{AreWithin};
 use command_line::{Cli, command_of};
 use status::{print_fault, status_of};
 use std::alloc::Global;
-use std::env;
-use std::io;
 use std::io::ErrorKind;
 use std::process::ExitCode;
 use std::rt::Env;
+use std::{env, io};
 use tt_workload::run_alone;
 
 mod command_line;
