@@ -45,34 +45,34 @@ count_within least most v = do
 
 -- the value of a member that has to be there, read at its path
 abbrev pub read_member : {T : Type 0} → List ℕ → (Data → Result T DocFault) → Option Data → Result T DocFault
-read_member name reader None = refuse (codes "missing member " ++ name)
-read_member name reader (Some d) = with_path (member_path name) (reader d)
+read_member name decode None = refuse (codes "missing member " ++ name)
+read_member name decode (Some d) = with_path (member_path name) (decode d)
 
 abbrev pub member : {T : Type 0} → List ℕ → (Data → Result T DocFault) → Data → Result T DocFault
-member name reader v = read_member name reader (get name v)
+member name decode v = read_member name decode (get name v)
 
 -- the value of a member that may be left out
 abbrev pub read_optional : {T : Type 0} → List ℕ → (Data → Result T DocFault) → Option Data → Result (Option T) DocFault
-read_optional name reader None = Ok None
-read_optional name reader (Some d) = do
-  x ← with_path (member_path name) (reader d)
+read_optional name decode None = Ok None
+read_optional name decode (Some d) = do
+  x ← with_path (member_path name) (decode d)
   Ok (Some x)
 
 abbrev pub optional : {T : Type 0} → List ℕ → (Data → Result T DocFault) → Data → Result (Option T) DocFault
-optional name reader v = read_optional name reader (get name v)
+optional name decode v = read_optional name decode (get name v)
 
 -- what each item of an array spells, in order, the first of them with this number
 abbrev pub each : {T : Type 0} → (Data → Result T DocFault) → ℕ → List Data → Result (List T) DocFault
-each reader i [] = Ok []
-each reader i (d ∷ ds) = do
-  x ← with_path (item_path i) (reader d)
-  xs ← each reader (suc i) ds
+each decode i [] = Ok []
+each decode i (d ∷ ds) = do
+  x ← with_path (item_path i) (decode d)
+  xs ← each decode (suc i) ds
   Ok (x ∷ xs)
 
 abbrev pub array_of : {T : Type 0} → (Data → Result T DocFault) → Data → Result (List T) DocFault
-array_of reader v = do
+array_of decode v = do
   ds ← array v
-  each reader 0 ds
+  each decode 0 ds
 
 -- what the items of an array leave of a state, each of what the ones before it left, the first of them with this number
 abbrev pub take_all : {S : Type 0} → (S → Data → Result S DocFault) → ℕ → S → List Data → Result S DocFault
@@ -83,6 +83,6 @@ take_all after i state (d ∷ ds) = do
 
 -- a list with what a further item spells
 abbrev pub with_item : {T : Type 0} → (Data → Result T DocFault) → List T → Data → Result (List T) DocFault
-with_item reader xs d = do
-  x ← reader d
+with_item decode xs d = do
+  x ← decode d
   Ok (xs ++ x ∷ [])

@@ -3,11 +3,11 @@
 
 mod calls;
 mod causes;
+mod decoder;
 mod document;
 mod fault;
 mod members;
 mod quoting;
-mod reader;
 mod reading;
 mod statements;
 mod tables;
