@@ -1,3 +1,4 @@
 pub mod JsonLemmas
 pub mod MembersLemmas
 pub mod QuotingLemmas
+pub mod SoundLemmas

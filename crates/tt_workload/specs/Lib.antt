@@ -3,4 +3,5 @@ pub mod Json
 pub mod Members
 pub mod Causes
 pub mod Grammar
+pub mod Sound
 pub mod Quoting
