@@ -1,10 +1,10 @@
-ghost use Rattle.std.specs.Prelude.{◌≡◌};
+ghost use Rattle.std.specs.Prelude.{◌≡◌, IfOk};
 ghost use Rattle.std.specs.Arc.{arc_value};
 
 use crate::fault::DocFault;
 use crate::reading::from_members;
 use serde_json::Value;
-use std::alloc::Global;
+use std::alloc::{AllocError, Global};
 use std::marker::Model;
 use std::sync::Arc;
 use tt_values::{Catalog, Items, Select, Write};
@@ -81,6 +81,13 @@ impl SharedCatalog {
         ensures { result.now ≡ self.now }
     {
         &self.catalog
+    }
+
+    /// A further owner of the catalogue.
+    pub fn share(&self) -> Result<Arc<Catalog>, AllocError>
+        ensures { IfOk result (λ owner. arc_value owner ≡ self.now) }
+    {
+        Arc::try_clone(&self.catalog)
     }
 
     /// Gives the catalogue back, and takes no memory.
