@@ -11,7 +11,6 @@ use Rattle.tt_values.specs.declared.statement.Write.{Write}
 use Rattle.tt_values.specs.declared.statement.Write.TheVariants.{Insert}
 use Rattle.tt_values.specs.Tables.{Tables}
 use Rattle.tt_values.specs.Check.{write_fault, select_fault}
-use Rattle.tt_workload.specs.declared.TheConstants.{MAX_WORKERS, MAX_CALLS}
 use Rattle.tt_workload.specs.declared.document.Document.{Document}
 use Rattle.tt_workload.specs.declared.document.Call.{Call}
 use Rattle.tt_workload.specs.declared.document.Ask.{Ask}
@@ -20,7 +19,7 @@ use Rattle.tt_workload.specs.declared.fault.DocFault.{DocFault}
 use Rattle.tt_workload.specs.Reading.{◌>>=◌, refuse, with_path, item_path}
 use Rattle.tt_workload.specs.Json.{member, read_member, within, count, count_within, each, array, array_of, object}
 use Rattle.tt_workload.specs.Members.{is_one_of, no_members_but}
-use Rattle.tt_workload.specs.Grammar.{table_named, value, condition, catalog, checked, insert, select, has, ask, call, at_most, calls, members_of_document}
+use Rattle.tt_workload.specs.Grammar.{most_workers, most_calls, table_named, value, condition, catalog, checked, insert, select, has, ask, call, at_most, calls, members_of_document}
 use Rattle.tt_workload.specs.Sound.{ask_fault, IsCall, IsSound}
 
 ok_same : {T : Type 0} {x y : T} → ◌≡◌ {A = Result T DocFault} (Ok x) (Ok y) → x ≡ y
@@ -151,17 +150,17 @@ length-each decode i (d ∷ ds) xs e =
     ap length (sym (ok_same rest.rest)) ∙ ap suc (length-each decode (suc i) ds rest.value rest.is)
 
 record AreCalls (tables : Tables) (workers : ℕ) (cs : List Call) : Type 0 where
-  few : length cs ≤ MAX_CALLS
+  few : length cs ≤ most_calls
   each_is : AllByRecursion (IsCall tables workers) cs
 
 calls-ok : (tables : Tables) (workers : ℕ) (v : Data) (cs : List Call) → calls tables workers v ≡ Ok cs → AreCalls tables workers cs
 calls-ok tables workers v cs e =
     let items = step (array v) _ cs e in
-    let limit = step (at_most MAX_CALLS items.value) _ cs items.rest in
+    let limit = step (at_most most_calls items.value) _ cs items.rest in
     let same_length = length-each (call tables workers) 0 items.value cs limit.rest in
-    let few = ltb-false MAX_CALLS (length items.value) (at_most-ok _ _ limit.is) in
+    let few = ltb-false most_calls (length items.value) (at_most-ok _ _ limit.is) in
     record {
-      few = subst (λ n. n ≤ MAX_CALLS) (sym same_length) few;
+      few = subst (λ n. n ≤ most_calls) (sym same_length) few;
       each_is = each-ok (IsCall tables workers) (call tables workers) (call-ok tables workers) 0 items.value cs limit.rest;
     }
 
@@ -172,10 +171,10 @@ sound-members_of_document v d e =
     let members = step (object v) _ d e in
     let version = step (member (codes "version") (count_within 1 1) v) _ d members.rest in
     let tables = step (member (codes "tables") catalog v) _ d version.rest in
-    let workers = step (member (codes "workers") (count_within 1 MAX_WORKERS) v) _ d tables.rest in
+    let workers = step (member (codes "workers") (count_within 1 most_workers) v) _ d tables.rest in
     let cs = step (member (codes "calls") (calls tables.value workers.value) v) _ d workers.rest in
     let known = step (no_members_but (is_one_of (codes "calls" ∷ codes "tables" ∷ codes "version" ∷ codes "workers" ∷ [])) v) _ d cs.rest in
-    let bounds = member-within (codes "workers") 1 MAX_WORKERS v workers.value workers.is in
+    let bounds = member-within (codes "workers") 1 most_workers v workers.value workers.is in
     let spelled = member-ok (codes "calls") (calls tables.value workers.value) v cs.value cs.is in
     let read = calls-ok tables.value workers.value spelled.value cs.value spelled.is in
     subst IsSound (ok_same known.rest) (record {

@@ -18,7 +18,6 @@ use Rattle.tt_values.specs.declared.checking.CheckError.{CheckError}
 use Rattle.tt_values.specs.Tables.{Tables, table_position, column_position, columns_at}
 use Rattle.tt_values.specs.Catalog.{table_fault}
 use Rattle.tt_values.specs.Check.{write_fault, select_fault}
-use Rattle.tt_workload.specs.declared.TheConstants.{MAX_WORKERS, MAX_CALLS}
 use Rattle.tt_workload.specs.declared.document.Document.{Document}
 use Rattle.tt_workload.specs.declared.document.Call.{Call}
 use Rattle.tt_workload.specs.declared.document.Ask.{Ask}
@@ -28,6 +27,13 @@ use Rattle.tt_workload.specs.Reading.{◌>>=◌, refuse, with_path, item_path, d
 use Rattle.tt_workload.specs.Json.{found_or, typed, object, text, flag, array, count_within, member, optional, take_all, each, array_of}
 use Rattle.tt_workload.specs.Members.{is_one_of, no_members_but}
 use Rattle.tt_workload.specs.Causes.{cause_of_catalog, cause_of_check}
+
+-- the most workers that a document has, and the most calls
+abbrev pub most_workers : ℕ
+most_workers = 15
+
+abbrev pub most_calls : ℕ
+most_calls = 100000
 
 -- the object as a whole has no fault, or else this one
 abbrev pub judge : {E : Type 0} → (E → List ℕ) → Option E → Result ⊤ DocFault
@@ -173,7 +179,7 @@ at_most limit ds = if nat_lt limit (length ds) then refuse (codes "out of range"
 abbrev pub calls : Tables → ℕ → Data → Result (List Call) DocFault
 calls tables workers v = do
   ds ← array v
-  _ ← at_most MAX_CALLS ds
+  _ ← at_most most_calls ds
   each (call tables workers) 0 ds
 
 -- a document: its version, its tables, how many workers there are, and their calls
@@ -182,7 +188,7 @@ members_of_document v = do
   _ ← object v
   _ ← member (codes "version") (count_within 1 1) v
   tables ← member (codes "tables") catalog v
-  workers ← member (codes "workers") (count_within 1 MAX_WORKERS) v
+  workers ← member (codes "workers") (count_within 1 most_workers) v
   calls ← member (codes "calls") (calls tables workers) v
   _ ← no_members_but (is_one_of (codes "calls" ∷ codes "tables" ∷ codes "version" ∷ codes "workers" ∷ [])) v
   Ok (record { catalog = tables; workers = workers; calls = calls })
