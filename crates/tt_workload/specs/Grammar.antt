@@ -1,4 +1,5 @@
--- What a document spells, object by object, or its first fault.
+-- What a document spells, object by object, or its first fault. The members of an object are judged in the order in which they
+-- are named here, each one wholly before the next; then an unknown member, the least by its bytes; then the object as a whole.
 use Rattle.std.specs.Prelude.{ℕ, ℤ, Bool, false, is_some, nat_lt, if◌then◌else◌, List, [], ◌∷◌, ◌++◌, length, Option, Some, None, option_and_then, unwrap_or, Result, Ok, codes, ⊤}
 use Rattle.std.specs.Str.{bytes_eq}
 use Rattle.serde_json.specs.Data.{Data}
@@ -39,10 +40,11 @@ abbrev pub judge : {E : Type 0} → (E → List ℕ) → Option E → Result ⊤
 judge cause_of None = Ok tt
 judge cause_of (Some fault) = refuse (cause_of fault)
 
--- the kind of a column: one of two texts
+-- the kind of column that a text names
 abbrev pub kind_named : List ℕ → Option Kind
 kind_named name = if bytes_eq name (codes "int") then Some kinds.Int else (if bytes_eq name (codes "text") then Some kinds.Text else None)
 
+-- a kind of column
 abbrev pub kind : Data → Result Kind DocFault
 kind v = do
   name ← text v
@@ -73,18 +75,19 @@ table_after tables v = do
   _ ← no_members_but (is_one_of (codes "columns" ∷ codes "name" ∷ [])) v
   with_table tables name (record { columns = columns })
 
--- the catalogue that the tables make
+-- the catalogue that the tables make, each one judged before the next is read
 abbrev pub catalog : Data → Result Tables DocFault
 catalog v = do
   ds ← array v
   take_all table_after 0 [] ds
 
--- a value: a text, or an Int
+-- a text, or else an Int
 abbrev pub text_or_int : Option (List ℕ) → Option ℤ → Option Value
 text_or_int (Some t) n = Some (values.Text t)
 text_or_int None (Some n) = Some (values.Int n)
 text_or_int None None = None
 
+-- a value of a row or a condition
 abbrev pub value : Data → Result Value DocFault
 value v = typed (text_or_int (as_str v) (option_and_then as_i64 (as_number v)))
 
@@ -94,22 +97,24 @@ table_named tables v = do
   name ← text v
   found_or (codes "no such table") (table_position tables name)
 
--- a column of a table, by its name: its position
+-- the position of a table's column with a name
 abbrev pub column_with : Tables → ℕ → List ℕ → Option ℕ
 column_with tables table name = option_and_then (λ columns. column_position columns name) (columns_at tables table)
 
+-- a column of a table, by its name: its position
 abbrev pub column_named : Tables → ℕ → Data → Result ℕ DocFault
 column_named tables table v = do
   name ← text v
   found_or (codes "no such column") (column_with tables table name)
 
--- an array of two items
+-- the first and the second of two items
 abbrev pub two : List Data → Option (Data × Data)
 two [] = None
 two (d ∷ []) = None
 two (d ∷ e ∷ []) = Some (d, e)
 two (d ∷ e ∷ f ∷ ds) = None
 
+-- an array of two items
 abbrev pub pair : Data → Result (Data × Data) DocFault
 pair v = do
   ds ← array v
@@ -170,6 +175,7 @@ call tables workers v = do
 abbrev pub at_most : ℕ → List Data → Result ⊤ DocFault
 at_most limit ds = if nat_lt limit (length ds) then refuse (codes "out of range") else Ok tt
 
+-- the calls, of which there may be too many
 abbrev pub calls : Tables → ℕ → Data → Result (List Call) DocFault
 calls tables workers v = do
   ds ← array v

@@ -10,69 +10,78 @@ abbrev pub found_or : {T : Type 0} → List ℕ → Option T → Result T DocFau
 found_or cause None = refuse cause
 found_or cause (Some x) = Ok x
 
+-- what a value is, where it's of the wanted type
 abbrev pub typed : {T : Type 0} → Option T → Result T DocFault
 typed = found_or (codes "wrong type")
 
--- a value that has to be an object; a text; true or false; a count
+-- the value is an object
 abbrev pub object : Data → Result ⊤ DocFault
 object v = typed (option_map (λ _. tt) (as_object v))
 
+-- the text that a value is
 abbrev pub text : Data → Result (List ℕ) DocFault
 text v = typed (as_str v)
 
+-- true or false
 abbrev pub flag : Data → Result Bool DocFault
 flag v = typed (as_bool v)
 
+-- the count that a value is: a number that isn't below zero and fits 64 bits
 abbrev pub count : Data → Result ℕ DocFault
 count v = typed (option_and_then as_u64 (as_number v))
 
--- the items of an array
+-- items, as a list
 abbrev pub list_of : Items → List Data
 list_of no_items = []
 list_of (item d ds) = d ∷ list_of ds
 
+-- the items of the array that a value is
 abbrev pub array : Data → Result (List Data) DocFault
 array v = typed (option_map list_of (as_array v))
 
--- a count within bounds
+-- a number within bounds
 abbrev pub within : ℕ → ℕ → ℕ → Result ℕ DocFault
 within least most n = if nat_lt n least || nat_lt most n then refuse (codes "out of range") else Ok n
 
+-- a count within bounds
 abbrev pub count_within : ℕ → ℕ → Data → Result ℕ DocFault
 count_within least most v = do
   n ← count v
   within least most n
 
--- the value of a member that has to be there, read at its path
+-- what the value of a member spells, its faults at the member's path; the member has to be there
 abbrev pub read_member : {T : Type 0} → List ℕ → (Data → Result T DocFault) → Option Data → Result T DocFault
-read_member name reader None = refuse (codes "missing member " ++ name)
-read_member name reader (Some d) = with_path (member_path name) (reader d)
+read_member name decode None = refuse (codes "missing member " ++ name)
+read_member name decode (Some d) = with_path (member_path name) (decode d)
 
+-- what the member of an object spells
 abbrev pub member : {T : Type 0} → List ℕ → (Data → Result T DocFault) → Data → Result T DocFault
-member name reader v = read_member name reader (get name v)
+member name decode v = read_member name decode (get name v)
 
--- the value of a member that may be left out
+-- what the value of a member spells, which may be left out
 abbrev pub read_optional : {T : Type 0} → List ℕ → (Data → Result T DocFault) → Option Data → Result (Option T) DocFault
-read_optional name reader None = Ok None
-read_optional name reader (Some d) = do
-  x ← with_path (member_path name) (reader d)
+read_optional name decode None = Ok None
+read_optional name decode (Some d) = do
+  x ← with_path (member_path name) (decode d)
   Ok (Some x)
 
+-- what the member of an object spells, where it's there
 abbrev pub optional : {T : Type 0} → List ℕ → (Data → Result T DocFault) → Data → Result (Option T) DocFault
-optional name reader v = read_optional name reader (get name v)
+optional name decode v = read_optional name decode (get name v)
 
 -- what each item of an array spells, in order, the first of them with this number
 abbrev pub each : {T : Type 0} → (Data → Result T DocFault) → ℕ → List Data → Result (List T) DocFault
-each reader i [] = Ok []
-each reader i (d ∷ ds) = do
-  x ← with_path (item_path i) (reader d)
-  xs ← each reader (suc i) ds
+each decode i [] = Ok []
+each decode i (d ∷ ds) = do
+  x ← with_path (item_path i) (decode d)
+  xs ← each decode (suc i) ds
   Ok (x ∷ xs)
 
+-- what the items of an array spell
 abbrev pub array_of : {T : Type 0} → (Data → Result T DocFault) → Data → Result (List T) DocFault
-array_of reader v = do
+array_of decode v = do
   ds ← array v
-  each reader 0 ds
+  each decode 0 ds
 
 -- what the items of an array leave of a state, each of what the ones before it left, the first of them with this number
 abbrev pub take_all : {S : Type 0} → (S → Data → Result S DocFault) → ℕ → S → List Data → Result S DocFault
@@ -83,6 +92,6 @@ take_all after i state (d ∷ ds) = do
 
 -- a list with what a further item spells
 abbrev pub with_item : {T : Type 0} → (Data → Result T DocFault) → List T → Data → Result (List T) DocFault
-with_item reader xs d = do
-  x ← reader d
+with_item decode xs d = do
+  x ← decode d
   Ok (xs ++ x ∷ [])

@@ -3,6 +3,7 @@ pub mod Json
 pub mod Members
 pub mod Causes
 pub mod Grammar
+pub mod Sound
 pub mod Quoting
 pub mod Printing
 pub mod Report

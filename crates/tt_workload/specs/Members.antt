@@ -10,11 +10,12 @@ use Rattle.tt_workload.specs.declared.fault.DocFault.{DocFault}
 use Rattle.tt_workload.specs.Reading.{refuse}
 use Rattle.tt_workload.specs.Quoting.{quoted}
 
--- the names of the members
+-- the names of members, in order
 abbrev pub member_names : Members → List (List ℕ)
 member_names no_members = []
 member_names (member name d ms) = name ∷ member_names ms
 
+-- the names of an object's members; another value has none
 abbrev pub names_of : Option Members → List (List ℕ)
 names_of None = []
 names_of (Some ms) = member_names ms
@@ -23,11 +24,12 @@ names_of (Some ms) = member_names ms
 abbrev pub is_one_of : List (List ℕ) → List ℕ → Bool
 is_one_of names name = list_any (λ known. bytes_eq name known) names
 
--- the lesser of two names by their bytes, and the least of some
+-- the lesser of two names, by their bytes
 abbrev pub lesser : List ℕ → Option (List ℕ) → List ℕ
 lesser name None = name
 lesser name (Some other) = match_ordering (slice_cmp nat_cmp name other) name name other
 
+-- the least of some names
 abbrev pub least : List (List ℕ) → Option (List ℕ)
 least [] = None
 least (name ∷ names) = Some (lesser name (least names))
@@ -36,6 +38,7 @@ least (name ∷ names) = Some (lesser name (least names))
 abbrev pub least_unknown : (List ℕ → Bool) → Data → Option (List ℕ)
 least_unknown is_known v = least (filter (λ name. not (is_known name)) (names_of (as_object v)))
 
+-- the object is refused for an unknown member
 abbrev pub refuse_member : Option (List ℕ) → Result ⊤ DocFault
 refuse_member None = Ok tt
 refuse_member (Some name) = refuse (codes "unknown member " ++ quoted name)

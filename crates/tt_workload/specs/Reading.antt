@@ -4,23 +4,26 @@ use Rattle.std.specs.Fmt.{decimal}
 use Rattle.tt_workload.specs.declared.fault.DocFault.{DocFault}
 use Rattle.tt_workload.specs.declared.fault.DocFault.TheVariants.{At, Memory}
 
+-- one thing is read after another; the first fault ends it
 infixl 10 ◌>>=◌
 abbrev pub ◌>>=◌ : {A B : Type 0} → Result A DocFault → (A → Result B DocFault) → Result B DocFault
 (Ok x) >>= f = f x
 (Err fault) >>= f = Err fault
 
--- a fault of the value that is read, itself
+-- a fault of the value that is read, itself: its path is empty
 abbrev pub fault_here : List ℕ → DocFault
 fault_here cause = At [] cause
 
+-- the value is refused for this cause
 abbrev pub refuse : {T : Type 0} → List ℕ → Result T DocFault
 refuse cause = Err (fault_here cause)
 
--- a fault, its path changed
+-- a fault, seen from further out: its path is made from the one that it had
 abbrev pub moved : (List ℕ → List ℕ) → DocFault → DocFault
 moved path_of (At path cause) = At (path_of path) cause
 moved path_of Memory = Memory
 
+-- what is read, its fault seen from further out
 abbrev pub with_path : {T : Type 0} → (List ℕ → List ℕ) → Result T DocFault → Result T DocFault
 with_path path_of (Ok x) = Ok x
 with_path path_of (Err fault) = Err (moved path_of fault)
@@ -35,15 +38,17 @@ item_path i path = codes "[" ++ (decimal i ++ (codes "]" ++ path))
 abbrev pub document_path : List ℕ → List ℕ
 document_path path = codes "$" ++ path
 
--- what a function answers is what reading gives; want of memory leaves it open
+-- a function's error is this fault; want of memory leaves it open
 abbrev pub IsFault : DocFault → DocFault → Type 0
 IsFault Memory fault = Unit {0}
 IsFault (At path cause) fault = fault ≡ At path cause
 
+-- reading gives the fault that a function's error tells; want of memory leaves it open
 abbrev pub Fails : {T : Type 0} → DocFault → Result T DocFault → Type 0
 Fails Memory reading = Unit {0}
 Fails (At path cause) reading = reading ≡ Err (At path cause)
 
+-- reading gives what a function answers
 abbrev pub Gives : {T : Type 0} → Result T DocFault → Result T DocFault → Type 0
 Gives (Ok x) reading = reading ≡ Ok x
 Gives (Err fault) reading = Fails fault reading

@@ -5,11 +5,11 @@ ghost use Rattle.tt_workload.specs.Reading.{Gives};
 ghost use Rattle.tt_workload.specs.Grammar.{has, ask, call, calls};
 
 use crate::MAX_CALLS;
+use crate::decoder::{CountDecoder, Decoder, OUT_OF_RANGE, array, member, object};
 use crate::document::{Ask, Call};
 use crate::fault::DocFault;
-use crate::reader::{CountReader, OUT_OF_RANGE, Reader, array, member, object};
 use crate::statements::{insert, select};
-use crate::taker::read_items;
+use crate::taker::decode_items;
 use serde_json::Value;
 use std::alloc::Global;
 use tt_values::{Catalog, Items};
@@ -18,44 +18,44 @@ const NO_KIND: &str = "missing one of insert, update, delete, select, preview";
 
 /// The calls of workers on a catalogue, of which there may be too many.
 #[derive(Drop)]
-pub(crate) struct CallsReader<'a> {
+pub(crate) struct CallsDecoder<'a> {
     pub(crate) catalog: &'a Catalog,
     pub(crate) workers: u32,
 }
 
-impl Reader for CallsReader<'_> {
+impl Decoder for CallsDecoder<'_> {
     type Output = Items<Call>;
 
     ghost spelled = { λ r. calls r.catalog.now r.workers };
 
-    fn read(&self, alloc: Global, value: &Value) -> Result<Items<Call>, DocFault> {
+    fn decode(&self, alloc: Global, value: &Value) -> Result<Items<Call>, DocFault> {
         let items = array(alloc, value)?;
         if items.len() > MAX_CALLS {
             return Err(DocFault::here(alloc, OUT_OF_RANGE));
         }
-        let reader = CallReader {
+        let decoder = CallDecoder {
             catalog: self.catalog,
             workers: self.workers,
         };
-        read_items(alloc, &reader, items)
+        decode_items(alloc, &decoder, items)
     }
 }
 
 #[derive(Drop)]
-struct CallReader<'a> {
+struct CallDecoder<'a> {
     catalog: &'a Catalog,
     workers: u32,
 }
 
-impl Reader for CallReader<'_> {
+impl Decoder for CallDecoder<'_> {
     type Output = Call;
 
     ghost spelled = { λ r. call r.catalog.now r.workers };
 
     #[tactic(auto, unfolding(crate::specs::Grammar::call))]
-    fn read(&self, alloc: Global, value: &Value) -> Result<Call, DocFault> {
+    fn decode(&self, alloc: Global, value: &Value) -> Result<Call, DocFault> {
         object(alloc, value)?;
-        let workers = CountReader {
+        let workers = CountDecoder {
             least: 1,
             most: self.workers,
         };

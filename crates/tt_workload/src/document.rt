@@ -29,6 +29,7 @@ impl Document {
     /// the fault is found.
     pub fn from_value(alloc: Global, value: &Value) -> Result<Document, DocFault>
         ensures spelled { IfOk result (λ document. document_of (view value.now) ≡ Ok document) }
+        ensures sound { IfOk result IsSound }
         ensures fault { IfErr result (λ fault. Fails fault (document_of (view value.now))) }
         ensures sound { IfOk result IsSound }
     {

@@ -65,7 +65,7 @@ impl DocFault {
             return DocFault::Memory;
         };
         let inner = path.as_str();
-        at(format!(in alloc; ".{name}{inner}"), cause)
+        placed(format!(in alloc; ".{name}{inner}"), cause)
     }
 
     /// The fault of an item, as one of the array.
@@ -76,7 +76,7 @@ impl DocFault {
             return DocFault::Memory;
         };
         let inner = path.as_str();
-        at(format!(in alloc; "[{index}]{inner}"), cause)
+        placed(format!(in alloc; "[{index}]{inner}"), cause)
     }
 
     /// The fault of the whole value, as one of the document.
@@ -87,11 +87,12 @@ impl DocFault {
             return DocFault::Memory;
         };
         let inner = path.as_str();
-        at(format!(in alloc; "${inner}"), cause)
+        placed(format!(in alloc; "${inner}"), cause)
     }
 }
 
-fn at(path: Result<String, AllocError>, cause: Text) -> DocFault
+/// A fault with a path that was made for it.
+fn placed(path: Result<String, AllocError>, cause: Text) -> DocFault
     ensures { MatchResult path (λ p. result ≡ DocFault.At (string_bytes p) cause) (λ _. result ≡ DocFault.Memory) }
 {
     match path {

@@ -4,6 +4,7 @@
 mod alone;
 mod calls;
 mod causes;
+mod decoder;
 mod document;
 mod ends;
 mod fault;
@@ -11,7 +12,6 @@ mod members;
 mod options;
 mod printing;
 mod quoting;
-mod reader;
 mod reading;
 mod run;
 mod run_fault;

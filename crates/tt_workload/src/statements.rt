@@ -7,10 +7,10 @@ ghost use Rattle.tt_workload.specs.Reading.{Gives, GivesSeen};
 ghost use Rattle.tt_workload.specs.Grammar.{value, table_named, column_with, column_named, pair, condition, checked, insert, select};
 
 use crate::causes::cause_of_check;
+use crate::decoder::{Decoder, WRONG_TYPE, array, item, member, text};
 use crate::fault::DocFault;
 use crate::members::no_members_but;
-use crate::reader::{Reader, WRONG_TYPE, array, item, member, text};
-use crate::taker::ArrayReader;
+use crate::taker::ArrayDecoder;
 use serde_json::Value;
 use std::alloc::Global;
 use tt_values::{Catalog, Equal, Row, Select, Text, Write, check, check_select};
@@ -24,11 +24,11 @@ const NO_COLUMN: &str = "no such column";
 pub(crate) fn insert(alloc: Global, catalog: &Catalog, value: &Value) -> Result<Write, DocFault>
     ensures { Gives result (insert catalog.now (view value.now)) }
 {
-    let table = member(alloc, value, "insert", &TableNameReader { catalog })?;
-    let reader = ArrayReader {
-        reader: ValueReader,
+    let table = member(alloc, value, "insert", &TableNameDecoder { catalog })?;
+    let decoder = ArrayDecoder {
+        decoder: ValueDecoder,
     };
-    let values = member(alloc, value, "row", &reader)?;
+    let values = member(alloc, value, "row", &decoder)?;
     no_members_but(alloc, value, &["insert", "row", "worker"])?;
     let row = Row { values };
     checked_write(alloc, catalog, Write::Insert { table, row })
@@ -39,11 +39,11 @@ pub(crate) fn insert(alloc: Global, catalog: &Catalog, value: &Value) -> Result<
 pub(crate) fn select(alloc: Global, catalog: &Catalog, value: &Value) -> Result<Select, DocFault>
     ensures { Gives result (select catalog.now (view value.now)) }
 {
-    let table = member(alloc, value, "select", &TableNameReader { catalog })?;
-    let reader = ArrayReader {
-        reader: ConditionReader { catalog, table },
+    let table = member(alloc, value, "select", &TableNameDecoder { catalog })?;
+    let decoder = ArrayDecoder {
+        decoder: ConditionDecoder { catalog, table },
     };
-    let equals = member(alloc, value, "where", &reader)?;
+    let equals = member(alloc, value, "where", &decoder)?;
     no_members_but(alloc, value, &["select", "where", "worker"])?;
     checked_select(alloc, catalog, Select { table, equals })
 }
@@ -68,16 +68,16 @@ fn checked_select(alloc: Global, catalog: &Catalog, select: Select) -> Result<Se
 
 /// A table of the catalogue, by its name.
 #[derive(Drop)]
-struct TableNameReader<'a> {
+struct TableNameDecoder<'a> {
     catalog: &'a Catalog,
 }
 
-impl Reader for TableNameReader<'_> {
+impl Decoder for TableNameDecoder<'_> {
     type Output = u16;
 
     ghost spelled = { λ r. table_named r.catalog.now };
 
-    fn read(&self, alloc: Global, value: &Value) -> Result<u16, DocFault> {
+    fn decode(&self, alloc: Global, value: &Value) -> Result<u16, DocFault> {
         let name = text(alloc, value)?;
         match self.catalog.find(name) {
             Some(table) => Ok(table),
@@ -88,17 +88,17 @@ impl Reader for TableNameReader<'_> {
 
 /// A column of a table, by its name.
 #[derive(Drop)]
-struct ColumnNameReader<'a> {
+struct ColumnNameDecoder<'a> {
     catalog: &'a Catalog,
     table: u16,
 }
 
-impl Reader for ColumnNameReader<'_> {
+impl Decoder for ColumnNameDecoder<'_> {
     type Output = u16;
 
     ghost spelled = { λ r. column_named r.catalog.now r.table };
 
-    fn read(&self, alloc: Global, value: &Value) -> Result<u16, DocFault> {
+    fn decode(&self, alloc: Global, value: &Value) -> Result<u16, DocFault> {
         let name = text(alloc, value)?;
         match column_with(self.catalog, self.table, name) {
             Some(column) => Ok(column),
@@ -116,25 +116,25 @@ fn column_with(catalog: &Catalog, table: u16, name: &str) -> Option<u16>
 
 /// A condition on a table: a column and a value.
 #[derive(Drop)]
-struct ConditionReader<'a> {
+struct ConditionDecoder<'a> {
     catalog: &'a Catalog,
     table: u16,
 }
 
-impl Reader for ConditionReader<'_> {
+impl Decoder for ConditionDecoder<'_> {
     type Output = Equal;
 
     ghost spelled = { λ r. condition r.catalog.now r.table };
 
     #[tactic(auto, unfolding(crate::specs::Grammar::condition))]
-    fn read(&self, alloc: Global, value: &Value) -> Result<Equal, DocFault> {
+    fn decode(&self, alloc: Global, value: &Value) -> Result<Equal, DocFault> {
         let (first, second) = pair(alloc, value)?;
-        let column = ColumnNameReader {
+        let column = ColumnNameDecoder {
             catalog: self.catalog,
             table: self.table,
         };
         let column = item(alloc, 0, first, &column)?;
-        let value = item(alloc, 1, second, &ValueReader)?;
+        let value = item(alloc, 1, second, &ValueDecoder)?;
         Ok(Equal { column, value })
     }
 }
@@ -152,14 +152,14 @@ fn pair(alloc: Global, value: &Value) -> Result<(&Value, &Value), DocFault>
 
 /// A text or an Int.
 #[derive(Drop)]
-struct ValueReader;
+struct ValueDecoder;
 
-impl Reader for ValueReader {
+impl Decoder for ValueDecoder {
     type Output = tt_values::Value;
 
     ghost spelled = { λ _. value };
 
-    fn read(&self, alloc: Global, value: &Value) -> Result<tt_values::Value, DocFault> {
+    fn decode(&self, alloc: Global, value: &Value) -> Result<tt_values::Value, DocFault> {
         if let Some(text) = value.as_str() {
             let text = String::from_str(alloc, text)?;
             return Ok(tt_values::Value::Text(Text::new(text)));

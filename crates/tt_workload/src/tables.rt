@@ -4,26 +4,26 @@ ghost use Rattle.tt_workload.specs.Reading.{Gives};
 ghost use Rattle.tt_workload.specs.Grammar.{kind_named, kind, column, with_table, table_after, catalog};
 
 use crate::causes::cause_of_catalog;
+use crate::decoder::{
+    Decoder, FlagDecoder, OUT_OF_RANGE, TextDecoder, array, member, object, optional, text,
+};
 use crate::fault::DocFault;
 use crate::members::no_members_but;
-use crate::reader::{
-    FlagReader, OUT_OF_RANGE, Reader, TextReader, array, member, object, optional, text,
-};
-use crate::taker::{ArrayReader, Taker, take_all};
+use crate::taker::{ArrayDecoder, Taker, take_all};
 use serde_json::Value;
 use std::alloc::Global;
 use tt_values::{Catalog, CatalogError, Column, Kind, TableDef};
 
 /// The tables, in order of declaration.
 #[derive(Drop)]
-pub(crate) struct TablesReader;
+pub(crate) struct TablesDecoder;
 
-impl Reader for TablesReader {
+impl Decoder for TablesDecoder {
     type Output = Catalog;
 
     ghost spelled = { λ _. catalog };
 
-    fn read(&self, alloc: Global, value: &Value) -> Result<Catalog, DocFault> {
+    fn decode(&self, alloc: Global, value: &Value) -> Result<Catalog, DocFault> {
         let items = array(alloc, value)?;
         take_all(alloc, &TableTaker, Catalog::new(alloc), items)
     }
@@ -40,11 +40,11 @@ impl Taker for TableTaker {
     #[tactic(auto, unfolding(crate::specs::Grammar::table_after))]
     fn take(&self, alloc: Global, state: Catalog, item: &Value) -> Result<Catalog, DocFault> {
         object(alloc, item)?;
-        let name = member(alloc, item, "name", &TextReader)?;
-        let reader = ArrayReader {
-            reader: ColumnReader,
+        let name = member(alloc, item, "name", &TextDecoder)?;
+        let decoder = ArrayDecoder {
+            decoder: ColumnDecoder,
         };
-        let columns = member(alloc, item, "columns", &reader)?;
+        let columns = member(alloc, item, "columns", &decoder)?;
         no_members_but(alloc, item, &["columns", "name"])?;
         with_table(alloc, state, name.as_str(), TableDef { columns })
     }
@@ -68,19 +68,19 @@ fn with_table(
 }
 
 #[derive(Drop)]
-struct ColumnReader;
+struct ColumnDecoder;
 
-impl Reader for ColumnReader {
+impl Decoder for ColumnDecoder {
     type Output = Column;
 
     ghost spelled = { λ _. column };
 
     #[tactic(auto, unfolding(crate::specs::Grammar::column))]
-    fn read(&self, alloc: Global, value: &Value) -> Result<Column, DocFault> {
+    fn decode(&self, alloc: Global, value: &Value) -> Result<Column, DocFault> {
         object(alloc, value)?;
-        let name = member(alloc, value, "name", &TextReader)?;
-        let kind = member(alloc, value, "kind", &KindReader)?;
-        let partition = optional(alloc, value, "partition", &FlagReader)?;
+        let name = member(alloc, value, "name", &TextDecoder)?;
+        let kind = member(alloc, value, "kind", &KindDecoder)?;
+        let partition = optional(alloc, value, "partition", &FlagDecoder)?;
         no_members_but(alloc, value, &["kind", "name", "partition"])?;
         Ok(Column {
             name,
@@ -91,14 +91,14 @@ impl Reader for ColumnReader {
 }
 
 #[derive(Drop)]
-struct KindReader;
+struct KindDecoder;
 
-impl Reader for KindReader {
+impl Decoder for KindDecoder {
     type Output = Kind;
 
     ghost spelled = { λ _. kind };
 
-    fn read(&self, alloc: Global, value: &Value) -> Result<Kind, DocFault> {
+    fn decode(&self, alloc: Global, value: &Value) -> Result<Kind, DocFault> {
         let name = text(alloc, value)?;
         match kind_named(name) {
             Some(kind) => Ok(kind),

@@ -6,8 +6,8 @@ ghost use Rattle.tt_workload.specs.declared.fault.DocFault.{DocFault};
 ghost use Rattle.tt_workload.specs.Reading.{Gives, with_path, item_path};
 ghost use Rattle.tt_workload.specs.Json.{take_all, with_item, each, array_of};
 
+use crate::decoder::{Decoder, array};
 use crate::fault::DocFault;
-use crate::reader::{Reader, array};
 use serde_json::Value;
 use std::alloc::{AllocError, Global};
 use tt_values::Items;
@@ -56,25 +56,25 @@ fn take_item<T: Taker>(
 
 /// Collects what each item spells.
 #[derive(Drop)]
-struct Collector<'a, R> {
-    reader: &'a R,
+struct Collector<'a, D> {
+    decoder: &'a D,
 }
 
-impl<R: Reader> Taker for Collector<'_, R>
+impl<D: Decoder> Taker for Collector<'_, D>
 where
-    R::Output: Drop,
+    D::Output: Drop,
 {
-    type State = Items<R::Output>;
+    type State = Items<D::Output>;
 
-    ghost after = { λ c. with_item (R.spelled c.reader.now) };
+    ghost after = { λ c. with_item (D.spelled c.decoder.now) };
 
     fn take(
         &self,
         alloc: Global,
-        state: Items<R::Output>,
+        state: Items<D::Output>,
         item: &Value,
-    ) -> Result<Items<R::Output>, DocFault> {
-        let spelled = self.reader.read(alloc, item)?;
+    ) -> Result<Items<D::Output>, DocFault> {
+        let spelled = self.decoder.decode(alloc, item)?;
         let items = pushed(state, spelled)?;
         Ok(items)
     }
@@ -89,36 +89,36 @@ fn pushed<T: Drop>(items: Items<T>, item: T) -> Result<Items<T>, AllocError>
     Ok(Items::new(items))
 }
 
-/// An array of what a reader reads.
+/// An array of what a decoder decodes.
 #[derive(Drop)]
-pub(crate) struct ArrayReader<R> {
-    pub(crate) reader: R,
+pub(crate) struct ArrayDecoder<D> {
+    pub(crate) decoder: D,
 }
 
-impl<R: Reader> Reader for ArrayReader<R>
+impl<D: Decoder> Decoder for ArrayDecoder<D>
 where
-    R::Output: Drop,
+    D::Output: Drop,
 {
-    type Output = Items<R::Output>;
+    type Output = Items<D::Output>;
 
-    ghost spelled = { λ a. array_of (R.spelled a.reader) };
+    ghost spelled = { λ a. array_of (D.spelled a.decoder) };
 
-    fn read(&self, alloc: Global, value: &Value) -> Result<Items<R::Output>, DocFault> {
+    fn decode(&self, alloc: Global, value: &Value) -> Result<Items<D::Output>, DocFault> {
         let items = array(alloc, value)?;
-        read_items(alloc, &self.reader, items)
+        decode_items(alloc, &self.decoder, items)
     }
 }
 
 /// What each item of an array spells, in order.
-pub(crate) fn read_items<R: Reader>(
+pub(crate) fn decode_items<D: Decoder>(
     alloc: Global,
-    reader: &R,
+    decoder: &D,
     items: &[Value],
-) -> Result<Items<R::Output>, DocFault>
+) -> Result<Items<D::Output>, DocFault>
 where
-    R::Output: Drop,
-    ensures { Gives result (each (R.spelled reader.now) 0 (map view items.now)) }
+    D::Output: Drop,
+    ensures { Gives result (each (D.spelled decoder.now) 0 (map view items.now)) }
 {
     let start = Items::new(Vec::new(alloc));
-    take_all(alloc, &Collector { reader }, start, items)
+    take_all(alloc, &Collector { decoder }, start, items)
 }

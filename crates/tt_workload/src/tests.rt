@@ -8,6 +8,10 @@ use tt_values::{Catalog, Column, Equal, Items, Kind, Row, Select, Text, Value, W
 const TABLE: &str =
     r#"{"name":"acct","columns":[{"name":"id","kind":"int"},{"name":"owner","kind":"text","partition":true},{"name":"bal","kind":"int"}]}"#;
 
+const INSERT: &str = r#"{"worker":1,"insert":"acct","row":[1,"ann",10]}"#;
+
+const SELECT: &str = r#"{"worker":1,"select":"acct","where":[["owner","ann"]]}"#;
+
 /// A document with that table, one worker and these calls.
 fn with_calls(alloc: Global, calls: &str) -> Result<String, AllocError> {
     format!(in alloc; "{{\"version\":1,\"tables\":[{TABLE}],\"workers\":1,\"calls\":[{calls}]}}")
@@ -99,10 +103,8 @@ fn select_of_ann(alloc: Global) -> Result<Call, AllocError> {
 
 #[test]
 fn tables_and_calls(rt: HostRuntime) -> Result<(), Fail> {
-    let text = with_calls(
-        rt.alloc(),
-        r#"{"worker":1,"insert":"acct","row":[1,"ann",10]},{"worker":1,"select":"acct","where":[["owner","ann"]]}"#,
-    )?;
+    let calls = format!(in rt.alloc(); "{INSERT},{SELECT}")?;
+    let text = with_calls(rt.alloc(), calls.as_str())?;
     let document = read(&rt, rt.alloc(), text.as_str())
         .ok()
         .ok_or("a document")?;
@@ -121,6 +123,8 @@ fn tables_and_calls(rt: HostRuntime) -> Result<(), Fail> {
     assert!(rt; has_column(catalog, 0, &id));
     assert!(rt; has_column(catalog, 1, &owner));
     assert!(rt; has_column(catalog, 2, &balance));
+    assert_eq!(rt; document.catalog.share()?.len(), 1);
+    assert_eq!(rt; document.catalog.into_arc().len(), 1);
     Ok(())
 }
 
@@ -171,11 +175,13 @@ fn faults_of_the_document(rt: HostRuntime) {
             "$",
             r#"unknown member "x""#,
         ),
+        // The least unknown member by its bytes, in quotes.
         (
             r#"{"version":1,"tables":[],"workers":1,"calls":[],"zeta":0,"a\"b\n\u0001":0}"#,
             "$",
             r#"unknown member "a\"b\n\u0001""#,
         ),
+        // A missing member comes before an unknown one.
         (
             r#"{"version":1,"tables":[],"a":0,"workers":1}"#,
             "$",
@@ -220,10 +226,9 @@ fn faults_of_tables(rt: HostRuntime) {
 
 #[test]
 fn faults_of_calls(rt: HostRuntime) {
-    let first = r#"{"worker":1,"insert":"acct","row":[1,"ann",10]}"#;
     for (call, path, cause) in [
         (
-            r#"{"worker":2,"select":"acct","where":[]}"#,
+            r#"{"worker":2,"select":"acct","where":[["owner","ann"]]}"#,
             "$.calls[1].worker",
             "out of range",
         ),
@@ -253,7 +258,7 @@ fn faults_of_calls(rt: HostRuntime) {
             "wrong type",
         ),
     ] {
-        let calls = format!(in rt.alloc(); "{first},{call}").expect(&rt, "memory");
+        let calls = format!(in rt.alloc(); "{INSERT},{call}").expect(&rt, "memory");
         refuses_calls(&rt, rt.alloc(), calls.as_str(), path, cause);
     }
 }
@@ -283,6 +288,7 @@ fn faults_of_rows(rt: HostRuntime) {
             r#"unknown member "select""#,
         ),
     ] {
-        refuses_calls(&rt, rt.alloc(), call, path, cause);
+        let calls = format!(in rt.alloc(); "{call},{SELECT}").expect(&rt, "memory");
+        refuses_calls(&rt, rt.alloc(), calls.as_str(), path, cause);
     }
 }

@@ -3,7 +3,7 @@ use Rattle.std.proofs.Common.{map, sym, ap, ◌∙◌, Ok, option_map}
 use Rattle.serde_json.specs.View.{view}
 use Rattle.tt_workload.specs.Json.{typed, list_of}
 use Rattle.tt_workload.proofs.JsonLemmas.{list_of-items_of}
-use Rattle.tt_workload.proofs.reader.array.Goals as goal
+use Rattle.tt_workload.proofs.decoder.array.Goals as goal
 
 pub returns-in-Some : goal.returns-in-Some
 returns-in-Some c =

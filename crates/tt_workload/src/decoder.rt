@@ -16,13 +16,13 @@ pub(crate) const WRONG_TYPE: &str = "wrong type";
 pub(crate) const OUT_OF_RANGE: &str = "out of range";
 
 /// Reads the values of one place of the grammar.
-pub(crate) trait Reader: Drop {
+pub(crate) trait Decoder: Drop {
     type Output;
 
     /// What a value spells, or its first fault.
     ghost spelled: { Self → Data → Result Self.Output DocFault };
 
-    fn read(&self, alloc: Global, value: &Value) -> Result<Self::Output, DocFault>
+    fn decode(&self, alloc: Global, value: &Value) -> Result<Self::Output, DocFault>
         ensures { Gives result (spelled self.now (view value.now)) };
 }
 
@@ -67,62 +67,62 @@ pub(crate) fn array(alloc: Global, value: &Value) -> Result<&[Value], DocFault>
 }
 
 /// What a member that has to be there spells.
-pub(crate) fn member<R: Reader>(
+pub(crate) fn member<D: Decoder>(
     alloc: Global,
     object: &Value,
     name: &str,
-    reader: &R,
-) -> Result<R::Output, DocFault>
-    ensures { Gives result (member name.now (R.spelled reader.now) (view object.now)) }
+    decoder: &D,
+) -> Result<D::Output, DocFault>
+    ensures { Gives result (member name.now (D.spelled decoder.now) (view object.now)) }
 {
     match object.get(name) {
-        Some(value) => member_value(alloc, value, name, reader),
+        Some(value) => member_value(alloc, value, name, decoder),
         None => Err(missing(alloc, name)),
     }
 }
 
 /// What a member spells, if it's there.
-pub(crate) fn optional<R: Reader>(
+pub(crate) fn optional<D: Decoder>(
     alloc: Global,
     object: &Value,
     name: &str,
-    reader: &R,
-) -> Result<Option<R::Output>, DocFault>
-    ensures { Gives result (optional name.now (R.spelled reader.now) (view object.now)) }
+    decoder: &D,
+) -> Result<Option<D::Output>, DocFault>
+    ensures { Gives result (optional name.now (D.spelled decoder.now) (view object.now)) }
 {
     match object.get(name) {
         Some(value) => {
-            let spelled = member_value(alloc, value, name, reader)?;
+            let spelled = member_value(alloc, value, name, decoder)?;
             Ok(Some(spelled))
         }
         None => Ok(None),
     }
 }
 
-fn member_value<R: Reader>(
+fn member_value<D: Decoder>(
     alloc: Global,
     value: &Value,
     name: &str,
-    reader: &R,
-) -> Result<R::Output, DocFault>
-    ensures { Gives result (with_path (member_path name.now) (R.spelled reader.now (view value.now))) }
+    decoder: &D,
+) -> Result<D::Output, DocFault>
+    ensures { Gives result (with_path (member_path name.now) (D.spelled decoder.now (view value.now))) }
 {
-    match reader.read(alloc, value) {
+    match decoder.decode(alloc, value) {
         Ok(spelled) => Ok(spelled),
         Err(fault) => Err(fault.in_member(alloc, name)),
     }
 }
 
 /// What an item of an array spells.
-pub(crate) fn item<R: Reader>(
+pub(crate) fn item<D: Decoder>(
     alloc: Global,
     index: usize,
     value: &Value,
-    reader: &R,
-) -> Result<R::Output, DocFault>
-    ensures { Gives result (with_path (item_path index) (R.spelled reader.now (view value.now))) }
+    decoder: &D,
+) -> Result<D::Output, DocFault>
+    ensures { Gives result (with_path (item_path index) (D.spelled decoder.now (view value.now))) }
 {
-    match reader.read(alloc, value) {
+    match decoder.decode(alloc, value) {
         Ok(spelled) => Ok(spelled),
         Err(fault) => Err(fault.in_item(alloc, index)),
     }
@@ -136,14 +136,14 @@ fn missing(alloc: Global, name: &str) -> DocFault
 
 /// A text, in memory of its own.
 #[derive(Drop)]
-pub(crate) struct TextReader;
+pub(crate) struct TextDecoder;
 
-impl Reader for TextReader {
+impl Decoder for TextDecoder {
     type Output = Text;
 
     ghost spelled = { λ _. text };
 
-    fn read(&self, alloc: Global, value: &Value) -> Result<Text, DocFault> {
+    fn decode(&self, alloc: Global, value: &Value) -> Result<Text, DocFault> {
         let text = text(alloc, value)?;
         let text = String::from_str(alloc, text)?;
         Ok(Text::new(text))
@@ -152,14 +152,14 @@ impl Reader for TextReader {
 
 /// True or false.
 #[derive(Drop)]
-pub(crate) struct FlagReader;
+pub(crate) struct FlagDecoder;
 
-impl Reader for FlagReader {
+impl Decoder for FlagDecoder {
     type Output = bool;
 
     ghost spelled = { λ _. flag };
 
-    fn read(&self, alloc: Global, value: &Value) -> Result<bool, DocFault> {
+    fn decode(&self, alloc: Global, value: &Value) -> Result<bool, DocFault> {
         match value.as_bool() {
             Some(flag) => Ok(flag),
             None => Err(DocFault::here(alloc, WRONG_TYPE)),
@@ -169,17 +169,17 @@ impl Reader for FlagReader {
 
 /// A count within bounds.
 #[derive(Drop)]
-pub(crate) struct CountReader {
+pub(crate) struct CountDecoder {
     pub(crate) least: u32,
     pub(crate) most: u32,
 }
 
-impl Reader for CountReader {
+impl Decoder for CountDecoder {
     type Output = u32;
 
     ghost spelled = { λ c. count_within c.least c.most };
 
-    fn read(&self, alloc: Global, value: &Value) -> Result<u32, DocFault> {
+    fn decode(&self, alloc: Global, value: &Value) -> Result<u32, DocFault> {
         let count = count(alloc, value)?;
         if count < u64::from(self.least) || count > u64::from(self.most) {
             return Err(DocFault::here(alloc, OUT_OF_RANGE));

@@ -1,0 +1,28 @@
+-- What holds of every document that's read.
+use Rattle.std.specs.Prelude.{◌≡◌, ℕ, ◌≤◌, length, Option, None, All}
+use Rattle.tt_values.specs.declared.checking.CheckError.{CheckError}
+use Rattle.tt_values.specs.Tables.{Tables}
+use Rattle.tt_values.specs.Check.{write_fault, select_fault}
+use Rattle.tt_workload.specs.declared.document.Document.{Document}
+use Rattle.tt_workload.specs.declared.document.Call.{Call}
+use Rattle.tt_workload.specs.declared.document.Ask.{Ask}
+use Rattle.tt_workload.specs.declared.document.Ask.TheVariants as asks
+use Rattle.tt_workload.specs.Grammar.{most_workers, most_calls}
+
+-- why what's asked for can't be carried out, if it can't
+abbrev pub ask_fault : Tables → Ask → Option CheckError
+ask_fault tables (asks.Write write) = write_fault tables write
+ask_fault tables (asks.Read select) = select_fault tables select
+
+-- a call of one of the workers, whose statement the tables take
+pub record IsCall (tables : Tables) (workers : ℕ) (call : Call) : Type 0 where
+  pub from_one : 1 ≤ call.worker
+  pub to_last : call.worker ≤ workers
+  pub is_taken : ask_fault tables call.ask ≡ None
+
+-- a document within its limits, each of its calls in order
+pub record IsSound (d : Document) : Type 0 where
+  pub some_worker : 1 ≤ d.workers
+  pub few_workers : d.workers ≤ most_workers
+  pub few_calls : length d.calls ≤ most_calls
+  pub sound_calls : All (IsCall d.catalog d.workers) d.calls
