@@ -59,14 +59,12 @@ IsFaultOf (run.Store text) reading = ⊥
 IsFaultOf run.Write reading = ⊥
 IsFaultOf run.Memory reading = Unit {0}
 
--- a fault of what is read, of the reader, or want of memory
+-- some bytes spell the document; reading some bytes can end in the fault
+abbrev pub IsSpelled : Document → Type 0
+IsSpelled document = (bytes : List ℕ) × (document_read bytes ≡ Ok document)
+
 abbrev pub IsOfReading : RunFault → Type 0
-IsOfReading run.Read = Unit {0}
-IsOfReading (run.Document (doc.At path cause)) = Unit {0}
-IsOfReading (run.Document doc.Memory) = ⊥
-IsOfReading (run.Store text) = ⊥
-IsOfReading run.Write = ⊥
-IsOfReading run.Memory = Unit {0}
+IsOfReading e = (bytes : List ℕ) × IsFaultOf e (document_read bytes)
 
 -- the reader failed, or there was no memory left
 abbrev pub IsOfReader : RunFault → Type 0

@@ -1,8 +1,9 @@
 //! The two ends of a run: the document that is read, and the text that is written.
-ghost use Rattle.std.specs.Prelude.{◌≡◌, ◌+◌, ◌-◌, ◌<◌, ◌≤◌, ◌++◌, Ok, IfOk, IfErr, IfSome, OnOk, OnErr, IsTrue, length, take};
+ghost use Rattle.std.specs.Prelude.{◌≡◌, ◌+◌, ◌-◌, ◌<◌, ◌≤◌, ◌↔◌, ◌++◌, Ok, IfOk, IfErr, IfSome, OnOk, OnErr, IsTrue, if◌then◌else◌, length, take};
+ghost use Rattle.std.specs.IoError.{error_kind};
 ghost use Rattle.std.specs.Io.{ReadsAtMost, WritesAtMost};
 ghost use Rattle.std.specs.Io.KnownBytes.{Keeps, Appends, Consumes, IsAtEnd};
-ghost use Rattle.tt_workload.specs.Ends.{most_read, document_read, TakesAtMost, AppendsFront, IsFaultOf, IsOfReading, IsOfReader};
+ghost use Rattle.tt_workload.specs.Ends.{most_read, document_read, TakesAtMost, AppendsFront, IsSpelled, IsFaultOf, IsOfReading, IsOfReader};
 ghost use Rattle.tt_workload.specs.Reading.{refuse, with_path, document_path};
 ghost use Rattle.tt_workload.specs.Grammar.{document_of};
 ghost use Rattle.serde_json.specs.View.{view};
@@ -32,8 +33,11 @@ const NOT_JSON: &str = "not JSON";
 pub fn read_document<R: Read>(alloc: Global, reader: &mut R) -> Result<Document, RunFault>
     ensures ok { IfOk result (λ d. IfSome (R.remaining reader.old) (λ xs. document_read (take most_read xs) ≡ Ok d)) }
     ensures fault { IfErr result (λ e. IfSome (R.remaining reader.old) (λ xs. IsFaultOf e (document_read (take most_read xs)))) }
-    ensures kind { IfErr result IsOfReading }
     ensures most { TakesAtMost most_read (R.remaining reader.old) (R.remaining reader.new) }
+
+    // Of a reader whose bytes aren't known too.
+    ensures spelled { IfOk result IsSpelled }
+    ensures kind { IfErr result IsOfReading }
 {
     let bytes = read_bytes(alloc, reader)?;
     document_from(alloc, &bytes)
@@ -43,7 +47,6 @@ pub fn read_document<R: Read>(alloc: Global, reader: &mut R) -> Result<Document,
 fn document_from(alloc: Global, bytes: &[u8]) -> Result<Document, RunFault>
     ensures ok { IfOk result (λ d. document_read bytes.now ≡ Ok d) }
     ensures fault { IfErr result (λ e. IsFaultOf e (document_read bytes.now)) }
-    ensures kind { IfErr result IsOfReading }
 {
     if bytes.len() > MOST_BYTES {
         return Err(refused(alloc, TOO_LONG));
@@ -58,7 +61,6 @@ fn document_from(alloc: Global, bytes: &[u8]) -> Result<Document, RunFault>
 fn document_of(alloc: Global, value: &Value) -> Result<Document, RunFault>
     ensures ok { IfOk result (λ d. document_of (view value.now) ≡ Ok d) }
     ensures fault { IfErr result (λ e. IsFaultOf e (document_of (view value.now))) }
-    ensures kind { IfErr result IsOfReading }
 {
     match Document::from_value(alloc, value) {
         Ok(document) => Ok(document),
@@ -69,8 +71,7 @@ fn document_of(alloc: Global, value: &Value) -> Result<Document, RunFault>
 
 /// The fault of a whole document, with this cause.
 fn refused(alloc: Global, cause: &str) -> RunFault
-    ensures fault { IsFaultOf result (with_path document_path (refuse cause.now)) }
-    ensures kind { IsOfReading result }
+    ensures { IsFaultOf result (with_path document_path (refuse cause.now)) }
 {
     match DocFault::here(alloc, cause).in_document(alloc) {
         DocFault::Memory => RunFault::Memory,
@@ -183,7 +184,8 @@ fn read_once<R: Read>(
 
 /// Whether a failed call is made again: it was interrupted, and there are retries left.
 fn takes_retry(error: &Error, retries: &mut u32) -> bool
-    ensures fewer { IsTrue result → retries.new < retries.old }
+    ensures retried { IsTrue result ↔ (error_kind error.now ≡ ErrorKind.Interrupted) × 0 < retries.old }
+    ensures counted { retries.new ≡ (if result then retries.old - 1 else retries.old) }
 {
     if error.kind() != ErrorKind::Interrupted || *retries == 0 {
         return false;
