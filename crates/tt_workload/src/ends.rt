@@ -44,6 +44,7 @@ pub fn read_document<R: Read>(alloc: Global, reader: &mut R) -> Result<Document,
 }
 
 /// The document that the bytes spell.
+#[tactic(auto, using(crate::proofs::EndsLemmas::spelled))]
 fn document_from(alloc: Global, bytes: &[u8]) -> Result<Document, RunFault>
     ensures ok { IfOk result (λ d. document_read bytes.now ≡ Ok d) }
     ensures fault { IfErr result (λ e. IsFaultOf e (document_read bytes.now)) }
