@@ -35,6 +35,11 @@ document_read bytes = with_path document_path (do
   v ← found_or (codes "not JSON") (json_of bytes)
   members_of_document v)
 
+-- why a run isn't done, where no document is read; want of memory is no fault of the document
+abbrev pub run_fault : DocFault → RunFault
+run_fault (doc.At path cause) = run.Document (doc.At path cause)
+run_fault doc.Memory = run.Memory
+
 -- known bytes lose at most n at their front
 pub record TakesAtMost (n : ℕ) (old new : Option (List ℕ)) : Type 0 where
   pub bytes : List ℕ

@@ -4,9 +4,7 @@ ghost use Rattle.std.specs.IoError.{error_kind};
 ghost use Rattle.std.specs.Io.{ReadsAtMost, WritesAtMost};
 ghost use Rattle.std.specs.Io.KnownBytes.{Keeps, Appends, Consumes, IsAtEnd};
 ghost use Rattle.tt_workload.specs.Ends.{most_read, document_read, TakesAtMost, AppendsFront, IsSpelled, IsFaultOf, IsOfReading, IsOfReader};
-ghost use Rattle.tt_workload.specs.Reading.{refuse, with_path, document_path};
-ghost use Rattle.tt_workload.specs.Grammar.{document_of};
-ghost use Rattle.serde_json.specs.View.{view};
+ghost use Rattle.tt_workload.specs.Reading.{Fails, IsFault, fault_here, moved, document_path};
 
 use crate::document::Document;
 use crate::fault::DocFault;
@@ -40,44 +38,31 @@ pub fn read_document<R: Read>(alloc: Global, reader: &mut R) -> Result<Document,
     ensures kind { IfErr result IsOfReading }
 {
     let bytes = read_bytes(alloc, reader)?;
-    document_from(alloc, &bytes)
+    let document = document_from(alloc, &bytes)?;
+    Ok(document)
 }
 
 /// The document that the bytes spell.
 #[tactic(auto, using(crate::proofs::EndsLemmas::spelled))]
-fn document_from(alloc: Global, bytes: &[u8]) -> Result<Document, RunFault>
-    ensures ok { IfOk result (λ d. document_read bytes.now ≡ Ok d) }
-    ensures fault { IfErr result (λ e. IsFaultOf e (document_read bytes.now)) }
+fn document_from(alloc: Global, bytes: &[u8]) -> Result<Document, DocFault>
+    ensures spelled { IfOk result (λ d. document_read bytes.now ≡ Ok d) }
+    ensures fault { IfErr result (λ fault. Fails fault (document_read bytes.now)) }
 {
     if bytes.len() > MOST_BYTES {
         return Err(refused(alloc, TOO_LONG));
     }
     match Value::from_slice(alloc, bytes) {
-        Ok(value) => document_of(alloc, &value),
-        Err(error) if error.is_memory() => Err(RunFault::Memory),
+        Ok(value) => Document::from_value(alloc, &value),
+        Err(error) if error.is_memory() => Err(DocFault::Memory),
         Err(_) => Err(refused(alloc, NOT_JSON)),
     }
 }
 
-fn document_of(alloc: Global, value: &Value) -> Result<Document, RunFault>
-    ensures ok { IfOk result (λ d. document_of (view value.now) ≡ Ok d) }
-    ensures fault { IfErr result (λ e. IsFaultOf e (document_of (view value.now))) }
-{
-    match Document::from_value(alloc, value) {
-        Ok(document) => Ok(document),
-        Err(DocFault::Memory) => Err(RunFault::Memory),
-        Err(fault) => Err(RunFault::Document(fault)),
-    }
-}
-
 /// The fault of a whole document, with this cause.
-fn refused(alloc: Global, cause: &str) -> RunFault
-    ensures { IsFaultOf result (with_path document_path (refuse cause.now)) }
+fn refused(alloc: Global, cause: &str) -> DocFault
+    ensures { IsFault result (moved document_path (fault_here cause.now)) }
 {
-    match DocFault::here(alloc, cause).in_document(alloc) {
-        DocFault::Memory => RunFault::Memory,
-        fault => RunFault::Document(fault),
-    }
+    DocFault::here(alloc, cause).in_document(alloc)
 }
 
 /// What the reader has left, or the first bytes of it, one more than a document may have.

@@ -38,3 +38,16 @@ impl<T: Drop> From<AllocFailed<T>> for RunFault {
         RunFault::Memory
     }
 }
+
+impl From<DocFault> for RunFault {
+    ghost use Rattle.tt_workload.specs.Ends.{run_fault};
+
+    ghost from_gives = { λ fault e. e ≡ run_fault fault };
+
+    fn from(fault: DocFault) -> RunFault {
+        match fault {
+            DocFault::Memory => RunFault::Memory,
+            fault => RunFault::Document(fault),
+        }
+    }
+}
