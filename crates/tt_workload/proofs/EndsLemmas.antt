@@ -55,3 +55,5 @@ takes_all n a b bs few p = record { bytes = bs; taken = p; few = few }
 pub takes_more : (n : ℕ) (a b c : Option (List ℕ)) (bs : List ℕ) → length bs ≤ n → Consumes a b bs → TakesAtMost (n - length bs) b c → TakesAtMost n a c
 takes_more n a b c bs few p more =
     takes_all n a c (bs ++ more.bytes) (omega (arith, length-append bs more.bytes, more.few)) (Consumes-trans a b c bs more.bytes p more.taken)
+
+pub ruleset spelled = (document_read-long, document_read-refused, document_read-value)

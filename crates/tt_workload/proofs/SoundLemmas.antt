@@ -1,13 +1,14 @@
--- A document that is read can be run: each of its calls was judged on its tables.
-use Rattle.std.proofs.Common.{◌≡◌, ℕ, suc, ◌+◌, ◌<◌, ◌≤◌, Bool, true, false, cond, nat_lt, List, [], ◌∷◌, ◌++◌, length, Option, Some, None, Result, Ok, Err, codes, if◌then◌else◌, refl, sym, ap, subst, ◌∙◌, arith}
-use Rattle.std.specs.Prelude.{⊤}
-use Rattle.std.proofs.lemmas.Bool.Decides.{nat_tests}
+-- A document that's read is within its limits, and each statement passed its check.
+use Rattle.std.proofs.Common.{◌≡◌, ℕ, suc, ◌≤◌, Bool, true, false, cond, nat_lt, ◌||◌, List, [], ◌∷◌, length, Option, None, Some, Result, Ok, Err, codes, refl, sym, ap, subst, ◌∙◌}
+use Rattle.std.specs.List.{AllByRecursion}
+use Rattle.std.proofs.lemmas.Bool.{ltb-false}
+use Rattle.std.proofs.lemmas.List.Elements.{All-from_recursion, recursion_from_All}
 use Rattle.serde_json.specs.Data.{Data}
 use Rattle.serde_json.specs.Find.{get}
+use Rattle.tt_values.specs.declared.checking.CheckError.{CheckError}
+use Rattle.tt_values.specs.declared.statement.Select.{Select}
 use Rattle.tt_values.specs.declared.statement.Write.{Write}
 use Rattle.tt_values.specs.declared.statement.Write.TheVariants.{Insert}
-use Rattle.tt_values.specs.declared.statement.Select.{Select}
-use Rattle.tt_values.specs.declared.checking.CheckError.{CheckError}
 use Rattle.tt_values.specs.Tables.{Tables}
 use Rattle.tt_values.specs.Check.{write_fault, select_fault}
 use Rattle.tt_workload.specs.declared.document.Document.{Document}
@@ -16,150 +17,177 @@ use Rattle.tt_workload.specs.declared.document.Ask.{Ask}
 use Rattle.tt_workload.specs.declared.document.Ask.TheVariants as asks
 use Rattle.tt_workload.specs.declared.fault.DocFault.{DocFault}
 use Rattle.tt_workload.specs.Reading.{◌>>=◌, refuse, with_path, item_path}
-use Rattle.tt_workload.specs.Json.{object, array, member, read_member, array_of, each, count_within}
+use Rattle.tt_workload.specs.Json.{member, read_member, within, count, count_within, each, array, array_of, object}
 use Rattle.tt_workload.specs.Members.{is_one_of, no_members_but}
-use Rattle.tt_workload.specs.Grammar.{judge, checked, has, table_named, value, condition, insert, select, ask, call, calls, at_most, catalog, most_calls, most_workers, members_of_document}
-use Rattle.tt_workload.specs.Report.{IsSoundAsk, AreSound, IsSound}
+use Rattle.tt_workload.specs.Grammar.{most_workers, most_calls, table_named, value, condition, catalog, checked, insert, select, has, ask, call, at_most, calls, members_of_document}
+use Rattle.tt_workload.specs.Sound.{ask_fault, IsCall, AreTaken, IsSound}
 
--- a reading that goes on after another: what the first gave, and that the second gave the rest
-record GoesOn {A B : Type 0} (r : Result A DocFault) (f : A → Result B DocFault) (y : B) : Type 0 where
-  first : A
-  gives : r ≡ Ok first
-  rest : f first ≡ Ok y
+ok_same : {T : Type 0} {x y : T} → ◌≡◌ {A = Result T DocFault} (Ok x) (Ok y) → x ≡ y
+ok_same e = cc
 
-goes_on : {A B : Type 0} (r : Result A DocFault) (f : A → Result B DocFault) (y : B) → (r >>= f) ≡ Ok y → GoesOn r f y
-goes_on (Ok x) f y h = record { first = x; gives = refl; rest = h }
-goes_on (Err e) f y h = cc
+-- what a chain that is read went through
+record Step {A B : Type 0} (r : Result A DocFault) (f : A → Result B DocFault) (y : B) : Type 0 where
+  value : A
+  is : r ≡ Ok value
+  rest : f value ≡ Ok y
 
-with_path-Ok : {T : Type 0} (path : List ℕ → List ℕ) (r : Result T DocFault) (x : T) → with_path path r ≡ Ok x → r ≡ Ok x
-with_path-Ok path (Ok y) x h = h
-with_path-Ok path (Err e) x h = cc
+step : {A B : Type 0} (r : Result A DocFault) (f : A → Result B DocFault) (y : B) → (r >>= f) ≡ Ok y → Step r f y
+step (Ok x) f y e = record { value = x; is = refl; rest = e }
+step (Err fault) f y e = cc
 
-record ReadsMember {T : Type 0} (reader : Data → Result T DocFault) (x : T) : Type 0 where
-  data_read : Data
-  gives : reader data_read ≡ Ok x
+with_path-ok : {T : Type 0} (path_of : List ℕ → List ℕ) (r : Result T DocFault) (x : T) → with_path path_of r ≡ Ok x → r ≡ Ok x
+with_path-ok path_of (Ok y) x e = e
+with_path-ok path_of (Err fault) x e = cc
 
-reads_member : {T : Type 0} (name : List ℕ) (reader : Data → Result T DocFault) (o : Option Data) (x : T) → read_member name reader o ≡ Ok x → ReadsMember reader x
-reads_member name reader None x h = cc
-reads_member name reader (Some d) x h = record { data_read = d; gives = with_path-Ok _ (reader d) x h }
+-- a member that is read is what its value spells
+record Spelled {T : Type 0} (decode : Data → Result T DocFault) (x : T) : Type 0 where
+  value : Data
+  is : decode value ≡ Ok x
 
--- a statement that was checked has no fault
-record IsChecked {S : Type 0} (statement result : S) (fault : Option CheckError) : Type 0 where
-  same : statement ≡ result
-  none : fault ≡ None
+read_member-ok : {T : Type 0} (name : List ℕ) (decode : Data → Result T DocFault) (o : Option Data) (x : T) → read_member name decode o ≡ Ok x → Spelled decode x
+read_member-ok name decode None x e = cc
+read_member-ok name decode (Some d) x e = record { value = d; is = with_path-ok _ (decode d) x e }
 
-is_checked : {S : Type 0} (statement result : S) (fault : Option CheckError) → checked statement fault ≡ Ok result → IsChecked statement result fault
-is_checked statement result None h = record { same = cc; none = refl }
-is_checked statement result (Some e) h = cc
+member-ok : {T : Type 0} (name : List ℕ) (decode : Data → Result T DocFault) (v : Data) (x : T) → member name decode v ≡ Ok x → Spelled decode x
+member-ok name decode v x e = read_member-ok name decode (get name v) x e
 
-insert-sound : (tables : Tables) (v : Data) (w : Write) → insert tables v ≡ Ok w → write_fault tables w ≡ None
+each-ok : {T : Type 0} (P : T → Type 0) (decode : Data → Result T DocFault) → ((d : Data) (x : T) → decode d ≡ Ok x → P x)
+    → (i : ℕ) (ds : List Data) (xs : List T) → each decode i ds ≡ Ok xs → AllByRecursion P xs
+each-ok P decode h i [] xs e = subst (AllByRecursion P) (ok_same e) tt
+each-ok P decode h i (d ∷ ds) xs e =
+    let first = step (with_path (item_path i) (decode d)) _ xs e in
+    let rest = step (each decode (suc i) ds) _ xs first.rest in
+    let all : AllByRecursion P (first.value ∷ rest.value) = (h d first.value (with_path-ok _ (decode d) first.value first.is), each-ok P decode h (suc i) ds rest.value rest.is) in
+    subst (AllByRecursion P) (ok_same rest.rest) all
+
+-- a count within bounds
+record IsWithin (least most n : ℕ) : Type 0 where
+  from : least ≤ n
+  to : n ≤ most
+
+choice-ok : (b : Bool) (n m : ℕ) (cause : List ℕ) → cond b (refuse cause) (Ok n) ≡ Ok m → (b ≡ false) × (n ≡ m)
+choice-ok true n m cause e = cc
+choice-ok false n m cause e = (refl, ok_same e)
+
+neither : (x y : Bool) → (x || y) ≡ false → (x ≡ false) × (y ≡ false)
+neither true y e = cc
+neither false y e = (refl, e)
+
+within-ok : (least most n m : ℕ) → within least most n ≡ Ok m → IsWithin least most m
+within-ok least most n m e =
+    let chosen = choice-ok (nat_lt n least || nat_lt most n) n m (codes "out of range") e in
+    let bounds = neither (nat_lt n least) (nat_lt most n) chosen.0 in
+    subst (IsWithin least most) chosen.1 (record { from = ltb-false n least bounds.0; to = ltb-false most n bounds.1 })
+
+count_within-ok : (least most : ℕ) (v : Data) (n : ℕ) → count_within least most v ≡ Ok n → IsWithin least most n
+count_within-ok least most v n e =
+    let counted = step (count v) (within least most) n e in
+    within-ok least most counted.value n counted.rest
+
+member-within : (name : List ℕ) (least most : ℕ) (v : Data) (n : ℕ) → member name (count_within least most) v ≡ Ok n → IsWithin least most n
+member-within name least most v n e =
+    let spelled = member-ok name (count_within least most) v n e in
+    count_within-ok least most spelled.value n spelled.is
+
+-- a statement that is checked has no fault
+checked-ok : {S : Type 0} (s t : S) (fault : Option CheckError) → checked s fault ≡ Ok t → (s ≡ t) × (fault ≡ None)
+checked-ok s t None e = (ok_same e, refl)
+checked-ok s t (Some fault) e = cc
+
+insert-ok : (tables : Tables) (v : Data) (write : Write) → insert tables v ≡ Ok write → write_fault tables write ≡ None
 unfolding insert
-insert-sound tables v w h =
-    let a = goes_on (member (codes "insert") (table_named tables) v) _ w h in
-    let b = goes_on (member (codes "row") (array_of value) v) _ w a.rest in
-    let c = goes_on (no_members_but (is_one_of (codes "insert" ∷ codes "row" ∷ codes "worker" ∷ [])) v) _ w b.rest in
-    let statement : Write = Insert a.first (record { values = b.first }) in
-    let d = is_checked statement w (write_fault tables statement) c.rest in
-    subst (λ s. write_fault tables s ≡ None) d.same d.none
+insert-ok tables v write e =
+    let table = step (member (codes "insert") (table_named tables) v) _ write e in
+    let values = step (member (codes "row") (array_of value) v) _ write table.rest in
+    let known = step (no_members_but (is_one_of (codes "insert" ∷ codes "row" ∷ codes "worker" ∷ [])) v) _ write values.rest in
+    let statement : Write = Insert table.value (record { values = values.value }) in
+    let done = checked-ok statement write (write_fault tables statement) known.rest in
+    subst (λ w. write_fault tables w ≡ None) done.0 done.1
 
-select-sound : (tables : Tables) (v : Data) (q : Select) → select tables v ≡ Ok q → select_fault tables q ≡ None
+select-ok : (tables : Tables) (v : Data) (s : Select) → select tables v ≡ Ok s → select_fault tables s ≡ None
 unfolding select
-select-sound tables v q h =
-    let a = goes_on (member (codes "select") (table_named tables) v) _ q h in
-    let b = goes_on (member (codes "where") (array_of (condition tables a.first)) v) _ q a.rest in
-    let c = goes_on (no_members_but (is_one_of (codes "select" ∷ codes "where" ∷ codes "worker" ∷ [])) v) _ q b.rest in
-    let statement : Select = record { table = a.first; equals = b.first } in
-    let d = is_checked statement q (select_fault tables statement) c.rest in
-    subst (λ s. select_fault tables s ≡ None) d.same d.none
+select-ok tables v s e =
+    let table = step (member (codes "select") (table_named tables) v) _ s e in
+    let equals = step (member (codes "where") (array_of (condition tables table.value)) v) _ s table.rest in
+    let known = step (no_members_but (is_one_of (codes "select" ∷ codes "where" ∷ codes "worker" ∷ [])) v) _ s equals.rest in
+    let statement : Select = record { table = table.value; equals = equals.value } in
+    let done = checked-ok statement s (select_fault tables statement) known.rest in
+    subst (λ t. select_fault tables t ≡ None) done.0 done.1
 
-ask-sound : (tables : Tables) (v : Data) (a : Ask) → ask tables v ≡ Ok a → IsSoundAsk tables a
+asked : (tables : Tables) (v : Data) (first second : Bool) (a : Ask) (cause : List ℕ)
+    → cond first (insert tables v >>= λ write. Ok (asks.Write write)) (cond second (select tables v >>= λ s. Ok (asks.Read s)) (refuse cause)) ≡ Ok a
+    → ask_fault tables a ≡ None
+asked tables v true second a cause e =
+    let write = step (insert tables v) _ a e in
+    subst (λ b. ask_fault tables b ≡ None) (ok_same write.rest) (insert-ok tables v write.value write.is)
+asked tables v false true a cause e =
+    let s = step (select tables v) _ a e in
+    subst (λ b. ask_fault tables b ≡ None) (ok_same s.rest) (select-ok tables v s.value s.is)
+asked tables v false false a cause e = cc
+
+ask-ok : (tables : Tables) (v : Data) (a : Ask) → ask tables v ≡ Ok a → ask_fault tables a ≡ None
 unfolding ask
-ask-sound tables v a h = by (has (codes "insert") v) (has (codes "select") v) h
-  where
-    write : Result Write DocFault
-    write = insert tables v
-    read : Result Select DocFault
-    read = select tables v
-    by : (b c : Bool) → (if b then (write >>= λ w. Ok (asks.Write w)) else (if c then (read >>= λ q. Ok (asks.Read q)) else refuse (codes "missing one of insert, update, delete, select, preview"))) ≡ Ok a → IsSoundAsk tables a
-    by true c g =
-        let s = goes_on (insert tables v) (λ w. Ok (asks.Write w)) a g in
-        let same : asks.Write s.first ≡ a = cc in
-        subst (IsSoundAsk tables) same (insert-sound tables v s.first s.gives)
-    by false true g =
-        let s = goes_on (select tables v) (λ q. Ok (asks.Read q)) a g in
-        let same : asks.Read s.first ≡ a = cc in
-        subst (IsSoundAsk tables) same (select-sound tables v s.first s.gives)
-    by false false g = cc
+ask-ok tables v a e = asked tables v (has (codes "insert") v) (has (codes "select") v) a _ e
 
-call-sound : (tables : Tables) (workers : ℕ) (v : Data) (c : Call) → call tables workers v ≡ Ok c → IsSoundAsk tables c.ask
+call-ok : (tables : Tables) (workers : ℕ) (v : Data) (c : Call) → call tables workers v ≡ Ok c → IsCall tables workers c
 unfolding call
-call-sound tables workers v c h =
-    let a = goes_on (object v) _ c h in
-    let b = goes_on (member (codes "worker") (count_within 1 workers) v) _ c a.rest in
-    let s = goes_on (ask tables v) _ c b.rest in
-    let same : s.first ≡ c.ask = ap (λ r. ask_of r s.first) s.rest in
-    subst (IsSoundAsk tables) same (ask-sound tables v s.first s.gives)
-  where
-    ask_of : Result Call DocFault → Ask → Ask
-    ask_of (Ok k) d = k.ask
-    ask_of (Err e) d = d
+call-ok tables workers v c e =
+    let members = step (object v) _ c e in
+    let worker = step (member (codes "worker") (count_within 1 workers) v) _ c members.rest in
+    let asks = step (ask tables v) _ c worker.rest in
+    let bounds = member-within (codes "worker") 1 workers v worker.value worker.is in
+    subst (IsCall tables workers) (ok_same asks.rest) (record { from_one = bounds.from; to_last = bounds.to; is_taken = ask-ok tables v asks.value asks.is })
 
--- what a reading gives, or else something
-abbrev calls_of : Result (List Call) DocFault → List Call → List Call
-calls_of (Ok cs) ds = cs
-calls_of (Err e) ds = ds
+at_most-ok : (b : Bool) (cause : List ℕ) → cond b (refuse {T = Unit {0}} cause) (Ok tt) ≡ Ok tt → b ≡ false
+at_most-ok true cause e = cc
+at_most-ok false cause e = refl
 
-abbrev document_or : Result Document DocFault → Document → Document
-document_or (Ok d) e = d
-document_or (Err f) e = e
+length-each : {T : Type 0} (decode : Data → Result T DocFault) (i : ℕ) (ds : List Data) (xs : List T) → each decode i ds ≡ Ok xs → length xs ≡ length ds
+length-each decode i [] xs e = ap length (sym (ok_same e))
+length-each decode i (d ∷ ds) xs e =
+    let first = step (with_path (item_path i) (decode d)) _ xs e in
+    let rest = step (each decode (suc i) ds) _ xs first.rest in
+    ap length (sym (ok_same rest.rest)) ∙ ap suc (length-each decode (suc i) ds rest.value rest.is)
 
-record ReadsCalls (tables : Tables) (cs : List Call) (n : ℕ) : Type 0 where
-  sound : AreSound tables cs
-  count : length cs ≡ n
+record AreCalls (tables : Tables) (workers : ℕ) (cs : List Call) : Type 0 where
+  few : length cs ≤ most_calls
+  each_is : AllByRecursion (IsCall tables workers) cs
 
-each-sound : (tables : Tables) (workers i : ℕ) (ds : List Data) (cs : List Call) → each (call tables workers) i ds ≡ Ok cs → ReadsCalls tables cs (length ds)
-each-sound tables workers i [] cs h =
-    let same : [] ≡ cs = cc in
-    record { sound = subst (AreSound tables) same tt; count = ap length (sym same) }
-each-sound tables workers i (d ∷ ds) cs h =
-    let a = goes_on (with_path (item_path i) (call tables workers d)) _ cs h in
-    let b = goes_on (each (call tables workers) (suc i) ds) _ cs a.rest in
-    let rest = each-sound tables workers (suc i) ds b.first b.gives in
-    let same : a.first ∷ b.first ≡ cs = ap (λ r. calls_of r (a.first ∷ b.first)) b.rest in
+calls-ok : (tables : Tables) (workers : ℕ) (v : Data) (cs : List Call) → calls tables workers v ≡ Ok cs → AreCalls tables workers cs
+calls-ok tables workers v cs e =
+    let items = step (array v) _ cs e in
+    let limit = step (at_most most_calls items.value) _ cs items.rest in
+    let same_length = length-each (call tables workers) 0 items.value cs limit.rest in
+    let few = ltb-false most_calls (length items.value) (at_most-ok _ _ limit.is) in
     record {
-      sound = subst (AreSound tables) same (call-sound tables workers d a.first (with_path-Ok _ (call tables workers d) a.first a.gives), rest.sound);
-      count = ap length (sym same) ∙ ap suc rest.count;
+      few = subst (λ n. n ≤ most_calls) (sym same_length) few;
+      each_is = each-ok (IsCall tables workers) (call tables workers) (call-ok tables workers) 0 items.value cs limit.rest;
     }
 
-within_limit : (n : ℕ) (ds : List Data) (x : ⊤) → at_most n ds ≡ Ok x → length ds ≤ n
-within_limit n ds x h = by (nat_lt n (length ds)) refl h
-  where
-    by : (b : Bool) → nat_lt n (length ds) ≡ b → (if b then refuse (codes "out of range") else Ok tt) ≡ Ok x → length ds ≤ n
-    by true e g = cc
-    by false e g = grind (arith, nat_tests)
-
-record ReadsFewCalls (tables : Tables) (cs : List Call) : Type 0 where
-  sound : AreSound tables cs
-  few : length cs ≤ most_calls
-
-calls-sound : (tables : Tables) (workers : ℕ) (v : Data) (cs : List Call) → calls tables workers v ≡ Ok cs → ReadsFewCalls tables cs
-calls-sound tables workers v cs h =
-    let a = goes_on (array v) _ cs h in
-    let b = goes_on (at_most most_calls a.first) _ cs a.rest in
-    let all = each-sound tables workers 0 a.first cs b.rest in
-    record { sound = all.sound; few = subst (λ n. n ≤ most_calls) (sym all.count) (within_limit most_calls a.first b.first b.gives) }
-
-pub members-sound : (v : Data) (document : Document) → members_of_document v ≡ Ok document → IsSound document
+-- each document that's read is sound
+pub sound-members_of_document : (v : Data) (d : Document) → members_of_document v ≡ Ok d → IsSound d
 unfolding members_of_document
-members-sound v document h =
-    let a = goes_on (object v) _ document h in
-    let b = goes_on (member (codes "version") (count_within 1 1) v) _ document a.rest in
-    let c = goes_on (member (codes "tables") catalog v) _ document b.rest in
-    let d = goes_on (member (codes "workers") (count_within 1 most_workers) v) _ document c.rest in
-    let e = goes_on (member (codes "calls") (calls c.first d.first) v) _ document d.rest in
-    let f = goes_on (no_members_but (is_one_of (codes "calls" ∷ codes "tables" ∷ codes "version" ∷ codes "workers" ∷ [])) v) _ document e.rest in
-    let made : Document = record { catalog = c.first; workers = d.first; calls = e.first } in
-    let same : made ≡ document = ap (λ r. document_or r made) f.rest in
-    let reads = reads_member (codes "calls") (calls c.first d.first) (get (codes "calls") v) e.first e.gives in
-    let all = calls-sound c.first d.first reads.data_read e.first reads.gives in
-    subst IsSound same (record { calls = all.sound; few = all.few })
+sound-members_of_document v d e =
+    let members = step (object v) _ d e in
+    let version = step (member (codes "version") (count_within 1 1) v) _ d members.rest in
+    let tables = step (member (codes "tables") catalog v) _ d version.rest in
+    let workers = step (member (codes "workers") (count_within 1 most_workers) v) _ d tables.rest in
+    let cs = step (member (codes "calls") (calls tables.value workers.value) v) _ d workers.rest in
+    let known = step (no_members_but (is_one_of (codes "calls" ∷ codes "tables" ∷ codes "version" ∷ codes "workers" ∷ [])) v) _ d cs.rest in
+    let bounds = member-within (codes "workers") 1 most_workers v workers.value workers.is in
+    let spelled = member-ok (codes "calls") (calls tables.value workers.value) v cs.value cs.is in
+    let read = calls-ok tables.value workers.value spelled.value cs.value spelled.is in
+    subst IsSound (ok_same known.rest) (record {
+      some_worker = bounds.from;
+      few_workers = bounds.to;
+      few_calls = read.few;
+      sound_calls = All-from_recursion (IsCall tables.value workers.value) cs.value read.each_is;
+    })
+
+each_is_taken : (tables : Tables) (workers : ℕ) (cs : List Call) → AllByRecursion (IsCall tables workers) cs → AreTaken tables cs
+each_is_taken tables workers [] h = tt
+each_is_taken tables workers (call ∷ cs) h = (h.0.is_taken, each_is_taken tables workers cs h.1)
+
+-- the statement of each call of a sound document is taken
+pub are_taken : (d : Document) → IsSound d → AreTaken d.catalog d.calls
+are_taken d sound = each_is_taken d.catalog d.workers d.calls (recursion_from_All (IsCall d.catalog d.workers) d.calls sound.sound_calls)

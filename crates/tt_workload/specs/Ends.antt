@@ -35,6 +35,11 @@ document_read bytes = with_path document_path (do
   v ← found_or (codes "not JSON") (json_of bytes)
   members_of_document v)
 
+-- why a run isn't done, where no document is read; want of memory is no fault of the document
+abbrev pub run_fault : DocFault → RunFault
+run_fault (doc.At path cause) = run.Document (doc.At path cause)
+run_fault doc.Memory = run.Memory
+
 -- known bytes lose at most n at their front
 pub record TakesAtMost (n : ℕ) (old new : Option (List ℕ)) : Type 0 where
   pub bytes : List ℕ
@@ -59,14 +64,12 @@ IsFaultOf (run.Store text) reading = ⊥
 IsFaultOf run.Write reading = ⊥
 IsFaultOf run.Memory reading = Unit {0}
 
--- a fault of what is read, of the reader, or want of memory
+-- some bytes spell the document; reading some bytes can end in the fault
+abbrev pub IsSpelled : Document → Type 0
+IsSpelled document = (bytes : List ℕ) × (document_read bytes ≡ Ok document)
+
 abbrev pub IsOfReading : RunFault → Type 0
-IsOfReading run.Read = Unit {0}
-IsOfReading (run.Document (doc.At path cause)) = Unit {0}
-IsOfReading (run.Document doc.Memory) = ⊥
-IsOfReading (run.Store text) = ⊥
-IsOfReading run.Write = ⊥
-IsOfReading run.Memory = Unit {0}
+IsOfReading e = (bytes : List ℕ) × IsFaultOf e (document_read bytes)
 
 -- the reader failed, or there was no memory left
 abbrev pub IsOfReader : RunFault → Type 0

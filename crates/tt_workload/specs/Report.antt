@@ -3,7 +3,6 @@ use Rattle.std.specs.Prelude.{◌≡◌, ℕ, ◌+◌, ◌<◌, ◌≤◌, List,
 use Rattle.std.specs.List.{flat_map}
 use Rattle.std.specs.Fmt.{decimal}
 use Rattle.tt_values.specs.Tables.{Tables}
-use Rattle.tt_values.specs.Check.{write_fault, select_fault}
 use Rattle.tt_values.specs.Effect.{answer_of}
 use Rattle.tt_db.specs.declared.event.Event.TheVariants as events
 use Rattle.tt_db.specs.declared.event.Entry.{Entry}
@@ -71,17 +70,3 @@ alone document =
 pub record HasRoom (db : Database) : Type 0 where
   pub slots : now_of (state_of db) < db.limits.slots
   pub events : (state_of db).events < db.limits.events
-
--- what a call asks can be carried out on the tables
-abbrev pub IsSoundAsk : Tables → Ask → Type 0
-IsSoundAsk tables (asks.Write w) = write_fault tables w ≡ None
-IsSoundAsk tables (asks.Read q) = select_fault tables q ≡ None
-
-abbrev pub AreSound : Tables → List Call → Type 0
-AreSound tables [] = Unit {0}
-AreSound tables (call ∷ calls) = IsSoundAsk tables call.ask × AreSound tables calls
-
--- a document that can be run: every call can be carried out, and there aren't too many
-pub record IsSound (document : Document) : Type 0 where
-  pub calls : AreSound document.catalog document.calls
-  pub few : length document.calls ≤ 100000

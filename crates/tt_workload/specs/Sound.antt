@@ -1,5 +1,5 @@
 -- What holds of every document that's read.
-use Rattle.std.specs.Prelude.{◌≡◌, ℕ, ◌≤◌, length, Option, None, All}
+use Rattle.std.specs.Prelude.{◌≡◌, ℕ, ◌≤◌, List, [], ◌∷◌, length, Option, None, All}
 use Rattle.tt_values.specs.declared.checking.CheckError.{CheckError}
 use Rattle.tt_values.specs.Tables.{Tables}
 use Rattle.tt_values.specs.Check.{write_fault, select_fault}
@@ -19,6 +19,11 @@ pub record IsCall (tables : Tables) (workers : ℕ) (call : Call) : Type 0 where
   pub from_one : 1 ≤ call.worker
   pub to_last : call.worker ≤ workers
   pub is_taken : ask_fault tables call.ask ≡ None
+
+-- each call's statement is taken by the tables
+abbrev pub AreTaken : Tables → List Call → Type 0
+AreTaken tables [] = Unit {0}
+AreTaken tables (call ∷ calls) = (ask_fault tables call.ask ≡ None) × AreTaken tables calls
 
 -- a document within its limits, each of its calls in order
 pub record IsSound (d : Document) : Type 0 where

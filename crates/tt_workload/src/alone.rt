@@ -5,7 +5,8 @@ ghost use Rattle.tt_values.specs.Check.{write_fault, select_fault};
 ghost use Rattle.tt_db.specs.Limits.{largest};
 ghost use Rattle.tt_db.specs.Database.{Database, state_of};
 ghost use Rattle.tt_workload.specs.Printing.{reply_text};
-ghost use Rattle.tt_workload.specs.Report.{outcome_text, ask_text, call_line, entries_of_ask, entries_of, call_lines, table_line, table_lines, end_line, history_of, alone, HasRoom, IsSoundAsk, AreSound, IsSound};
+ghost use Rattle.tt_workload.specs.Report.{outcome_text, ask_text, call_line, entries_of_ask, entries_of, call_lines, table_line, table_lines, end_line, history_of, alone, HasRoom};
+ghost use Rattle.tt_workload.specs.Sound.{ask_fault, AreTaken, IsSound};
 
 use crate::document::{Ask, Call, Document};
 use crate::printing::{push_decimal, push_reply};
@@ -105,7 +106,7 @@ fn push_call(
     number: u64,
     call: &Call,
 ) -> Result<(), RunFault>
-    requires sound { IsSoundAsk db.old.catalog call.now.ask }
+    requires taken { ask_fault db.old.catalog call.now.ask ≡ None }
     requires room { HasRoom db.old }
     ensures line { OnOk result (out.new.items ≡ out.old.items ++ call_line number (state_of db.old) call.now) }
     ensures state { OnOk result (db.new ≡ record db.old { history = db.old.history ++ entries_of call.now }) }
@@ -127,7 +128,7 @@ fn push_calls(
 ) -> Result<(), RunFault>
     requires fresh { db.old.history ≡ [] }
     requires limits { db.old.limits ≡ largest }
-    requires sound { AreSound db.old.catalog calls.now }
+    requires taken { AreTaken db.old.catalog calls.now }
     requires few { length calls.now ≤ 100000 }
     ensures lines { OnOk result (out.new.items ≡ out.old.items ++ call_lines 1 [] calls.now) }
     ensures state { OnOk result (db.new ≡ record db.old { history = history_of calls.now }) }

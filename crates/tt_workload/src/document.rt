@@ -23,7 +23,7 @@ impl Document {
     ghost use Rattle.serde_json.specs.View.{view};
     ghost use Rattle.tt_workload.specs.Reading.{Fails};
     ghost use Rattle.tt_workload.specs.Grammar.{document_of};
-    ghost use Rattle.tt_workload.specs.Report.{IsSound};
+    ghost use Rattle.tt_workload.specs.Sound.{IsSound};
 
     /// The document that a JSON value spells, or its first fault. Want of memory can come before
     /// the fault is found.
@@ -31,7 +31,6 @@ impl Document {
         ensures spelled { IfOk result (λ document. document_of (view value.now) ≡ Ok document) }
         ensures sound { IfOk result IsSound }
         ensures fault { IfErr result (λ fault. Fails fault (document_of (view value.now))) }
-        ensures sound { IfOk result IsSound }
     {
         match from_members(alloc, value) {
             Ok(document) => Ok(document),
@@ -86,7 +85,7 @@ impl SharedCatalog {
 
     /// A further owner of the catalogue.
     pub fn share(&self) -> Result<Arc<Catalog>, AllocError>
-        ensures { IfOk result (λ shared. arc_value shared ≡ self.now) }
+        ensures { IfOk result (λ owner. arc_value owner ≡ self.now) }
     {
         Arc::try_clone(&self.catalog)
     }

@@ -1,12 +1,11 @@
 //! The two ends of a run: the document that is read, and the text that is written.
-ghost use Rattle.std.specs.Prelude.{◌≡◌, ◌+◌, ◌-◌, ◌<◌, ◌≤◌, ◌++◌, Ok, IfOk, IfErr, IfSome, OnOk, OnErr, IsTrue, length, take};
+ghost use Rattle.std.specs.Prelude.{◌≡◌, ◌+◌, ◌-◌, ◌<◌, ◌≤◌, ◌↔◌, ◌++◌, Ok, IfOk, IfErr, IfSome, OnOk, OnErr, IsTrue, if◌then◌else◌, length, take};
+ghost use Rattle.std.specs.IoError.{error_kind};
 ghost use Rattle.std.specs.Io.{ReadsAtMost, WritesAtMost};
 ghost use Rattle.std.specs.Io.KnownBytes.{Keeps, Appends, Consumes, IsAtEnd};
-ghost use Rattle.tt_workload.specs.Ends.{most_read, document_read, TakesAtMost, AppendsFront, IsFaultOf, IsOfReading, IsOfReader};
-ghost use Rattle.tt_workload.specs.Reading.{refuse, with_path, document_path};
-ghost use Rattle.tt_workload.specs.Grammar.{document_of};
-ghost use Rattle.tt_workload.specs.Report.{IsSound};
-ghost use Rattle.serde_json.specs.View.{view};
+ghost use Rattle.tt_workload.specs.Ends.{most_read, document_read, TakesAtMost, AppendsFront, IsSpelled, IsFaultOf, IsOfReading, IsOfReader};
+ghost use Rattle.tt_workload.specs.Sound.{IsSound};
+ghost use Rattle.tt_workload.specs.Reading.{Fails, IsFault, fault_here, moved, document_path};
 
 use crate::document::Document;
 use crate::fault::DocFault;
@@ -33,53 +32,40 @@ const NOT_JSON: &str = "not JSON";
 pub fn read_document<R: Read>(alloc: Global, reader: &mut R) -> Result<Document, RunFault>
     ensures ok { IfOk result (λ d. IfSome (R.remaining reader.old) (λ xs. document_read (take most_read xs) ≡ Ok d)) }
     ensures fault { IfErr result (λ e. IfSome (R.remaining reader.old) (λ xs. IsFaultOf e (document_read (take most_read xs)))) }
-    ensures kind { IfErr result IsOfReading }
-    ensures sound { IfOk result IsSound }
     ensures most { TakesAtMost most_read (R.remaining reader.old) (R.remaining reader.new) }
+
+    // Of a reader whose bytes aren't known too.
+    ensures spelled { IfOk result IsSpelled }
+    ensures sound { IfOk result IsSound }
+    ensures kind { IfErr result IsOfReading }
 {
     let bytes = read_bytes(alloc, reader)?;
-    document_from(alloc, &bytes)
+    let document = document_from(alloc, &bytes)?;
+    Ok(document)
 }
 
 /// The document that the bytes spell.
-fn document_from(alloc: Global, bytes: &[u8]) -> Result<Document, RunFault>
-    ensures ok { IfOk result (λ d. document_read bytes.now ≡ Ok d) }
-    ensures fault { IfErr result (λ e. IsFaultOf e (document_read bytes.now)) }
-    ensures kind { IfErr result IsOfReading }
+#[tactic(auto, using(crate::proofs::EndsLemmas::spelled))]
+fn document_from(alloc: Global, bytes: &[u8]) -> Result<Document, DocFault>
+    ensures spelled { IfOk result (λ d. document_read bytes.now ≡ Ok d) }
     ensures sound { IfOk result IsSound }
+    ensures fault { IfErr result (λ fault. Fails fault (document_read bytes.now)) }
 {
     if bytes.len() > MOST_BYTES {
         return Err(refused(alloc, TOO_LONG));
     }
     match Value::from_slice(alloc, bytes) {
-        Ok(value) => document_of(alloc, &value),
-        Err(error) if error.is_memory() => Err(RunFault::Memory),
+        Ok(value) => Document::from_value(alloc, &value),
+        Err(error) if error.is_memory() => Err(DocFault::Memory),
         Err(_) => Err(refused(alloc, NOT_JSON)),
     }
 }
 
-fn document_of(alloc: Global, value: &Value) -> Result<Document, RunFault>
-    ensures ok { IfOk result (λ d. document_of (view value.now) ≡ Ok d) }
-    ensures fault { IfErr result (λ e. IsFaultOf e (document_of (view value.now))) }
-    ensures kind { IfErr result IsOfReading }
-    ensures sound { IfOk result IsSound }
-{
-    match Document::from_value(alloc, value) {
-        Ok(document) => Ok(document),
-        Err(DocFault::Memory) => Err(RunFault::Memory),
-        Err(fault) => Err(RunFault::Document(fault)),
-    }
-}
-
 /// The fault of a whole document, with this cause.
-fn refused(alloc: Global, cause: &str) -> RunFault
-    ensures fault { IsFaultOf result (with_path document_path (refuse cause.now)) }
-    ensures kind { IsOfReading result }
+fn refused(alloc: Global, cause: &str) -> DocFault
+    ensures { IsFault result (moved document_path (fault_here cause.now)) }
 {
-    match DocFault::here(alloc, cause).in_document(alloc) {
-        DocFault::Memory => RunFault::Memory,
-        fault => RunFault::Document(fault),
-    }
+    DocFault::here(alloc, cause).in_document(alloc)
 }
 
 /// What the reader has left, or the first bytes of it, one more than a document may have.
@@ -187,7 +173,8 @@ fn read_once<R: Read>(
 
 /// Whether a failed call is made again: it was interrupted, and there are retries left.
 fn takes_retry(error: &Error, retries: &mut u32) -> bool
-    ensures fewer { IsTrue result → retries.new < retries.old }
+    ensures retried { IsTrue result ↔ (error_kind error.now ≡ ErrorKind.Interrupted) × 0 < retries.old }
+    ensures counted { retries.new ≡ (if result then retries.old - 1 else retries.old) }
 {
     if error.kind() != ErrorKind::Interrupted || *retries == 0 {
         return false;

@@ -34,6 +34,5 @@ pub const MAX_CALLS: usize = 100_000;
 
 #[cfg(test)]
 mod tests;
-
 #[cfg(test)]
 mod tests_ends;

@@ -68,3 +68,16 @@ fn store_fault(text: Result<String, AllocError>) -> RunFault {
         Err(AllocError) => RunFault::Memory,
     }
 }
+
+impl From<DocFault> for RunFault {
+    ghost use Rattle.tt_workload.specs.Ends.{run_fault};
+
+    ghost from_gives = { λ fault e. e ≡ run_fault fault };
+
+    fn from(fault: DocFault) -> RunFault {
+        match fault {
+            DocFault::Memory => RunFault::Memory,
+            fault => RunFault::Document(fault),
+        }
+    }
+}

@@ -2,7 +2,8 @@
 use Rattle.std.proofs.Common.{◌≡◌, ◌≤◌, ◌+◌, ◌++◌, [], drop}
 use Rattle.tt_db.specs.Limits.{largest}
 use Rattle.tt_db.specs.State.{after, now_of}
-use Rattle.tt_workload.specs.Report.{call_lines, history_of, AreSound}
+use Rattle.tt_workload.specs.Report.{call_lines, history_of}
+use Rattle.tt_workload.specs.Sound.{AreTaken}
 use Rattle.tt_workload.proofs.alone.push_calls.Given as goal
 
 abbrev pub invariant-loop-i : goal.invariant-loop-i
@@ -13,5 +14,5 @@ invariant-loop-i l = record {
     limits : l.db.limits ≡ largest;
     slots : now_of (after l.db.history) ≤ l.i;
     events : (after l.db.history).events ≤ l.i;
-    sound : AreSound l.db.catalog (drop l.i l.calls);
+    taken : AreTaken l.db.catalog (drop l.i l.calls);
   }

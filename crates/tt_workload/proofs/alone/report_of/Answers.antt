@@ -1,12 +1,20 @@
 -- The lines of the calls, of the tables and the last one, one after another, are the report.
-use Rattle.std.proofs.Common.{◌≡◌, ◌++◌, [], List, ap, ◌∙◌}
+use Rattle.std.proofs.Common.{◌≡◌, ◌++◌, [], List, sym, ap, subst, ◌∙◌}
 use Rattle.tt_values.specs.Tables.{Tables}
 use Rattle.tt_db.specs.declared.limits.Limits.{Limits}
 use Rattle.tt_db.specs.Database.{Database}
 use Rattle.tt_workload.specs.declared.document.Call.{Call}
 use Rattle.tt_workload.specs.Report.{history_of, call_lines}
+use Rattle.tt_workload.specs.Sound.{AreTaken}
 use Rattle.tt_workload.proofs.ReportLemmas.{report-pieces}
+use Rattle.tt_workload.proofs.SoundLemmas.{are_taken}
 use Rattle.tt_workload.proofs.alone.report_of.Goals as goal
+
+pub push_calls-requires-clause-taken : goal.push_calls-requires-clause-taken
+push_calls-requires-clause-taken c =
+    let tables = ap (λ (db : Database). db.catalog) c.new-db.ensures ∙ c.in_ok-catalog.ensures in
+    let document = c.args.document.now in
+    subst (λ ts. AreTaken ts c.as_slice.result.now) (sym tables) (subst (λ cs. AreTaken document.catalog cs) (sym c.as_slice.ensures) (are_taken document c.requires))
 
 pub returns-clause-ok : goal.returns-clause-ok
 returns-clause-ok c =
