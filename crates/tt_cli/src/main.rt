@@ -14,6 +14,8 @@ use tt_workload::run_alone;
 
 mod command_line;
 mod status;
+#[cfg(test)]
+mod tests;
 
 /// The status of a command line that can't be carried out.
 const USAGE: u8 = 2;

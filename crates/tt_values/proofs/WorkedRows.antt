@@ -1,15 +1,13 @@
 -- The definitions computed on a table of accounts: key, owner and balance.
-use Rattle.std.proofs.Common.{◌≡◌, ℕ, ℤ, pos, List, [], ◌∷◌, Option, None, Some, refl}
+use Rattle.std.proofs.Common.{◌≡◌, ℕ, ℤ, pos, List, [], ◌∷◌, None, Some, refl}
 use Rattle.tt_values.specs.declared.value.Value.TheVariants as values
 use Rattle.tt_values.specs.declared.row.Row.{Row}
-use Rattle.tt_values.specs.declared.statement.Equal.{Equal}
 use Rattle.tt_values.specs.declared.statement.Select.{Select}
 use Rattle.tt_values.specs.declared.statement.Write.{Write}
 use Rattle.tt_values.specs.declared.statement.Write.TheVariants.{Insert}
 use Rattle.tt_values.specs.declared.reply.Reply.TheVariants.{Inserted, Duplicate, Rows}
-use Rattle.tt_values.specs.Content.{RowWrite, no_rows}
 use Rattle.tt_values.specs.Effect.{reply_of, answer_of}
-use Rattle.tt_values.specs.RowWrites.{Slots, row_writes, content_of}
+use Rattle.tt_values.specs.RowWrites.{row_writes, content_of}
 
 -- the owners' names in bytes
 abbrev ann : List ℕ

@@ -11,6 +11,8 @@ mod reply;
 mod row;
 mod statement;
 mod table;
+#[cfg(test)]
+mod tests;
 mod text;
 mod value;
 

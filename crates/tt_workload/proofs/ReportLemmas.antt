@@ -47,7 +47,7 @@ pub report-pieces : (document : Document) (new db : Database) (none calls tables
     → all ≡ alone document
 report-pieces document new db none calls tables all made empty moved called tabled ended =
     let is : db ≡ record { catalog = document.catalog; limits = largest; history = history_of document.calls } =
-        moved ∙ ap (λ (d : Database). record d { history = history_of document.calls }) made in
+    moved ∙ ap (λ (d : Database). record d { history = history_of document.calls }) made in
     let lines = call_lines 1 [] document.calls in
     let last = after (history_of document.calls) in
     ended ∙ ap (λ ts. ts ++ end_line (state_of db)) (tabled ∙ ap (λ cs. cs ++ table_lines (state_of db) 0 db.catalog) (called ∙ ap (λ n. n ++ lines) empty))

@@ -1,11 +1,11 @@
 -- What a run alone leaves.
-use Rattle.std.specs.Prelude.{◌≡◌, ℕ, List, take, Option, Some, IfSome, Result, Ok, Err}
+use Rattle.std.specs.Prelude.{◌≡◌, ℕ, List, Option, Ok}
 use Rattle.std.specs.Io.KnownBytes.{Appends, Keeps}
 use Rattle.tt_workload.specs.declared.document.Document.{Document}
 use Rattle.tt_workload.specs.declared.run_fault.RunFault.{RunFault}
 use Rattle.tt_workload.specs.declared.run_fault.RunFault.TheVariants as faults
 use Rattle.tt_workload.specs.Report.{alone}
-use Rattle.tt_workload.specs.Ends.{AppendsFront, IsOfReading, most_read, document_read, IsFaultOf}
+use Rattle.tt_workload.specs.Ends.{AppendsFront, IsOfReading, document_read, IsFaultOf}
 
 -- the report of the document that the bytes spell was written, and nothing else
 pub record WritesReport (bytes : List ℕ) (old new : Option (List ℕ)) : Type 0 where

@@ -69,12 +69,7 @@ fn push_write(
 }
 
 /// Asks the database, and pushes the end of a select's line.
-fn push_read(
-    alloc: Global,
-    out: &mut Vec<u8>,
-    db: &Db,
-    select: &Select,
-) -> Result<(), RunFault>
+fn push_read(alloc: Global, out: &mut Vec<u8>, db: &Db, select: &Select) -> Result<(), RunFault>
     requires sound { select_fault db.now.catalog select.now ≡ None }
     ensures text { OnOk result (out.new.items ≡ out.old.items ++ ask_text (state_of db.now) (Ask.Read select.now)) }
     ensures err { IfErr result (λ e. e ≡ RunFault.Memory) }
@@ -120,12 +115,7 @@ fn push_call(
 }
 
 /// Makes the calls of a document, in order, and pushes their lines.
-fn push_calls(
-    alloc: Global,
-    out: &mut Vec<u8>,
-    db: &mut Db,
-    calls: &[Call],
-) -> Result<(), RunFault>
+fn push_calls(alloc: Global, out: &mut Vec<u8>, db: &mut Db, calls: &[Call]) -> Result<(), RunFault>
     requires fresh { db.old.history ≡ [] }
     requires limits { db.old.limits ≡ largest }
     requires taken { AreTaken db.old.catalog calls.now }

@@ -36,3 +36,5 @@ pub const MAX_CALLS: usize = 100_000;
 mod tests;
 #[cfg(test)]
 mod tests_ends;
+#[cfg(test)]
+mod tests_run;

@@ -17,7 +17,7 @@ const NOT_JSON: &str = "not JSON";
 
 /// Gives the bytes and then spaces, some at a time, and fails after some reads.
 #[derive(Drop)]
-struct Source<'a> {
+pub(crate) struct Source<'a> {
     bytes: &'a [u8],
     spaces: usize,
     at_once: usize,
@@ -46,8 +46,8 @@ impl Read for Source<'_> {
 
 /// Takes one byte a write, and fails after some writes.
 #[derive(Drop)]
-struct Sink {
-    written: Vec<u8>,
+pub(crate) struct Sink {
+    pub(crate) written: Vec<u8>,
     writes: usize,
     can_flush: bool,
 }
@@ -88,14 +88,14 @@ impl Write for Full {
 
 /// Is interrupted before each call, until there are no interruptions left.
 #[derive(Drop)]
-struct Faltering<T> {
-    inner: T,
+pub(crate) struct Faltering<T> {
+    pub(crate) inner: T,
     interruptions: u32,
     is_next: bool,
 }
 
 impl<T> Faltering<T> {
-    fn new(inner: T, interruptions: u32) -> Self {
+    pub(crate) fn new(inner: T, interruptions: u32) -> Self {
         Faltering {
             inner,
             interruptions,
@@ -136,7 +136,7 @@ impl<T: Write> Write for Faltering<T> {
     }
 }
 
-fn slow_source(bytes: &[u8], reads: usize) -> Source<'_> {
+pub(crate) fn slow_source(bytes: &[u8], reads: usize) -> Source<'_> {
     Source {
         bytes,
         spaces: 0,
@@ -155,7 +155,7 @@ fn padded(length: usize, at_once: usize) -> Source<'static> {
     }
 }
 
-fn slow_sink(alloc: Global, writes: usize) -> Sink {
+pub(crate) fn slow_sink(alloc: Global, writes: usize) -> Sink {
     Sink {
         written: Vec::new(alloc),
         writes,

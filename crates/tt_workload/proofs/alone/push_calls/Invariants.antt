@@ -8,11 +8,11 @@ use Rattle.tt_workload.proofs.alone.push_calls.Given as goal
 
 abbrev pub invariant-loop-i : goal.invariant-loop-i
 invariant-loop-i l = record {
-    lines : l.out.items ++ call_lines (l.i + 1) l.db.history (drop l.i l.calls) ≡ l.fn.out.items ++ call_lines 1 [] l.calls;
-    state : l.db.history ++ history_of (drop l.i l.calls) ≡ history_of l.calls;
-    catalog : l.db.catalog ≡ l.fn.db.catalog;
-    limits : l.db.limits ≡ largest;
-    slots : now_of (after l.db.history) ≤ l.i;
-    events : (after l.db.history).events ≤ l.i;
-    taken : AreTaken l.db.catalog (drop l.i l.calls);
-  }
+  lines : l.out.items ++ call_lines (l.i + 1) l.db.history (drop l.i l.calls) ≡ l.fn.out.items ++ call_lines 1 [] l.calls;
+  state : l.db.history ++ history_of (drop l.i l.calls) ≡ history_of l.calls;
+  catalog : l.db.catalog ≡ l.fn.db.catalog;
+  limits : l.db.limits ≡ largest;
+  slots : now_of (after l.db.history) ≤ l.i;
+  events : (after l.db.history).events ≤ l.i;
+  taken : AreTaken l.db.catalog (drop l.i l.calls);
+}

@@ -1,5 +1,5 @@
 -- The lines of the calls, of the tables and the last one, one after another, are the report.
-use Rattle.std.proofs.Common.{◌≡◌, ◌++◌, [], List, sym, ap, subst, ◌∙◌}
+use Rattle.std.proofs.Common.{◌++◌, [], List, sym, ap, subst, ◌∙◌}
 use Rattle.tt_values.specs.Tables.{Tables}
 use Rattle.tt_db.specs.declared.limits.Limits.{Limits}
 use Rattle.tt_db.specs.Database.{Database}

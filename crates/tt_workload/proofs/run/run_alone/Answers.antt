@@ -1,4 +1,4 @@
-use Rattle.std.proofs.Common.{◌≡◌, ◌∙◌}
+use Rattle.std.proofs.Common.{◌∙◌}
 use Rattle.tt_workload.proofs.RunLemmas.{ends_in_writing}
 use Rattle.tt_workload.proofs.run.run_alone.Goals as goal
 
