@@ -1,0 +1,97 @@
+ghost use Rattle.std.specs.Prelude.{◌≡◌, [], map, IfOk};
+ghost use Rattle.std.specs.Option.{option_copied};
+
+use crate::version::Version;
+use std::alloc::{AllocError, Global};
+use std::marker::Model;
+use tt_values::Row;
+
+/// The versions of one row, those that were written earlier first. Contracts see the list of them.
+#[derive(Debug, Drop)]
+pub(crate) struct History {
+    versions: Vec<Version>,
+}
+
+impl Model for History {
+    ghost use Rattle.std.specs.Prelude.{List};
+    ghost use Rattle.tt_versions.specs.declared.version.Version.{Version};
+
+    ghost Value = { List Version };
+
+    ghost view = { λ h. h.versions.items };
+}
+
+impl History {
+    ghost use Rattle.tt_versions.specs.Versions.{shown, started_before, ended_by, written, rolled_back};
+
+    pub(crate) fn new(alloc: Global) -> History
+        ensures { result ≡ [] }
+    {
+        History {
+            versions: Vec::new(alloc),
+        }
+    }
+
+    /// The row at the time.
+    pub(crate) fn at(&self, time: u64) -> Option<&Row>
+        ensures { option_copied result ≡ shown time self.now }
+    {
+        for version in &self.versions {
+            if version.is_visible(time) {
+                return Some(&version.row);
+            }
+        }
+        None
+    }
+
+    /// The history with that row, or none, from the time on.
+    pub(crate) fn written(&self, row: Option<Row>, time: u64) -> Result<History, AllocError>
+        ensures { IfOk result (λ h. h ≡ written row time self.now) }
+    {
+        let mut versions = self.ended_by(time)?;
+        let Some(row) = row else {
+            return Ok(History { versions });
+        };
+        versions.push(Version {
+            row,
+            start: time,
+            end: None,
+        })?;
+        Ok(History { versions })
+    }
+
+    /// The versions that started before the time, ended then if not before.
+    fn ended_by(&self, time: u64) -> Result<Vec<Version>, AllocError>
+        ensures { IfOk result (λ vs. vs.items ≡ map (ended_by time) (started_before time self.now)) }
+    {
+        let mut versions = Vec::new(*self.versions.allocator());
+        for version in &self.versions {
+            if version.start < time {
+                versions.push(version.ended_by(time)?)?;
+            }
+        }
+        Ok(versions)
+    }
+
+    /// The history without what was written or ended at the time or later.
+    pub(crate) fn rolled_back(&self, time: u64) -> Result<History, AllocError>
+        ensures { IfOk result (λ h. h ≡ rolled_back time self.now) }
+    {
+        let mut versions = Vec::new(*self.versions.allocator());
+        for version in &self.versions {
+            if version.start < time {
+                versions.push(version.reopened_from(time)?)?;
+            }
+        }
+        Ok(History { versions })
+    }
+}
+
+impl Clone for History {
+    ghost is_clone = { λ source copy. copy ≡ source };
+
+    fn clone(&self) -> Result<Self, AllocError> {
+        let versions = self.versions.clone()?;
+        Ok(History { versions })
+    }
+}
