@@ -7,6 +7,8 @@ mod lineage;
 mod lineages;
 mod side;
 mod table;
+#[cfg(test)]
+mod tests;
 mod version;
 
 pub use side::Side;
