@@ -1,15 +1,19 @@
 -- The rows of a side at a time, as the entries of a table have them.
-use Rattle.std.proofs.Common.{◌≡◌, ℕ, ℤ, Bool, true, false, cond, ◌&&◌, List, [], ◌∷◌, Option, None, Some, IsTrue, refl, sym, ap, subst, ◌∙◌}
+use Rattle.std.proofs.Common.{◌≡◌, ℕ, ℤ, Bool, true, false, cond, ◌&&◌, List, [], ◌∷◌, Option, None, Some, IsTrue, T, refl, sym, ap, subst, ◌∙◌}
 use Rattle.std.specs.Option.{unwrap_or}
 use Rattle.std.specs.Ordering.{int_cmp, int_eq, is_lt, is_eq}
+use Rattle.std.specs.Cmp.{int_cmp_total}
+use Rattle.std.specs.FinMap.{int_cmp-IsAntisymmetric}
 use Rattle.std.specs.FinMap.Entries as sorted
 use Rattle.tt_values.specs.declared.row.Row.{Row}
-use Rattle.tt_values.specs.Content.{RowsByKey, row_at}
+use Rattle.tt_values.specs.Content.{RowsByKey, RowWrite, content_at, row_at}
+use Rattle.tt_values.proofs.ContentLemmas.{rows_rise}
 use Rattle.tt_versions.specs.declared.side.Side.{Side}
 use Rattle.tt_versions.specs.declared.lineage.Lineage.{Lineage}
 use Rattle.tt_versions.specs.Versions.{shown}
 use Rattle.tt_versions.specs.Lineage.{unwritten, history_on}
-use Rattle.tt_versions.specs.Sides.{Kept, lineage_at, side_of, Lists}
+use Rattle.tt_versions.specs.Sides.{Kept, RowsInTime, lineage_at, side_of, Lists}
+use Rattle.tt_versions.specs.Told.{ListsContent}
 use Rattle.tt_versions.proofs.EntriesLemmas.{both, first, second, find-below}
 use Rattle.tt_versions.proofs.SidesLemmas.{same_key, shown-unwritten}
 
@@ -69,3 +73,9 @@ is_sorted-rows_of (e ∷ es) time side h = by (shown time (history_on side e.1))
 pub lists_rows : (t : Kept) (time : ℕ) (side : Side) → IsTrue (sorted.is_sorted int_cmp t) → Lists (rows_of time side t) (λ key. side_of t side key time)
 unfolding side_of
 lists_rows t time side h = record { sorted = is_sorted-rows_of t time side h; finds = finds t time side h }
+
+-- rows by rising key that a side has are those of the content that it is told by
+pub lists_content : (es : RowsByKey) (rows : RowsInTime) (time : ℕ) → Lists es (λ key. rows key time) → ListsContent es rows time
+lists_content es rows time l table ws told =
+    sorted.same_entries int_cmp int_cmp_total int_cmp-IsAntisymmetric es (content_at ws time table) (subst T (sym l.sorted) tt) (subst T (sym (rows_rise ws time table)) tt)
+    (λ q. l.finds q ∙ (λ i. told i q time))

@@ -14,7 +14,7 @@ use Rattle.tt_versions.specs.declared.lineage.Lineage.{Lineage}
 use Rattle.tt_versions.specs.Versions.{shown}
 use Rattle.tt_versions.specs.Versions as versions
 use Rattle.tt_versions.specs.Lineage.{unwritten, history_on, written, split_back, next_written}
-use Rattle.tt_versions.specs.Sides.{Kept, RowsInTime, lineage_at, side_of, is_split, no_rows, none_split, written_from, just_before, rolled_back, with_key}
+use Rattle.tt_versions.specs.Sides.{Kept, RowsInTime, lineage_at, side_of, is_split, no_rows, none_split, written_from, just_before, held_from, with_key}
 use Rattle.tt_versions.proofs.VersionsLemmas.{shown-written, shown-rolled_back}
 
 tied : (o : Ordering) → is_eq o ≡ true → o ≡ Equal
@@ -118,7 +118,7 @@ split_of_written t key row time = split_stays t key (written row time (lineage_a
 pub current_of_split_back : (t : Kept) (key : ℤ) (time : ℕ) → side_of (sorted.put int_cmp key (split_back time (lineage_at t key)) t) Current ≡ side_of t Current
 current_of_split_back t key time = side_stays t Current key (split_back time (lineage_at t key)) refl
 
-pub next_rolled_back : (t : Kept) (key : ℤ) (time : ℕ) → side_of (sorted.put int_cmp key (split_back time (lineage_at t key)) t) Next ≡ rolled_back key time (side_of t Next)
+pub next_rolled_back : (t : Kept) (key : ℤ) (time : ℕ) → side_of (sorted.put int_cmp key (split_back time (lineage_at t key)) t) Next ≡ held_from key time (side_of t Next)
 unfolding side_of
 next_rolled_back t key time =
     side_written t Next key (just_before time (side_of t Next key)) time (split_back time (lineage_at t key)) (λ u. shown-rolled_back time u (history_on Next (lineage_at t key)))

@@ -7,8 +7,7 @@ use Rattle.std.specs.Ordering.{int_eq}
 use Rattle.tt_values.specs.declared.row.Row.{Row}
 use Rattle.tt_values.specs.Content.{RowWrite, Content, content_at, row_at, written, no_rows, up_to, for_key}
 use Rattle.tt_values.proofs.ContentLemmas.{row_at-written, row_at-fold, said_or}
-use Rattle.tt_versions.specs.Sides.{RowsInTime, written_from, just_before}
-use Rattle.tt_versions.specs.Sides as sides
+use Rattle.tt_versions.specs.Sides.{RowsInTime, written_from, held_from, just_before}
 use Rattle.tt_versions.specs.Told.{told_by, rolled_back, AddsRowWrite, DropsRowWrites}
 use Rattle.tt_versions.proofs.SidesLemmas.{same_key}
 
@@ -82,7 +81,7 @@ late : (time u : ℕ) → nat_le time u ≡ true → time ≤ u
 late time u h = grind (arith, nat_tests)
 
 -- from the time of a rollback on, the key has what it had just before
-pub told_by-rolled_back : (table : ℕ) (ws : List RowWrite) (key : ℤ) (time : ℕ) → sides.rolled_back key time (told_by table ws) ≡ told_by table (rolled_back table key time ws)
+pub told_by-rolled_back : (table : ℕ) (ws : List RowWrite) (key : ℤ) (time : ℕ) → held_from key time (told_by table ws) ≡ told_by table (rolled_back table key time ws)
 told_by-rolled_back table ws key time = λ i q u. (by q u (int_eq q key) refl (nat_le time u) refl ∙ sym (back q u time)) i
   where
     is_for : ℤ → RowWrite → Bool
@@ -118,5 +117,5 @@ pub adds_row_write : (before after : RowsInTime) (key : ℤ) (row : Option Row) 
 adds_row_write before after key row time is table ws told = is ∙ ap (written_from key row time) told ∙ told_by-append table ws key row time
 
 -- and so does one on which a row was rolled back
-pub drops_row_writes : (before after : RowsInTime) (key : ℤ) (time : ℕ) → after ≡ sides.rolled_back key time before → DropsRowWrites before after key time
-drops_row_writes before after key time is table ws told = is ∙ ap (sides.rolled_back key time) told ∙ told_by-rolled_back table ws key time
+pub drops_row_writes : (before after : RowsInTime) (key : ℤ) (time : ℕ) → after ≡ held_from key time before → DropsRowWrites before after key time
+drops_row_writes before after key time is table ws told = is ∙ ap (held_from key time) told ∙ told_by-rolled_back table ws key time

@@ -43,9 +43,9 @@ abbrev pub just_before : ℕ → (ℕ → Option Row) → Option Row
 just_before zero rows = None
 just_before (suc n) rows = rows n
 
--- a side, once a key is rolled back to before a time: from then on it has the row that it had just before
-abbrev pub rolled_back : ℤ → ℕ → RowsInTime → RowsInTime
-rolled_back key time rows = written_from key (just_before time (rows key)) time rows
+-- a side, once a key is rolled back to before a time: from then on it is held at the row that it had just before
+abbrev pub held_from : ℤ → ℕ → RowsInTime → RowsInTime
+held_from key time rows = written_from key (just_before time (rows key)) time rows
 
 -- no key is split
 abbrev pub none_split : ℤ → Bool

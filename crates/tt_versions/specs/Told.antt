@@ -2,7 +2,7 @@
 use Rattle.std.specs.Prelude.{◌≡◌, ℕ, ℤ, Bool, not, ◌&&◌, nat_le, ◌==◌, List, [], ◌∷◌, ◌++◌, filter, Option}
 use Rattle.std.specs.Ordering.{int_eq}
 use Rattle.tt_values.specs.declared.row.Row.{Row}
-use Rattle.tt_values.specs.Content.{RowWrite, content_at, row_at}
+use Rattle.tt_values.specs.Content.{RowsByKey, RowWrite, content_at, row_at}
 use Rattle.tt_versions.specs.Sides.{RowsInTime}
 
 -- the rows of a table in time, as the contents of a list of row writes have them
@@ -22,3 +22,7 @@ AddsRowWrite before after key row time = (table : ℕ) (ws : List RowWrite)
 abbrev pub DropsRowWrites : RowsInTime → RowsInTime → ℤ → ℕ → Type 0
 DropsRowWrites before after key time = (table : ℕ) (ws : List RowWrite)
     → before ≡ told_by table ws → after ≡ told_by table (rolled_back table key time ws)
+
+-- where a side is as a list of row writes tells, a list of rows is the content of the table at a time
+abbrev pub ListsContent : RowsByKey → RowsInTime → ℕ → Type 0
+ListsContent es rows time = (table : ℕ) (ws : List RowWrite) → rows ≡ told_by table ws → es ≡ content_at ws time table

@@ -1,5 +1,6 @@
 ghost use Rattle.std.specs.Prelude.{◌≡◌, [], map, IfOk};
 ghost use Rattle.std.specs.Option.{option_copied};
+ghost use Rattle.tt_versions.specs.Versions.{started_before, ended_by, reopened_from};
 
 use crate::version::Version;
 use std::alloc::{AllocError, Global};
@@ -22,7 +23,7 @@ impl Model for History {
 }
 
 impl History {
-    ghost use Rattle.tt_versions.specs.Versions.{shown, started_before, ended_by, written, rolled_back};
+    ghost use Rattle.tt_versions.specs.Versions.{shown, written, rolled_back};
 
     pub(crate) fn new(alloc: Global) -> History
         ensures { result ≡ [] }
@@ -45,10 +46,12 @@ impl History {
     }
 
     /// The history with that row, or none, from the time on.
-    pub(crate) fn written(&self, row: Option<Row>, time: u64) -> Result<History, AllocError>
-        ensures { IfOk result (λ h. h ≡ written row time self.now) }
+    pub(crate) fn written(self, row: Option<Row>, time: u64) -> Result<History, AllocError>
+        ensures { IfOk result (λ h. h ≡ written row time self) }
     {
-        let mut versions = self.ended_by(time)?;
+        let mut versions = self.versions;
+        drop_started_from(&mut versions, time);
+        end_all_by(&mut versions, time);
         let Some(row) = row else {
             return Ok(History { versions });
         };
@@ -60,30 +63,36 @@ impl History {
         Ok(History { versions })
     }
 
-    /// The versions that started before the time, ended then if not before.
-    fn ended_by(&self, time: u64) -> Result<Vec<Version>, AllocError>
-        ensures { IfOk result (λ vs. vs.items ≡ map (ended_by time) (started_before time self.now)) }
-    {
-        let mut versions = Vec::new(*self.versions.allocator());
-        for version in &self.versions {
-            if version.start < time {
-                versions.push(version.ended_by(time)?)?;
-            }
-        }
-        Ok(versions)
-    }
-
     /// The history without what was written or ended at the time or later.
-    pub(crate) fn rolled_back(&self, time: u64) -> Result<History, AllocError>
-        ensures { IfOk result (λ h. h ≡ rolled_back time self.now) }
+    pub(crate) fn rolled_back(self, time: u64) -> History
+        ensures { result ≡ rolled_back time self }
     {
-        let mut versions = Vec::new(*self.versions.allocator());
-        for version in &self.versions {
-            if version.start < time {
-                versions.push(version.reopened_from(time)?)?;
-            }
-        }
-        Ok(History { versions })
+        let mut versions = self.versions;
+        drop_started_from(&mut versions, time);
+        reopen_all_from(&mut versions, time);
+        History { versions }
+    }
+}
+
+fn drop_started_from(versions: &mut Vec<Version>, time: u64)
+    ensures { versions.new.items ≡ started_before time versions.old.items }
+{
+    versions.retain(|version| version.start < time);
+}
+
+fn end_all_by(versions: &mut Vec<Version>, time: u64)
+    ensures { versions.new.items ≡ map (ended_by time) versions.old.items }
+{
+    for version in versions.iter_mut() {
+        version.end_by(time);
+    }
+}
+
+fn reopen_all_from(versions: &mut Vec<Version>, time: u64)
+    ensures { versions.new.items ≡ map (reopened_from time) versions.old.items }
+{
+    for version in versions.iter_mut() {
+        version.reopen_from(time);
     }
 }
 

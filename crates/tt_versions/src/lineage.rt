@@ -76,9 +76,10 @@ impl Lineage {
     pub(crate) fn split_back(self, time: u64) -> Result<Lineage, AllocError>
         ensures { IfOk result (λ l. l ≡ split_back time self) }
     {
-        let next = self.next_history().rolled_back(time)?;
+        let (current, next) = self.histories()?;
+        let next = next.rolled_back(time);
         Ok(Lineage {
-            current: self.current,
+            current,
             next: Some(next),
         })
     }
@@ -87,11 +88,27 @@ impl Lineage {
     pub(crate) fn next_written(self, row: Option<Row>, time: u64) -> Result<Lineage, AllocError>
         ensures { IfOk result (λ l. l ≡ next_written row time self) }
     {
-        let next = self.next_history().written(row, time)?;
+        let (current, next) = self.histories()?;
+        let next = next.written(row, time)?;
         Ok(Lineage {
-            current: self.current,
+            current,
             next: Some(next),
         })
+    }
+
+    /// The history of each side, in memory of its own.
+    fn histories(self) -> Result<(History, History), AllocError>
+        ensures current { IfOk result (λ both. both.0 ≡ self.current) }
+        ensures next { IfOk result (λ both. both.1 ≡ history_on Side.Next self) }
+    {
+        let Lineage { current, next } = self;
+        match next {
+            Some(next) => Ok((current, next)),
+            None => {
+                let next = current.clone()?;
+                Ok((current, next))
+            }
+        }
     }
 
     /// Both sides share what the next one has.

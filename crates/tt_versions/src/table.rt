@@ -1,4 +1,4 @@
-ghost use Rattle.std.specs.Prelude.{◌≡◌, ℕ, [], ◌∷◌, ◌++◌, List, map, ℤ, false, IsTrue, IfOk, if◌then◌else◌};
+ghost use Rattle.std.specs.Prelude.{◌≡◌, map, false, IsTrue, IfOk, if◌then◌else◌};
 ghost use Rattle.std.specs.Option.{option_copied};
 ghost use Rattle.std.specs.Ordering.{int_cmp};
 ghost use Rattle.std.specs.FinMap.Entries as sorted;
@@ -28,9 +28,8 @@ impl Model for Table {
 }
 
 impl Table {
-    ghost use Rattle.tt_versions.specs.Lineage.{switched, aborted};
-    ghost use Rattle.tt_versions.specs.Sides.{Kept, lineage_at, side_of, is_split, written_from, rolled_back, no_rows, none_split, with_key, Lists};
-    ghost use Rattle.tt_versions.specs.Told.{AddsRowWrite, DropsRowWrites};
+    ghost use Rattle.tt_versions.specs.Sides.{lineage_at, side_of, is_split, written_from, held_from, no_rows, none_split, with_key, Lists};
+    ghost use Rattle.tt_versions.specs.Told.{AddsRowWrite, DropsRowWrites, ListsContent};
 
     /// A table without rows. Takes no memory; what the other calls take comes from this allocator.
     pub fn new(alloc: Global) -> Table
@@ -64,7 +63,8 @@ impl Table {
 
     /// The rows of that side at the time, each with its key, by rising key.
     pub fn rows_at(&self, time: u64, side: Side) -> Result<Vec<(i64, &Row)>, AllocError>
-        ensures { IfOk result (λ rows. Lists (map (λ e. (e.0, e.1.now)) rows.items) (λ key. side_of self.now side key time)) }
+        ensures lists { IfOk result (λ rows. Lists (map (λ e. (e.0, e.1.now)) rows.items) (λ key. side_of self.now side key time)) }
+        ensures content { IfOk result (λ rows. ListsContent (map (λ e. (e.0, e.1.now)) rows.items) (side_of self.now side) time) }
     {
         let mut rows = Vec::new(self.alloc);
         for (key, lineage) in self.lineages.iter() {
@@ -93,7 +93,7 @@ impl Table {
     /// before. The current side stays.
     pub fn split_back(&self, key: i64, time: u64) -> Result<Table, AllocError>
         ensures current { IfOk result (λ t. side_of t Side.Current ≡ side_of self.now Side.Current) }
-        ensures next { IfOk result (λ t. side_of t Side.Next ≡ rolled_back key time (side_of self.now Side.Next)) }
+        ensures next { IfOk result (λ t. side_of t Side.Next ≡ held_from key time (side_of self.now Side.Next)) }
         ensures split { IfOk result (λ t. is_split t ≡ with_key key (is_split self.now)) }
         ensures next_drops { IfOk result (λ t. DropsRowWrites (side_of self.now Side.Next) (side_of t Side.Next) key time) }
     {

@@ -1,6 +1,5 @@
-ghost use Rattle.std.specs.Prelude.{◌≡◌, IfOk};
+ghost use Rattle.std.specs.Prelude.{◌≡◌};
 
-use std::alloc::AllocError;
 use tt_values::Row;
 
 /// A version of a row: it is there from its start on, until its end.
@@ -41,37 +40,21 @@ impl Version {
         }
     }
 
-    /// The same version, ended at the time where it would have been there longer.
-    pub(crate) fn ended_by(&self, time: u64) -> Result<Version, AllocError>
-        ensures { IfOk result (λ v. v ≡ ended_by time self.now) }
+    /// Ends it at the time where it would be there longer.
+    pub(crate) fn end_by(&mut self, time: u64)
+        ensures { self.new ≡ ended_by time self.old }
     {
-        let row = self.row.copy()?;
-        let end = if self.ends_after(time) {
-            Some(time)
-        } else {
-            self.end
-        };
-        Ok(Version {
-            row,
-            start: self.start,
-            end,
-        })
+        if self.ends_after(time) {
+            self.end = Some(time);
+        }
     }
 
-    /// The same version, its end open where it ended at the time or later.
-    pub(crate) fn reopened_from(&self, time: u64) -> Result<Version, AllocError>
-        ensures { IfOk result (λ v. v ≡ reopened_from time self.now) }
+    /// Opens its end where it ended at the time or later.
+    pub(crate) fn reopen_from(&mut self, time: u64)
+        ensures { self.new ≡ reopened_from time self.old }
     {
-        let row = self.row.copy()?;
-        let end = if self.ended_before(time) {
-            self.end
-        } else {
-            None
-        };
-        Ok(Version {
-            row,
-            start: self.start,
-            end,
-        })
+        if !self.ended_before(time) {
+            self.end = None;
+        }
     }
 }
