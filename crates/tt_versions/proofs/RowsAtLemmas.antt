@@ -1,15 +1,14 @@
 -- The rows of a side at a time, as the entries of a table have them.
-use Rattle.std.proofs.Common.{◌≡◌, ℕ, ℤ, Bool, true, false, cond, ◌&&◌, List, [], ◌∷◌, Option, None, Some, IsTrue, T, refl, sym, ap, subst, ◌∙◌}
+use Rattle.std.proofs.Common.{◌≡◌, ℕ, ℤ, Bool, true, false, cond, [], ◌∷◌, Option, None, Some, IsTrue, T, refl, sym, ap, subst, ◌∙◌}
 use Rattle.std.specs.Option.{unwrap_or}
-use Rattle.std.specs.Ordering.{int_cmp, int_eq, is_lt, is_eq}
+use Rattle.std.specs.Ordering.{int_cmp, int_eq}
 use Rattle.std.specs.Cmp.{int_cmp_total}
 use Rattle.std.specs.FinMap.{int_cmp-IsAntisymmetric}
 use Rattle.std.specs.FinMap.Entries as sorted
 use Rattle.tt_values.specs.declared.row.Row.{Row}
-use Rattle.tt_values.specs.Content.{RowsByKey, RowWrite, content_at, row_at}
+use Rattle.tt_values.specs.Content.{RowsByKey, content_at, row_at}
 use Rattle.tt_values.proofs.ContentLemmas.{rows_rise}
 use Rattle.tt_versions.specs.declared.side.Side.{Side}
-use Rattle.tt_versions.specs.declared.lineage.Lineage.{Lineage}
 use Rattle.tt_versions.specs.Versions.{shown}
 use Rattle.tt_versions.specs.Lineage.{unwritten, history_on}
 use Rattle.tt_versions.specs.Sides.{Kept, RowsInTime, lineage_at, side_of, Lists}

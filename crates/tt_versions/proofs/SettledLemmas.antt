@@ -1,5 +1,5 @@
 -- A table whose split rows are settled, one after another.
-use Rattle.std.proofs.Common.{◌≡◌, ℤ, Bool, true, false, cond, ◌&&◌, List, [], ◌∷◌, Option, None, Some, is_some, if◌then◌else◌, IsTrue, refl, sym, ap, subst, ◌∙◌}
+use Rattle.std.proofs.Common.{◌≡◌, ℤ, Bool, true, false, cond, List, [], ◌∷◌, Option, None, Some, is_some, if◌then◌else◌, IsTrue, refl, ap, ◌∙◌}
 use Rattle.std.specs.Ordering.{int_cmp, int_eq}
 use Rattle.std.specs.FinMap.Entries as sorted
 use Rattle.std.specs.Option.{unwrap_or}

@@ -1,5 +1,5 @@
 -- What a change of one row does to the sides of a table.
-use Rattle.std.proofs.Common.{◌≡◌, ℕ, zero, suc, ℤ, Bool, true, false, cond, ◌&&◌, ◌||◌, nat_le, List, [], ◌∷◌, Option, None, Some, is_some, if◌then◌else◌, IsTrue, Less, Greater, Equal, refl, sym, ap, subst, ◌∙◌}
+use Rattle.std.proofs.Common.{◌≡◌, ℕ, ℤ, Bool, true, false, cond, ◌&&◌, ◌||◌, nat_le, List, [], Option, None, Some, is_some, if◌then◌else◌, Less, Greater, Equal, refl, sym, ap, ◌∙◌}
 use Rattle.std.specs.declared.cmp.Ordering.{Ordering}
 use Rattle.std.specs.Option.{unwrap_or}
 use Rattle.std.specs.Ordering.{int_cmp, int_eq, is_eq}
@@ -14,7 +14,7 @@ use Rattle.tt_versions.specs.declared.lineage.Lineage.{Lineage}
 use Rattle.tt_versions.specs.Versions.{shown}
 use Rattle.tt_versions.specs.Versions as versions
 use Rattle.tt_versions.specs.Lineage.{unwritten, history_on, written, split_back, next_written}
-use Rattle.tt_versions.specs.Sides.{Kept, RowsInTime, lineage_at, side_of, is_split, no_rows, none_split, written_from, just_before, held_from, with_key}
+use Rattle.tt_versions.specs.Sides.{Kept, lineage_at, side_of, is_split, no_rows, none_split, written_from, just_before, held_from, with_key}
 use Rattle.tt_versions.proofs.VersionsLemmas.{shown-written, shown-rolled_back}
 
 tied : (o : Ordering) → is_eq o ≡ true → o ≡ Equal

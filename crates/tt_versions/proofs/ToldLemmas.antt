@@ -1,11 +1,11 @@
 -- What one more row write, or a rollback, does to what a list of row writes tells.
-use Rattle.std.proofs.Common.{◌≡◌, ℕ, zero, suc, ◌<◌, ◌≤◌, ℤ, Bool, true, false, cond, not, ◌&&◌, nat_le, ◌==◌, List, [], ◌∷◌, ◌++◌, filter, fold, Option, None, Some, if◌then◌else◌, refl, sym, ap, subst, ◌∙◌, arith, append-nil}
+use Rattle.std.proofs.Common.{◌≡◌, ℕ, zero, suc, ◌<◌, ◌≤◌, ℤ, Bool, true, false, cond, not, ◌&&◌, nat_le, ◌==◌, List, [], ◌∷◌, ◌++◌, filter, fold, Option, None, if◌then◌else◌, refl, sym, ap, ◌∙◌, arith, append-nil}
 use Rattle.std.proofs.lemmas.Bool.Decides.{nat_tests}
 use Rattle.std.proofs.lemmas.List.Elements.{filter-append}
 use Rattle.std.proofs.lemmas.List.Sums.{fold-append}
 use Rattle.std.specs.Ordering.{int_eq}
 use Rattle.tt_values.specs.declared.row.Row.{Row}
-use Rattle.tt_values.specs.Content.{RowWrite, Content, content_at, row_at, written, no_rows, up_to, for_key}
+use Rattle.tt_values.specs.Content.{RowWrite, Content, content_at, row_at, written, no_rows, up_to}
 use Rattle.tt_values.proofs.ContentLemmas.{row_at-written, row_at-fold, said_or}
 use Rattle.tt_versions.specs.Sides.{RowsInTime, written_from, held_from, just_before}
 use Rattle.tt_versions.specs.Told.{told_by, rolled_back, AddsRowWrite, DropsRowWrites}

@@ -1,5 +1,5 @@
 -- What a list of row writes tells of one table, and how a side follows the list.
-use Rattle.std.specs.Prelude.{◌≡◌, ℕ, ℤ, Bool, not, ◌&&◌, nat_le, ◌==◌, List, [], ◌∷◌, ◌++◌, filter, Option}
+use Rattle.std.specs.Prelude.{◌≡◌, ℕ, ℤ, not, ◌&&◌, nat_le, ◌==◌, List, [], ◌∷◌, ◌++◌, filter, Option}
 use Rattle.std.specs.Ordering.{int_eq}
 use Rattle.tt_values.specs.declared.row.Row.{Row}
 use Rattle.tt_values.specs.Content.{RowsByKey, RowWrite, content_at, row_at}

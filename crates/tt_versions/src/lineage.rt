@@ -10,9 +10,9 @@ use tt_values::Row;
 /// that isn't split has one history, which both sides share.
 #[derive(Debug, Drop)]
 pub(crate) struct Lineage {
-    pub(crate) current: History,
+    current: History,
     /// The next side's own history, where the row is split.
-    pub(crate) next: Option<History>,
+    next: Option<History>,
 }
 
 impl Lineage {

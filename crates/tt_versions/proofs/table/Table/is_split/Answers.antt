@@ -1,5 +1,5 @@
 -- What is found at the key is its lineage; where nothing is, the row was never written.
-use Rattle.std.proofs.Common.{◌≡◌, w64, int_cmp, is_some, ap, sym, ◌∙◌}
+use Rattle.std.proofs.Common.{w64, int_cmp, is_some, ap, sym, ◌∙◌}
 use Rattle.std.proofs.lemmas.Int.{to_z-of_z}
 use Rattle.std.specs.Option.{unwrap_or}
 use Rattle.std.specs.FinMap.Entries as sorted

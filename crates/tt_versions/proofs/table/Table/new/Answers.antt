@@ -1,4 +1,4 @@
-use Rattle.std.proofs.Common.{◌≡◌, ap, ◌∙◌}
+use Rattle.std.proofs.Common.{ap, ◌∙◌}
 use Rattle.tt_versions.specs.Sides.{side_of, is_split}
 use Rattle.tt_versions.proofs.SidesLemmas.{side_of-new, is_split-new}
 use Rattle.tt_versions.proofs.table.Table.new.Goals as goal
