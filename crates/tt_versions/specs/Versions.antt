@@ -17,7 +17,7 @@ is_before time (Some end) = nat_lt end time
 abbrev pub is_visible : ℕ → Version → Bool
 is_visible time v = nat_le v.start time && is_after time v.end
 
--- the row that versions show at a time: that of the one that is visible then
+-- the row that versions show at a time: that of the first that is visible then
 abbrev pub shown : ℕ → List Version → Option Row
 shown time [] = None
 shown time (v ∷ vs) = if is_visible time v then Some v.row else shown time vs
