@@ -9,6 +9,7 @@ use Rattle.tt_values.specs.Content.{RowWrite, Content, content_at, row_at, writt
 use Rattle.tt_values.proofs.ContentLemmas.{row_at-written, row_at-fold, said_or}
 use Rattle.tt_versions.specs.Sides.{RowsInTime, written_from, held_from, just_before}
 use Rattle.tt_versions.specs.Told.{told_by, rolled_back, AddsRowWrite, DropsRowWrites}
+use Rattle.tt_versions.proofs.VersionsLemmas.{early, late}
 use Rattle.tt_versions.proofs.SidesLemmas.{same_key}
 
 itself : (n : ℕ) → (n == n) ≡ true
@@ -73,12 +74,6 @@ elsewhere false x y time t u apart = refl
 
 apart : (q key : ℤ) → int_eq q key ≡ false → (k : ℤ) → int_eq key k ≡ true → int_eq q k ≡ false
 apart q key e k same = ap (int_eq q) (sym (same_key key k same)) ∙ e
-
-early : (time u : ℕ) → nat_le time u ≡ false → u < time
-early time u h = grind (arith, nat_tests)
-
-late : (time u : ℕ) → nat_le time u ≡ true → time ≤ u
-late time u h = grind (arith, nat_tests)
 
 -- from the time of a rollback on, the key has what it had just before
 pub told_by-rolled_back : (table : ℕ) (ws : List RowWrite) (key : ℤ) (time : ℕ) → held_from key time (told_by table ws) ≡ told_by table (rolled_back table key time ws)

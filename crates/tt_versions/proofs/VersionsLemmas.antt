@@ -103,10 +103,10 @@ reopened_late s n u (Some e) row h = by (nat_lt e (suc n)) refl
 never_started : (s : ℕ) (b : Bool) → (nat_lt s zero && b) ≡ false
 never_started s b = let never : nat_lt s zero ≡ false = grind (arith, nat_tests) in ap (λ c. c && b) never
 
-early : (time u : ℕ) → nat_le time u ≡ false → u < time
+pub early : (time u : ℕ) → nat_le time u ≡ false → u < time
 early time u h = grind (arith, nat_tests)
 
-late : (time u : ℕ) → nat_le time u ≡ true → time ≤ u
+pub late : (time u : ℕ) → nat_le time u ≡ true → time ≤ u
 late time u h = grind (arith, nat_tests)
 
 -- a row that is written shows from its time on
