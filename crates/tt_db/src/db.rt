@@ -211,6 +211,7 @@ impl Db {
             let answer = self.advance(entry);
             answers.push_reserved(answer);
         }
+        // A last look at the database, for the proof: what holds of every one holds of it here.
         let _ = &self.limits;
         Ok(answers)
     }

@@ -1,0 +1,138 @@
+-- What versions show once a row is written or rolled back.
+use Rattle.std.proofs.Common.{◌≡◌, ℕ, zero, suc, ◌<◌, ◌≤◌, Bool, true, false, cond, ◌&&◌, nat_le, nat_lt, List, [], ◌∷◌, ◌++◌, map, filter, Option, None, Some, if◌then◌else◌, refl, ap, ◌∙◌, arith}
+use Rattle.std.proofs.lemmas.Bool.Decides.{nat_tests}
+use Rattle.tt_values.specs.declared.row.Row.{Row}
+use Rattle.tt_versions.specs.declared.version.Version.{Version}
+use Rattle.tt_versions.specs.Versions.{is_after, is_before, is_visible, shown, started_before, ended_by, reopened_from, version_of, written, rolled_back}
+use Rattle.tt_versions.specs.Sides.{just_before}
+
+-- versions that were filtered and changed show what passes both tests
+shown-changed : (f : Version → Version) (p : Version → Bool) (u w : ℕ) → ((v : Version) → (f v).row ≡ v.row) → ((v : Version) → (p v && is_visible u (f v)) ≡ is_visible w v)
+    → (vs : List Version) → shown u (map f (filter p vs)) ≡ shown w vs
+shown-changed f p u w row same [] = refl
+shown-changed f p u w row same (v ∷ vs) = by (p v) (shown-changed f p u w row same vs) ∙ ap (λ b. if b then Some v.row else shown w vs) (same v)
+  where
+    by : (b : Bool) → shown u (map f (filter p vs)) ≡ shown w vs → shown u (map f (cond b (v ∷ filter p vs) (filter p vs))) ≡ (if b && is_visible u (f v) then Some v.row else shown w vs)
+    by true h = λ i. if is_visible u (f v) then Some (row v i) else h i
+    by false h = h
+
+-- versions that are no longer there show nothing
+shown-gone : (f : Version → Version) (p : Version → Bool) (u : ℕ) → ((v : Version) → (p v && is_visible u (f v)) ≡ false) → (vs : List Version) → shown u (map f (filter p vs)) ≡ None
+shown-gone f p u gone [] = refl
+shown-gone f p u gone (v ∷ vs) = by (p v) (gone v) (shown-gone f p u gone vs)
+  where
+    by : (b : Bool) → (b && is_visible u (f v)) ≡ false → shown u (map f (filter p vs)) ≡ None → shown u (map f (cond b (v ∷ filter p vs) (filter p vs))) ≡ None
+    by true g h = ap (λ b. if b then Some (f v).row else shown u (map f (filter p vs))) g ∙ h
+    by false g h = h
+
+shown-append : (u : ℕ) (vs ws : List Version) → shown u vs ≡ None → shown u (vs ++ ws) ≡ shown u ws
+shown-append u [] ws none = refl
+shown-append u (v ∷ vs) ws none = by (is_visible u v) none (shown-append u vs ws)
+  where
+    by : (b : Bool) → (if b then Some v.row else shown u vs) ≡ None → (shown u vs ≡ None → shown u (vs ++ ws) ≡ shown u ws) → (if b then Some v.row else shown u (vs ++ ws)) ≡ shown u ws
+    by true none h = cc
+    by false none h = h none
+
+shown-append_hidden : (u : ℕ) (vs ws : List Version) → shown u ws ≡ None → shown u (vs ++ ws) ≡ shown u vs
+shown-append_hidden u [] ws none = none
+shown-append_hidden u (v ∷ vs) ws none = ap (λ rest. if is_visible u v then Some v.row else rest) (shown-append_hidden u vs ws none)
+
+-- the version of a write shows from its time on
+version_of-early : (row : Option Row) (time u : ℕ) → u < time → shown u (version_of row time) ≡ None
+version_of-early None time u h = refl
+version_of-early (Some row) time u h = let late : nat_le time u ≡ false = grind (arith, nat_tests) in ap (λ b. if b && true then Some row else None) late
+
+version_of-late : (row : Option Row) (time u : ℕ) → time ≤ u → shown u (version_of row time) ≡ row
+version_of-late None time u h = refl
+version_of-late (Some row) time u h = let soon : nat_le time u ≡ true = grind (arith, nat_tests) in ap (λ b. if b && true then Some row else None) soon
+
+row-ended_by : (time : ℕ) (v : Version) → (ended_by time v).row ≡ v.row
+row-ended_by time v = elim (is_after time v.end) as (λ b. (if b then record v { end = Some time } else v).row ≡ v.row) [ true ↦ refl | false ↦ refl ]
+
+row-reopened_from : (time : ℕ) (v : Version) → (reopened_from time v).row ≡ v.row
+row-reopened_from time v = elim (is_before time v.end) as (λ b. (if b then v else record v { end = None }).row ≡ v.row) [ true ↦ refl | false ↦ refl ]
+
+-- before a time, versions that are ended by it are there as before
+ended_early : (s time u : ℕ) (end : Option ℕ) (row : Row) → u < time → let v : Version = record { row = row; start = s; end = end } in (nat_lt s time && is_visible u (ended_by time v)) ≡ is_visible u v
+ended_early s time u None row h = grind (arith, nat_tests)
+ended_early s time u (Some e) row h = by (nat_lt time e) refl
+  where
+    v : Version
+    v = record { row = row; start = s; end = Some e }
+
+    by : (b : Bool) → nat_lt time e ≡ b → (nat_lt s time && is_visible u (if b then record v { end = Some time } else v)) ≡ (nat_le s u && nat_lt u e)
+    by true g = grind (arith, nat_tests)
+    by false g = grind (arith, nat_tests)
+
+-- and from it on they are gone
+ended_late : (s time u : ℕ) (end : Option ℕ) (row : Row) → time ≤ u → let v : Version = record { row = row; start = s; end = end } in (nat_lt s time && is_visible u (ended_by time v)) ≡ false
+ended_late s time u None row h = grind (arith, nat_tests)
+ended_late s time u (Some e) row h = by (nat_lt time e) refl
+  where
+    v : Version
+    v = record { row = row; start = s; end = Some e }
+
+    by : (b : Bool) → nat_lt time e ≡ b → (nat_lt s time && is_visible u (if b then record v { end = Some time } else v)) ≡ false
+    by true g = grind (arith, nat_tests)
+    by false g = grind (arith, nat_tests)
+
+-- before a time, versions that are reopened from it on are there as before
+reopened_early : (s time u : ℕ) (end : Option ℕ) (row : Row) → u < time → let v : Version = record { row = row; start = s; end = end } in (nat_lt s time && is_visible u (reopened_from time v)) ≡ is_visible u v
+reopened_early s time u None row h = grind (arith, nat_tests)
+reopened_early s time u (Some e) row h = by (nat_lt e time) refl
+  where
+    v : Version
+    v = record { row = row; start = s; end = Some e }
+
+    by : (b : Bool) → nat_lt e time ≡ b → (nat_lt s time && is_visible u (if b then v else record v { end = None })) ≡ (nat_le s u && nat_lt u e)
+    by true g = grind (arith, nat_tests)
+    by false g = grind (arith, nat_tests)
+
+-- and from it on they are there where they were just before it
+reopened_late : (s n u : ℕ) (end : Option ℕ) (row : Row) → n < u → let v : Version = record { row = row; start = s; end = end } in (nat_lt s (suc n) && is_visible u (reopened_from (suc n) v)) ≡ is_visible n v
+reopened_late s n u None row h = grind (arith, nat_tests)
+reopened_late s n u (Some e) row h = by (nat_lt e (suc n)) refl
+  where
+    v : Version
+    v = record { row = row; start = s; end = Some e }
+
+    by : (b : Bool) → nat_lt e (suc n) ≡ b → (nat_lt s (suc n) && is_visible u (if b then v else record v { end = None })) ≡ (nat_le s n && nat_lt n e)
+    by true g = grind (arith, nat_tests)
+    by false g = grind (arith, nat_tests)
+
+never_started : (s : ℕ) (b : Bool) → (nat_lt s zero && b) ≡ false
+never_started s b = let never : nat_lt s zero ≡ false = grind (arith, nat_tests) in ap (λ c. c && b) never
+
+pub early : (time u : ℕ) → nat_le time u ≡ false → u < time
+early time u h = grind (arith, nat_tests)
+
+pub late : (time u : ℕ) → nat_le time u ≡ true → time ≤ u
+late time u h = grind (arith, nat_tests)
+
+-- a row that is written shows from its time on
+pub shown-written : (row : Option Row) (time u : ℕ) (vs : List Version) → shown u (written row time vs) ≡ (if nat_le time u then row else shown u vs)
+shown-written row time u vs = by (nat_le time u) refl
+  where
+    kept : List Version
+    kept = map (ended_by time) (started_before time vs)
+
+    by : (b : Bool) → nat_le time u ≡ b → shown u (kept ++ version_of row time) ≡ (if b then row else shown u vs)
+    by true e =
+        let h = late time u e in
+        shown-append u kept (version_of row time) (shown-gone (ended_by time) (λ v. nat_lt v.start time) u (λ v. ended_late v.start time u v.end v.row h) vs) ∙ version_of-late row time u h
+    by false e =
+        let h = early time u e in
+        shown-append_hidden u kept (version_of row time) (version_of-early row time u h)
+        ∙ shown-changed (ended_by time) (λ v. nat_lt v.start time) u u (row-ended_by time) (λ v. ended_early v.start time u v.end v.row h) vs
+
+-- a row that is rolled back shows from the time on what it showed just before
+pub shown-rolled_back : (time u : ℕ) (vs : List Version) → shown u (rolled_back time vs) ≡ (if nat_le time u then just_before time (λ w. shown w vs) else shown u vs)
+shown-rolled_back time u vs = by (nat_le time u) refl
+  where
+    after : (t : ℕ) → t ≤ u → shown u (rolled_back t vs) ≡ just_before t (λ w. shown w vs)
+    after zero h = shown-gone (reopened_from zero) (λ v. nat_lt v.start zero) u (λ v. never_started v.start (is_visible u (reopened_from zero v))) vs
+    after (suc n) h = shown-changed (reopened_from (suc n)) (λ v. nat_lt v.start (suc n)) u n (row-reopened_from (suc n)) (λ v. reopened_late v.start n u v.end v.row (omega arith)) vs
+
+    by : (b : Bool) → nat_le time u ≡ b → shown u (rolled_back time vs) ≡ (if b then just_before time (λ w. shown w vs) else shown u vs)
+    by true e = after time (late time u e)
+    by false e = shown-changed (reopened_from time) (λ v. nat_lt v.start time) u u (row-reopened_from time) (λ v. reopened_early v.start time u v.end v.row (early time u e)) vs

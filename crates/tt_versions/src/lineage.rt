@@ -1,0 +1,148 @@
+ghost use Rattle.std.specs.Prelude.{◌≡◌, None, is_some, IfOk};
+ghost use Rattle.std.specs.Option.{option_copied};
+
+use crate::history::History;
+use crate::side::Side;
+use std::alloc::{AllocError, Global};
+use tt_values::Row;
+
+/// What is kept of one row. Where a version lies tells the generations that it belongs to: a row
+/// that isn't split has one history, which both sides share.
+#[derive(Debug, Drop)]
+pub(crate) struct Lineage {
+    current: History,
+    /// The next side's own history, where the row is split.
+    next: Option<History>,
+}
+
+impl Lineage {
+    ghost use Rattle.tt_versions.specs.Versions.{shown};
+    ghost use Rattle.tt_versions.specs.Lineage.{unwritten, history_on, written, split_back, next_written, switched, aborted};
+
+    /// A row that was never written.
+    pub(crate) fn new(alloc: Global) -> Lineage
+        ensures { result ≡ unwritten }
+    {
+        Lineage {
+            current: History::new(alloc),
+            next: None,
+        }
+    }
+
+    pub(crate) fn is_split(&self) -> bool
+        ensures { result ≡ is_some self.now.next }
+    {
+        self.next.is_some()
+    }
+
+    /// The row at the time on that side.
+    pub(crate) fn at(&self, time: u64, side: Side) -> Option<&Row>
+        ensures { option_copied result ≡ shown time (history_on side self.now) }
+    {
+        self.history(side).at(time)
+    }
+
+    /// The history that a side shows.
+    fn history(&self, side: Side) -> &History
+        ensures { result.now ≡ history_on side self.now }
+    {
+        match side {
+            Side::Current => &self.current,
+            Side::Next => self.next_history(),
+        }
+    }
+
+    fn next_history(&self) -> &History
+        ensures { result.now ≡ history_on Side.Next self.now }
+    {
+        match &self.next {
+            Some(next) => next,
+            None => &self.current,
+        }
+    }
+
+    /// The row, or none, is written at the time in the current generation.
+    pub(crate) fn written(self, row: Option<Row>, time: u64) -> Result<Lineage, AllocError>
+        ensures { IfOk result (λ l. l ≡ written row time self) }
+    {
+        let current = self.current.written(row, time)?;
+        Ok(Lineage {
+            current,
+            next: self.next,
+        })
+    }
+
+    /// The row gets a next side of its own, rolled back to before the time.
+    pub(crate) fn split_back(self, time: u64) -> Result<Lineage, AllocError>
+        ensures { IfOk result (λ l. l ≡ split_back time self) }
+    {
+        let (current, next) = self.histories()?;
+        let next = next.rolled_back(time);
+        Ok(Lineage {
+            current,
+            next: Some(next),
+        })
+    }
+
+    /// The row, or none, is written at the time on its own next side.
+    pub(crate) fn next_written(self, row: Option<Row>, time: u64) -> Result<Lineage, AllocError>
+        ensures { IfOk result (λ l. l ≡ next_written row time self) }
+    {
+        let (current, next) = self.histories()?;
+        let next = next.written(row, time)?;
+        Ok(Lineage {
+            current,
+            next: Some(next),
+        })
+    }
+
+    /// The history of each side, in memory of its own.
+    fn histories(self) -> Result<(History, History), AllocError>
+        ensures current { IfOk result (λ both. both.0 ≡ self.current) }
+        ensures next { IfOk result (λ both. both.1 ≡ history_on Side.Next self) }
+    {
+        let Lineage { current, next } = self;
+        match next {
+            Some(next) => Ok((current, next)),
+            None => {
+                let next = current.clone()?;
+                Ok((current, next))
+            }
+        }
+    }
+
+    /// Both sides share what the next one has.
+    pub(crate) fn switched(&self) -> Result<Lineage, AllocError>
+        ensures { IfOk result (λ l. l ≡ switched self.now) }
+    {
+        let current = self.next_history().clone()?;
+        Ok(Lineage {
+            current,
+            next: None,
+        })
+    }
+
+    /// Both sides share what the current one has.
+    pub(crate) fn aborted(&self) -> Result<Lineage, AllocError>
+        ensures { IfOk result (λ l. l ≡ aborted self.now) }
+    {
+        let current = self.current.clone()?;
+        Ok(Lineage {
+            current,
+            next: None,
+        })
+    }
+}
+
+impl Clone for Lineage {
+    ghost is_clone = { λ source copy. copy ≡ source };
+
+    fn clone(&self) -> Result<Self, AllocError> {
+        let current = self.current.clone()?;
+        let next = match &self.next {
+            Some(next) => Some(next.clone()?),
+            None => None,
+        };
+        Ok(Lineage { current, next })
+    }
+}

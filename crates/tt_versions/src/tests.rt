@@ -1,0 +1,228 @@
+use crate::{Side, Table};
+use std::alloc::{AllocError, Global};
+use std::process::Abort;
+use std::test::Fail;
+use tt_values::{Items, Row, Value};
+
+const A: i64 = 1;
+
+const B: i64 = 2;
+
+const C: i64 = 3;
+
+const NONE: i64 = 0;
+
+/// A row with that key, told apart from others of its key by a tag.
+fn row(alloc: Global, key: i64, tag: i64) -> Result<Option<Row>, AllocError> {
+    let values = vec![in alloc; Value::Int(key), Value::Int(tag)]?;
+    Ok(Some(Row {
+        values: Items::new(values),
+    }))
+}
+
+fn tag(row: Option<&Row>) -> i64 {
+    let Some(row) = row else {
+        return NONE;
+    };
+    let value = row.values.get(1);
+    match value {
+        Some(value) => match value {
+            Value::Int(tag) => *tag,
+            Value::Text(_) => -1,
+        },
+        None => -1,
+    }
+}
+
+/// That a side has these rows of key 1 at the times 1 to 5.
+fn expect_side(
+    rt: &impl Abort,
+    table: &Table,
+    side: Side,
+    wanted: [i64; 5],
+) -> Result<(), AllocError> {
+    for (index, want) in wanted.iter().enumerate() {
+        let time = index as u64 + 1;
+        assert_eq!(rt; tag(table.at(1, time, side)), *want);
+        let rows = table.rows_at(time, side)?;
+        assert_eq!(rt; rows.is_empty(), *want == NONE);
+        for (key, row) in &rows {
+            assert_eq!(rt; *key, 1);
+            assert_eq!(rt; tag(Some(*row)), *want);
+        }
+    }
+    Ok(())
+}
+
+fn expect_sides(
+    rt: &impl Abort,
+    table: &Table,
+    current: [i64; 5],
+    next: [i64; 5],
+) -> Result<(), AllocError> {
+    expect_side(rt, table, Side::Current, current)?;
+    expect_side(rt, table, Side::Next, next)
+}
+
+/// Key 1 has a from time 1 and b from time 3.
+fn a_then_b(alloc: Global) -> Result<Table, AllocError> {
+    Table::new(alloc)
+        .written(1, row(alloc, 1, A)?, 1)?
+        .written(1, row(alloc, 1, B)?, 3)
+}
+
+/// Then it was rolled back to before time 2, and each side was written on.
+fn two_sides(rt: &impl Abort, alloc: Global) -> Result<Table, AllocError> {
+    let split = a_then_b(alloc)?.split_back(1, 2)?;
+    assert!(rt; split.is_split(1));
+    split
+        .next_written(1, row(alloc, 1, C)?, 4)?
+        .written(1, None, 5)
+}
+
+#[test]
+fn a_row_is_rolled_back_on_its_next_side(rt: HostRuntime) -> Result<(), Fail> {
+    let whole = a_then_b(rt.alloc())?;
+    assert!(rt; !whole.is_split(1));
+    let split = whole.split_back(1, 2)?;
+    assert!(rt; split.is_split(1));
+    assert!(rt; !whole.is_split(1));
+    expect_sides(&rt, &split, [A, A, B, B, B], [A, A, A, A, A])?;
+    Ok(())
+}
+
+#[test]
+fn each_side_is_written_on_its_own(rt: HostRuntime) -> Result<(), Fail> {
+    let split = two_sides(&rt, rt.alloc())?;
+    expect_sides(&rt, &split, [A, A, B, B, NONE], [A, A, A, C, C])?;
+    Ok(())
+}
+
+#[test]
+fn a_switch_takes_the_next_side(rt: HostRuntime) -> Result<(), Fail> {
+    let table = two_sides(&rt, rt.alloc())?.switched()?;
+    assert!(rt; !table.is_split(1));
+    expect_sides(&rt, &table, [A, A, A, C, C], [A, A, A, C, C])?;
+    Ok(())
+}
+
+#[test]
+fn an_abort_takes_the_current_side(rt: HostRuntime) -> Result<(), Fail> {
+    let table = two_sides(&rt, rt.alloc())?.aborted()?;
+    assert!(rt; !table.is_split(1));
+    expect_sides(&rt, &table, [A, A, B, B, NONE], [A, A, B, B, NONE])?;
+    Ok(())
+}
+
+#[test]
+fn a_deleted_row_stays_deleted(rt: HostRuntime) -> Result<(), Fail> {
+    let alloc = rt.alloc();
+    let deleted = Table::new(alloc)
+        .written(1, row(alloc, 1, A)?, 1)?
+        .written(1, None, 2)?;
+    let table = deleted.written(1, row(alloc, 1, B)?, 3)?.split_back(1, 3)?;
+    expect_sides(&rt, &table, [A, NONE, B, B, B], [A, NONE, NONE, NONE, NONE])?;
+    Ok(())
+}
+
+#[test]
+fn a_split_row_without_versions_takes_current_writes_alone(rt: HostRuntime) -> Result<(), Fail> {
+    let alloc = rt.alloc();
+    let split = Table::new(alloc).split_back(1, 1)?;
+    assert!(rt; split.is_split(1));
+    let table = split.written(1, row(alloc, 1, A)?, 2)?;
+    expect_sides(
+        &rt,
+        &table,
+        [NONE, A, A, A, A],
+        [NONE, NONE, NONE, NONE, NONE],
+    )?;
+    Ok(())
+}
+
+#[test]
+fn a_second_rollback_starts_from_the_next_side(rt: HostRuntime) -> Result<(), Fail> {
+    let table = two_sides(&rt, rt.alloc())?.split_back(1, 5)?;
+    assert!(rt; table.is_split(1));
+    expect_sides(&rt, &table, [A, A, B, B, NONE], [A, A, A, C, C])?;
+    let again = table.split_back(1, 1)?;
+    expect_sides(
+        &rt,
+        &again,
+        [A, A, B, B, NONE],
+        [NONE, NONE, NONE, NONE, NONE],
+    )?;
+    Ok(())
+}
+
+#[test]
+fn keys_at_the_bounds_stand_in_order(rt: HostRuntime) -> Result<(), Fail> {
+    let alloc = rt.alloc();
+    let keys = [i64::MAX, 0, i64::MIN];
+    let mut table = Table::new(alloc);
+    for key in keys {
+        table = table.written(key, row(alloc, key, A)?, 1)?;
+    }
+    table = table.split_back(i64::MIN, 1)?;
+    assert!(rt; table.is_split(i64::MIN));
+    assert!(rt; !table.is_split(i64::MAX));
+    let current = keys_at(alloc, &table, Side::Current)?;
+    assert_eq!(rt; current.as_slice(), [i64::MIN, 0, i64::MAX].as_slice());
+    let next = keys_at(alloc, &table, Side::Next)?;
+    assert_eq!(rt; next.as_slice(), [0, i64::MAX].as_slice());
+    Ok(())
+}
+
+fn keys_at(alloc: Global, table: &Table, side: Side) -> Result<Vec<i64>, AllocError> {
+    let mut keys = Vec::new(alloc);
+    for (key, _) in &table.rows_at(1, side)? {
+        keys.push(*key)?;
+    }
+    Ok(keys)
+}
+
+/// Keys 0 to 29 have a at time 1 and b from time 2; every third one is split, with c from time 2.
+fn many_rows(rt: &impl Abort, alloc: Global) -> Result<Table, AllocError> {
+    let mut table = Table::new(alloc);
+    for key in 0..30 {
+        table = table
+            .written(key, row(alloc, key, A)?, 1)?
+            .written(key, row(alloc, key, B)?, 2)?;
+        if key % 3 == 0 {
+            table = table.split_back(key, 2)?;
+            assert!(rt; table.is_split(key));
+            table = table.next_written(key, row(alloc, key, C)?, 2)?;
+        }
+    }
+    Ok(table)
+}
+
+/// That both sides have key after key at time 2, every third one with that tag and the others b.
+fn expect_many(rt: &impl Abort, table: &Table, third: i64) -> Result<(), AllocError> {
+    for side in [Side::Current, Side::Next] {
+        let rows = table.rows_at(2, side)?;
+        assert_eq!(rt; rows.len(), 30);
+        let mut wanted = 0;
+        for (key, row) in &rows {
+            assert_eq!(rt; *key, wanted);
+            assert!(rt; wanted < 30);
+            assert!(rt; !table.is_split(*key));
+            let tag_wanted = if wanted % 3 == 0 { third } else { B };
+            assert_eq!(rt; tag(Some(*row)), tag_wanted);
+            wanted += 1;
+        }
+    }
+    Ok(())
+}
+
+#[test]
+fn many_rows_are_switched(rt: HostRuntime) -> Result<(), Fail> {
+    expect_many(&rt, &many_rows(&rt, rt.alloc())?.switched()?, C)?;
+    Ok(())
+}
+
+#[test]
+fn many_rows_are_aborted(rt: HostRuntime) -> Result<(), Fail> {
+    expect_many(&rt, &many_rows(&rt, rt.alloc())?.aborted()?, B)?;
+    Ok(())
+}
