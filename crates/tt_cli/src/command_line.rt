@@ -1,6 +1,6 @@
 //! The command line.
-ghost use Rattle.std.specs.Prelude.{IfOk};
-ghost use Rattle.tt_workload.specs.Options.{AreWithin};
+ghost use Rattle.std.specs.Prelude.{◌≡◌, IfOk};
+ghost use Rattle.tt_workload.specs.Options.{AreWithin, usual};
 
 use clap::{Command, Error};
 use std::alloc::Global;
@@ -33,7 +33,8 @@ pub struct Cli {
 /// Reads the words of the command line, the program's name first. An error is a fault of usage,
 /// or a text that was asked for, as help.
 pub fn command_of<'a>(alloc: Global, words: &'a [String]) -> Result<Cli, Error>
-    ensures { IfOk result (λ cli. AreWithin cli.options) }
+    ensures within { IfOk result (λ cli. AreWithin cli.options) }
+    ensures usual { IfOk result (λ cli. cli.options ≡ usual) }
 {
     let replay = Command::new(alloc, "replay")
         .about("Runs the calls one after another, in one thread")
