@@ -1,19 +1,22 @@
 -- What a statement has to obey on a catalogue.
-use Rattle.std.specs.Prelude.{Bool, false, not, nat_lt, nat_le, ◌==◌, List, [], ◌∷◌, length, Option, None, Some, IsSome, slice_get}
+use Rattle.std.specs.Prelude.{Bool, false, not, ◌||◌, nat_lt, nat_le, ◌==◌, List, [], ◌∷◌, length, Option, None, Some, IsSome, slice_get}
 use Rattle.std.specs.List.{list_any, zip}
 use Rattle.tt_values.specs.Limits.{most_equals}
 use Rattle.tt_values.specs.declared.value.Value.{Value}
 use Rattle.tt_values.specs.declared.table.Column.{Column}
 use Rattle.tt_values.specs.declared.statement.Equal.{Equal}
+use Rattle.tt_values.specs.declared.statement.Change.{Change}
+use Rattle.tt_values.specs.declared.statement.Change.TheVariants as changes
 use Rattle.tt_values.specs.declared.statement.Select.{Select}
 use Rattle.tt_values.specs.declared.statement.Write.{Write}
-use Rattle.tt_values.specs.declared.statement.Write.TheVariants.{Insert}
+use Rattle.tt_values.specs.declared.statement.Write.TheVariants.{Insert, Update, Delete}
 use Rattle.tt_values.specs.declared.checking.CheckError.{CheckError}
 use Rattle.tt_values.specs.declared.checking.CheckError.TheVariants as errors
 use Rattle.tt_values.specs.Faults.{first_fault}
 use Rattle.tt_values.specs.Value.{is_of_kind, is_long_text}
 use Rattle.tt_values.specs.Row.{first_int}
-use Rattle.tt_values.specs.Tables.{Tables, columns_at}
+use Rattle.tt_values.specs.Change.{column_of}
+use Rattle.tt_values.specs.Tables.{Tables, columns_at, is_int}
 
 -- whether a value is of another kind than the column, where there is one
 abbrev pub is_wrong_kind : Option Column → Value → Bool
@@ -53,6 +56,47 @@ equals_tests columns qs =
     ∷ (has_too_many qs, errors.TooManyEquals)
     ∷ []
 
+-- whether a change is of a column that isn't there
+abbrev pub changes_no_column : List Column → List Change → Bool
+changes_no_column columns cs = list_any (λ c. nat_le (length columns) (column_of c)) cs
+
+-- whether a change sets a value of another kind than its column's, or adds to a Text
+abbrev pub is_wrong_change : Option Column → Change → Bool
+is_wrong_change None c = false
+is_wrong_change (Some d) (changes.Set column value) = not (is_of_kind d.kind value)
+is_wrong_change (Some d) (changes.Add column by) = not (is_int d.kind)
+
+abbrev pub changes_wrong_kind : List Column → List Change → Bool
+changes_wrong_kind columns cs = list_any (λ c. is_wrong_change (slice_get columns (column_of c)) c) cs
+
+-- whether a change sets too long a text
+abbrev pub is_long_change : Change → Bool
+is_long_change (changes.Set column value) = is_long_text value
+is_long_change (changes.Add column by) = false
+
+abbrev pub sets_long_text : List Change → Bool
+sets_long_text cs = list_any is_long_change cs
+
+-- whether a change is of the first column, which holds the key
+abbrev pub changes_key : List Change → Bool
+changes_key cs = list_any (λ c. column_of c == 0) cs
+
+-- whether two changes are of one column
+abbrev pub changes_twice : List Change → Bool
+changes_twice [] = false
+changes_twice (c ∷ cs) = list_any (λ d. column_of c == column_of d) cs || changes_twice cs
+
+-- what is looked for in an update, in order, each time in its changes and its equalities
+abbrev pub update_tests : List Column → List Change → List Equal → List (Bool × CheckError)
+update_tests columns cs qs =
+    (changes_no_column columns cs || has_no_column columns qs, errors.NoColumn)
+    ∷ (changes_wrong_kind columns cs || has_wrong_kind columns qs, errors.WrongKind)
+    ∷ (sets_long_text cs || has_long_text qs, errors.TextTooLong)
+    ∷ (changes_key cs, errors.SetsKey)
+    ∷ (changes_twice cs, errors.SameColumnTwice)
+    ∷ (has_too_many qs, errors.TooManyEquals)
+    ∷ []
+
 -- the first fault of a statement on a table: that the table isn't there, or else what is found by its columns
 abbrev pub fault_on : Option (List Column) → (List Column → List (Bool × CheckError)) → Option CheckError
 fault_on None tests = Some errors.NoTable
@@ -61,11 +105,15 @@ fault_on (Some columns) tests = first_fault (tests columns)
 -- why a write can't be carried out, if it can't
 abbrev pub write_fault : Tables → Write → Option CheckError
 write_fault tables (Insert table row) = fault_on (columns_at tables table) (λ columns. row_tests columns row.values)
+write_fault tables (Update table cs qs) = fault_on (columns_at tables table) (λ columns. update_tests columns cs qs)
+write_fault tables (Delete table qs) = fault_on (columns_at tables table) (λ columns. equals_tests columns qs)
 
 -- why a select can't be answered, if it can't
 abbrev pub select_fault : Tables → Select → Option CheckError
 select_fault tables s = fault_on (columns_at tables s.table) (λ columns. equals_tests columns s.equals)
 
--- the row of an insert has a key
+-- the row that a write inserts, if it inserts one, has a key
 abbrev pub HasKey : Write → Type 0
 HasKey (Insert table row) = IsSome (first_int row.values)
+HasKey (Update table cs qs) = Unit {0}
+HasKey (Delete table qs) = Unit {0}

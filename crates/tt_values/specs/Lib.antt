@@ -4,6 +4,7 @@ pub mod Value
 pub mod Row
 pub mod Matches
 pub mod Tables
+pub mod Change
 pub mod Catalog
 pub mod Check
 pub mod Content

@@ -3,11 +3,14 @@ ghost use Rattle.std.specs.List.{list_any, zip};
 ghost use Rattle.std.specs.Option.{option_copied};
 ghost use Rattle.tt_values.specs.Faults.{first_fault, TellsFault};
 ghost use Rattle.tt_values.specs.Value.{is_of_kind, is_long_text};
-ghost use Rattle.tt_values.specs.Check.{row_tests, equals_tests, write_fault, select_fault, has_no_column, has_wrong_kind, has_long_text, has_too_many, is_wrong_kind, HasKey};
+ghost use Rattle.tt_values.specs.Check.{row_tests, equals_tests, update_tests, write_fault, select_fault, has_no_column, has_wrong_kind, has_long_text, has_too_many, is_wrong_kind, HasKey};
+
+mod changes;
 
 use crate::catalog::Catalog;
+use changes::{changes_key, changes_no_column, changes_twice, changes_wrong_kind, sets_long_text};
 use crate::items::item_at;
-use crate::statement::{Equal, Select, Write};
+use crate::statement::{Change, Equal, Select, Write};
 use crate::table::Column;
 use crate::value::Value;
 use crate::{MAX_EQUALS, MAX_TEXT_BYTES};
@@ -32,6 +35,12 @@ pub enum CheckError {
     /// A text has more than 1,024 bytes.
     #[error("text too long")]
     TextTooLong,
+    /// A change is of the first column, which holds the key.
+    #[error("key set by an update")]
+    SetsKey,
+    /// Two changes are of one column.
+    #[error("column changed twice")]
+    SameColumnTwice,
     /// The statement has more than 32 equalities.
     #[error("too many equalities")]
     TooManyEquals,
@@ -48,6 +57,26 @@ pub fn check(catalog: &Catalog, write: &Write) -> Result<(), CheckError>
                 return Err(CheckError::NoTable);
             };
             ok_unless(row_fault(def.columns.as_slice(), row.values.as_slice()))
+        }
+        Write::Update {
+            table,
+            changes,
+            equals,
+        } => {
+            let Some(def) = catalog.table(*table) else {
+                return Err(CheckError::NoTable);
+            };
+            ok_unless(update_fault(
+                def.columns.as_slice(),
+                changes.as_slice(),
+                equals.as_slice(),
+            ))
+        }
+        Write::Delete { table, equals } => {
+            let Some(def) = catalog.table(*table) else {
+                return Err(CheckError::NoTable);
+            };
+            ok_unless(equals_fault(def.columns.as_slice(), equals.as_slice()))
         }
     }
 }
@@ -97,6 +126,30 @@ fn equals_fault(columns: &[Column], equals: &[Equal]) -> Option<CheckError>
     }
     if has_long_text(equals) {
         return Some(CheckError::TextTooLong);
+    }
+    if equals.len() > MAX_EQUALS {
+        return Some(CheckError::TooManyEquals);
+    }
+    None
+}
+
+fn update_fault(columns: &[Column], changes: &[Change], equals: &[Equal]) -> Option<CheckError>
+    ensures { result ≡ first_fault (update_tests columns.now changes.now equals.now) }
+{
+    if changes_no_column(columns, changes) || has_no_column(columns, equals) {
+        return Some(CheckError::NoColumn);
+    }
+    if changes_wrong_kind(columns, changes) || has_wrong_kind(columns, equals) {
+        return Some(CheckError::WrongKind);
+    }
+    if sets_long_text(changes) || has_long_text(equals) {
+        return Some(CheckError::TextTooLong);
+    }
+    if changes_key(changes) {
+        return Some(CheckError::SetsKey);
+    }
+    if changes_twice(changes) {
+        return Some(CheckError::SameColumnTwice);
     }
     if equals.len() > MAX_EQUALS {
         return Some(CheckError::TooManyEquals);

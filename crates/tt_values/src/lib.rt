@@ -2,6 +2,7 @@
 #![tactic(auto)]
 
 mod catalog;
+mod changing;
 mod checking;
 mod items;
 pub mod laws;
@@ -17,12 +18,13 @@ mod text;
 mod value;
 
 pub use catalog::{Catalog, CatalogError};
+pub use changing::changed;
 pub use checking::{CheckError, check, check_select};
 pub use items::Items;
 pub use matching::matches;
 pub use reply::Reply;
 pub use row::Row;
-pub use statement::{Equal, Select, Write};
+pub use statement::{Change, Equal, Select, Write};
 pub use table::{Column, TableDef};
 pub use text::Text;
 pub use value::{Kind, Value};

@@ -11,6 +11,10 @@ pub enum Reply {
     Inserted,
     /// An insert met a row with its key, and added nothing.
     Duplicate,
+    /// An update changed this many rows.
+    Updated(u32),
+    /// A delete took this many rows away.
+    Deleted(u32),
     /// A select found these rows, by rising key.
     Rows(Items<Row>),
 }

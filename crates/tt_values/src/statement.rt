@@ -12,11 +12,29 @@ pub struct Equal {
     pub value: Value,
 }
 
+/// What an update makes of a column. Columns go by position, from 0.
+#[derive(Clone, Debug, PartialEq, Drop)]
+pub enum Change {
+    /// The column gets the value.
+    Set { column: u16, value: Value },
+    /// The column, an Int, grows by the number; the sum is held at the bounds of an `i64`.
+    Add { column: u16, by: i64 },
+}
+
 /// A statement that changes a table. Tables go by position, from 0.
 #[derive(Clone, Debug, PartialEq, Drop)]
 pub enum Write {
     /// Adds a whole row, unless a row with its key is there.
     Insert { table: u16, row: Row },
+    /// Changes the rows in which each equality holds. Each is written and counted, also where no
+    /// value changes.
+    Update {
+        table: u16,
+        changes: Items<Change>,
+        equals: Items<Equal>,
+    },
+    /// Takes away the rows in which each equality holds.
+    Delete { table: u16, equals: Items<Equal> },
 }
 
 /// A statement that reads the rows in which each equality holds.
@@ -29,6 +47,15 @@ pub struct Select {
 impl Equal {
     /// The same equality, in memory of its own.
     pub fn copy(&self) -> Result<Equal, AllocError>
+        ensures { IfOk result (λ copy. copy ≡ self.now) }
+    {
+        self.clone()
+    }
+}
+
+impl Change {
+    /// The same change, in memory of its own.
+    pub fn copy(&self) -> Result<Change, AllocError>
         ensures { IfOk result (λ copy. copy ≡ self.now) }
     {
         self.clone()

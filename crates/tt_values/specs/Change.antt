@@ -1,0 +1,37 @@
+-- What the changes of an update make of a row.
+use Rattle.std.specs.Prelude.{ℕ, suc, ℤ, ◌+ℤ◌, ◌==◌, Bool, List, [], ◌∷◌, if◌then◌else◌}
+use Rattle.std.specs.Int.{saturate_signed, w64}
+use Rattle.tt_values.specs.declared.value.Value.{Value}
+use Rattle.tt_values.specs.declared.value.Value.TheVariants as values
+use Rattle.tt_values.specs.declared.row.Row.{Row}
+use Rattle.tt_values.specs.declared.statement.Change.{Change}
+use Rattle.tt_values.specs.declared.statement.Change.TheVariants as changes
+
+-- the column that a change is of
+abbrev pub column_of : Change → ℕ
+column_of (changes.Set column value) = column
+column_of (changes.Add column by) = column
+
+-- a number grown by another, held at the bounds of an `i64`. A text stays
+abbrev pub grown : Value → ℤ → Value
+grown (values.Int n) by = values.Int (saturate_signed w64 (n +ℤ by))
+grown (values.Text t) by = values.Text t
+
+-- the value that a change makes of the one in its column
+abbrev pub made_of : Change → Value → Value
+made_of (changes.Set column value) v = value
+made_of (changes.Add column by) v = grown v by
+
+-- the value of a column after the change of it, where there is one (the first, where there are several)
+abbrev pub changed_value : List Change → ℕ → Value → Value
+changed_value [] column v = v
+changed_value (c ∷ cs) column v = if column_of c == column then made_of c v else changed_value cs column v
+
+-- the values of the columns from a position on, after the changes
+abbrev pub changed_values : List Change → ℕ → List Value → List Value
+changed_values cs column [] = []
+changed_values cs column (v ∷ vs) = changed_value cs column v ∷ changed_values cs (suc column) vs
+
+-- a row after changes
+abbrev pub changed : Row → List Change → Row
+changed r cs = record { values = changed_values cs 0 r.values }
