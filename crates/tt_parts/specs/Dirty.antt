@@ -1,0 +1,47 @@
+-- What a repair has made dirty, and when a statement is clear of it.
+use Rattle.std.specs.Prelude.{ℕ, ℤ, Bool, not, ◌&&◌, ◌==◌, List, [], ◌∷◌, ◌++◌, Option, None, Some}
+use Rattle.std.specs.List.{list_any}
+use Rattle.std.specs.Ordering.{int_eq}
+use Rattle.tt_values.specs.declared.value.Value.TheVariants as values
+use Rattle.tt_values.specs.declared.row.Row.{Row}
+use Rattle.tt_values.specs.declared.table.Column.{Column}
+use Rattle.tt_parts.specs.declared.partition.Partition.{Partition}
+use Rattle.tt_parts.specs.Partitions.{parts_of, is_same_partition}
+
+-- a set of dirty rows, each by its table and key, and of dirty partitions
+pub record DirtySet : Type 0 where
+  pub rows : List (ℕ × ℤ)
+  pub partitions : List Partition
+
+-- nothing is dirty
+abbrev pub clean : DirtySet
+clean = record { rows = []; partitions = [] }
+
+-- whether the row with a key of a table is dirty
+abbrev pub has_row : DirtySet → ℕ → ℤ → Bool
+has_row D table key = list_any (λ r. (table == r.0) && int_eq key r.1) D.rows
+
+-- whether a row of a table is dirty
+abbrev pub has_row_of : DirtySet → ℕ → Bool
+has_row_of D table = list_any (λ r. table == r.0) D.rows
+
+-- whether a partition is dirty
+abbrev pub has_partition : DirtySet → Partition → Bool
+has_partition D p = list_any (is_same_partition p) D.partitions
+
+-- the partitions of a row, where there is one
+abbrev pub parts_if : ℕ → List Column → Option Row → List Partition
+parts_if table columns None = []
+parts_if table columns (Some row) = parts_of table columns row
+
+-- a row gets dirty: with it its key's partition, and the partitions of its contents before and after
+abbrev pub with_row : DirtySet → ℕ → List Column → ℤ → Option Row → Option Row → DirtySet
+with_row D table columns key before after = record {
+  rows = (table, key) ∷ D.rows;
+  partitions = record { table = table; column = 0; value = values.Int key } ∷ parts_if table columns before ++ parts_if table columns after ++ D.partitions;
+}
+
+-- whether a statement on a table is clear, by the partitions that it equates: one of them isn't dirty, or, where it equates none, no row of the table is
+abbrev pub is_clear : DirtySet → ℕ → List Partition → Bool
+is_clear D table [] = not (has_row_of D table)
+is_clear D table (p ∷ ps) = list_any (λ q. not (has_partition D q)) (p ∷ ps)

@@ -1,0 +1,62 @@
+-- Which partitions a row lies in, and which ones a statement equates.
+use Rattle.std.specs.Prelude.{ℕ, zero, suc, Bool, false, ◌&&◌, ◌||◌, ◌==◌, List, [], ◌∷◌, map, filter, Option, None, Some, slice_get, if◌then◌else◌}
+use Rattle.std.specs.Option.{option_map_or}
+use Rattle.tt_values.specs.declared.value.Value.{Value}
+use Rattle.tt_values.specs.declared.value.Value.TheVariants as values
+use Rattle.tt_values.specs.declared.row.Row.{Row}
+use Rattle.tt_values.specs.declared.table.Column.{Column}
+use Rattle.tt_values.specs.declared.statement.Equal.{Equal}
+use Rattle.tt_values.specs.declared.statement.Write.{Write}
+use Rattle.tt_values.specs.declared.statement.Write.TheVariants.{Insert, Update, Delete}
+use Rattle.tt_values.specs.Value.{is_same}
+use Rattle.tt_values.specs.Row.{key_of}
+use Rattle.tt_parts.specs.declared.partition.Partition.{Partition}
+use Rattle.tt_parts.specs.declared.partition.Reads.{Reads}
+use Rattle.tt_parts.specs.declared.partition.Reads.TheVariants.{All, Equated}
+
+-- whether the column at a position tells partitions apart: the first, which holds the key, and each that is declared so
+abbrev pub tells_apart : ℕ → Column → Bool
+tells_apart i column = (i == 0) || column.partition
+
+-- the partitions of a row by its columns from a position on
+abbrev pub parts_from : ℕ → ℕ → List Column → List Value → List Partition
+parts_from table i [] vs = []
+parts_from table i (c ∷ cs) [] = []
+parts_from table i (c ∷ cs) (v ∷ vs) =
+    if tells_apart i c then record { table = table; column = i; value = v } ∷ parts_from table (suc i) cs vs
+    else parts_from table (suc i) cs vs
+
+-- the partitions that a row of a table lies in: one for each column that tells them apart, in their order
+abbrev pub parts_of : ℕ → List Column → Row → List Partition
+parts_of table columns row = parts_from table 0 columns row.values
+
+-- whether there is a column at a position, and it tells partitions apart
+abbrev pub is_told_apart : List Column → ℕ → Bool
+is_told_apart columns i = option_map_or (tells_apart i) (slice_get columns i) false
+
+-- the partition that an equality equates
+abbrev pub partition_of : ℕ → Equal → Partition
+partition_of table q = record { table = table; column = q.column; value = q.value }
+
+-- the partitions that equalities equate: one for each on a column that tells them apart, in their order
+abbrev pub equated : ℕ → List Column → List Equal → List Partition
+equated table columns qs = map (partition_of table) (filter (λ q. is_told_apart columns q.column) qs)
+
+-- the partition of a key
+abbrev pub key_partition : ℕ → Row → Partition
+key_partition table row = record { table = table; column = 0; value = values.Int (key_of row) }
+
+-- the partitions that a write equates: an insert that of its key
+abbrev pub partitions_read : List Column → Write → List Partition
+partitions_read columns (Insert table row) = key_partition table row ∷ []
+partitions_read columns (Update table changes qs) = equated table columns qs
+partitions_read columns (Delete table qs) = equated table columns qs
+
+-- what a write reads, as `reads_of` tells it: the whole table where it equates no partition
+abbrev pub reads_told : ℕ → List Partition → Reads
+reads_told table [] = All table
+reads_told table (p ∷ ps) = Equated (p ∷ ps)
+
+-- whether two partitions are the same
+abbrev pub is_same_partition : Partition → Partition → Bool
+is_same_partition p q = (p.table == q.table) && (p.column == q.column) && is_same p.value q.value
