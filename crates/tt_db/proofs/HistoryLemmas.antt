@@ -1,35 +1,28 @@
 -- What a database keeps, along its history.
-use Rattle.std.proofs.Common.{◌≡◌, ℕ, suc, ◌+◌, ◌<◌, ◌≤◌, ℤ, Bool, true, false, ◌&&◌, nat_le, nat_lt, map, ◌==◌, List, [], ◌∷◌, ◌++◌, length, fold, Option, None, Some, is_some, slice_get, if◌then◌else◌, refl, sym, ap, subst, ◌∙◌, arith, length-append}
+use Rattle.std.proofs.Common.{◌≡◌, ℕ, suc, ◌+◌, ◌<◌, ◌≤◌, ℤ, Bool, true, false, nat_lt, ◌==◌, List, [], ◌∷◌, ◌++◌, length, fold, Option, None, Some, slice_get, if◌then◌else◌, refl, sym, ap, subst, ◌∙◌, arith, length-append}
 use Rattle.std.proofs.lemmas.List.Sums.{fold-append}
 use Rattle.std.proofs.lemmas.Bool.Decides.{nat_tests}
 use Rattle.std.specs.Option.{option_map}
-use Rattle.std.specs.Ordering.{int_cmp}
-use Rattle.std.specs.FinMap.Entries as sorted
 use Rattle.tt_values.specs.declared.row.Row.{Row}
 use Rattle.tt_values.specs.declared.statement.Write.{Write}
-use Rattle.tt_values.specs.declared.statement.Write.TheVariants.{Insert}
 use Rattle.tt_values.specs.declared.reply.Reply.{Reply}
-use Rattle.tt_values.specs.declared.reply.Reply.TheVariants.{Inserted, Duplicate}
-use Rattle.tt_values.specs.Row.{key_of}
 use Rattle.tt_values.specs.Tables.{Tables}
 use Rattle.tt_values.specs.Check.{write_fault}
-use Rattle.tt_values.specs.Content.{Content, RowWrite, row_at, with_row, written}
-use Rattle.tt_values.specs.Effect.{reply_of}
-use Rattle.tt_values.specs.RowWrites.{Slots, row_writes, slot_reply, content_of}
-use Rattle.tt_values.proofs.RowWritesLemmas.{content_of-stays, content_of-next, last_content_stays, slot_after-append, slot_after-next, slice_get-append_left, slice_get-append_at}
+use Rattle.tt_values.specs.Effect.{table_of, effect, reply_of}
+use Rattle.tt_values.specs.RowWrites.{row_writes, slot_reply, slot_writes}
+use Rattle.tt_values.proofs.RowWritesLemmas.{slots_follow, content_of-stays, slot_after-append, slot_after-next, slice_get-append_left, slice_get-append_at}
 use Rattle.tt_db.specs.declared.limits.Limits.{Limits}
 use Rattle.tt_db.specs.declared.event.Entry.{Entry}
 use Rattle.tt_db.specs.declared.event.Event.TheVariants as events
 use Rattle.tt_db.specs.declared.outcome.Slot.{Slot}
 use Rattle.tt_db.specs.declared.errors.DbError.{DbError}
 use Rattle.tt_db.specs.declared.errors.DbError.TheVariants as errors
-use Rattle.tt_db.specs.declared.version.Version.{Version}
 use Rattle.tt_db.specs.Limits.{Fits}
 use Rattle.tt_db.specs.State.{State, start, after, moved, refusal, first_refusal, full_at, now_of, current_at, IsLegalFrom}
 use Rattle.tt_db.specs.Told.{slot_told}
-use Rattle.tt_db.specs.Versions.{is_visible, seen, content_seen, Shows, placed, versions_after, Rise}
+use Rattle.tt_db.specs.Rows.{KeptTables, Tell, Follow, writes_of}
 use Rattle.tt_db.specs.Database.{Keeps, KeepsSlots}
-use Rattle.tt_db.proofs.PlacedLemmas.{seen-placed_hidden, seen-placed_shown, Rise-placed}
+use Rattle.tt_db.proofs.RowsLemmas.{nothing_told, few_rows_at}
 
 pub keeps_nothing : (tables : Tables) (limits : Limits) → Fits limits → Keeps tables limits [] [] 0 []
 unfolding row_writes
@@ -40,8 +33,8 @@ keeps_nothing tables limits fits = record {
   few_slots = omega arith;
   slots_kept = record { count = refl; told = λ n h. absurd (omega arith) };
   generation_kept = refl;
-  shows = λ table time. refl;
-  rise = tt;
+  rows_kept = nothing_told;
+  few_rows = λ table. omega arith;
 }
 
 -- one more entry moves the state once more
@@ -103,97 +96,22 @@ keeps_slots-push S slots w kept = record {
         ∙ (λ i. Some (record { write = sym slot i; reply = slot_reply (sym slot i) (sym content i) }))
         ∙ ap (λ k. Some (slot_told (moved S (events.Write w)) k)) (sym now)
 
-and-false : (a b : Bool) → b ≡ false → (a && b) ≡ false
-and-false true b h = h
-and-false false b h = refl
-
-none_without : {A : Type 0} → (o : Option A) → is_some o ≡ false → o ≡ None
-none_without None h = refl
-none_without (Some x) h = cc
-
--- the content that versions show with one more write
-shows-push : (W : Slots) (versions : List Version) (w : Write) → Shows versions (content_of W) → Rise versions → Shows (versions_after w (length W) versions) (content_of (W ++ Some w ∷ []))
-shows-push W versions (Insert table row) shows rise t time = by (nat_le (suc n) time) refl
-  where
-    n : ℕ
-    n = length W
-
-    key : ℤ
-    key = key_of row
-
-    version : Version
-    version = record { table = table; key = key; row = row; start = length W + 1 }
-
-    X : Content
-    X = content_of W (length W)
-
-    live : Bool
-    live = is_some (row_at (seen versions table (length W)) (key_of row))
-
-    writes : Bool → List RowWrite
-    writes b = map (λ (e : ℤ × Option Row). record { time = suc (length W); table = table; key = e.0; row = e.1 }) (if b then [] else (key_of row, Some row) ∷ [])
-
-    -- before the slot's time
-    earlier : (b : Bool) → nat_le (suc (length W)) time ≡ false → seen (if b then versions else placed version versions) t time ≡ content_of W time t
-    earlier true e = shows t time
-    earlier false e =
-        let one : length W + 1 ≡ suc (length W) = omega arith in
-        let hidden : is_visible t time version ≡ false = and-false (t == table) _ (ap (λ m. nat_le m time) one ∙ e) in
-        seen-placed_hidden version versions t time hidden ∙ shows t time
-
-    -- from its time on
-    later : (b : Bool) → live ≡ b → suc (length W) ≤ time → seen (if b then versions else placed version versions) t time ≡ fold written X (writes b) t
-    later true e h = shows t time ∙ ap (λ C. C t) (last_content_stays W (length W) time (omega arith))
-    later false e h = kept (t == table) refl
-      where
-        still : seen versions t time ≡ X t
-        still = shows t time ∙ ap (λ C. C t) (last_content_stays W (length W) time (omega arith))
-
-        reached : nat_le (length W + 1) time ≡ true
-        reached = grind (arith, nat_tests)
-
-        kept : (c : Bool) → (t == table) ≡ c → seen (placed version versions) t time ≡ (if c then with_row (X t) (key_of row) (Some row) else X t)
-        kept true f =
-            let same : t ≡ table = grind (arith, nat_tests) in
-            let absent : row_at (seen versions t time) (key_of row) ≡ None =
-            ap (λ rows. row_at rows (key_of row)) (still ∙ ap X same ∙ sym (shows table (length W))) ∙ none_without (row_at (seen versions table (length W)) (key_of row)) e in
-            seen-placed_shown version versions t time (ap (λ c. c && nat_le (length W + 1) time) f ∙ reached) rise absent
-            ∙ ap (λ rows. sorted.put int_cmp (key_of row) row rows) still
-        kept false f = seen-placed_hidden version versions t time (ap (λ c. c && nat_le (length W + 1) time) f) ∙ still
-
-    by : (b : Bool) → nat_le (suc (length W)) time ≡ b → seen (versions_after (Insert table row) (length W) versions) t time ≡ content_of (W ++ Some (Insert table row) ∷ []) time t
-    by false e = earlier live e ∙ ap (λ C. C t) (sym (content_of-stays W (Some (Insert table row)) time (grind (arith, nat_tests))))
-    by true e =
-        let h : suc (length W) ≤ time = grind (arith, nat_tests) in
-        later live refl h
-        ∙ ap (λ rows. fold written X (writes (is_some (row_at rows (key_of row)))) t) (shows table (length W))
-        ∙ ap (λ C. C t) (sym (content_of-next W (Some (Insert table row)) time h))
-
-rise-after : (w : Write) (time : ℕ) (versions : List Version) → Rise versions → Rise (versions_after w time versions)
-rise-after (Insert table row) time versions rise = by (is_some (row_at (seen versions table time) (key_of row)))
-  where
-    version : Version
-    version = record { table = table; key = key_of row; row = row; start = time + 1 }
-
-    by : (b : Bool) → Rise (if b then versions else placed version versions)
-    by true = rise
-    by false = Rise-placed version versions rise
-
 -- what a database keeps once it has taken one more write
-pub keeps_write : (tables : Tables) (limits : Limits) (history : List Entry) (slots : List Slot) (generation : ℕ) (versions : List Version) (worker : ℕ) (w : Write)
-    → Keeps tables limits history slots generation versions
+pub keeps_write : (tables : Tables) (limits : Limits) (history : List Entry) (slots : List Slot) (generation : ℕ) (rows after_rows : KeptTables) (worker : ℕ) (w : Write)
+    → Keeps tables limits history slots generation rows
     → refusal tables limits (after history) (events.Write w) ≡ None
     → let S = after history in let e : Entry = record { worker = worker; event = events.Write w } in
-    Keeps tables limits (history ++ e ∷ []) (slots ++ record { write = Some w; reply = Some (reply_of w (current_at S (now_of S))) } ∷ []) generation (versions_after w (now_of S) versions)
-keeps_write tables limits history slots generation versions worker w kept none = record {
+    Follow rows after_rows (writes_of (suc (now_of S)) (table_of w) (effect w (current_at S (now_of S))))
+    → Keeps tables limits (history ++ e ∷ []) (slots ++ record { write = Some w; reply = Some (reply_of w (current_at S (now_of S))) } ∷ []) generation after_rows
+keeps_write tables limits history slots generation rows after_rows worker w kept none follow = record {
   fits = kept.fits;
   legal = legal-push tables limits start history entry kept.legal none;
   events = ap (λ T. T.events) moves ∙ omega (arith, kept.events, length-append history (entry ∷ []));
   few_slots = subst (λ T. now_of T ≤ limits.slots) (sym moves) (omega (arith, room, length-append S.slots (Some w ∷ [])));
   slots_kept = subst (λ T. KeepsSlots T (slots ++ last ∷ [])) (sym moves) (keeps_slots-push S slots w kept.slots_kept);
   generation_kept = kept.generation_kept ∙ sym (ap (λ T. T.generation) moves);
-  shows = subst (λ T. Shows (versions_after w (now_of S) versions) (current_at T)) (sym moves) (shows-push S.slots versions w kept.shows kept.rise);
-  rise = rise-after w (now_of S) versions kept.rise;
+  rows_kept = subst (λ T. Tell after_rows (row_writes T.slots (now_of T))) (sym moves) (subst (Tell after_rows) (sym further) (follow (row_writes S.slots (now_of S)) kept.rows_kept));
+  few_rows = λ table. few_rows_at (after (history ++ entry ∷ [])).slots table;
 }
   where
     S : State
@@ -208,28 +126,26 @@ keeps_write tables limits history slots generation versions worker w kept none =
     moves : after (history ++ entry ∷ []) ≡ moved S (events.Write w)
     moves = after-push history entry
 
+    next : length (S.slots ++ Some w ∷ []) ≡ suc (length S.slots)
+    next = omega (arith, length-append S.slots (Some w ∷ []))
+
+    further : row_writes (S.slots ++ Some w ∷ []) (length (S.slots ++ Some w ∷ [])) ≡ row_writes S.slots (now_of S) ++ writes_of (suc (now_of S)) (table_of w) (effect w (current_at S (now_of S)))
+    further = ap (row_writes (S.slots ++ Some w ∷ [])) next ∙ (slots_follow S.slots (Some w)).1
+
     room : now_of (after history) < limits.slots
     room = not_full (now_of (after history)) limits.slots (none_of_three (option_map errors.Statement (write_fault tables w)) (full_at (now_of (after history)) limits.slots) (full_at (after history).events limits.events) none).second kept.few_slots
 
--- a write answers by the rows of its table alone
-pub reply_of-same : (w : Write) (X Y : Content) → ((table : ℕ) → X table ≡ Y table) → reply_of w X ≡ reply_of w Y
-reply_of-same (Insert table row) X Y same = ap (λ rows. if is_some (row_at rows (key_of row)) then Duplicate else Inserted) (same table)
-
 -- the same, where what is kept is told by equations
-pub keeps_written : (tables : Tables) (limits : Limits) (history : List Entry) (slots : List Slot) (generation : ℕ) (versions : List Version) (worker : ℕ) (w : Write)
-    → Keeps tables limits history slots generation versions
+pub keeps_written : (tables : Tables) (limits : Limits) (history : List Entry) (slots : List Slot) (generation : ℕ) (rows after_rows : KeptTables) (worker : ℕ) (w : Write)
+    → Keeps tables limits history slots generation rows
     → refusal tables limits (after history) (events.Write w) ≡ None
-    → (now : ℕ) → now ≡ now_of (after history)
     → (copy : Write) → copy ≡ w
-    → (reply told : Reply) → reply ≡ reply_of w (content_seen versions now) → told ≡ reply
+    → (told : Reply) → let S = after history in told ≡ reply_of w (current_at S (now_of S))
+    → Follow rows after_rows (writes_of (suc (now_of S)) (table_of w) (effect w (current_at S (now_of S))))
     → let e : Entry = record { worker = worker; event = events.Write w } in
-    Keeps tables limits (history ++ e ∷ []) (slots ++ record { write = Some copy; reply = Some told } ∷ []) generation (versions_after w now versions)
-keeps_written tables limits history slots generation versions worker w kept none now is_now copy same reply told answered repeated =
+    Keeps tables limits (history ++ e ∷ []) (slots ++ record { write = Some copy; reply = Some told } ∷ []) generation after_rows
+keeps_written tables limits history slots generation rows after_rows worker w kept none copy same told right follow =
     let e : Entry = record { worker = worker; event = events.Write w } in
-    let seen_now : reply_of w (content_seen versions (now_of (after history))) ≡ reply_of w (current_at (after history) (now_of (after history))) =
-    reply_of-same w (content_seen versions (now_of (after history))) (current_at (after history) (now_of (after history))) (λ table. kept.shows table (now_of (after history))) in
-    let right : told ≡ reply_of w (current_at (after history) (now_of (after history))) = repeated ∙ answered ∙ ap (λ n. reply_of w (content_seen versions n)) is_now ∙ seen_now in
-    subst (λ n. Keeps tables limits (history ++ e ∷ []) (slots ++ record { write = Some copy; reply = Some told } ∷ []) generation (versions_after w n versions)) (sym is_now)
-    (subst (λ c. Keeps tables limits (history ++ e ∷ []) (slots ++ record { write = Some c; reply = Some told } ∷ []) generation (versions_after w (now_of (after history)) versions)) (sym same)
-    (subst (λ r. Keeps tables limits (history ++ e ∷ []) (slots ++ record { write = Some w; reply = Some r } ∷ []) generation (versions_after w (now_of (after history)) versions)) (sym right)
-    (keeps_write tables limits history slots generation versions worker w kept none)))
+    subst (λ c. Keeps tables limits (history ++ e ∷ []) (slots ++ record { write = Some c; reply = Some told } ∷ []) generation after_rows) (sym same)
+    (subst (λ r. Keeps tables limits (history ++ e ∷ []) (slots ++ record { write = Some w; reply = Some r } ∷ []) generation after_rows) (sym right)
+    (keeps_write tables limits history slots generation rows after_rows worker w kept none follow))

@@ -1,4 +1,3 @@
-pub mod VersionLemmas
+pub mod RowsLemmas
 pub mod HistoryLemmas
-pub mod PlacedLemmas
 mod WorkedRows

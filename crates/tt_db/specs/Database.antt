@@ -1,14 +1,14 @@
 -- A database as contracts see it, and what it keeps.
 use Rattle.std.specs.Prelude.{◌≡◌, ℕ, ◌<◌, ◌≤◌, List, length, Some, slice_get}
 use Rattle.tt_values.specs.Tables.{Tables}
+use Rattle.tt_values.specs.RowWrites.{row_writes}
 use Rattle.tt_db.specs.declared.limits.Limits.{Limits}
 use Rattle.tt_db.specs.declared.event.Entry.{Entry}
 use Rattle.tt_db.specs.declared.outcome.Slot.{Slot}
-use Rattle.tt_db.specs.declared.version.Version.{Version}
 use Rattle.tt_db.specs.Limits.{Fits}
 use Rattle.tt_db.specs.State.{State, after, now_of, current_at, IsLegal}
 use Rattle.tt_db.specs.Told.{slot_told}
-use Rattle.tt_db.specs.Versions.{Shows, Rise}
+use Rattle.tt_db.specs.Rows.{KeptTables, Tell}
 
 -- a database: the tables and the limits that it was made with, and its history
 pub record Database : Type 0 where
@@ -26,12 +26,12 @@ pub record KeepsSlots (S : State) (slots : List Slot) : Type 0 where
   pub told : (n : ℕ) → n < now_of S → slice_get slots n ≡ Some (slot_told S n)
 
 -- what is kept is what the definitions say of the history
-pub record Keeps (tables : Tables) (limits : Limits) (history : List Entry) (slots : List Slot) (generation : ℕ) (versions : List Version) : Type 0 where
+pub record Keeps (tables : Tables) (limits : Limits) (history : List Entry) (slots : List Slot) (generation : ℕ) (rows : KeptTables) : Type 0 where
   pub fits : Fits limits
   pub legal : IsLegal tables limits history
   pub events : (after history).events ≡ length history
   pub few_slots : now_of (after history) ≤ limits.slots
   pub slots_kept : KeepsSlots (after history) slots
   pub generation_kept : generation ≡ (after history).generation
-  pub shows : Shows versions (current_at (after history))
-  pub rise : Rise versions
+  pub rows_kept : Tell rows (row_writes (after history).slots (now_of (after history)))
+  pub few_rows : (table : ℕ) → length (current_at (after history) (now_of (after history)) table) ≤ now_of (after history)

@@ -1,6 +1,6 @@
 pub mod Limits
 pub mod State
 pub mod Told
-pub mod Versions
+pub mod Rows
 pub mod Database
 pub mod Run

@@ -1,4 +1,4 @@
-ghost use Rattle.std.specs.Prelude.{◌≡◌, [], ◌∷◌, ◌++◌, ◌+◌, length, None, OnOk, OnErr, IfOk, IfErr, IfNone};
+ghost use Rattle.std.specs.Prelude.{◌≡◌, ◌<◌, ◌↔◌, IsSome, IfSome, [], ◌∷◌, ◌++◌, ◌+◌, length, None, OnOk, OnErr, IfOk, IfErr, IfNone};
 ghost use Rattle.std.specs.Option.{option_copied};
 ghost use Rattle.tt_db.specs.Told.{at_place};
 
@@ -6,11 +6,13 @@ use crate::errors::{DbError, ReadError};
 use crate::event::{Entry, Event};
 use crate::limits::Limits;
 use crate::outcome::{Outcome, Slot};
-use crate::version::{Version, rows_seen, written};
+use crate::effect::{effect_of, found, reply_to, table_of};
+use crate::rows::Rows;
 use std::alloc::{AllocError, Global};
 use std::marker::Model;
 use std::sync::Arc;
 use tt_values::{Catalog, Items, Reply, Select, Write, check, check_select};
+use tt_versions::{Side, Table};
 
 /// A database: a catalogue, limits, and the history of the events that were accepted.
 #[derive(Drop)]
@@ -20,7 +22,7 @@ pub struct Db {
     journal: Vec<Entry>,
     slots: Vec<Slot>,
     generation: u64,
-    versions: Vec<Version>,
+    rows: Rows,
 }
 
 impl Model for Db {
@@ -30,14 +32,16 @@ impl Model for Db {
 
     ghost view = { λ d. record { catalog = d.catalog.value; limits = d.limits; history = d.journal.items } };
 
-    ghost invariant = { λ d. Keeps d.catalog.value d.limits d.journal.items d.slots.items d.generation d.versions.items };
+    ghost invariant = { λ d. Keeps d.catalog.value d.limits d.journal.items d.slots.items d.generation d.rows };
 }
 
 impl Db {
     ghost use Rattle.tt_values.specs.Check.{HasKey};
+    ghost use Rattle.tt_values.specs.Effect.{answer_of};
+    ghost use Rattle.tt_versions.specs.Sides.{side_of, is_split, none_split};
     ghost use Rattle.tt_db.specs.Limits.{Fits};
     ghost use Rattle.tt_db.specs.State.{now_of, current_at, refusal, told, HasKeys, IsLegal};
-    ghost use Rattle.tt_db.specs.Told.{at_place, slot_at, memory_aside, right_select, Answers};
+    ghost use Rattle.tt_db.specs.Told.{at_place, slot_at, memory_aside, right_select, right_select_at, rows_told, Answers};
     ghost use Rattle.tt_db.specs.Database.{Database, state_of};
     ghost use Rattle.tt_db.specs.Run.{IsRun};
 
@@ -52,7 +56,7 @@ impl Db {
             journal: Vec::new(alloc),
             slots: Vec::new(alloc),
             generation: 0,
-            versions: Vec::new(alloc),
+            rows: Rows::new(alloc),
         }
     }
 
@@ -165,7 +169,15 @@ impl Db {
         ensures outcome { IfOk result (λ r. r.1 ≡ told (state_of self.now) (Event.Write write)) }
     {
         let now = self.now();
-        let (versions, reply) = written(&self.versions, &write, now)?;
+        let table = table_of(&write);
+        let made = effect_of(
+            *self.journal.allocator(),
+            self.rows.table(table),
+            &write,
+            now,
+        )?;
+        let reply = reply_to(&write, &made);
+        let rows = self.rows.rewritten(table, made, now + 1)?;
         let slot = Slot {
             write: Some(write.copy()?),
             reply: Some(reply.copy()?),
@@ -183,7 +195,7 @@ impl Db {
             journal,
             slots,
             generation: self.generation,
-            versions,
+            rows,
         };
         let outcome = Outcome::Written {
             slot: now + 1,
@@ -254,16 +266,52 @@ impl Db {
         if let Err(fault) = check_select(&self.catalog, select) {
             return Err(ReadError::Statement(fault));
         }
-        let rows = rows_seen(
-            *self.journal.allocator(),
-            &self.versions,
-            select.table,
-            select.equals.as_slice(),
-            self.now(),
-        );
-        match rows {
-            Ok(rows) => Ok(Reply::Rows(Items::new(rows))),
+        match self.found(select, self.now()) {
+            Ok(reply) => Ok(reply),
             Err(AllocError) => Err(ReadError::Memory),
+        }
+    }
+
+    /// The rows that match as of a time, by rising key. Each time up to now can be read; 0 is the
+    /// time before the first write.
+    pub fn select_at(&self, select: &Select, time: u64) -> Result<Reply, ReadError>
+        ensures { Answers (right_select_at self.now.catalog (state_of self.now) select.now time) result }
+    {
+        if let Err(fault) = check_select(&self.catalog, select) {
+            return Err(ReadError::Statement(fault));
+        }
+        let now = self.now();
+        if now < time {
+            return Err(ReadError::Later { now });
+        }
+        match self.found(select, time) {
+            Ok(reply) => Ok(reply),
+            Err(AllocError) => Err(ReadError::Memory),
+        }
+    }
+
+    fn found(&self, select: &Select, time: u64) -> Result<Reply, AllocError>
+        ensures { IfOk result (λ reply. reply ≡ answer_of select.now (current_at (state_of self.now) time)) }
+    {
+        let alloc = *self.journal.allocator();
+        let rows = self
+            .rows
+            .table(select.table)
+            .rows_at(time, Side::Current)?;
+        let rows = found(alloc, &rows, select.equals.as_slice())?;
+        Ok(Reply::Rows(Items::new(rows)))
+    }
+
+    /// The versions of the rows of a table; None past the last table. Takes no memory.
+    pub fn versions(&self, table: u16) -> Option<&Table>
+        ensures there { IsSome result ↔ (table < length self.now.catalog) }
+        ensures current { IfSome result (λ t. side_of t.now Side.Current ≡ rows_told (state_of self.now) table) }
+        ensures whole { IfSome result (λ t. is_split t.now ≡ none_split) }
+    {
+        if usize::from(table) < self.catalog.len() {
+            Some(self.rows.table(table))
+        } else {
+            None
         }
     }
 }
@@ -292,7 +340,10 @@ fn with_slot(slots: &Vec<Slot>, slot: Slot) -> Result<Vec<Slot>, AllocError>
 fn with_entry(journal: &Vec<Entry>, entry: Entry) -> Result<Vec<Entry>, AllocError>
     ensures { IfOk result (λ with. with.items ≡ journal.now.items ++ entry ∷ []) }
 {
-    let mut with = journal.clone()?;
+    let mut with = Vec::new(*journal.allocator());
+    for kept in journal {
+        with.push(kept.copy()?)?;
+    }
     with.push(entry)?;
     Ok(with)
 }

@@ -21,6 +21,9 @@ pub enum ReadError {
     /// The select can't be answered on the catalogue.
     #[error("{0}")]
     Statement(CheckError),
+    /// The time asked for is still to come; `now` is the current time.
+    #[error("later than {now}")]
+    Later { now: u64 },
     /// There was no memory left.
     #[error("want of memory")]
     Memory,

@@ -3,13 +3,14 @@
 #![tactic(auto)]
 
 mod db;
+mod effect;
 mod errors;
 mod event;
 mod limits;
 mod outcome;
+mod rows;
 #[cfg(test)]
 mod tests;
-mod version;
 
 pub use db::Db;
 pub use errors::{DbError, ReadError};

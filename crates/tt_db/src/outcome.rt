@@ -23,6 +23,14 @@ impl Slot {
     pub fn copy(&self) -> Result<Slot, AllocError>
         ensures { IfOk result (λ copy. copy ≡ self.now) }
     {
-        self.clone()
+        let write = match &self.write {
+            Some(write) => Some(write.copy()?),
+            None => None,
+        };
+        let reply = match &self.reply {
+            Some(reply) => Some(reply.copy()?),
+            None => None,
+        };
+        Ok(Slot { write, reply })
     }
 }

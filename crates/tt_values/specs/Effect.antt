@@ -22,17 +22,25 @@ table_of (Insert table row) = table
 table_of (Update table changes equals) = table
 table_of (Delete table equals) = table
 
--- the pairs that a write makes on a content, by rising key: each key with its row then, or with none where the row is gone
-abbrev pub effect : Write → Content → List (ℤ × Option Row)
-effect (Insert table row) X = if is_some (row_at (X table) (key_of row)) then [] else (key_of row, Some row) ∷ []
-effect (Update table changes equals) X = map (λ e. (e.0, Some (changed e.1 changes))) (matching_rows equals (X table))
-effect (Delete table equals) X = map (λ e. (e.0, None)) (matching_rows equals (X table))
+-- the pairs that a write makes of the rows of its table, by rising key: each key with its row then, or with none where the row is gone
+abbrev pub effect_on : Write → RowsByKey → List (ℤ × Option Row)
+effect_on (Insert table row) rows = if is_some (row_at rows (key_of row)) then [] else (key_of row, Some row) ∷ []
+effect_on (Update table changes equals) rows = map (λ e. (e.0, Some (changed e.1 changes))) (matching_rows equals rows)
+effect_on (Delete table equals) rows = map (λ e. (e.0, None)) (matching_rows equals rows)
 
--- what a write answers
+-- the pairs that a write makes on a content
+abbrev pub effect : Write → Content → List (ℤ × Option Row)
+effect w X = effect_on w (X (table_of w))
+
+-- what a write answers, by the rows of its table
+abbrev pub reply_on : Write → RowsByKey → Reply
+reply_on (Insert table row) rows = if is_some (row_at rows (key_of row)) then Duplicate else Inserted
+reply_on (Update table changes equals) rows = Updated (length (effect_on (Update table changes equals) rows))
+reply_on (Delete table equals) rows = Deleted (length (effect_on (Delete table equals) rows))
+
+-- what a write answers on a content
 abbrev pub reply_of : Write → Content → Reply
-reply_of (Insert table row) X = if is_some (row_at (X table) (key_of row)) then Duplicate else Inserted
-reply_of (Update table changes equals) X = Updated (length (effect (Update table changes equals) X))
-reply_of (Delete table equals) X = Deleted (length (effect (Delete table equals) X))
+reply_of w X = reply_on w (X (table_of w))
 
 -- what a select answers
 abbrev pub answer_of : Select → Content → Reply

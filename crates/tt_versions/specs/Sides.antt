@@ -1,5 +1,5 @@
 -- The two sides of a table: for each key and time, the row.
-use Rattle.std.specs.Prelude.{◌≡◌, ℕ, zero, suc, ℤ, Bool, false, ◌&&◌, ◌||◌, nat_le, List, IsTrue, Option, None, is_some, if◌then◌else◌}
+use Rattle.std.specs.Prelude.{◌≡◌, ℕ, zero, suc, ℤ, Bool, false, ◌&&◌, ◌||◌, nat_le, List, [], IsTrue, Option, None, is_some, if◌then◌else◌}
 use Rattle.std.specs.Option.{unwrap_or}
 use Rattle.std.specs.Ordering.{int_cmp, int_eq}
 use Rattle.std.specs.FinMap.Entries as sorted
@@ -13,6 +13,10 @@ use Rattle.tt_versions.specs.Lineage.{unwritten, history_on}
 -- what a table keeps, by rising key
 abbrev pub Kept : Type 0
 Kept = List (ℤ × Lineage)
+
+-- nothing, as a table without rows keeps
+abbrev pub nothing_kept : Kept
+nothing_kept = []
 
 -- for each key and time, the row, or none
 abbrev pub RowsInTime : Type 0

@@ -28,11 +28,12 @@ impl Model for Table {
 }
 
 impl Table {
-    ghost use Rattle.tt_versions.specs.Sides.{lineage_at, side_of, is_split, written_from, held_from, no_rows, none_split, with_key, Lists};
+    ghost use Rattle.tt_versions.specs.Sides.{nothing_kept, lineage_at, side_of, is_split, written_from, held_from, no_rows, none_split, with_key, Lists};
     ghost use Rattle.tt_versions.specs.Told.{AddsRowWrite, DropsRowWrites, ListsContent};
 
     /// A table without rows. Takes no memory; what the other calls take comes from this allocator.
     pub fn new(alloc: Global) -> Table
+        ensures kept { result ≡ nothing_kept }
         ensures empty { (side : Side) → side_of result side ≡ no_rows }
         ensures split { is_split result ≡ none_split }
     {
