@@ -1,3 +1,4 @@
 pub mod RowsLemmas
+pub mod FewRowsLemmas
 pub mod HistoryLemmas
 mod WorkedRows
