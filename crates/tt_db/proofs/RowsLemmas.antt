@@ -95,13 +95,11 @@ pub follow_both : (before between after : KeptTables) (vs ws : List RowWrite) �
 follow_both before between after vs ws first second us told = subst (Tell after) (append_assoc us vs ws) (second (us ++ vs) (first us told))
 
 -- one more row made is followed after those before it
-pub follow_next : (before between after : KeptTables) (time table : ℕ) (made : List (ℤ × Option Row)) (key : ℤ) (row : Option Row)
-    → Follow before between (writes_of time table made) → Follow between after (record { time = time; table = table; key = key; row = row } ∷ [])
-    → Follow before after (writes_of time table (made ++ (key, row) ∷ []))
-follow_next before between after time table made key row first second =
-    let next : ℤ × Option Row = (key, row) in
+pub follow_next : (before between after : KeptTables) (time table : ℕ) (made : List (ℤ × Option Row)) (next : ℤ × Option Row)
+    → Follow before between (writes_of time table made) → Follow between after (writes_of time table (next ∷ [])) → Follow before after (writes_of time table (made ++ next ∷ []))
+follow_next before between after time table made next first second =
     let as_write : ℤ × Option Row → RowWrite = λ e. record { time = time; table = table; key = e.0; row = e.1 } in
-    subst (Follow before after) (sym (map-append as_write made (next ∷ []))) (follow_both before between after (writes_of time table made) (as_write next ∷ []) first second)
+    subst (Follow before after) (sym (map-append as_write made (next ∷ []))) (follow_both before between after (writes_of time table made) (writes_of time table (next ∷ [])) first second)
 
 -- what is made of the rows that row writes tell is the effect on the current content
 pub effect_is : (tables : KeptTables) (S : State) (w : Write) (table now : ℕ) (kept : Kept) (made : List (ℤ × Option Row))
