@@ -1,0 +1,4 @@
+//! Laws of repairs.
+#![tactic(auto)]
+
+pub mod laws;
