@@ -5,4 +5,6 @@ pub mod RepairEffects
 pub mod RepairTracking
 pub mod RepairEdits
 pub mod RepairLemmas
+pub mod RepairSteps
 pub mod RepairLater
+pub mod RepairWorkedRows

@@ -13,10 +13,10 @@ use Rattle.tt_law.proofs.RepairMarks.{clean_before}
 use Rattle.tt_law.proofs.RepairTracking.{Rises, IsTracked, unaffected_writes, unaffected_reply, tracked-unaffected, tracked-redone}
 use Rattle.tt_law.proofs.RepairEdits.{unedited_slots_stay}
 
-rises : (W : Slots) (n : ℕ) → Rises (content_after W n)
+pub rises : (W : Slots) (n : ℕ) → Rises (content_after W n)
 rises W n table = subst T (sym (rows_rise (row_writes W n) n table)) tt
 
-no_edit : {X : Type 0} (o : Option X) → is_some o ≡ false → o ≡ None
+pub no_edit : {X : Type 0} (o : Option X) → is_some o ≡ false → o ≡ None
 no_edit None h = refl
 no_edit (Some x) h = absurd (true≢false h)
 
@@ -35,7 +35,7 @@ module _ (tables : Tables) (W : Slots) (E : List Edit) where
           tracked-unaffected tables D (content_after W n) (content_after V n) t (rises W n) (rises V n) (suc n) (slot_after W n) (content_after W (suc n)) (content_after V (suc n)) both.1 (next_content W n)
           (next_content V n ∙ ap (λ s. fold written (content_after V n) (slot_writes (suc n) s (content_after V n))) unedited)
 
-  tracked : (n : ℕ) → IsTracked tables (dirty_after tables W E n) (content_after W n) (content_after (edited W E) n)
+  pub tracked : (n : ℕ) → IsTracked tables (dirty_after tables W E n) (content_after W n) (content_after (edited W E) n)
   unfolding dirty_after row_writes
   tracked zero = record { agree = λ table key h. refl; parts = λ table key row h there. absurd (true≢false (sym h)) }
   tracked (suc n) = tracked-with n (dirty_after tables W E n) (tracked n)

@@ -98,11 +98,11 @@ module _ (tables : Tables) (D : DirtySet) (X Y : Content) (tracked : IsTracked t
     unaffected_reply None h = refl
     unaffected_reply (Some w) h = ap Some (unaffected w h).1
 
-    unaffected_rows : (s : Option Write) → is_slot_affected tables D s X ≡ false → slot_rows_written s Y ≡ slot_rows_written s X
+    pub unaffected_rows : (s : Option Write) → is_slot_affected tables D s X ≡ false → slot_rows_written s Y ≡ slot_rows_written s X
     unaffected_rows None h = refl
     unaffected_rows (Some w) h = ap (map (λ e. (table_of w, e.0))) (unaffected w h).0
 
-    writes_clean_rows : (s : Option Write) → is_slot_affected tables D s X ≡ false → list_any (λ r. has_row D r.0 r.1) (slot_rows_written s X) ≡ false
+    pub writes_clean_rows : (s : Option Write) → is_slot_affected tables D s X ≡ false → list_any (λ r. has_row D r.0 r.1) (slot_rows_written s X) ≡ false
     writes_clean_rows None h = refl
     writes_clean_rows (Some w) h = (or_parts _ _ (or_parts _ _ h).0).0
 
