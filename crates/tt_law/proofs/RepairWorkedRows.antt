@@ -199,3 +199,73 @@ row_after_two = refl
 row_caught_up : content_after (edited caught_up not_second) 3 0 ≡ (pos 1, row 1 ann 11) ∷ []
 unfolding row_writes
 row_caught_up = refl
+
+-- and a further one moves it to another owner
+abbrev caught_up_again : Slots
+caught_up_again = inserts 1 ann 10 ∷ updates (balance_to 0) (of_id 1) ∷ updates (balance_by 1) (of_id 1) ∷ updates (owner_to eve) (of_id 1) ∷ []
+
+last_three_due : due_from caught_up_again not_second 0 4 ≡ false ∷ true ∷ true ∷ true ∷ []
+unfolding row_writes dirty_after
+last_three_due = refl
+
+row_caught_up_again : content_after (edited caught_up_again not_second) 4 0 ≡ (pos 1, row 1 eve 11) ∷ []
+unfolding row_writes
+row_caught_up_again = refl
+
+-- an insert after a delete of its key is cancelled: the row stays deleted
+abbrev inserted_again : Slots
+inserted_again = inserts 1 ann 10 ∷ deletes (of_id 1) ∷ inserts 1 bob 5 ∷ []
+
+abbrev not_third : List Edit
+not_third = Cancel 3 ∷ []
+
+third_due : due_from inserted_again not_third 0 3 ≡ false ∷ false ∷ true ∷ []
+unfolding row_writes dirty_after
+third_due = refl
+
+row_at_first : content_after (edited inserted_again not_third) 1 0 ≡ (pos 1, row 1 ann 10) ∷ []
+unfolding row_writes
+row_at_first = refl
+
+row_stays_deleted : content_after (edited inserted_again not_third) 3 0 ≡ []
+unfolding row_writes
+row_stays_deleted = refl
+
+-- an update that moved a row to bob moves it to eve instead. Due are then statements on the owner before, on the
+-- owner after, on the one that the row had in the old slots, and on its key; not those on another owner or key
+abbrev moves_to_bob : Slots
+moves_to_bob =
+    inserts 1 ann 10
+    ∷ updates (owner_to bob) (of_id 1)
+    ∷ updates (balance_by 1) (of_owner ann)
+    ∷ updates (balance_by 1) (of_owner eve)
+    ∷ updates (balance_by 1) (of_owner bob)
+    ∷ updates (balance_by 1) (record { column = 0; value = values.Int (pos 1) } ∷ of_owner (codes "zed"))
+    ∷ updates (balance_by 1) (of_owner (codes "zed"))
+    ∷ updates (balance_by 1) (of_id 2)
+    ∷ inserts 2 ann 5
+    ∷ []
+
+abbrev to_eve_instead : List Edit
+to_eve_instead = Replace 2 (Update 0 (owner_to eve ∷ []) (of_id 1)) ∷ []
+
+five_due : due_from moves_to_bob to_eve_instead 0 9 ≡ false ∷ true ∷ true ∷ true ∷ true ∷ true ∷ false ∷ false ∷ false ∷ []
+unfolding row_writes dirty_after
+five_due = refl
+
+rows_of_eve_and_ann : content_after (edited moves_to_bob to_eve_instead) 9 0 ≡ (pos 1, row 1 eve 11) ∷ (pos 2, row 2 ann 5) ∷ []
+unfolding row_writes
+rows_of_eve_and_ann = refl
+
+-- of two edits of one slot the first counts
+first_edit_counts : edited twice (Cancel 1 ∷ Replace 1 (Insert 0 (row 1 eve 1)) ∷ []) ≡ None ∷ inserts 1 bob 20 ∷ []
+first_edit_counts = refl
+
+-- a slot that is cancelled already isn't due, unless it's edited
+cancelled_stays : due_from (None ∷ inserts 1 bob 20 ∷ []) (Cancel 2 ∷ []) 0 2 ≡ false ∷ true ∷ []
+unfolding row_writes dirty_after
+cancelled_stays = refl
+
+cancelled_gets_a_write : due_from (inserts 2 ann 10 ∷ None ∷ []) (Replace 2 (Insert 0 (row 1 bob 20)) ∷ []) 0 2 ≡ false ∷ true ∷ []
+unfolding row_writes dirty_after
+cancelled_gets_a_write = refl
