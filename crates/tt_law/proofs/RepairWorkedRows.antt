@@ -269,3 +269,30 @@ cancelled_stays = refl
 cancelled_gets_a_write : due_from (inserts 2 ann 10 ∷ None ∷ []) (Replace 2 (Insert 0 (row 1 bob 20)) ∷ []) 0 2 ≡ false ∷ true ∷ []
 unfolding row_writes dirty_after
 cancelled_gets_a_write = refl
+
+-- an update that matched nothing is replaced by one that does: the row that it matches gets dirty too
+abbrev matches_none : Slots
+matches_none = inserts 1 ann 10 ∷ updates (balance_to 0) (of_owner bob) ∷ updates (balance_by 1) (of_owner eve) ∷ []
+
+matched_row_dirty : due_from matches_none to_eve_instead 0 3 ≡ false ∷ true ∷ true ∷ []
+unfolding row_writes dirty_after
+matched_row_dirty = refl
+
+row_of_eve : content_after (edited matches_none to_eve_instead) 3 0 ≡ (pos 1, row 1 eve 11) ∷ []
+unfolding row_writes
+row_of_eve = refl
+
+-- an insert is replaced by one of a key that's there: that row gets dirty too, although it stays
+abbrev two_keys : Slots
+two_keys = inserts 1 ann 10 ∷ inserts 2 bob 20 ∷ updates (balance_by 1) (of_id 1) ∷ []
+
+abbrev first_key_again : List Edit
+first_key_again = Replace 2 (Insert 0 (row 1 eve 1)) ∷ []
+
+row_of_key_dirty : due_from two_keys first_key_again 0 3 ≡ false ∷ true ∷ true ∷ []
+unfolding row_writes dirty_after
+row_of_key_dirty = refl
+
+row_of_ann : content_after (edited two_keys first_key_again) 3 0 ≡ (pos 1, row 1 ann 11) ∷ []
+unfolding row_writes
+row_of_ann = refl
