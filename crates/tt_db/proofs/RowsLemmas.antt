@@ -1,17 +1,17 @@
 -- Tables that follow row writes.
-use Rattle.std.proofs.Common.{◌≡◌, ℕ, ℤ, Bool, true, false, cond, ◌&&◌, nat_le, ◌==◌, List, [], ◌∷◌, ◌++◌, fold, Ordering, Less, Equal, Greater, Option, None, Some, if◌then◌else◌, refl, sym, ap, subst, ◌∙◌, arith, append-nil, append_assoc}
+use Rattle.std.proofs.Common.{◌≡◌, ℕ, ℤ, Bool, true, false, cond, nat_le, ◌==◌, List, [], ◌∷◌, ◌++◌, fold, Ordering, Less, Equal, Greater, Option, Some, if◌then◌else◌, refl, sym, ap, subst, ◌∙◌, arith, append-nil, append_assoc}
 use Rattle.std.proofs.lemmas.Bool.Decides.{nat_tests}
 use Rattle.std.proofs.lemmas.List.{map-append}
 use Rattle.std.proofs.lemmas.List.Elements.{filter-append}
 use Rattle.std.proofs.lemmas.List.Sums.{fold-append}
 use Rattle.std.specs.Option.{unwrap_or}
-use Rattle.std.specs.Ordering.{nat_cmp, int_eq, is_eq}
+use Rattle.std.specs.Ordering.{nat_cmp, is_eq}
 use Rattle.std.specs.Cmp.{nat_cmp_total, tied_itself}
 use Rattle.std.specs.FinMap.{nat_cmp-IsAntisymmetric}
 use Rattle.std.specs.FinMap.Entries as sorted
 use Rattle.tt_values.specs.declared.row.Row.{Row}
 use Rattle.tt_values.specs.declared.statement.Write.{Write}
-use Rattle.tt_values.specs.Content.{Content, RowWrite, content_at, row_at, with_row, written, no_rows, up_to}
+use Rattle.tt_values.specs.Content.{RowWrite, content_at, row_at, with_row, written, no_rows, up_to}
 use Rattle.tt_values.specs.Effect.{table_of, effect}
 use Rattle.tt_values.specs.RowWrites.{row_writes}
 use Rattle.tt_versions.specs.declared.side.Side.TheVariants.{Current}

@@ -2,11 +2,11 @@ ghost use Rattle.std.specs.Prelude.{◌≡◌, ◌<◌, ◌↔◌, IsSome, IfSom
 ghost use Rattle.std.specs.Option.{option_copied};
 ghost use Rattle.tt_db.specs.Told.{at_place};
 
+use crate::effect::{effect_of, found, reply_to, table_of};
 use crate::errors::{DbError, ReadError};
 use crate::event::{Entry, Event};
 use crate::limits::Limits;
 use crate::outcome::{Outcome, Slot};
-use crate::effect::{effect_of, found, reply_to, table_of};
 use crate::rows::Rows;
 use std::alloc::{AllocError, Global};
 use std::marker::Model;
@@ -294,10 +294,7 @@ impl Db {
         ensures { IfOk result (λ reply. reply ≡ answer_of select.now (current_at (state_of self.now) time)) }
     {
         let alloc = *self.journal.allocator();
-        let rows = self
-            .rows
-            .table(select.table)
-            .rows_at(time, Side::Current)?;
+        let rows = self.rows.table(select.table).rows_at(time, Side::Current)?;
         let rows = found(alloc, &rows, select.equals.as_slice())?;
         Ok(Reply::Rows(Items::new(rows)))
     }

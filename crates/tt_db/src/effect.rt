@@ -41,7 +41,9 @@ pub(crate) fn effect_of(
             Ok(made)
         }
         Write::Update {
-            changes, equals, ..
+            changes,
+            equals,
+            ..
         } => {
             let rows = table.rows_at(time, Side::Current)?;
             let made = updated(alloc, &rows, changes.as_slice(), equals.as_slice())?;
@@ -56,11 +58,7 @@ pub(crate) fn effect_of(
 }
 
 /// What an insert makes where its key is live or not.
-fn inserted(
-    alloc: Global,
-    is_live: bool,
-    row: &Row,
-) -> Result<Vec<(i64, Option<Row>)>, AllocError>
+fn inserted(alloc: Global, is_live: bool, row: &Row) -> Result<Vec<(i64, Option<Row>)>, AllocError>
     requires { IsSome (first_int row.now.values) }
     ensures { IfOk result (λ made. made.items ≡ (if is_live then [] else (key_of row.now, Some row.now) ∷ [])) }
 {

@@ -110,13 +110,7 @@ impl Rows {
         Ok(rows)
     }
 
-    fn written(
-        &self,
-        table: u16,
-        key: i64,
-        row: Option<Row>,
-        time: u64,
-    ) -> Result<Rows, AllocError>
+    fn written(&self, table: u16, key: i64, row: Option<Row>, time: u64) -> Result<Rows, AllocError>
         ensures { IfOk result (λ r. Follow self.now r (writes_of time table ((key, row) ∷ []))) }
     {
         let written = self.table(table).written(key, row, time)?;

@@ -284,7 +284,9 @@ fn a_time_to_come_cannot_be_read(rt: HostRuntime) -> Result<(), Fail> {
 fn a_bad_update_is_refused(rt: HostRuntime) -> Result<(), Fail> {
     let alloc = rt.alloc();
     let db = ran(&rt, alloc, &[(Insert((1, "ann", 10)), Inserted)])?;
-    let refused = db.apply(entry(alloc, Update(&[Balance(1), More(1)], &[]))?).err();
+    let refused = db
+        .apply(entry(alloc, Update(&[Balance(1), More(1)], &[]))?)
+        .err();
     let want = DbError::Statement(CheckError::SameColumnTwice);
     assert_eq!(rt; refused, Some(want));
     assert_eq!(rt; db.now(), 1);

@@ -19,7 +19,12 @@ fn each_table_tells_its_versions(rt: HostRuntime) -> Result<(), Fail> {
     let kept = db.versions(ACCT).ok_or("a table")?;
     let bob = row(alloc, BOB)?;
     for side in [Side::Current, Side::Next] {
-        let wants: [(u64, Option<&Row>); 4] = [(0, None), (1, None), (2, Some(&bob)), (9, Some(&bob))];
+        let wants: [(u64, Option<&Row>); 4] = [
+            (0, None),
+            (1, None),
+            (2, Some(&bob)),
+            (9, Some(&bob)),
+        ];
         for (time, want) in wants {
             assert_eq!(rt; kept.at(2, time, side), want, "at {time}");
         }

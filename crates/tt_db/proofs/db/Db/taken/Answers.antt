@@ -1,6 +1,6 @@
 -- What is kept after a write is what the definitions say of the history with its entry.
 use Rattle.std.proofs.Common.{◌≡◌, ◌+◌, suc, length, None, sym, ap, subst, ◌∙◌, arith}
-use Rattle.tt_values.specs.Effect.{table_of, effect}
+use Rattle.tt_values.specs.Effect.{table_of}
 use Rattle.tt_db.specs.declared.event.Event.TheVariants as events
 use Rattle.tt_db.specs.State.{after, refusal, now_of, current_at}
 use Rattle.tt_db.specs.Rows.{Follow, writes_of}

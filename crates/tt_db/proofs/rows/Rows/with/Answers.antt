@@ -1,6 +1,5 @@
 -- The table stands at its place among those shared.
-use Rattle.std.proofs.Common.{nat_cmp, ap, ◌∙◌}
-use Rattle.std.specs.BTreeMap.{insert_entry}
+use Rattle.std.proofs.Common.{nat_cmp, ◌∙◌}
 use Rattle.std.specs.FinMap.Entries as sorted
 use Rattle.tt_versions.proofs.EntriesLemmas.{insert_entry-put}
 use Rattle.tt_db.proofs.rows.Rows.with.Goals as goal

@@ -1,7 +1,6 @@
 -- All tables follow the write that one of them follows.
-use Rattle.std.proofs.Common.{w64, nat_cmp, ◌∷◌, [], sym, subst, ap, ◌∙◌}
+use Rattle.std.proofs.Common.{w64, ◌∷◌, [], sym, subst, ap, ◌∙◌}
 use Rattle.std.proofs.lemmas.Int.{to_z-of_z}
-use Rattle.std.specs.FinMap.Entries as sorted
 use Rattle.tt_versions.specs.declared.side.Side.TheVariants.{Current}
 use Rattle.tt_versions.specs.Sides.{Kept, side_of, is_split}
 use Rattle.tt_versions.specs.Told.{AddsRowWrite}
