@@ -18,6 +18,11 @@ use Rattle.tt_parts.specs.declared.partition.Reads.TheVariants.{All, Equated}
 abbrev pub tells_apart : ℕ → Column → Bool
 tells_apart i column = (i == 0) || column.partition
 
+-- the partition of the value in the column at a position, where there is a value, and the column tells partitions apart
+abbrev pub part_at : ℕ → ℕ → Column → Option Value → List Partition
+part_at table i c None = []
+part_at table i c (Some v) = if tells_apart i c then record { table = table; column = i; value = v } ∷ [] else []
+
 -- the partitions of a row by its columns from a position on
 abbrev pub parts_from : ℕ → ℕ → List Column → List Value → List Partition
 parts_from table i [] vs = []

@@ -2,6 +2,12 @@
 //! dirty.
 #![tactic(auto)]
 
-mod partition;
 
+mod equating;
+mod partition;
+mod parts;
+
+
+pub use equating::reads_of;
 pub use partition::{Partition, Reads};
+pub use parts::parts_of;

@@ -1,0 +1,2 @@
+pub mod PartitionsLemmas
+pub mod SoundnessLemmas
