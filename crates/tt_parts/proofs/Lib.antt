@@ -1,2 +1,3 @@
 pub mod PartitionsLemmas
 pub mod SoundnessLemmas
+pub mod DirtyLemmas

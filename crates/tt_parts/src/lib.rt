@@ -2,12 +2,13 @@
 //! dirty.
 #![tactic(auto)]
 
-
+mod dirty;
 mod equating;
+mod members;
 mod partition;
 mod parts;
 
-
+pub use dirty::Dirty;
 pub use equating::reads_of;
 pub use partition::{Partition, Reads};
 pub use parts::parts_of;

@@ -1,4 +1,4 @@
-ghost use Rattle.std.specs.Prelude.{◌≡◌, ◌≤◌, ◌<◌, ◌^◌, ◌++◌, length, IfOk, OnOk};
+ghost use Rattle.std.specs.Prelude.{◌≡◌, ◌≤◌, ◌^◌, ◌++◌, length, IfOk, OnOk};
 ghost use Rattle.std.specs.Option.{option_copied};
 ghost use Rattle.tt_parts.specs.Partitions.{tells_apart, part_at, parts_of};
 
@@ -16,26 +16,12 @@ pub fn parts_of(
     requires { length def.now.columns ≤ 2 ^ 16 }
     ensures { IfOk result (λ parts. parts ≡ parts_of table def.now.columns row.now) }
 {
-    let mut parts = Vec::new(alloc);
-    push_parts(&mut parts, table, def, row)?;
-    Ok(Items::new(parts))
-}
-
-/// Puts the partitions that a row of the table lies in at the end of a list.
-pub(crate) fn push_parts(
-    parts: &mut Vec<Partition>,
-    table: u16,
-    def: &TableDef,
-    row: &Row,
-) -> Result<(), AllocError>
-    requires { length def.now.columns ≤ 2 ^ 16 }
-    ensures { OnOk result (parts.new.items ≡ parts.old.items ++ parts_of table def.now.columns row.now) }
-{
     let columns = def.columns.as_slice();
+    let mut parts = Vec::new(alloc);
     for i in 0..columns.len() {
-        push_part(parts, table, i as u16, &columns[i], row.values.get(i))?;
+        push_part(&mut parts, table, i as u16, &columns[i], row.values.get(i))?;
     }
-    Ok(())
+    Ok(Items::new(parts))
 }
 
 /// Puts the partition of the value in a column at the end of a list, where the column tells

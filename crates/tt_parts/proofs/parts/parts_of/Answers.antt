@@ -3,7 +3,7 @@ use Rattle.std.proofs.Common.{◌≡◌, suc, ◌++◌, drop, Some, slice_get, l
 use Rattle.std.proofs.lemmas.Option.{slice_get_read}
 use Rattle.tt_parts.specs.Partitions.{part_at, parts_from}
 use Rattle.tt_parts.proofs.PartitionsLemmas.{parts_from-drop}
-use Rattle.tt_parts.proofs.parts.push_parts.Goals as goal
+use Rattle.tt_parts.proofs.parts.parts_of.Goals as goal
 
 pub loop-i-preserved : goal.loop-i-preserved
 loop-i-preserved c =
