@@ -30,9 +30,9 @@ same_through D E F h i = record { rows = λ table key. h.rows table key ∙ i.ro
 -- sets with the same members have them still when one more row gets dirty in both
 pub same_with_row : (D E : DirtySet) (table : ℕ) (columns : List Column) (key : ℤ) (before after : Option Row) → SameMembers D E → SameMembers (with_row D table columns key before after) (with_row E table columns key before after)
 same_with_row D E table columns key before after h = record {
-    rows = λ t k. ap (λ b. ((t == table) && int_eq k key) || b) (h.rows t k);
-    partitions = λ p. ap (λ b. is_same_partition p (record { table = table; column = 0; value = values.Int key }) || b) (added p);
-  }
+  rows = λ t k. ap (λ b. ((t == table) && int_eq k key) || b) (h.rows t k);
+  partitions = λ p. ap (λ b. is_same_partition p (record { table = table; column = 0; value = values.Int key }) || b) (added p);
+}
   where
     added : SamePartitions (parts_if table columns before ++ parts_if table columns after ++ D.partitions) (parts_if table columns before ++ parts_if table columns after ++ E.partitions)
     added p =

@@ -49,9 +49,8 @@ fn table_of(write: &Write) -> u16
     ensures { result ≡ table_of write.now }
 {
     match write {
-        Write::Insert { table, .. }
-        | Write::Update { table, .. }
-        | Write::Delete { table, .. } => *table,
+        Write::Insert { table, .. } | Write::Update { table, .. } | Write::Delete { table, .. } =>
+            *table,
     }
 }
 

@@ -7,6 +7,8 @@ mod equating;
 mod members;
 mod partition;
 mod parts;
+#[cfg(test)]
+mod tests;
 
 pub use dirty::Dirty;
 pub use equating::reads_of;

@@ -47,10 +47,7 @@ pub(crate) fn has_clean(members: &[Partition], partitions: &[Partition]) -> bool
         .any(|partition| !has_partition(members, partition))
 }
 
-fn add_partition(
-    members: &mut Vec<Partition>,
-    partition: &Partition,
-) -> Result<(), AllocError>
+fn add_partition(members: &mut Vec<Partition>, partition: &Partition) -> Result<(), AllocError>
     ensures { OnOk result (SamePartitions members.new.items (partition.now ∷ members.old.items)) }
 {
     if !has_partition(members, partition) {
@@ -67,11 +64,7 @@ pub(crate) fn copy_of(members: &Vec<Partition>) -> Result<Vec<Partition>, AllocE
 }
 
 /// Adds the partition of a key.
-pub(crate) fn add_key(
-    members: &mut Vec<Partition>,
-    table: u16,
-    key: i64,
-) -> Result<(), AllocError>
+pub(crate) fn add_key(members: &mut Vec<Partition>, table: u16, key: i64) -> Result<(), AllocError>
     ensures { OnOk result (SamePartitions members.new.items (record { table = table; column = 0; value = values.Int key } ∷ members.old.items)) }
 {
     let partition = Partition {

@@ -27,9 +27,7 @@ impl Partition {
     pub fn is_same(&self, other: &Partition) -> bool
         ensures { result ≡ is_same_partition self.now other.now }
     {
-        self.table == other.table
-            && self.column == other.column
-            && self.value.is_same(&other.value)
+        self.table == other.table && self.column == other.column && self.value.is_same(&other.value)
     }
 
     /// The same partition, in memory of its own.
