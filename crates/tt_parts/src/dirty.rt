@@ -10,7 +10,7 @@ use tt_values::{Catalog, Row, TableDef};
 
 /// A set of dirty rows and partitions, of the tables of one catalogue. Contracts speak of its
 /// members alone. Making a row dirty answers a new set, and leaves this one as it is.
-#[derive(Drop)]
+#[derive(Debug, Drop)]
 pub struct Dirty {
     catalog: Arc<Catalog>,
     rows: Vec<(u16, i64)>,
