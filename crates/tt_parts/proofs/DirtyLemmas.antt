@@ -11,7 +11,7 @@ use Rattle.tt_parts.specs.declared.partition.Partition.{Partition}
 use Rattle.tt_parts.specs.declared.partition.Reads.{Reads}
 use Rattle.tt_parts.specs.declared.partition.Reads.TheVariants.{All, Equated}
 use Rattle.tt_parts.specs.Partitions.{is_same_partition, reads_told}
-use Rattle.tt_parts.specs.Dirty.{DirtySet, is_row_in, is_partition_in, has_row_of, SameRows, SamePartitions, SameMembers, parts_if, with_row, is_clear, is_clear_of}
+use Rattle.tt_parts.specs.Dirty.{DirtySet, is_row_in, has_row_of, SameRows, SamePartitions, SameMembers, parts_if, with_row, is_clear, is_clear_of}
 
 -- lists added one after another, in another order
 pub same_added : (k : Partition) (bs cs ds one two three : List Partition) → SamePartitions one (k ∷ ds) → SamePartitions two (bs ++ one) → SamePartitions three (cs ++ two) → SamePartitions three (k ∷ bs ++ cs ++ ds)

@@ -1,5 +1,5 @@
 -- What a write reads covers the rows that it matches.
-use Rattle.std.proofs.Common.{◌≡◌, ℕ, zero, suc, ◌+◌, ◌<◌, Bool, true, false, ◌&&◌, ℤ, pos, List, [], ◌∷◌, map, filter, length, drop, Option, None, Some, slice_get, if◌then◌else◌, All, IsSome, refl, sym, ap, subst, ◌∙◌, arith}
+use Rattle.std.proofs.Common.{◌≡◌, ℕ, zero, suc, ◌+◌, ◌<◌, Bool, true, false, ◌&&◌, ℤ, pos, List, [], ◌∷◌, map, filter, length, Option, None, Some, slice_get, if◌then◌else◌, All, IsSome, refl, sym, ap, subst, ◌∙◌, arith}
 use Rattle.std.specs.List.{Contains}
 use Rattle.std.specs.Option.{unwrap_or, option_map_or}
 use Rattle.std.proofs.lemmas.Bool.Decides.{Decides-int_eq}
