@@ -1,11 +1,15 @@
 -- What a repair has made dirty, and when a statement is clear of it.
-use Rattle.std.specs.Prelude.{ℕ, ℤ, Bool, not, ◌&&◌, ◌==◌, List, [], ◌∷◌, ◌++◌, Option, None, Some}
+use Rattle.std.specs.Prelude.{◌≡◌, ℕ, ℤ, Bool, not, ◌&&◌, ◌==◌, List, [], ◌∷◌, ◌++◌, Option, None, Some}
 use Rattle.std.specs.List.{list_any}
+use Rattle.std.specs.Option.{unwrap_or}
 use Rattle.std.specs.Ordering.{int_eq}
 use Rattle.tt_values.specs.declared.value.Value.TheVariants as values
 use Rattle.tt_values.specs.declared.row.Row.{Row}
 use Rattle.tt_values.specs.declared.table.Column.{Column}
+use Rattle.tt_values.specs.Tables.{Tables, columns_at}
 use Rattle.tt_parts.specs.declared.partition.Partition.{Partition}
+use Rattle.tt_parts.specs.declared.partition.Reads.{Reads}
+use Rattle.tt_parts.specs.declared.partition.Reads.TheVariants.{All, Equated}
 use Rattle.tt_parts.specs.Partitions.{parts_of, is_same_partition}
 
 -- a set of dirty rows, each by its table and key, and of dirty partitions
@@ -13,13 +17,26 @@ pub record DirtySet : Type 0 where
   pub rows : List (ℕ × ℤ)
   pub partitions : List Partition
 
+-- the tables of a catalogue, and what is dirty in them
+pub record DirtyTables : Type 0 where
+  pub catalog : Tables
+  pub dirty : DirtySet
+
 -- nothing is dirty
 abbrev pub clean : DirtySet
 clean = record { rows = []; partitions = [] }
 
+-- whether a list of rows has the one with a key of a table
+abbrev pub is_row_in : List (ℕ × ℤ) → ℕ → ℤ → Bool
+is_row_in rows table key = list_any (λ r. (table == r.0) && int_eq key r.1) rows
+
+-- whether a list of partitions has one
+abbrev pub is_partition_in : List Partition → Partition → Bool
+is_partition_in ps p = list_any (is_same_partition p) ps
+
 -- whether the row with a key of a table is dirty
 abbrev pub has_row : DirtySet → ℕ → ℤ → Bool
-has_row D table key = list_any (λ r. (table == r.0) && int_eq key r.1) D.rows
+has_row D = is_row_in D.rows
 
 -- whether a row of a table is dirty
 abbrev pub has_row_of : DirtySet → ℕ → Bool
@@ -27,7 +44,24 @@ has_row_of D table = list_any (λ r. table == r.0) D.rows
 
 -- whether a partition is dirty
 abbrev pub has_partition : DirtySet → Partition → Bool
-has_partition D p = list_any (is_same_partition p) D.partitions
+has_partition D = is_partition_in D.partitions
+
+-- two lists have the same rows
+abbrev pub SameRows : List (ℕ × ℤ) → List (ℕ × ℤ) → Type 0
+SameRows rs ss = (table : ℕ) (key : ℤ) → is_row_in rs table key ≡ is_row_in ss table key
+
+-- two lists have the same partitions
+abbrev pub SamePartitions : List Partition → List Partition → Type 0
+SamePartitions ps qs = (p : Partition) → is_partition_in ps p ≡ is_partition_in qs p
+
+-- two sets have the same members
+pub record SameMembers (D E : DirtySet) : Type 0 where
+  pub rows : SameRows D.rows E.rows
+  pub partitions : SamePartitions D.partitions E.partitions
+
+-- the columns of a table of a catalogue
+abbrev pub columns_in : Tables → ℕ → List Column
+columns_in tables table = unwrap_or (columns_at tables table) []
 
 -- the partitions of a row, where there is one
 abbrev pub parts_if : ℕ → List Column → Option Row → List Partition
@@ -45,3 +79,8 @@ with_row D table columns key before after = record {
 abbrev pub is_clear : DirtySet → ℕ → List Partition → Bool
 is_clear D table [] = not (has_row_of D table)
 is_clear D table (p ∷ ps) = list_any (λ q. not (has_partition D q)) (p ∷ ps)
+
+-- whether a statement is clear, by what it is told to read
+abbrev pub is_clear_of : DirtySet → Reads → Bool
+is_clear_of D (All table) = not (has_row_of D table)
+is_clear_of D (Equated ps) = list_any (λ p. not (has_partition D p)) ps

@@ -1,2 +1,3 @@
 pub mod Partitions
+pub mod Soundness
 pub mod Dirty

@@ -1,5 +1,5 @@
 -- Which partitions a row lies in, and which ones a statement equates.
-use Rattle.std.specs.Prelude.{ℕ, zero, suc, Bool, false, ◌&&◌, ◌||◌, ◌==◌, List, [], ◌∷◌, map, filter, Option, None, Some, slice_get, if◌then◌else◌}
+use Rattle.std.specs.Prelude.{ℕ, suc, Bool, false, ◌&&◌, ◌||◌, ◌==◌, List, [], ◌∷◌, map, filter, Option, None, Some, slice_get, if◌then◌else◌}
 use Rattle.std.specs.Option.{option_map_or}
 use Rattle.tt_values.specs.declared.value.Value.{Value}
 use Rattle.tt_values.specs.declared.value.Value.TheVariants as values
@@ -17,6 +17,11 @@ use Rattle.tt_parts.specs.declared.partition.Reads.TheVariants.{All, Equated}
 -- whether the column at a position tells partitions apart: the first, which holds the key, and each that is declared so
 abbrev pub tells_apart : ℕ → Column → Bool
 tells_apart i column = (i == 0) || column.partition
+
+-- the partition of the value in the column at a position, where there is a value, and the column tells partitions apart
+abbrev pub part_at : ℕ → ℕ → Column → Option Value → List Partition
+part_at table i c None = []
+part_at table i c (Some v) = if tells_apart i c then record { table = table; column = i; value = v } ∷ [] else []
 
 -- the partitions of a row by its columns from a position on
 abbrev pub parts_from : ℕ → ℕ → List Column → List Value → List Partition

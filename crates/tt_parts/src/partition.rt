@@ -1,7 +1,7 @@
+ghost use Rattle.std.specs.Prelude.{◌≡◌, IfOk};
+
 use std::alloc::AllocError;
 use tt_values::{Items, Value};
-
-ghost use Rattle.std.specs.Prelude.{◌≡◌, IfOk};
 
 /// The rows of a table that have a value in a column. Tables and columns go by position, from 0.
 #[derive(Clone, Debug, PartialEq, Drop)]
@@ -21,8 +21,26 @@ pub enum Reads {
 }
 
 impl Partition {
+    ghost use Rattle.tt_parts.specs.Partitions.{is_same_partition};
+
+    /// Whether the two are of one table and column, and of the same value.
+    pub fn is_same(&self, other: &Partition) -> bool
+        ensures { result ≡ is_same_partition self.now other.now }
+    {
+        self.table == other.table && self.column == other.column && self.value.is_same(&other.value)
+    }
+
     /// The same partition, in memory of its own.
     pub fn copy(&self) -> Result<Partition, AllocError>
+        ensures { IfOk result (λ copy. copy ≡ self.now) }
+    {
+        self.clone()
+    }
+}
+
+impl Reads {
+    /// The same, in memory of its own.
+    pub fn copy(&self) -> Result<Reads, AllocError>
         ensures { IfOk result (λ copy. copy ≡ self.now) }
     {
         self.clone()

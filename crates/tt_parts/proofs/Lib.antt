@@ -1,0 +1,4 @@
+pub mod PartitionsLemmas
+pub mod SoundnessLemmas
+pub mod DirtyLemmas
+pub mod WorkedRows

@@ -1,0 +1,98 @@
+ghost use Rattle.std.specs.Prelude.{◌≡◌, IfOk};
+ghost use Rattle.tt_values.specs.Check.{HasKey};
+ghost use Rattle.tt_values.specs.Effect.{table_of};
+ghost use Rattle.tt_parts.specs.Partitions.{is_told_apart, equated, partitions_read, reads_told};
+ghost use Rattle.tt_parts.specs.Soundness.{IsSound};
+
+use crate::partition::{Partition, Reads};
+use crate::parts::tells_apart;
+use std::alloc::{AllocError, Global};
+use tt_values::{Column, Equal, Items, TableDef, Value, Write};
+
+/// What a write on the table reads: the partitions that it equates, an insert that of its key, or
+/// the whole table where it equates none. Each row that it matches lies in what it reads.
+#[tactic(auto, using(crate::proofs::SoundnessLemmas::is_sound))]
+pub fn reads_of(alloc: Global, def: &TableDef, write: &Write) -> Result<Reads, AllocError>
+    requires { HasKey write.now }
+    ensures told { IfOk result (λ reads. reads ≡ reads_told (table_of write.now) (partitions_read def.now.columns write.now)) }
+    ensures sound { IfOk result (λ reads. IsSound def.now.columns write.now reads) }
+{
+    let partitions = partitions_read(alloc, def, write)?;
+    Ok(reads_told(table_of(write), partitions))
+}
+
+/// The partitions that a write equates: an insert that of its key.
+fn partitions_read(
+    alloc: Global,
+    def: &TableDef,
+    write: &Write,
+) -> Result<Vec<Partition>, AllocError>
+    requires { HasKey write.now }
+    ensures { IfOk result (λ partitions. partitions.items ≡ partitions_read def.now.columns write.now) }
+{
+    match write {
+        Write::Insert { table, row } => {
+            let key = Partition {
+                table: *table,
+                column: 0,
+                value: Value::Int(row.key()),
+            };
+            Ok(vec![in alloc; key]?)
+        }
+        Write::Update { table, equals, .. } | Write::Delete { table, equals } => {
+            equated(alloc, *table, def, equals.as_slice())
+        }
+    }
+}
+
+fn table_of(write: &Write) -> u16
+    ensures { result ≡ table_of write.now }
+{
+    match write {
+        Write::Insert { table, .. } | Write::Update { table, .. } | Write::Delete { table, .. } =>
+            *table,
+    }
+}
+
+fn reads_told(table: u16, partitions: Vec<Partition>) -> Reads
+    ensures { result ≡ reads_told table partitions.items }
+{
+    if partitions.is_empty() {
+        Reads::All { table }
+    } else {
+        Reads::Equated(Items::new(partitions))
+    }
+}
+
+/// The partitions that equalities equate, in their order.
+fn equated(
+    alloc: Global,
+    table: u16,
+    def: &TableDef,
+    equals: &[Equal],
+) -> Result<Vec<Partition>, AllocError>
+    ensures { IfOk result (λ partitions. partitions.items ≡ equated table def.now.columns equals.now) }
+{
+    let columns = def.columns.as_slice();
+    let mut partitions = Vec::new(alloc);
+    for equal in equals {
+        if is_told_apart(columns, equal.column) {
+            partitions.push(Partition {
+                table,
+                column: equal.column,
+                value: equal.value.copy()?,
+            })?;
+        }
+    }
+    Ok(partitions)
+}
+
+/// Whether there is a column at the position, and it tells partitions apart.
+fn is_told_apart(columns: &[Column], position: u16) -> bool
+    ensures { result ≡ is_told_apart columns.now position }
+{
+    match columns.get(usize::from(position)) {
+        Some(column) => tells_apart(position, column),
+        None => false,
+    }
+}

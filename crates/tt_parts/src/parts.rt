@@ -1,0 +1,56 @@
+ghost use Rattle.std.specs.Prelude.{◌≡◌, ◌≤◌, ◌^◌, ◌++◌, length, IfOk, OnOk};
+ghost use Rattle.std.specs.Option.{option_copied};
+ghost use Rattle.tt_parts.specs.Partitions.{tells_apart, part_at, parts_of};
+
+use crate::partition::Partition;
+use std::alloc::{AllocError, Global};
+use tt_values::{Column, Items, Row, TableDef, Value};
+
+/// The partitions that a row of the table lies in, in the order of the columns.
+pub fn parts_of(
+    alloc: Global,
+    table: u16,
+    def: &TableDef,
+    row: &Row,
+) -> Result<Items<Partition>, AllocError>
+    requires { length def.now.columns ≤ 2 ^ 16 }
+    ensures { IfOk result (λ parts. parts ≡ parts_of table def.now.columns row.now) }
+{
+    let columns = def.columns.as_slice();
+    let mut parts = Vec::new(alloc);
+    for i in 0..columns.len() {
+        push_part(&mut parts, table, i as u16, &columns[i], row.values.get(i))?;
+    }
+    Ok(Items::new(parts))
+}
+
+/// Puts the partition of the value in a column at the end of a list, where the column tells
+/// partitions apart and there is a value.
+fn push_part(
+    parts: &mut Vec<Partition>,
+    table: u16,
+    position: u16,
+    column: &Column,
+    value: Option<&Value>,
+) -> Result<(), AllocError>
+    ensures { OnOk result (parts.new.items ≡ parts.old.items ++ part_at table position column.now (option_copied value.entry)) }
+{
+    let Some(value) = value else {
+        return Ok(());
+    };
+    if tells_apart(position, column) {
+        parts.push(Partition {
+            table,
+            column: position,
+            value: value.copy()?,
+        })?;
+    }
+    Ok(())
+}
+
+/// Whether the column at a position tells partitions apart.
+pub(crate) fn tells_apart(position: u16, column: &Column) -> bool
+    ensures { result ≡ tells_apart position column.now }
+{
+    position == 0 || column.partition
+}

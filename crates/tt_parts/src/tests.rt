@@ -1,0 +1,159 @@
+ghost use Rattle.std.specs.Prelude.{◌<◌, length, IfOk};
+ghost use Rattle.tt_values.specs.Check.{HasKey};
+
+mod calls;
+mod dirty;
+mod parts;
+mod reads;
+
+use crate::{Dirty, Partition, Reads};
+use std::alloc::{AllocError, Global};
+use std::sync::Arc;
+use std::test::Fail;
+use tt_values::{Catalog, Column, Equal, Items, Kind, Row, TableDef, Text, Value, Write};
+
+/// A value as a case writes it down.
+#[derive(Clone, Copy, Debug)]
+enum Plain {
+    Number(i64),
+    Words(&'static str),
+}
+
+/// A partition as a case writes it down: its table, its column and the value there.
+type PlainPartition = (u16, u16, Plain);
+
+/// The row (1, "ann", 10) of `acct`.
+const ANN: &[Plain] = &[Plain::Number(1), Plain::Words("ann"), Plain::Number(10)];
+
+fn text(alloc: Global, words: &str) -> Result<Text, AllocError> {
+    Ok(Text::new(String::from_str(alloc, words)?))
+}
+
+fn value(alloc: Global, plain: Plain) -> Result<Value, AllocError> {
+    match plain {
+        Plain::Number(number) => Ok(Value::Int(number)),
+        Plain::Words(words) => Ok(Value::Text(text(alloc, words)?)),
+    }
+}
+
+fn row(alloc: Global, plains: &[Plain]) -> Result<Row, AllocError> {
+    let mut values = Vec::new(alloc);
+    for plain in plains {
+        values.push(value(alloc, *plain)?)?;
+    }
+    Ok(Row {
+        values: Items::new(values),
+    })
+}
+
+fn partition(alloc: Global, plain: PlainPartition) -> Result<Partition, AllocError> {
+    let (table, column, plain) = plain;
+    Ok(Partition {
+        table,
+        column,
+        value: value(alloc, plain)?,
+    })
+}
+
+fn partitions(alloc: Global, plains: &[PlainPartition]) -> Result<Items<Partition>, AllocError> {
+    let mut partitions = Vec::new(alloc);
+    for plain in plains {
+        partitions.push(partition(alloc, *plain)?)?;
+    }
+    Ok(Items::new(partitions))
+}
+
+fn equated(alloc: Global, plains: &[PlainPartition]) -> Result<Reads, AllocError> {
+    Ok(Reads::Equated(partitions(alloc, plains)?))
+}
+
+fn equals(alloc: Global, pairs: &[(u16, Plain)]) -> Result<Items<Equal>, AllocError> {
+    let mut equals = Vec::new(alloc);
+    for (column, plain) in pairs {
+        equals.push(Equal {
+            column: *column,
+            value: value(alloc, *plain)?,
+        })?;
+    }
+    Ok(Items::new(equals))
+}
+
+fn delete(alloc: Global, table: u16, pairs: &[(u16, Plain)]) -> Result<Write, AllocError>
+    ensures { IfOk result (λ write. HasKey write) }
+{
+    Ok(Write::Delete {
+        table,
+        equals: equals(alloc, pairs)?,
+    })
+}
+
+/// The insert of Dan's account with a key.
+fn insert(alloc: Global, key: i64) -> Result<Write, AllocError>
+    ensures { IfOk result (λ write. HasKey write) }
+{
+    let owner = value(alloc, Plain::Words("dan"))?;
+    let values = vec![in alloc; Value::Int(key), owner, Value::Int(0)]?;
+    Ok(Write::Insert {
+        table: 0,
+        row: Row {
+            values: Items::new(values),
+        },
+    })
+}
+
+fn table(alloc: Global, columns: &[(&str, Kind, bool)]) -> Result<TableDef, AllocError> {
+    let mut list = Vec::new(alloc);
+    for (name, kind, partition) in columns {
+        list.push(Column {
+            name: text(alloc, name)?,
+            kind: *kind,
+            partition: *partition,
+        })?;
+    }
+    Ok(TableDef {
+        columns: Items::new(list),
+    })
+}
+
+/// Accounts: only the owner is declared a partition column.
+fn acct(alloc: Global) -> Result<TableDef, AllocError> {
+    table(
+        alloc,
+        &[
+            ("id", Kind::Int, false),
+            ("owner", Kind::Text, true),
+            ("bal", Kind::Int, false),
+        ],
+    )
+}
+
+/// Parcels: the key is declared a partition column too, and so are a text and a number.
+fn parcel(alloc: Global) -> Result<TableDef, AllocError> {
+    table(
+        alloc,
+        &[
+            ("id", Kind::Int, true),
+            ("town", Kind::Text, true),
+            ("note", Kind::Text, false),
+            ("zone", Kind::Int, true),
+        ],
+    )
+}
+
+/// A catalogue with `acct` at 0 and `parcel` at 1.
+fn bank(alloc: Global) -> Result<Catalog, Fail>
+    ensures { IfOk result (λ catalog. 1 < length catalog) }
+{
+    let mut catalog = Catalog::new(alloc);
+    catalog.add("acct", acct(alloc)?)?;
+    catalog.add("parcel", parcel(alloc)?)?;
+    Ok(catalog)
+}
+
+/// A set without members, for that catalogue.
+fn nothing_dirty(alloc: Global) -> Result<Dirty, Fail>
+    ensures { IfOk result (λ dirty. 1 < length dirty.catalog) }
+{
+    let catalog = Arc::new(alloc, bank(alloc)?)?;
+    Ok(Dirty::new(alloc, catalog))
+}
