@@ -10,8 +10,8 @@ use Rattle.tt_values.specs.Tables.{Tables}
 use Rattle.tt_values.specs.Content.{Content, row_at}
 use Rattle.tt_parts.specs.declared.partition.Partition.{Partition}
 use Rattle.tt_parts.specs.Partitions.{parts_of, is_same_partition}
-use Rattle.tt_parts.specs.Dirty.{DirtySet, has_row, has_row_of, has_partition, parts_if, with_row, is_clear}
-use Rattle.tt_db.specs.Repair.{columns_of, with_row_of}
+use Rattle.tt_parts.specs.Dirty.{columns_in, DirtySet, has_row, has_row_of, has_partition, parts_if, with_row, is_clear}
+use Rattle.tt_db.specs.Repair.{with_row_of}
 use Rattle.tt_db.proofs.RowLists.{list_all_if, list_any_if, none_fails, same_key}
 use Rattle.tt_db.proofs.Soundness.{each_is_one}
 
@@ -72,11 +72,11 @@ module _ (tables : Tables) (before after : Content) where
   pub has_partition-with_rows : (rs : List (ℕ × ℤ)) (D : DirtySet) (p : Partition) → has_partition D p ≡ true → has_partition (with_rows D rs) p ≡ true
   has_partition-with_rows [] D p h = h
   has_partition-with_rows (r ∷ rs) D p h =
-      has_partition-with_rows rs (with_row_of tables before after D r) p (kept_once D r.0 (columns_of tables r.0) r.1 (row_at (before r.0) r.1) (row_at (after r.0) r.1) p h)
+      has_partition-with_rows rs (with_row_of tables before after D r) p (kept_once D r.0 (columns_in tables r.0) r.1 (row_at (before r.0) r.1) (row_at (after r.0) r.1) p h)
 
   -- each of the rows lies in dirty partitions afterwards
   pub rows_lie_in_dirty : (rs : List (ℕ × ℤ)) (D : DirtySet) (table : ℕ) (key : ℤ) (row : Row) → list_any (is_row table key) rs ≡ true → row_at (after table) key ≡ Some row →
-      list_all (has_partition (with_rows D rs)) (parts_of table (columns_of tables table) row) ≡ true
+      list_all (has_partition (with_rows D rs)) (parts_of table (columns_in tables table) row) ≡ true
   rows_lie_in_dirty [] D table key row found there = absurd (true≢false (sym found))
   rows_lie_in_dirty (r ∷ rs) D table key row found there = by (is_row table key r) refl found (λ later. rows_lie_in_dirty rs next table key row later there)
     where
@@ -84,12 +84,12 @@ module _ (tables : Tables) (before after : Content) where
       next = with_row_of tables before after D r
 
       by : (b : Bool) → is_row table key r ≡ b → (b || list_any (is_row table key) rs) ≡ true →
-          (list_any (is_row table key) rs ≡ true → list_all (has_partition (with_rows next rs)) (parts_of table (columns_of tables table) row) ≡ true) →
-          list_all (has_partition (with_rows next rs)) (parts_of table (columns_of tables table) row) ≡ true
+          (list_any (is_row table key) rs ≡ true → list_all (has_partition (with_rows next rs)) (parts_of table (columns_in tables table) row) ≡ true) →
+          list_all (has_partition (with_rows next rs)) (parts_of table (columns_in tables table) row) ≡ true
       by true e g rest =
           let same = same_row table key r e in
-          let parts = ap (λ o. parts_if table (columns_of tables table) o) (sym there) ∙ (λ i. parts_if (same.0 i) (columns_of tables (same.0 i)) (row_at (after (same.0 i)) (same.1 i))) in
+          let parts = ap (λ o. parts_if table (columns_in tables table) o) (sym there) ∙ (λ i. parts_if (same.0 i) (columns_in tables (same.0 i)) (row_at (after (same.0 i)) (same.1 i))) in
           ap (list_all (has_partition (with_rows next rs))) parts
           ∙ list_all_if (has_partition next) (has_partition (with_rows next rs)) (λ p. has_partition-with_rows rs next p) _
-          (after_once D r.0 (columns_of tables r.0) r.1 (row_at (before r.0) r.1) (row_at (after r.0) r.1))
+          (after_once D r.0 (columns_in tables r.0) r.1 (row_at (before r.0) r.1) (row_at (after r.0) r.1))
       by false e g rest = rest g

@@ -18,8 +18,8 @@ use Rattle.tt_values.specs.Content.{Content, row_at, written}
 use Rattle.tt_values.specs.Effect.{matching_rows, table_of, effect, reply_of}
 use Rattle.tt_values.specs.RowWrites.{slot_writes, slot_reply}
 use Rattle.tt_parts.specs.Partitions.{parts_of, equated}
-use Rattle.tt_parts.specs.Dirty.{DirtySet, has_row, has_partition, is_clear}
-use Rattle.tt_db.specs.Repair.{columns_of, is_affected, is_slot_affected, slot_rows_written, slot_rows_matched, with_row_of}
+use Rattle.tt_parts.specs.Dirty.{columns_in, DirtySet, has_row, has_partition, is_clear}
+use Rattle.tt_db.specs.Repair.{is_affected, is_slot_affected, slot_rows_written, slot_rows_matched, with_row_of}
 use Rattle.tt_db.proofs.RowLists.{if_passes, is_sorted-filter, row_at-filter, fails_at, list_any-map, list_none-append, list_all_if, same_key}
 use Rattle.tt_db.proofs.Soundness.{equated_pass}
 use Rattle.tt_db.proofs.RepairMarks.{is_row, clean_rows_apart, not_clear, has_row-with_rows, clean_before, has_partition-with_rows, rows_lie_in_dirty}
@@ -28,7 +28,7 @@ use Rattle.tt_db.proofs.RepairEffects.{unwritten_stays, agreeing_stay, slot_unma
 -- clean rows agree in both contents, and the partitions in which a dirty row of the second lies are dirty
 pub record IsTracked (tables : Tables) (D : DirtySet) (X Y : Content) : Type 0 where
   pub agree : (table : ℕ) (key : ℤ) → has_row D table key ≡ false → row_at (X table) key ≡ row_at (Y table) key
-  pub parts : (table : ℕ) (key : ℤ) (row : Row) → has_row D table key ≡ true → row_at (Y table) key ≡ Some row → list_all (has_partition D) (parts_of table (columns_of tables table) row) ≡ true
+  pub parts : (table : ℕ) (key : ℤ) (row : Row) → has_row D table key ≡ true → row_at (Y table) key ≡ Some row → list_all (has_partition D) (parts_of table (columns_in tables table) row) ≡ true
 
 -- the rows of each table stand by rising key
 abbrev pub Rises : Content → Type 0
@@ -50,17 +50,17 @@ module _ (tables : Tables) (D : DirtySet) (X Y : Content) (tracked : IsTracked t
             absurd (true≢false (sym dirty ∙ fails_at (has_row D table) (matching_rows qs (X table)) key r here none))
         by false e = refl
 
-    unmatched_after : (key : ℤ) → has_row D table key ≡ true → is_clear D table (equated table (columns_of tables table) qs) ≡ true → (o : Option Row) → row_at (Y table) key ≡ o → if_passes (matches qs) o ≡ None
+    unmatched_after : (key : ℤ) → has_row D table key ≡ true → is_clear D table (equated table (columns_in tables table) qs) ≡ true → (o : Option Row) → row_at (Y table) key ≡ o → if_passes (matches qs) o ≡ None
     unmatched_after key dirty clear None is = refl
     unmatched_after key dirty clear (Some r) is = by (matches qs r) refl
       where
         by : (b : Bool) → matches qs r ≡ b → cond b (Some r) None ≡ None
         by true e =
-            let all = equated_pass (has_partition D) table (columns_of tables table) r qs e (tracked.parts table key r dirty is) in
-            absurd (true≢false (sym clear ∙ not_clear D table key (equated table (columns_of tables table) qs) dirty all))
+            let all = equated_pass (has_partition D) table (columns_in tables table) r qs e (tracked.parts table key r dirty is) in
+            absurd (true≢false (sym clear ∙ not_clear D table key (equated table (columns_in tables table) qs) dirty all))
         by false e = refl
 
-    same_matches : list_any (λ e. has_row D table e.0) (matching_rows qs (X table)) ≡ false → is_clear D table (equated table (columns_of tables table) qs) ≡ true → matching_rows qs (X table) ≡ matching_rows qs (Y table)
+    same_matches : list_any (λ e. has_row D table e.0) (matching_rows qs (X table)) ≡ false → is_clear D table (equated table (columns_in tables table) qs) ≡ true → matching_rows qs (X table) ≡ matching_rows qs (Y table)
     same_matches none clear =
         sorted.same_entries int_cmp int_cmp_total (λ x y e. tied x y (ap is_eq e)) _ _ (is_sorted-filter (matches qs) (X table) (rises table)) (is_sorted-filter (matches qs) (Y table) (rises2 table)) same
       where
@@ -141,8 +141,8 @@ module _ (tables : Tables) (D : DirtySet) (X Y : Content) (tracked : IsTracked t
           let unwritten = (list_none-append (is_row table key) (slot_rows_written s X) (slot_rows_matched v Y) both.0).0 in
           ap (λ Z. row_at (Z table) key) is ∙ unwritten_stays time s X table key unwritten ∙ tracked.agree table key both.1 ∙ sym (stays table key both.0)
 
-      parts2 : (table : ℕ) (key : ℤ) (row : Row) → row_at (Y2 table) key ≡ Some row → (b : Bool) → list_any (is_row table key) rows ≡ b → has_row E table key ≡ true → list_all (has_partition E) (parts_of table (columns_of tables table) row) ≡ true
+      parts2 : (table : ℕ) (key : ℤ) (row : Row) → row_at (Y2 table) key ≡ Some row → (b : Bool) → list_any (is_row table key) rows ≡ b → has_row E table key ≡ true → list_all (has_partition E) (parts_of table (columns_in tables table) row) ≡ true
       parts2 table key row there true found dirty = rows_lie_in_dirty tables Y Y2 rows D table key row found there
       parts2 table key row there false none dirty =
           let before = sym (ap (λ b. b || has_row D table key) none) ∙ sym (has_row-with_rows tables Y Y2 rows D table key) ∙ dirty in
-          list_all_if (has_partition D) (has_partition E) (λ p. has_partition-with_rows tables Y Y2 rows D p) (parts_of table (columns_of tables table) row) (tracked.parts table key row before (sym (stays table key none) ∙ there))
+          list_all_if (has_partition D) (has_partition E) (λ p. has_partition-with_rows tables Y Y2 rows D p) (parts_of table (columns_in tables table) row) (tracked.parts table key row before (sym (stays table key none) ∙ there))

@@ -1,22 +1,20 @@
 -- What a repair makes of a list of slots, which slots it has to do again, and what gets dirty by that.
 use Rattle.std.specs.Prelude.{ℕ, zero, suc, ℤ, Bool, false, not, ◌&&◌, ◌||◌, ◌==◌, List, [], ◌∷◌, ◌++◌, map, fold, Option, None, Some, is_some, if◌then◌else◌}
 use Rattle.std.specs.List.{list_any}
-use Rattle.std.specs.Option.{unwrap_or}
 use Rattle.tt_values.specs.declared.value.Value.{Value}
 use Rattle.tt_values.specs.declared.value.Value.TheVariants as values
-use Rattle.tt_values.specs.declared.table.Column.{Column}
 use Rattle.tt_values.specs.declared.statement.Equal.{Equal}
 use Rattle.tt_values.specs.declared.statement.Write.{Write}
 use Rattle.tt_values.specs.declared.statement.Write.TheVariants.{Insert, Update, Delete}
 use Rattle.tt_values.specs.Row.{key_of}
-use Rattle.tt_values.specs.Tables.{Tables, columns_at}
+use Rattle.tt_values.specs.Tables.{Tables}
 use Rattle.tt_values.specs.Content.{Content, content_at, row_at}
 use Rattle.tt_values.specs.Effect.{matching_rows, table_of, effect}
 use Rattle.tt_values.specs.RowWrites.{Slots, slot_after, row_writes}
 use Rattle.tt_db.specs.declared.edit.Edit.{Edit}
 use Rattle.tt_db.specs.declared.edit.Edit.TheVariants.{Cancel, Replace}
 use Rattle.tt_parts.specs.Partitions.{partitions_read}
-use Rattle.tt_parts.specs.Dirty.{DirtySet, clean, has_row, with_row, is_clear}
+use Rattle.tt_parts.specs.Dirty.{DirtySet, clean, columns_in, has_row, with_row, is_clear}
 
 -- the number of the slot that an edit names
 abbrev pub number_of : Edit → ℕ
@@ -46,10 +44,6 @@ edited_from t (s ∷ W) E = slot_edited (edit_of E t) s ∷ edited_from (suc t) 
 -- a list of slots with nothing at each that is cancelled, and the new write at each that is replaced
 abbrev pub edited : Slots → List Edit → Slots
 edited W E = edited_from 1 W E
-
--- the columns of a table, none where there is no such table
-abbrev pub columns_of : Tables → ℕ → List Column
-columns_of tables table = unwrap_or (columns_at tables table) []
 
 -- the content that the first n slots leave
 abbrev pub content_after : Slots → ℕ → Content
@@ -85,7 +79,7 @@ abbrev pub is_affected : Tables → DirtySet → Write → Content → Bool
 is_affected tables D w X =
     list_any (λ r. has_row D r.0 r.1) (rows_written w X)
     || names_dirty D w
-    || not (is_clear D (table_of w) (partitions_read (columns_of tables (table_of w)) w))
+    || not (is_clear D (table_of w) (partitions_read (columns_in tables (table_of w)) w))
 
 -- the same of slots, of which a cancelled one does nothing
 abbrev pub slot_rows_written : Option Write → Content → List (ℕ × ℤ)
@@ -102,7 +96,7 @@ is_slot_affected tables D (Some w) X = is_affected tables D w X
 
 -- a row gets dirty, with what two contents have of it, one before and one after
 abbrev pub with_row_of : Tables → Content → Content → DirtySet → ℕ × ℤ → DirtySet
-with_row_of tables before after D r = with_row D r.0 (columns_of tables r.0) r.1 (row_at (before r.0) r.1) (row_at (after r.0) r.1)
+with_row_of tables before after D r = with_row D r.0 (columns_in tables r.0) r.1 (row_at (before r.0) r.1) (row_at (after r.0) r.1)
 
 -- whether slot n + 1 has to be done again, by what's dirty then: it's edited, or may be affected
 abbrev pub is_due_by : Tables → Slots → List Edit → ℕ → DirtySet → Bool

@@ -6,9 +6,9 @@ use Rattle.tt_values.specs.Tables.{Tables}
 use Rattle.tt_values.specs.Content.{content_at, row_at}
 use Rattle.tt_values.specs.RowWrites.{Slots, slot_after, slot_writes, slot_reply, row_writes}
 use Rattle.tt_parts.specs.Partitions.{parts_of}
-use Rattle.tt_parts.specs.Dirty.{has_row, has_partition}
+use Rattle.tt_parts.specs.Dirty.{columns_in, has_row, has_partition}
 use Rattle.tt_db.specs.declared.edit.Edit.{Edit}
-use Rattle.tt_db.specs.Repair.{edit_of, edited, columns_of, content_after, is_due, dirty_after, rerun_count}
+use Rattle.tt_db.specs.Repair.{edit_of, edited, content_after, is_due, dirty_after, rerun_count}
 
 -- slot n + 1 is the same in two lists of slots, writes the same rows on what the slots before it leave in each, and answers the same there
 pub record IsSameSlot (W V : Slots) (n : ℕ) : Type 0 where
@@ -28,7 +28,7 @@ CleanRowsAgree = (tables : Tables) (W : Slots) (E : List Edit) (n time table : �
 -- the partitions in which a dirty row lies after the first n edited slots are dirty
 abbrev pub DirtyRowsLieInDirtyPartitions : Type 0
 DirtyRowsLieInDirtyPartitions = (tables : Tables) (W : Slots) (E : List Edit) (n table : ℕ) (key : ℤ) (row : Row) → let D = dirty_after tables W E n in
-    has_row D table key ≡ true → row_at (content_after (edited W E) n table) key ≡ Some row → IsTrue (list_all (has_partition D) (parts_of table (columns_of tables table) row))
+    has_row D table key ≡ true → row_at (content_after (edited W E) n table) key ≡ Some row → IsTrue (list_all (has_partition D) (parts_of table (columns_in tables table) row))
 
 -- what's due, what's dirty and the edited slots, up to slot n, are the same for two lists of slots
 pub record IsSameRepair (tables : Tables) (W V : Slots) (E : List Edit) (n : ℕ) : Type 0 where
