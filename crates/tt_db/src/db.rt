@@ -209,7 +209,6 @@ impl Db {
     /// and leaves the database as it was.
     pub fn apply_all(
         &mut self,
-        alloc: Global,
         entries: &[Entry],
     ) -> Result<Vec<Result<Outcome, DbError>>, AllocError>
         ensures run { IfOk result (λ answers. IsRun self.old.catalog self.old.limits self.old.history entries.now answers.items self.new.history) }
@@ -218,7 +217,7 @@ impl Db {
         ensures limits { self.new.limits ≡ self.old.limits }
         ensures err { OnErr result (self.new ≡ self.old) }
     {
-        let mut answers = Vec::with_capacity(alloc, entries.len())?;
+        let mut answers = Vec::with_capacity(*self.journal.allocator(), entries.len())?;
         for entry in entries {
             let answer = self.advance(entry);
             answers.push_reserved(answer);

@@ -8,12 +8,12 @@ ghost use Rattle.tt_values.specs.Check.{row_tests, equals_tests, update_tests, w
 mod changes;
 
 use crate::catalog::Catalog;
-use changes::{changes_key, changes_no_column, changes_twice, changes_wrong_kind, sets_long_text};
 use crate::items::item_at;
 use crate::statement::{Change, Equal, Select, Write};
 use crate::table::Column;
 use crate::value::Value;
 use crate::{MAX_EQUALS, MAX_TEXT_BYTES};
+use changes::{changes_key, changes_no_column, changes_twice, changes_wrong_kind, sets_long_text};
 use thiserror::Error;
 
 /// Why a statement can't be carried out on a catalogue. Each fault is looked for in the whole

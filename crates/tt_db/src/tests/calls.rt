@@ -47,7 +47,7 @@ fn each_call_answers(rt: HostRuntime) -> Result<(), Fail> {
     counts_answer(&rt, &db);
     copies_answer(&rt, alloc, &db)?;
     assert_eq!(rt; db.select(&select_all(alloc, ACCT))?, rows(alloc, &[ANN])?);
-    let answers = db.apply_all(alloc, &[entry(alloc, 2, BOB)?])?;
+    let answers = db.apply_all(&[entry(alloc, 2, BOB)?])?;
     let want = Outcome::Written {
         slot: 2,
         reply: Reply::Inserted,

@@ -38,7 +38,7 @@ fn mixed_answers(alloc: Global) -> Result<Vec<Result<Outcome, DbError>>, Fail> {
 fn a_run_answers_each_entry(rt: HostRuntime) -> Result<(), Fail> {
     let alloc = rt.alloc();
     let mut db = small_db(alloc, 3, MOST_EVENTS)?;
-    let answers = db.apply_all(alloc, mixed_entries(alloc)?.as_slice())?;
+    let answers = db.apply_all(mixed_entries(alloc)?.as_slice())?;
     assert_eq!(rt; answers.as_slice(), mixed_answers(alloc)?.as_slice());
     assert_eq!(rt; db.now(), 3);
     assert_eq!(rt; db.events(), 3);
@@ -53,7 +53,7 @@ fn a_run_answers_each_entry(rt: HostRuntime) -> Result<(), Fail> {
 fn a_run_leaves_the_accepted_entries(rt: HostRuntime) -> Result<(), Fail> {
     let alloc = rt.alloc();
     let mut db = small_db(alloc, 3, MOST_EVENTS)?;
-    db.apply_all(alloc, mixed_entries(alloc)?.as_slice())?;
+    db.apply_all(mixed_entries(alloc)?.as_slice())?;
     for (place, worker) in [(1, 1), (2, 3), (3, 4)] {
         let kept = db.entry(place).ok_or("an entry")?;
         assert_eq!(rt; kept.worker, worker, "at {place}");
@@ -67,13 +67,13 @@ fn a_run_goes_on_from_where_the_last_ended(rt: HostRuntime) -> Result<(), Fail> 
     let alloc = rt.alloc();
     let mut db = new_db(alloc)?;
     for (account, slot) in [(BOB, 1), (CAT, 2), (ANN, 3)] {
-        let answers = db.apply_all(alloc, &[entry(alloc, 1, account)?])?;
+        let answers = db.apply_all(&[entry(alloc, 1, account)?])?;
         assert_eq!(rt;
             answers.as_slice(),
             [written(slot, Reply::Inserted)].as_slice()
         );
     }
-    assert_eq!(rt; db.apply_all(alloc, &[])?.len(), 0);
+    assert_eq!(rt; db.apply_all(&[])?.len(), 0);
     let found = db.select(&select_all(alloc, ACCT))?;
     assert_eq!(rt; found, rows(alloc, &[ANN, BOB, CAT])?);
     Ok(())

@@ -46,6 +46,23 @@ fn a_write_that_equates_none_reads_its_table(rt: HostRuntime) -> Result<(), Fail
 }
 
 #[test]
+fn an_update_that_equates_no_partition_reads_its_table(rt: HostRuntime) -> Result<(), Fail> {
+    let alloc = rt.alloc();
+    let bal = Change::Set {
+        column: 2,
+        value: Value::Int(0),
+    };
+    let update = Write::Update {
+        table: 0,
+        changes: Items::new(vec![in alloc; bal]?),
+        equals: equals(alloc, &[(2, Number(3))])?,
+    };
+    let reads = reads_of(alloc, &acct(alloc)?, &update)?;
+    assert_eq!(rt; reads, Reads::All { table: 0 });
+    Ok(())
+}
+
+#[test]
 fn an_update_reads_by_its_equalities(rt: HostRuntime) -> Result<(), Fail> {
     let alloc = rt.alloc();
     let def = acct(alloc)?;
