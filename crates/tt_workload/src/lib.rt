@@ -4,6 +4,7 @@
 mod alone;
 mod calls;
 mod causes;
+mod changes;
 mod decoder;
 mod document;
 mod ends;

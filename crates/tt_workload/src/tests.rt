@@ -97,7 +97,7 @@ fn select_of_ann(alloc: Global) -> Result<Call, AllocError> {
     };
     Ok(Call {
         worker: 1,
-        ask: Ask::Read { select },
+        ask: Ask::Read { select, at: None },
     })
 }
 
