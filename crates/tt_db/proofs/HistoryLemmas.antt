@@ -22,7 +22,8 @@ use Rattle.tt_db.specs.State.{State, start, after, moved, refusal, first_refusal
 use Rattle.tt_db.specs.Told.{slot_told}
 use Rattle.tt_db.specs.Rows.{KeptTables, Tell, Follow, writes_of}
 use Rattle.tt_db.specs.Database.{Keeps, KeepsSlots}
-use Rattle.tt_db.proofs.RowsLemmas.{nothing_told, few_rows_at}
+use Rattle.tt_db.proofs.RowsLemmas.{nothing_told}
+use Rattle.tt_db.proofs.FewRowsLemmas.{few_rows_at}
 
 pub keeps_nothing : (tables : Tables) (limits : Limits) → Fits limits → Keeps tables limits [] [] 0 []
 unfolding row_writes

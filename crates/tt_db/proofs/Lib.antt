@@ -1,3 +1,14 @@
 pub mod RowsLemmas
+pub mod FewRowsLemmas
 pub mod HistoryLemmas
 mod WorkedRows
+pub mod RowLists
+pub mod Soundness
+pub mod RepairMarks
+pub mod RepairEffects
+pub mod RepairTracking
+pub mod RepairEdits
+pub mod RepairLemmas
+pub mod RepairSteps
+pub mod RepairLater
+pub mod RepairWorkedRows

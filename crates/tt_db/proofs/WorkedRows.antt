@@ -4,9 +4,12 @@ use Rattle.tt_values.specs.declared.value.Kind.TheVariants as kinds
 use Rattle.tt_values.specs.declared.value.Value.TheVariants as values
 use Rattle.tt_values.specs.declared.table.Column.{Column}
 use Rattle.tt_values.specs.declared.row.Row.{Row}
-use Rattle.tt_values.specs.declared.statement.Write.TheVariants.{Insert}
+use Rattle.tt_values.specs.declared.statement.Change.TheVariants.{Set, Add}
+use Rattle.tt_values.specs.declared.statement.Equal.{Equal}
+use Rattle.tt_values.specs.declared.statement.Write.{Write}
+use Rattle.tt_values.specs.declared.statement.Write.TheVariants.{Insert, Update, Delete}
 use Rattle.tt_values.specs.declared.statement.Select.{Select}
-use Rattle.tt_values.specs.declared.reply.Reply.TheVariants.{Inserted, Duplicate, Rows}
+use Rattle.tt_values.specs.declared.reply.Reply.TheVariants.{Inserted, Duplicate, Updated, Deleted, Rows}
 use Rattle.tt_values.specs.declared.checking.CheckError.TheVariants as faults
 use Rattle.tt_values.specs.Tables.{Tables}
 use Rattle.tt_values.specs.RowWrites.{row_writes}
@@ -19,7 +22,7 @@ use Rattle.tt_db.specs.declared.errors.DbError.TheVariants as errors
 use Rattle.tt_db.specs.declared.errors.ReadError.TheVariants as read_errors
 use Rattle.tt_db.specs.Limits.{largest}
 use Rattle.tt_db.specs.State.{after, now_of, current_at, refusal, told}
-use Rattle.tt_db.specs.Told.{right_select, slot_at, at_place}
+use Rattle.tt_db.specs.Told.{right_select, right_select_at, slot_at, at_place}
 use Rattle.tt_db.specs.Run.{IsRun}
 
 -- a catalogue with one table, `acct`: an id, an owner, who is told apart, and a balance
@@ -171,3 +174,59 @@ run_answers : IsRun catalog (limits_of 2 4000000) [] (entry ann ∷ entry short 
     (Ok (Written 1 Inserted) ∷ Err (errors.Statement faults.WrongWidth) ∷ Ok (Written 2 Duplicate) ∷ Err (errors.Full 2) ∷ []) twice
 unfolding row_writes
 run_answers = (refl, refl, (refl, (refl, refl, (refl, refl))))
+
+-- the first account with another owner and balance
+abbrev account : List ℕ → ℕ → Row
+account owner balance = record { values = values.Int (pos 1) ∷ values.Text owner ∷ values.Int (pos balance) ∷ [] }
+
+abbrev by_id : List Equal
+by_id = record { column = 0; value = values.Int (pos 1) } ∷ []
+
+abbrev of_write : Write → Entry
+of_write w = record { worker = 1; event = events.Write w }
+
+-- an insert and an update, read at each time up to the second slot, and later
+abbrev emptied : List Entry
+emptied = entry ann ∷ of_write (Update 0 (Set 2 (values.Int (pos 0)) ∷ []) by_id) ∷ []
+
+past_reads :
+    (right_select_at catalog (after emptied) all 0 ≡ Ok (Rows []))
+    × (right_select_at catalog (after emptied) all 1 ≡ Ok (Rows (ann ∷ [])))
+    × (right_select_at catalog (after emptied) all 2 ≡ Ok (Rows (account (codes "ann") 0 ∷ [])))
+    × (right_select_at catalog (after emptied) all 3 ≡ Err (read_errors.Later 2))
+    × (right_select_at catalog (after emptied) all 18446744073709551615 ≡ Err (read_errors.Later 2))
+unfolding row_writes
+past_reads = (refl, refl, refl, refl, refl)
+
+-- a bad select is told before a time to come
+bad_select_first : right_select_at catalog (after emptied) (record { table = 1; equals = [] }) 3 ≡ Err (read_errors.Statement faults.NoTable)
+unfolding row_writes
+bad_select_first = refl
+
+-- an update that matches nothing, one that adds, and a delete
+update_told : told (after one) (events.Write (Update 0 (Set 2 (values.Int (pos 0)) ∷ []) (record { column = 1; value = values.Text (codes "zed") } ∷ []))) ≡ Written 2 (Updated 0)
+unfolding row_writes
+update_told = refl
+
+added : right_select catalog (current_at (after (entry ann ∷ of_write (Update 0 (Add 2 (pos 5) ∷ []) []) ∷ [])) 2) all ≡ Ok (Rows (account (codes "ann") 15 ∷ []))
+unfolding row_writes
+added = refl
+
+delete_told : told (after two) (events.Write (Delete 0 [])) ≡ Written 3 (Deleted 2)
+unfolding row_writes
+delete_told = refl
+
+-- a key that was deleted is free again
+abbrev anew : List Entry
+anew = entry ann ∷ of_write (Delete 0 by_id) ∷ entry other_ann ∷ []
+
+inserted_anew :
+    (right_select_at catalog (after anew) all 1 ≡ Ok (Rows (ann ∷ [])))
+    × (right_select_at catalog (after anew) all 2 ≡ Ok (Rows []))
+    × (right_select_at catalog (after anew) all 3 ≡ Ok (Rows (other_ann ∷ [])))
+unfolding row_writes
+inserted_anew = (refl, refl, refl)
+
+-- an update of the key is refused, before a full table
+key_set : refusal catalog (limits_of 0 0) (after []) (events.Write (Update 0 (Set 0 (values.Int (pos 2)) ∷ []) [])) ≡ Some (errors.Statement faults.SetsKey)
+key_set = refl

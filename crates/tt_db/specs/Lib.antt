@@ -4,3 +4,5 @@ pub mod Told
 pub mod Rows
 pub mod Database
 pub mod Run
+pub mod Repair
+pub mod RepairLaws

@@ -341,8 +341,8 @@ fn with_entry(journal: &Vec<Entry>, entry: Entry) -> Result<Vec<Entry>, AllocErr
     ensures { IfOk result (λ with. with.items ≡ journal.now.items ++ entry ∷ []) }
 {
     let mut with = Vec::new(*journal.allocator());
-    for kept in journal {
-        with.push(kept.copy()?)?;
+    for earlier in journal {
+        with.push(earlier.copy()?)?;
     }
     with.push(entry)?;
     Ok(with)

@@ -81,9 +81,9 @@ fn updated(
     ensures { IfOk result (λ made. made.items ≡ map (λ e. (e.0, Some (changed e.1 changes.now))) (matching_rows equals.now (map (λ e. (e.0, e.1.now)) rows.now.items))) }
 {
     let mut made = Vec::new(alloc);
-    for (key, row) in rows {
-        if matches(equals, row) {
-            made.push((*key, Some(changed(alloc, row, changes)?)))?;
+    for (key, old) in rows {
+        if matches(equals, old) {
+            made.push((*key, Some(changed(alloc, old, changes)?)))?;
         }
     }
     Ok(made)
@@ -115,9 +115,9 @@ pub(crate) fn found(
     ensures { IfOk result (λ found. found.items ≡ map (λ e. e.1) (matching_rows equals.now (map (λ e. (e.0, e.1.now)) rows.now.items))) }
 {
     let mut found = Vec::new(alloc);
-    for (_, row) in rows {
-        if matches(equals, row) {
-            found.push(row.copy()?)?;
+    for (_, kept) in rows {
+        if matches(equals, kept) {
+            found.push(kept.copy()?)?;
         }
     }
     Ok(found)

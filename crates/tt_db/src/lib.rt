@@ -3,9 +3,11 @@
 #![tactic(auto)]
 
 mod db;
+mod edit;
 mod effect;
 mod errors;
 mod event;
+pub mod laws;
 mod limits;
 mod outcome;
 mod rows;
@@ -13,6 +15,7 @@ mod rows;
 mod tests;
 
 pub use db::Db;
+pub use edit::Edit;
 pub use errors::{DbError, ReadError};
 pub use event::{Entry, Event};
 pub use limits::Limits;

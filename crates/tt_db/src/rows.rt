@@ -117,7 +117,7 @@ impl Rows {
         row: Option<Row>,
         time: u64,
     ) -> Result<Rows, AllocError>
-        ensures { IfOk result (λ r. Follow self.now r (record { time = time; table = table; key = key; row = row } ∷ [])) }
+        ensures { IfOk result (λ r. Follow self.now r (writes_of time table ((key, row) ∷ []))) }
     {
         let written = self.table(table).written(key, row, time)?;
         let rows = self.with(table, written)?;

@@ -2,6 +2,8 @@ mod calls;
 mod limits;
 mod reads;
 mod runs;
+mod statements;
+mod versions;
 mod writes;
 
 use crate::{Db, Entry, Event, Limits, MOST_EDITS};
@@ -24,8 +26,12 @@ const ACCT: u16 = 0;
 
 const LOAN: u16 = 1;
 
-/// The position of the column `owner`.
+/// The positions of the columns.
+const ID: u16 = 0;
+
 const OWNER: u16 = 1;
+
+const BALANCE: u16 = 2;
 
 fn text(alloc: Global, words: &str) -> Result<Text, AllocError> {
     Ok(Text::new(String::from_str(alloc, words)?))

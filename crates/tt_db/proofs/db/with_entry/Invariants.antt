@@ -2,5 +2,5 @@
 use Rattle.std.proofs.Common.{◌≡◌, ◌++◌, drop}
 use Rattle.tt_db.proofs.db.with_entry.Given as goal
 
-abbrev pub invariant-loop-kept : goal.invariant-loop-kept
-invariant-loop-kept l = l.with.items ++ drop l.kept-index l.journal.items ≡ l.journal.items
+abbrev pub invariant-loop-earlier : goal.invariant-loop-earlier
+invariant-loop-earlier l = l.with.items ++ drop l.earlier-index l.journal.items ≡ l.journal.items

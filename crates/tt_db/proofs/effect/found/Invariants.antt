@@ -3,7 +3,7 @@ use Rattle.std.proofs.Common.{◌≡◌, ◌++◌, map, drop}
 use Rattle.tt_values.specs.Effect.{matching_rows}
 use Rattle.tt_db.proofs.effect.found.Given as goal
 
-abbrev pub invariant-loop-row : goal.invariant-loop-row
-invariant-loop-row l =
-    l.found.items ++ map (λ e. e.1) (matching_rows l.equals (map (λ e. (e.0, e.1.now)) (drop l.row-index l.rows.items)))
+abbrev pub invariant-loop-kept : goal.invariant-loop-kept
+invariant-loop-kept l =
+    l.found.items ++ map (λ e. e.1) (matching_rows l.equals (map (λ e. (e.0, e.1.now)) (drop l.kept-index l.rows.items)))
     ≡ map (λ e. e.1) (matching_rows l.equals (map (λ e. (e.0, e.1.now)) l.rows.items))
