@@ -1,5 +1,5 @@
--- The status that the program ends with after a fault.
-use Rattle.std.specs.Prelude.{ℕ}
+-- What a fault of a run leaves: the status that the program ends with, and a line on standard error.
+use Rattle.std.specs.Prelude.{ℕ, List, ◌++◌, codes}
 use Rattle.tt_workload.specs.declared.fault.DocFault.TheVariants as document_faults
 use Rattle.tt_workload.specs.declared.run_fault.RunFault.{RunFault}
 use Rattle.tt_workload.specs.declared.run_fault.RunFault.TheVariants as faults
@@ -12,3 +12,12 @@ status_of (faults.Document document_faults.Memory) = 3
 status_of (faults.Store text) = 4
 status_of faults.Write = 4
 status_of faults.Memory = 3
+
+-- where the document is faulty and why, or else what failed
+abbrev pub fault_line : RunFault → List ℕ
+fault_line faults.Read = codes "timetravel: cannot read standard input\n"
+fault_line (faults.Document (document_faults.At path cause)) = codes "timetravel: " ++ (path ++ (codes ": " ++ (cause ++ codes "\n")))
+fault_line (faults.Document document_faults.Memory) = codes "timetravel: want of memory\n"
+fault_line (faults.Store text) = codes "timetravel: store: " ++ (text ++ codes "\n")
+fault_line faults.Write = codes "timetravel: cannot write standard output\n"
+fault_line faults.Memory = codes "timetravel: want of memory\n"

@@ -20,8 +20,12 @@ calls that workers make, in order:
    "workers":1,
    "calls":[
      {"worker":1,"insert":"acct","row":[1,"ann",10]},
-     {"worker":1,"select":"acct","where":[["owner","ann"]]}]}
+     {"worker":1,"update":"acct","change":[["add","bal",5]],"where":[["id",1]]},
+     {"worker":1,"select":"acct","where":[["owner","ann"]]},
+     {"worker":1,"select":"acct","where":[["owner","ann"]],"at":1},
+     {"worker":1,"delete":"acct","where":[]}]}
 
+The second select reads the rows as they were at time 1, after the first write.
 The report goes to standard output: a line for each call, one for each table, and a last one."#;
 
 /// What the command line asks for.

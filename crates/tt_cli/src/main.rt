@@ -4,13 +4,13 @@
 ghost use Rattle.tt_workload.specs.Options.{AreWithin};
 
 use command_line::{Cli, command_of};
-use status::{print_fault, status_of};
-use std::alloc::Global;
+use status::{fault_line, status_of};
+use std::alloc::{AllocError, Global};
 use std::io::ErrorKind;
 use std::process::ExitCode;
 use std::rt::Env;
 use std::{env, io};
-use tt_workload::run_alone;
+use tt_workload::{RunFault, run_alone};
 
 mod command_line;
 mod status;
@@ -52,27 +52,45 @@ fn replay(rt: &(impl Input + Print + Eprint + AllocGlobal), cli: &Cli) -> u8
     let mut writer = io::writer(rt);
     match run_alone(rt.alloc(), &mut reader, &mut writer, &cli.options) {
         Ok(()) => 0,
-        Err(fault) => {
-            let _ = print_fault(rt, &fault);
-            status_of(&fault)
-        }
+        Err(fault) => print_fault(rt, &fault),
     }
+}
+
+/// Prints the line of a fault, and answers the status that it ends the program with.
+fn print_fault(rt: &(impl Eprint + AllocGlobal), fault: &RunFault) -> u8 {
+    match fault_line(rt.alloc(), fault) {
+        Ok(line) => {
+            let _ = eprint!(rt; "{line}");
+            status_of(fault)
+        }
+        Err(AllocError) => print_want_of_memory(rt),
+    }
+}
+
+fn print_want_of_memory(rt: &impl Eprint) -> u8 {
+    let _ = eprintln!(rt; "timetravel: want of memory");
+    NO_MEMORY
 }
 
 fn print_words_fault(rt: &impl Eprint, error: &io::Error) -> u8 {
     if error.kind() == ErrorKind::OutOfMemory {
-        let _ = eprintln!(rt; "timetravel: want of memory");
-        return NO_MEMORY;
+        return print_want_of_memory(rt);
     }
     let _ = eprintln!(rt; "error: an argument is not text in UTF-8");
     USAGE
 }
 
-fn print_usage(rt: &(impl Print + Eprint), error: &clap::Error) -> u8 {
+/// Prints a fault of usage on standard error, or the text that was asked for on standard output.
+fn print_usage(rt: &(impl Print + Eprint + AllocGlobal), error: &clap::Error) -> u8 {
     if error.kind() == clap::error::ErrorKind::OutOfMemory {
-        let _ = eprintln!(rt; "timetravel: want of memory");
-        return NO_MEMORY;
+        return print_want_of_memory(rt);
     }
-    let _ = error.print(rt);
-    if error.use_stderr() { USAGE } else { 0 }
+    let printed = error.print(rt);
+    if error.use_stderr() {
+        return USAGE;
+    }
+    match printed {
+        Ok(()) => 0,
+        Err(_) => print_fault(rt, &RunFault::Write),
+    }
 }

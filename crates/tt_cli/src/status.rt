@@ -1,8 +1,8 @@
 //! How the program ends.
-ghost use Rattle.std.specs.Prelude.{◌≡◌};
-ghost use Rattle.tt_cli.specs.Status.{status_of};
+ghost use Rattle.std.specs.Prelude.{◌≡◌, IfOk, string_bytes};
+ghost use Rattle.tt_cli.specs.Status.{status_of, fault_line};
 
-use std::io;
+use std::alloc::{AllocError, Global};
 use tt_workload::{DocFault, RunFault};
 
 /// The status that the program ends with after a fault.
@@ -17,22 +17,24 @@ pub fn status_of(fault: &RunFault) -> u8
     }
 }
 
-/// Prints the line of a fault on standard error.
-pub fn print_fault(rt: &impl Eprint, fault: &RunFault) -> io::Result<()> {
+/// The line that a fault leaves on standard error, with its line feed.
+pub fn fault_line(alloc: Global, fault: &RunFault) -> Result<String, AllocError>
+    ensures { IfOk result (λ line. string_bytes line ≡ fault_line fault.now) }
+{
     match fault {
-        RunFault::Read => eprintln!(rt; "timetravel: cannot read standard input"),
+        RunFault::Read => String::from_str(alloc, "timetravel: cannot read standard input\n"),
         RunFault::Document(DocFault::At { path, cause }) => {
             let path = path.as_str();
             let cause = cause.as_str();
-            eprintln!(rt; "timetravel: {path}: {cause}")
+            format!(in alloc; "timetravel: {path}: {cause}\n")
         }
         RunFault::Document(DocFault::Memory) | RunFault::Memory => {
-            eprintln!(rt; "timetravel: want of memory")
+            String::from_str(alloc, "timetravel: want of memory\n")
         }
         RunFault::Store(text) => {
             let text = text.as_str();
-            eprintln!(rt; "timetravel: store: {text}")
+            format!(in alloc; "timetravel: store: {text}\n")
         }
-        RunFault::Write => eprintln!(rt; "timetravel: cannot write standard output"),
+        RunFault::Write => String::from_str(alloc, "timetravel: cannot write standard output\n"),
     }
 }

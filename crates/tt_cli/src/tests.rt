@@ -1,5 +1,5 @@
 use crate::command_line::command_of;
-use crate::status::status_of;
+use crate::status::{fault_line, status_of};
 use clap::error::ErrorKind;
 use std::alloc::{AllocError, Global};
 use std::process::Abort;
@@ -62,17 +62,55 @@ fn command_lines(rt: HostRuntime) -> Result<(), Fail> {
     Ok(())
 }
 
+/// A fault ends the program with this status, and leaves this line.
+fn ends(rt: &impl Abort, alloc: Global, fault: &RunFault, status: u8, line: &str) {
+    assert_eq!(rt; status_of(fault), status);
+    let left = fault_line(alloc, fault).expect(rt, "memory");
+    assert_eq!(rt; left.as_str(), line);
+}
+
 #[test]
-fn statuses(rt: HostRuntime) -> Result<(), Fail> {
+fn statuses_and_lines(rt: HostRuntime) -> Result<(), Fail> {
+    let alloc = rt.alloc();
+    ends(
+        &rt,
+        alloc,
+        &RunFault::Read,
+        1,
+        "timetravel: cannot read standard input\n",
+    );
     let fault = DocFault::At {
-        path: Text::new(String::from_str(rt.alloc(), "$")?),
-        cause: Text::new(String::from_str(rt.alloc(), "not JSON")?),
+        path: Text::new(String::from_str(alloc, "$.calls[1].where[0][0]")?),
+        cause: Text::new(String::from_str(alloc, "no such column")?),
     };
-    assert_eq!(rt; status_of(&RunFault::Read), 1);
-    assert_eq!(rt; status_of(&RunFault::Document(fault)), 1);
-    assert_eq!(rt; status_of(&RunFault::Memory), 3);
-    let full = Text::new(String::from_str(rt.alloc(), "the history is full")?);
-    assert_eq!(rt; status_of(&RunFault::Store(full)), 4);
-    assert_eq!(rt; status_of(&RunFault::Write), 4);
+    ends(
+        &rt,
+        alloc,
+        &RunFault::Document(fault),
+        1,
+        "timetravel: $.calls[1].where[0][0]: no such column\n",
+    );
+    ends(
+        &rt,
+        alloc,
+        &RunFault::Memory,
+        3,
+        "timetravel: want of memory\n",
+    );
+    let full = Text::new(String::from_str(alloc, "full at 1000000")?);
+    ends(
+        &rt,
+        alloc,
+        &RunFault::Store(full),
+        4,
+        "timetravel: store: full at 1000000\n",
+    );
+    ends(
+        &rt,
+        alloc,
+        &RunFault::Write,
+        4,
+        "timetravel: cannot write standard output\n",
+    );
     Ok(())
 }

@@ -54,6 +54,10 @@ report-pieces document new db none calls tables all made empty moved called tabl
     ∙ ap (λ (d : Database). (lines ++ table_lines (state_of d) 0 d.catalog) ++ end_line (state_of d)) is
     ∙ append_assoc lines (table_lines last 0 document.catalog) (end_line last)
 
+-- a labelled number and an end, pushed one after another
+pub labelled-once : (old first all label number end : List ℕ) → first ≡ old ++ (label ++ number) → all ≡ first ++ end → all ≡ old ++ (label ++ (number ++ end))
+labelled-once old first all label number end p q = q ∙ ap (λ f. f ++ end) p ∙ simp append_assoc
+
 -- two labelled numbers and an end, pushed one after another
 pub labelled-twice : (old first second all label_1 number_1 label_2 number_2 end : List ℕ)
     → first ≡ old ++ (label_1 ++ number_1) → second ≡ first ++ (label_2 ++ number_2) → all ≡ second ++ end

@@ -8,7 +8,7 @@ use Rattle.serde_json.specs.Find.{get}
 use Rattle.tt_values.specs.declared.checking.CheckError.{CheckError}
 use Rattle.tt_values.specs.declared.statement.Select.{Select}
 use Rattle.tt_values.specs.declared.statement.Write.{Write}
-use Rattle.tt_values.specs.declared.statement.Write.TheVariants.{Insert}
+use Rattle.tt_values.specs.declared.statement.Write.TheVariants.{Insert, Update, Delete}
 use Rattle.tt_values.specs.Tables.{Tables}
 use Rattle.tt_values.specs.Check.{write_fault, select_fault}
 use Rattle.tt_workload.specs.declared.document.Document.{Document}
@@ -17,9 +17,9 @@ use Rattle.tt_workload.specs.declared.document.Ask.{Ask}
 use Rattle.tt_workload.specs.declared.document.Ask.TheVariants as asks
 use Rattle.tt_workload.specs.declared.fault.DocFault.{DocFault}
 use Rattle.tt_workload.specs.Reading.{◌>>=◌, refuse, with_path, item_path}
-use Rattle.tt_workload.specs.Json.{member, read_member, within, count, count_within, each, array, array_of, object}
+use Rattle.tt_workload.specs.Json.{member, optional, read_member, within, count, count_within, each, array, array_of, object}
 use Rattle.tt_workload.specs.Members.{is_one_of, no_members_but}
-use Rattle.tt_workload.specs.Grammar.{most_workers, most_calls, table_named, value, condition, catalog, checked, insert, select, has, ask, call, at_most, calls, members_of_document}
+use Rattle.tt_workload.specs.Grammar.{most_workers, most_calls, table_named, value, condition, change, catalog, checked, insert, update, delete, select, has, ask, call, at_most, calls, members_of_document}
 use Rattle.tt_workload.specs.Sound.{ask_fault, IsCall, AreTaken, IsSound}
 
 ok_same : {T : Type 0} {x y : T} → ◌≡◌ {A = Result T DocFault} (Ok x) (Ok y) → x ≡ y
@@ -104,30 +104,62 @@ insert-ok tables v write e =
     let done = checked-ok statement write (write_fault tables statement) known.rest in
     subst (λ w. write_fault tables w ≡ None) done.0 done.1
 
-select-ok : (tables : Tables) (v : Data) (s : Select) → select tables v ≡ Ok s → select_fault tables s ≡ None
-unfolding select
-select-ok tables v s e =
-    let table = step (member (codes "select") (table_named tables) v) _ s e in
-    let equals = step (member (codes "where") (array_of (condition tables table.value)) v) _ s table.rest in
-    let known = step (no_members_but (is_one_of (codes "select" ∷ codes "where" ∷ codes "worker" ∷ [])) v) _ s equals.rest in
-    let statement : Select = record { table = table.value; equals = equals.value } in
-    let done = checked-ok statement s (select_fault tables statement) known.rest in
-    subst (λ t. select_fault tables t ≡ None) done.0 done.1
+update-ok : (tables : Tables) (v : Data) (write : Write) → update tables v ≡ Ok write → write_fault tables write ≡ None
+unfolding update
+update-ok tables v write e =
+    let table = step (member (codes "update") (table_named tables) v) _ write e in
+    let changes = step (member (codes "change") (array_of (change tables table.value)) v) _ write table.rest in
+    let equals = step (member (codes "where") (array_of (condition tables table.value)) v) _ write changes.rest in
+    let known = step (no_members_but (is_one_of (codes "change" ∷ codes "update" ∷ codes "where" ∷ codes "worker" ∷ [])) v) _ write equals.rest in
+    let statement : Write = Update table.value changes.value equals.value in
+    let done = checked-ok statement write (write_fault tables statement) known.rest in
+    subst (λ w. write_fault tables w ≡ None) done.0 done.1
 
-asked : (tables : Tables) (v : Data) (first second : Bool) (a : Ask) (cause : List ℕ)
-    → cond first (insert tables v >>= λ write. Ok (asks.Write write)) (cond second (select tables v >>= λ s. Ok (asks.Read s)) (refuse cause)) ≡ Ok a
+delete-ok : (tables : Tables) (v : Data) (write : Write) → delete tables v ≡ Ok write → write_fault tables write ≡ None
+unfolding delete
+delete-ok tables v write e =
+    let table = step (member (codes "delete") (table_named tables) v) _ write e in
+    let equals = step (member (codes "where") (array_of (condition tables table.value)) v) _ write table.rest in
+    let known = step (no_members_but (is_one_of (codes "delete" ∷ codes "where" ∷ codes "worker" ∷ [])) v) _ write equals.rest in
+    let statement : Write = Delete table.value equals.value in
+    let done = checked-ok statement write (write_fault tables statement) known.rest in
+    subst (λ w. write_fault tables w ≡ None) done.0 done.1
+
+select-ok : (tables : Tables) (v : Data) (a : Ask) → select tables v ≡ Ok a → ask_fault tables a ≡ None
+unfolding select
+select-ok tables v a e =
+    let table = step (member (codes "select") (table_named tables) v) _ a e in
+    let equals = step (member (codes "where") (array_of (condition tables table.value)) v) _ a table.rest in
+    let at = step (optional (codes "at") count v) _ a equals.rest in
+    let known = step (no_members_but (is_one_of (codes "at" ∷ codes "select" ∷ codes "where" ∷ codes "worker" ∷ [])) v) _ a at.rest in
+    let statement : Select = record { table = table.value; equals = equals.value } in
+    let taken = step (checked statement (select_fault tables statement)) _ a known.rest in
+    let done = checked-ok statement taken.value (select_fault tables statement) taken.is in
+    let none : select_fault tables taken.value ≡ None = subst (λ s. select_fault tables s ≡ None) done.0 done.1 in
+    subst (λ b. ask_fault tables b ≡ None) (ok_same taken.rest) none
+
+-- a write that is asked for has no fault
+written-ok : (tables : Tables) (r : Result Write DocFault) (a : Ask) → ((w : Write) → r ≡ Ok w → write_fault tables w ≡ None)
+    → (r >>= λ write. Ok (asks.Write write)) ≡ Ok a → ask_fault tables a ≡ None
+written-ok tables r a sound e =
+    let write = step r _ a e in
+    subst (λ b. ask_fault tables b ≡ None) (ok_same write.rest) (sound write.value write.is)
+
+asked : (tables : Tables) (v : Data) (first second third fourth : Bool) (a : Ask) (cause : List ℕ)
+    → cond first (insert tables v >>= λ write. Ok (asks.Write write))
+        (cond second (update tables v >>= λ write. Ok (asks.Write write))
+        (cond third (delete tables v >>= λ write. Ok (asks.Write write))
+        (cond fourth (select tables v) (refuse cause)))) ≡ Ok a
     → ask_fault tables a ≡ None
-asked tables v true second a cause e =
-    let write = step (insert tables v) _ a e in
-    subst (λ b. ask_fault tables b ≡ None) (ok_same write.rest) (insert-ok tables v write.value write.is)
-asked tables v false true a cause e =
-    let s = step (select tables v) _ a e in
-    subst (λ b. ask_fault tables b ≡ None) (ok_same s.rest) (select-ok tables v s.value s.is)
-asked tables v false false a cause e = cc
+asked tables v true second third fourth a cause e = written-ok tables (insert tables v) a (insert-ok tables v) e
+asked tables v false true third fourth a cause e = written-ok tables (update tables v) a (update-ok tables v) e
+asked tables v false false true fourth a cause e = written-ok tables (delete tables v) a (delete-ok tables v) e
+asked tables v false false false true a cause e = select-ok tables v a e
+asked tables v false false false false a cause e = cc
 
 ask-ok : (tables : Tables) (v : Data) (a : Ask) → ask tables v ≡ Ok a → ask_fault tables a ≡ None
 unfolding ask
-ask-ok tables v a e = asked tables v (has (codes "insert") v) (has (codes "select") v) a _ e
+ask-ok tables v a e = asked tables v (has (codes "insert") v) (has (codes "update") v) (has (codes "delete") v) (has (codes "select") v) a _ e
 
 call-ok : (tables : Tables) (workers : ℕ) (v : Data) (c : Call) → call tables workers v ≡ Ok c → IsCall tables workers c
 unfolding call

@@ -11,9 +11,11 @@ use Rattle.tt_values.specs.declared.value.Value.TheVariants as values
 use Rattle.tt_values.specs.declared.table.Column.{Column}
 use Rattle.tt_values.specs.declared.table.TableDef.{TableDef}
 use Rattle.tt_values.specs.declared.statement.Equal.{Equal}
+use Rattle.tt_values.specs.declared.statement.Change.{Change}
+use Rattle.tt_values.specs.declared.statement.Change.TheVariants as changes
 use Rattle.tt_values.specs.declared.statement.Select.{Select}
 use Rattle.tt_values.specs.declared.statement.Write.{Write}
-use Rattle.tt_values.specs.declared.statement.Write.TheVariants.{Insert}
+use Rattle.tt_values.specs.declared.statement.Write.TheVariants.{Insert, Update, Delete}
 use Rattle.tt_values.specs.declared.checking.CheckError.{CheckError}
 use Rattle.tt_values.specs.Tables.{Tables, table_position, column_position, columns_at}
 use Rattle.tt_values.specs.Catalog.{table_fault}
@@ -22,9 +24,11 @@ use Rattle.tt_workload.specs.declared.document.Document.{Document}
 use Rattle.tt_workload.specs.declared.document.Call.{Call}
 use Rattle.tt_workload.specs.declared.document.Ask.{Ask}
 use Rattle.tt_workload.specs.declared.document.Ask.TheVariants as asks
+use Rattle.tt_workload.specs.declared.changes.Verb.{Verb}
+use Rattle.tt_workload.specs.declared.changes.Verb.TheVariants as verbs
 use Rattle.tt_workload.specs.declared.fault.DocFault.{DocFault}
 use Rattle.tt_workload.specs.Reading.{◌>>=◌, refuse, with_path, item_path, document_path}
-use Rattle.tt_workload.specs.Json.{found_or, typed, object, text, flag, array, count_within, member, optional, take_all, each, array_of}
+use Rattle.tt_workload.specs.Json.{found_or, typed, object, text, int, flag, array, count, count_within, member, optional, take_all, each, array_of}
 use Rattle.tt_workload.specs.Members.{is_one_of, no_members_but}
 use Rattle.tt_workload.specs.Causes.{cause_of_catalog, cause_of_check}
 
@@ -128,6 +132,47 @@ condition tables table v = do
   value ← with_path (item_path 1) (value items.1)
   Ok (record { column = column; value = value })
 
+-- the items of an array of three
+abbrev pub three : List Data → Option (Data × Data × Data)
+three [] = None
+three (d ∷ []) = None
+three (d ∷ e ∷ []) = None
+three (d ∷ e ∷ f ∷ []) = Some (d, e, f)
+three (d ∷ e ∷ f ∷ g ∷ ds) = None
+
+-- an array of three items
+abbrev pub triple : Data → Result (Data × Data × Data) DocFault
+triple v = do
+  ds ← array v
+  typed (three ds)
+
+-- what a change does, by the text that names it
+abbrev pub verb_named : List ℕ → Option Verb
+verb_named name = if bytes_eq name (codes "set") then Some verbs.Set else (if bytes_eq name (codes "add") then Some verbs.Add else None)
+
+-- what a change does
+abbrev pub verb : Data → Result Verb DocFault
+verb v = do
+  name ← text v
+  found_or (codes "out of range") (verb_named name)
+
+-- a change of a column: the value that it's set to, or the Int that's added to it
+abbrev pub change_of : Verb → ℕ → Data → Result Change DocFault
+change_of verbs.Set column v = do
+  value ← value v
+  Ok (changes.Set column value)
+change_of verbs.Add column v = do
+  by ← int v
+  Ok (changes.Add column by)
+
+-- a change of a table: what it does, its column, and what with
+unfoldable pub change : Tables → ℕ → Data → Result Change DocFault
+change tables table v = do
+  items ← triple v
+  verb ← with_path (item_path 0) (verb items.0)
+  column ← with_path (item_path 1) (column_named tables table items.1)
+  with_path (item_path 2) (change_of verb column items.2)
+
 -- a statement that can be carried out, or why it can't
 abbrev pub checked : {S : Type 0} → S → Option CheckError → Result S DocFault
 checked statement fault = do
@@ -143,14 +188,35 @@ insert tables v = do
   let statement : Write = Insert table (record { values = values })
   checked statement (write_fault tables statement)
 
--- a select: the table, and the conditions
-unfoldable pub select : Tables → Data → Result Select DocFault
+-- an update: the table, the changes, and the conditions
+unfoldable pub update : Tables → Data → Result Write DocFault
+update tables v = do
+  table ← member (codes "update") (table_named tables) v
+  changes ← member (codes "change") (array_of (change tables table)) v
+  equals ← member (codes "where") (array_of (condition tables table)) v
+  _ ← no_members_but (is_one_of (codes "change" ∷ codes "update" ∷ codes "where" ∷ codes "worker" ∷ [])) v
+  let statement : Write = Update table changes equals
+  checked statement (write_fault tables statement)
+
+-- a delete: the table, and the conditions
+unfoldable pub delete : Tables → Data → Result Write DocFault
+delete tables v = do
+  table ← member (codes "delete") (table_named tables) v
+  equals ← member (codes "where") (array_of (condition tables table)) v
+  _ ← no_members_but (is_one_of (codes "delete" ∷ codes "where" ∷ codes "worker" ∷ [])) v
+  let statement : Write = Delete table equals
+  checked statement (write_fault tables statement)
+
+-- a select: the table, the conditions, and the time, which is left out where the rows are wanted as they are now
+unfoldable pub select : Tables → Data → Result Ask DocFault
 select tables v = do
   table ← member (codes "select") (table_named tables) v
   equals ← member (codes "where") (array_of (condition tables table)) v
-  _ ← no_members_but (is_one_of (codes "select" ∷ codes "where" ∷ codes "worker" ∷ [])) v
+  at ← optional (codes "at") count v
+  _ ← no_members_but (is_one_of (codes "at" ∷ codes "select" ∷ codes "where" ∷ codes "worker" ∷ [])) v
   let statement : Select = record { table = table; equals = equals }
-  checked statement (select_fault tables statement)
+  select ← checked statement (select_fault tables statement)
+  Ok (asks.Read select at)
 
 -- whether an object has a member
 abbrev pub has : List ℕ → Data → Bool
@@ -160,8 +226,10 @@ has name v = is_some (get name v)
 unfoldable pub ask : Tables → Data → Result Ask DocFault
 ask tables v =
     if has (codes "insert") v then (insert tables v >>= λ write. Ok (asks.Write write)) else (
-    if has (codes "select") v then (select tables v >>= λ select. Ok (asks.Read select)) else
-    refuse (codes "missing one of insert, update, delete, select, preview"))
+    if has (codes "update") v then (update tables v >>= λ write. Ok (asks.Write write)) else (
+    if has (codes "delete") v then (delete tables v >>= λ write. Ok (asks.Write write)) else (
+    if has (codes "select") v then select tables v else
+    refuse (codes "missing one of insert, update, delete, select, preview"))))
 
 -- a call: its worker, and what it asks for
 unfoldable pub call : Tables → ℕ → Data → Result Call DocFault

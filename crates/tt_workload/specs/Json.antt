@@ -1,7 +1,7 @@
 -- JSON values of the types that a document wants.
-use Rattle.std.specs.Prelude.{ℕ, suc, Bool, List, [], ◌∷◌, ◌++◌, Option, Some, None, option_map, option_and_then, Result, Ok, codes, ⊤, nat_lt, ◌||◌, if◌then◌else◌}
+use Rattle.std.specs.Prelude.{ℕ, ℤ, suc, Bool, List, [], ◌∷◌, ◌++◌, Option, Some, None, option_map, option_and_then, Result, Ok, codes, ⊤, nat_lt, ◌||◌, if◌then◌else◌}
 use Rattle.serde_json.specs.Data.{Data, Items, no_items, item}
-use Rattle.serde_json.specs.Find.{get, as_bool, as_number, as_str, as_array, as_object, as_u64}
+use Rattle.serde_json.specs.Find.{get, as_bool, as_number, as_str, as_array, as_object, as_i64, as_u64}
 use Rattle.tt_workload.specs.declared.fault.DocFault.{DocFault}
 use Rattle.tt_workload.specs.Reading.{◌>>=◌, refuse, with_path, member_path, item_path}
 
@@ -25,6 +25,10 @@ text v = typed (as_str v)
 -- true or false
 abbrev pub flag : Data → Result Bool DocFault
 flag v = typed (as_bool v)
+
+-- the Int that a value is: a number without a fraction that fits 64 bits with a sign
+abbrev pub int : Data → Result ℤ DocFault
+int v = typed (option_and_then as_i64 (as_number v))
 
 -- the count that a value is: a number that isn't below zero and fits 64 bits
 abbrev pub count : Data → Result ℕ DocFault

@@ -34,4 +34,6 @@ spaced_row row = codes " " ++ row_text row
 abbrev pub reply_text : Reply → List ℕ
 reply_text replies.Inserted = codes "inserted"
 reply_text replies.Duplicate = codes "duplicate"
+reply_text (replies.Updated count) = codes "updated " ++ decimal count
+reply_text (replies.Deleted count) = codes "deleted " ++ decimal count
 reply_text (replies.Rows rows) = codes "rows " ++ (decimal (length rows) ++ flat_map spaced_row rows)

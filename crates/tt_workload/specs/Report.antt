@@ -1,7 +1,9 @@
 -- The history of a document that runs alone, and its report in bytes.
-use Rattle.std.specs.Prelude.{ℕ, ◌+◌, ◌<◌, List, [], ◌∷◌, ◌++◌, codes}
+use Rattle.std.specs.Prelude.{ℕ, ◌+◌, ◌<◌, nat_lt, if◌then◌else◌, List, [], ◌∷◌, ◌++◌, Option, Some, None, codes}
 use Rattle.std.specs.List.{flat_map}
 use Rattle.std.specs.Fmt.{decimal}
+use Rattle.tt_values.specs.declared.statement.Select.{Select}
+use Rattle.tt_values.specs.declared.reply.Reply.{Reply}
 use Rattle.tt_values.specs.Tables.{Tables}
 use Rattle.tt_values.specs.Effect.{answer_of}
 use Rattle.tt_db.specs.declared.event.Event.TheVariants as events
@@ -20,10 +22,23 @@ use Rattle.tt_workload.specs.Printing.{reply_text}
 abbrev pub outcome_text : Outcome → List ℕ
 outcome_text (Written slot reply) = codes " slot " ++ (decimal slot ++ (codes " " ++ (reply_text reply ++ codes "\n")))
 
--- the end of a call's line, in a state: what a write is told, and the right answer to a select, at the current time
+-- the end of a select's line: the time that it's right at, and its reply
+abbrev pub answer_text : ℕ → Reply → List ℕ
+answer_text time reply = codes " time " ++ (decimal time ++ (codes " " ++ (reply_text reply ++ codes "\n")))
+
+-- the end of the line of a select that asks for a time still to come: the current time
+abbrev pub later_text : ℕ → List ℕ
+later_text now = codes " refused later than " ++ (decimal now ++ codes "\n")
+
+-- the end of a select's line, in a state: the right answer, at the time asked for, or else at the current one
+abbrev pub read_text : State → Select → Option ℕ → List ℕ
+read_text S q None = answer_text (now_of S) (answer_of q (current_at S (now_of S)))
+read_text S q (Some time) = if nat_lt (now_of S) time then later_text (now_of S) else answer_text time (answer_of q (current_at S time))
+
+-- the end of a call's line, in a state: what a write is told, or what a select is answered
 abbrev pub ask_text : State → Ask → List ℕ
 ask_text S (asks.Write w) = outcome_text (told S (events.Write w))
-ask_text S (asks.Read q) = codes " time " ++ (decimal (now_of S) ++ (codes " " ++ (reply_text (answer_of q (current_at S (now_of S))) ++ codes "\n")))
+ask_text S (asks.Read q at) = read_text S q at
 
 -- the line of a call, in the state that stands when its turn comes
 abbrev pub call_line : ℕ → State → Call → List ℕ
@@ -32,7 +47,7 @@ call_line number S call = codes "call " ++ (decimal number ++ (codes " worker " 
 -- what an ask adds to the history: a write its entry, under its worker's number
 abbrev pub entries_of_ask : ℕ → Ask → List Entry
 entries_of_ask worker (asks.Write w) = record { worker = worker; event = events.Write w } ∷ []
-entries_of_ask worker (asks.Read q) = []
+entries_of_ask worker (asks.Read q at) = []
 
 abbrev pub entries_of : Call → List Entry
 entries_of call = entries_of_ask call.worker call.ask

@@ -12,7 +12,7 @@ use Rattle.tt_workload.specs.Grammar.{most_workers, most_calls}
 -- why what's asked for can't be carried out, if it can't
 abbrev pub ask_fault : Tables → Ask → Option CheckError
 ask_fault tables (asks.Write write) = write_fault tables write
-ask_fault tables (asks.Read select) = select_fault tables select
+ask_fault tables (asks.Read select at) = select_fault tables select
 
 -- a call of one of the workers, whose statement the tables take
 pub record IsCall (tables : Tables) (workers : ℕ) (call : Call) : Type 0 where

@@ -1,18 +1,18 @@
 //! The report of a document that runs alone.
-ghost use Rattle.std.specs.Prelude.{◌≡◌, ◌+◌, ◌<◌, ◌≤◌, ◌++◌, [], length, OnOk, IfOk, IfErr, None, codes};
+ghost use Rattle.std.specs.Prelude.{◌≡◌, ◌+◌, ◌<◌, ◌≤◌, ◌++◌, [], length, OnOk, IfOk, IfErr, None, Some, codes};
 ghost use Rattle.std.specs.Fmt.{decimal};
 ghost use Rattle.tt_values.specs.Check.{write_fault, select_fault};
 ghost use Rattle.tt_db.specs.Limits.{largest};
 ghost use Rattle.tt_db.specs.Database.{Database, state_of};
 ghost use Rattle.tt_workload.specs.Printing.{reply_text};
-ghost use Rattle.tt_workload.specs.Report.{outcome_text, ask_text, call_line, entries_of_ask, entries_of, call_lines, table_line, table_lines, end_line, history_of, alone, HasRoom};
+ghost use Rattle.tt_workload.specs.Report.{outcome_text, answer_text, later_text, read_text, ask_text, call_line, entries_of_ask, entries_of, call_lines, table_line, table_lines, end_line, history_of, alone, HasRoom};
 ghost use Rattle.tt_workload.specs.Sound.{ask_fault, AreTaken, IsSound};
 
 use crate::document::{Ask, Call, Document};
-use crate::printing::{push_decimal, push_reply};
+use crate::printing::{push_decimal, push_labelled, push_reply};
 use crate::run_fault::RunFault;
 use std::alloc::{AllocError, Global};
-use tt_db::{Db, Entry, Event, Limits, Outcome};
+use tt_db::{Db, Entry, Event, Limits, Outcome, ReadError};
 use tt_values::{Items, Reply, Select, Write};
 
 /// Pushes the end of a write's line.
@@ -69,9 +69,27 @@ fn push_write(
 }
 
 /// Asks the database, and pushes the end of a select's line.
-fn push_read(alloc: Global, out: &mut Vec<u8>, db: &Db, select: &Select) -> Result<(), RunFault>
+fn push_read(
+    alloc: Global,
+    out: &mut Vec<u8>,
+    db: &Db,
+    select: &Select,
+    at: Option<u64>,
+) -> Result<(), RunFault>
     requires sound { select_fault db.now.catalog select.now ≡ None }
-    ensures text { OnOk result (out.new.items ≡ out.old.items ++ ask_text (state_of db.now) (Ask.Read select.now)) }
+    ensures text { OnOk result (out.new.items ≡ out.old.items ++ read_text (state_of db.now) select.now at) }
+    ensures err { IfErr result (λ e. e ≡ RunFault.Memory) }
+{
+    match at {
+        None => push_current(alloc, out, db, select),
+        Some(time) => push_past(alloc, out, db, select, time),
+    }
+}
+
+/// Asks for rows as they are now.
+fn push_current(alloc: Global, out: &mut Vec<u8>, db: &Db, select: &Select) -> Result<(), RunFault>
+    requires sound { select_fault db.now.catalog select.now ≡ None }
+    ensures text { OnOk result (out.new.items ≡ out.old.items ++ read_text (state_of db.now) select.now None) }
     ensures err { IfErr result (λ e. e ≡ RunFault.Memory) }
 {
     let reply = match db.select(select) {
@@ -82,8 +100,38 @@ fn push_read(alloc: Global, out: &mut Vec<u8>, db: &Db, select: &Select) -> Resu
     Ok(())
 }
 
+/// Asks for rows as they were at a time, which may still be to come.
+fn push_past(
+    alloc: Global,
+    out: &mut Vec<u8>,
+    db: &Db,
+    select: &Select,
+    time: u64,
+) -> Result<(), RunFault>
+    requires sound { select_fault db.now.catalog select.now ≡ None }
+    ensures text { OnOk result (out.new.items ≡ out.old.items ++ read_text (state_of db.now) select.now (Some time)) }
+    ensures err { IfErr result (λ e. e ≡ RunFault.Memory) }
+{
+    match db.select_at(select, time) {
+        Ok(reply) => push_answer(out, time, &reply)?,
+        Err(error) => match error {
+            ReadError::Later { now } => push_later(out, now)?,
+            error => return Err(RunFault::of_read(alloc, error)),
+        },
+    }
+    Ok(())
+}
+
+fn push_later(out: &mut Vec<u8>, now: u64) -> Result<(), AllocError>
+    ensures { OnOk result (out.new.items ≡ out.old.items ++ later_text now) }
+{
+    push_labelled(out, b" refused later than ", now)?;
+    out.push(b'\n')?;
+    Ok(())
+}
+
 fn push_answer(out: &mut Vec<u8>, time: u64, reply: &Reply) -> Result<(), AllocError>
-    ensures { OnOk result (out.new.items ≡ out.old.items ++ (codes " time " ++ (decimal time ++ (codes " " ++ (reply_text reply.now ++ codes "\n"))))) }
+    ensures { OnOk result (out.new.items ≡ out.old.items ++ answer_text time reply.now) }
 {
     out.extend_from_slice(b" time ")?;
     push_decimal(out, time)?;
@@ -110,7 +158,7 @@ fn push_call(
     push_caller(out, number, call.worker)?;
     match &call.ask {
         Ask::Write(write) => push_write(alloc, out, db, call.worker, write),
-        Ask::Read { select } => push_read(alloc, out, db, select),
+        Ask::Read { select, at } => push_read(alloc, out, db, select, *at),
     }
 }
 
@@ -196,15 +244,6 @@ fn push_last(out: &mut Vec<u8>, generation: u64, time: u64) -> Result<(), AllocE
     push_labelled(out, b"end generation ", generation)?;
     push_labelled(out, b" time ", time)?;
     out.push(b'\n')?;
-    Ok(())
-}
-
-/// Pushes a number behind its label.
-fn push_labelled(out: &mut Vec<u8>, label: &[u8], number: u64) -> Result<(), AllocError>
-    ensures { OnOk result (out.new.items ≡ out.old.items ++ (label.now ++ decimal number)) }
-{
-    out.extend_from_slice(label)?;
-    push_decimal(out, number)?;
     Ok(())
 }
 

@@ -8,7 +8,7 @@ use crate::MAX_CALLS;
 use crate::decoder::{CountDecoder, Decoder, OUT_OF_RANGE, array, member, object};
 use crate::document::{Ask, Call};
 use crate::fault::DocFault;
-use crate::statements::{insert, select};
+use crate::statements::{delete, insert, select, update};
 use crate::taker::decode_items;
 use serde_json::Value;
 use std::alloc::Global;
@@ -74,9 +74,17 @@ fn ask(alloc: Global, catalog: &Catalog, value: &Value) -> Result<Ask, DocFault>
         let write = insert(alloc, catalog, value)?;
         return Ok(Ask::Write(write));
     }
+    if has(value, "update") {
+        let write = update(alloc, catalog, value)?;
+        return Ok(Ask::Write(write));
+    }
+    if has(value, "delete") {
+        let write = delete(alloc, catalog, value)?;
+        return Ok(Ask::Write(write));
+    }
     if has(value, "select") {
-        let select = select(alloc, catalog, value)?;
-        return Ok(Ask::Read { select });
+        let read = select(alloc, catalog, value)?;
+        return Ok(read);
     }
     Err(DocFault::here(alloc, NO_KIND))
 }

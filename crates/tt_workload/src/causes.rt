@@ -29,6 +29,8 @@ pub(crate) fn cause_of_check(error: CheckError) -> &'static str
         CheckError::WrongKind => "value of the wrong kind",
         CheckError::WrongWidth => "row of the wrong width",
         CheckError::TextTooLong => "text too long",
+        CheckError::SetsKey => "key set by an update",
+        CheckError::SameColumnTwice => "column changed twice",
         CheckError::TooManyEquals => "too many equalities",
     }
 }

@@ -4,7 +4,7 @@ ghost use Rattle.serde_json.specs.Data.{Data};
 ghost use Rattle.serde_json.specs.View.{view};
 ghost use Rattle.tt_workload.specs.declared.fault.DocFault.{DocFault};
 ghost use Rattle.tt_workload.specs.Reading.{Gives, GivesSeen, IsFault, fault_here, with_path, member_path, item_path};
-ghost use Rattle.tt_workload.specs.Json.{object, text, flag, count, count_within, array, member, optional};
+ghost use Rattle.tt_workload.specs.Json.{object, text, int, flag, count, count_within, array, member, optional};
 
 use crate::fault::DocFault;
 use serde_json::Value;
@@ -164,6 +164,38 @@ impl Decoder for FlagDecoder {
             Some(flag) => Ok(flag),
             None => Err(DocFault::here(alloc, WRONG_TYPE)),
         }
+    }
+}
+
+/// An Int.
+#[derive(Drop)]
+pub(crate) struct IntDecoder;
+
+impl Decoder for IntDecoder {
+    type Output = i64;
+
+    ghost spelled = { λ _. int };
+
+    fn decode(&self, alloc: Global, value: &Value) -> Result<i64, DocFault> {
+        match value.as_i64() {
+            Some(number) => Ok(number),
+            None => Err(DocFault::here(alloc, WRONG_TYPE)),
+        }
+    }
+}
+
+/// Any count.
+#[derive(Drop)]
+pub(crate) struct AnyCountDecoder;
+
+impl Decoder for AnyCountDecoder {
+    type Output = u64;
+
+    ghost spelled = { λ _. count };
+
+    fn decode(&self, alloc: Global, value: &Value) -> Result<u64, DocFault> {
+        let count = count(alloc, value)?;
+        Ok(count)
     }
 }
 

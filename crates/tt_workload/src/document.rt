@@ -50,8 +50,8 @@ pub struct Call {
 #[derive(Debug, PartialEq, Drop)]
 pub enum Ask {
     Write(Write),
-    /// The rows of a table as they are now.
-    Read { select: Select },
+    /// Rows of a table: as they were at a time, or as they are now where none is asked for.
+    Read { select: Select, at: Option<u64> },
 }
 
 /// A catalogue with several owners. Contracts see the catalogue.

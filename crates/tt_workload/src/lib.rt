@@ -4,6 +4,7 @@
 mod alone;
 mod calls;
 mod causes;
+mod changes;
 mod decoder;
 mod document;
 mod ends;
@@ -35,6 +36,10 @@ pub const MAX_CALLS: usize = 100_000;
 #[cfg(test)]
 mod tests;
 #[cfg(test)]
+mod tests_changes;
+#[cfg(test)]
 mod tests_ends;
+#[cfg(test)]
+mod tests_report;
 #[cfg(test)]
 mod tests_run;

@@ -19,6 +19,15 @@ pub(crate) fn push_decimal(out: &mut Vec<u8>, number: u64) -> Result<(), AllocEr
     }
 }
 
+/// Pushes a number behind its label.
+pub(crate) fn push_labelled(out: &mut Vec<u8>, label: &[u8], number: u64) -> Result<(), AllocError>
+    ensures { OnOk result (out.new.items ≡ out.old.items ++ (label.now ++ decimal number)) }
+{
+    out.extend_from_slice(label)?;
+    push_decimal(out, number)?;
+    Ok(())
+}
+
 fn push_int(out: &mut Vec<u8>, number: i64) -> Result<(), AllocError>
     ensures { OnOk result (out.new.items ≡ out.old.items ++ signed_decimal number) }
 {
@@ -84,6 +93,8 @@ pub(crate) fn push_reply(out: &mut Vec<u8>, reply: &Reply) -> Result<(), AllocEr
     match reply {
         Reply::Inserted => out.extend_from_slice(b"inserted")?,
         Reply::Duplicate => out.extend_from_slice(b"duplicate")?,
+        Reply::Updated(count) => push_labelled(out, b"updated ", u64::from(*count))?,
+        Reply::Deleted(count) => push_labelled(out, b"deleted ", u64::from(*count))?,
         Reply::Rows(rows) => {
             out.extend_from_slice(b"rows ")?;
             push_decimal(out, rows.len() as u64)?;

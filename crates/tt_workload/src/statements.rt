@@ -1,19 +1,22 @@
 //! Reading of statements.
-ghost use Rattle.std.specs.Prelude.{◌≡◌};
+ghost use Rattle.std.specs.Prelude.{◌≡◌, codes};
 ghost use Rattle.std.specs.Option.{option_copied, option_map};
 ghost use Rattle.serde_json.specs.View.{view};
 ghost use Rattle.tt_values.specs.Check.{write_fault, select_fault};
 ghost use Rattle.tt_workload.specs.Reading.{Gives, GivesSeen};
-ghost use Rattle.tt_workload.specs.Grammar.{value, table_named, column_with, column_named, pair, condition, checked, insert, select};
+ghost use Rattle.tt_workload.specs.Json.{member, array_of};
+ghost use Rattle.tt_workload.specs.Grammar.{value, table_named, column_with, column_named, pair, condition, checked, insert, update, delete, select};
 
 use crate::causes::cause_of_check;
-use crate::decoder::{Decoder, WRONG_TYPE, array, item, member, text};
+use crate::changes::ChangeDecoder;
+use crate::decoder::{AnyCountDecoder, Decoder, WRONG_TYPE, array, item, member, optional, text};
+use crate::document::Ask;
 use crate::fault::DocFault;
 use crate::members::no_members_but;
 use crate::taker::ArrayDecoder;
 use serde_json::Value;
 use std::alloc::Global;
-use tt_values::{Catalog, Equal, Row, Select, Text, Write, check, check_select};
+use tt_values::{Catalog, Equal, Items, Row, Select, Text, Write, check, check_select};
 
 const NO_TABLE: &str = "no such table";
 
@@ -34,18 +37,64 @@ pub(crate) fn insert(alloc: Global, catalog: &Catalog, value: &Value) -> Result<
     checked_write(alloc, catalog, Write::Insert { table, row })
 }
 
+/// The update that the members of an object spell.
+#[tactic(auto, unfolding(crate::specs::Grammar::update))]
+pub(crate) fn update(alloc: Global, catalog: &Catalog, value: &Value) -> Result<Write, DocFault>
+    ensures { Gives result (update catalog.now (view value.now)) }
+{
+    let table = member(alloc, value, "update", &TableNameDecoder { catalog })?;
+    let decoder = ArrayDecoder {
+        decoder: ChangeDecoder { catalog, table },
+    };
+    let changes = member(alloc, value, "change", &decoder)?;
+    let equals = conditions(alloc, catalog, table, value)?;
+    no_members_but(alloc, value, &["change", "update", "where", "worker"])?;
+    let write = Write::Update {
+        table,
+        changes,
+        equals,
+    };
+    checked_write(alloc, catalog, write)
+}
+
+/// The delete that the members of an object spell.
+#[tactic(auto, unfolding(crate::specs::Grammar::delete))]
+pub(crate) fn delete(alloc: Global, catalog: &Catalog, value: &Value) -> Result<Write, DocFault>
+    ensures { Gives result (delete catalog.now (view value.now)) }
+{
+    let table = member(alloc, value, "delete", &TableNameDecoder { catalog })?;
+    let equals = conditions(alloc, catalog, table, value)?;
+    no_members_but(alloc, value, &["delete", "where", "worker"])?;
+    checked_write(alloc, catalog, Write::Delete { table, equals })
+}
+
 /// The select that the members of an object spell.
 #[tactic(auto, unfolding(crate::specs::Grammar::select))]
-pub(crate) fn select(alloc: Global, catalog: &Catalog, value: &Value) -> Result<Select, DocFault>
+pub(crate) fn select(alloc: Global, catalog: &Catalog, value: &Value) -> Result<Ask, DocFault>
     ensures { Gives result (select catalog.now (view value.now)) }
 {
     let table = member(alloc, value, "select", &TableNameDecoder { catalog })?;
+    let equals = conditions(alloc, catalog, table, value)?;
+    let at = optional(alloc, value, "at", &AnyCountDecoder)?;
+    no_members_but(alloc, value, &["at", "select", "where", "worker"])?;
+    let select = checked_select(alloc, catalog, Select { table, equals })?;
+    Ok(Ask::Read { select, at })
+}
+
+/// The conditions of a statement on a table.
+fn conditions(
+    alloc: Global,
+    catalog: &Catalog,
+    table: u16,
+    statement: &Value,
+) -> Result<Items<Equal>, DocFault>
+    ensures { Gives result (member (codes "where") (array_of (condition catalog.now table)) (view statement.now)) }
+{
     let decoder = ArrayDecoder {
         decoder: ConditionDecoder { catalog, table },
     };
-    let equals = member(alloc, value, "where", &decoder)?;
-    no_members_but(alloc, value, &["select", "where", "worker"])?;
-    checked_select(alloc, catalog, Select { table, equals })
+    let equals = member(alloc, statement, "where", &decoder)?;
+    Ok(equals)
 }
 
 fn checked_write(alloc: Global, catalog: &Catalog, write: Write) -> Result<Write, DocFault>
@@ -88,9 +137,9 @@ impl Decoder for TableNameDecoder<'_> {
 
 /// A column of a table, by its name.
 #[derive(Drop)]
-struct ColumnNameDecoder<'a> {
-    catalog: &'a Catalog,
-    table: u16,
+pub(crate) struct ColumnNameDecoder<'a> {
+    pub(crate) catalog: &'a Catalog,
+    pub(crate) table: u16,
 }
 
 impl Decoder for ColumnNameDecoder<'_> {
@@ -152,7 +201,7 @@ fn pair(alloc: Global, value: &Value) -> Result<(&Value, &Value), DocFault>
 
 /// A text or an Int.
 #[derive(Drop)]
-struct ValueDecoder;
+pub(crate) struct ValueDecoder;
 
 impl Decoder for ValueDecoder {
     type Output = tt_values::Value;

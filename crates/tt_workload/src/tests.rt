@@ -8,12 +8,12 @@ use tt_values::{Catalog, Column, Equal, Items, Kind, Row, Select, Text, Value, W
 const TABLE: &str =
     r#"{"name":"acct","columns":[{"name":"id","kind":"int"},{"name":"owner","kind":"text","partition":true},{"name":"bal","kind":"int"}]}"#;
 
-const INSERT: &str = r#"{"worker":1,"insert":"acct","row":[1,"ann",10]}"#;
+pub(crate) const INSERT: &str = r#"{"worker":1,"insert":"acct","row":[1,"ann",10]}"#;
 
 const SELECT: &str = r#"{"worker":1,"select":"acct","where":[["owner","ann"]]}"#;
 
 /// A document with that table, one worker and these calls.
-fn with_calls(alloc: Global, calls: &str) -> Result<String, AllocError> {
+pub(crate) fn with_calls(alloc: Global, calls: &str) -> Result<String, AllocError> {
     format!(in alloc; "{{\"version\":1,\"tables\":[{TABLE}],\"workers\":1,\"calls\":[{calls}]}}")
 }
 
@@ -22,12 +22,12 @@ fn with_tables(alloc: Global, tables: &str) -> Result<String, AllocError> {
     format!(in alloc; "{{\"version\":1,\"tables\":[{tables}],\"workers\":1,\"calls\":[]}}")
 }
 
-fn read(rt: &impl Abort, alloc: Global, text: &str) -> Result<Document, DocFault> {
+pub(crate) fn read(rt: &impl Abort, alloc: Global, text: &str) -> Result<Document, DocFault> {
     let value = Json::from_str(alloc, text).expect(rt, "JSON");
     Document::from_value(alloc, &value)
 }
 
-fn refuses(rt: &impl Abort, alloc: Global, text: &str, path: &str, cause: &str) {
+pub(crate) fn refuses(rt: &impl Abort, alloc: Global, text: &str, path: &str, cause: &str) {
     match read(rt, alloc, text) {
         Err(
             DocFault::At {
@@ -43,7 +43,7 @@ fn refuses(rt: &impl Abort, alloc: Global, text: &str, path: &str, cause: &str) 
     }
 }
 
-fn refuses_calls(rt: &impl Abort, alloc: Global, calls: &str, path: &str, cause: &str) {
+pub(crate) fn refuses_calls(rt: &impl Abort, alloc: Global, calls: &str, path: &str, cause: &str) {
     let text = with_calls(alloc, calls).expect(rt, "memory");
     refuses(rt, alloc, text.as_str(), path, cause);
 }
@@ -53,7 +53,7 @@ fn refuses_tables(rt: &impl Abort, alloc: Global, tables: &str, path: &str, caus
     refuses(rt, alloc, text.as_str(), path, cause);
 }
 
-fn text(alloc: Global, text: &str) -> Result<Text, AllocError> {
+pub(crate) fn text(alloc: Global, text: &str) -> Result<Text, AllocError> {
     Ok(Text::new(String::from_str(alloc, text)?))
 }
 
@@ -97,7 +97,7 @@ fn select_of_ann(alloc: Global) -> Result<Call, AllocError> {
     };
     Ok(Call {
         worker: 1,
-        ask: Ask::Read { select },
+        ask: Ask::Read { select, at: None },
     })
 }
 

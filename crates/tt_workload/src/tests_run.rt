@@ -25,7 +25,7 @@ fn document(alloc: Global, first: &str, second: &str) -> Result<String, AllocErr
     )
 }
 
-fn reports(rt: &impl Abort, alloc: Global, text: &str, report: &str) {
+pub(crate) fn reports(rt: &impl Abort, alloc: Global, text: &str, report: &str) {
     let mut reader = text.as_bytes();
     let mut writer = Vec::new(alloc);
     let outcome = run_alone(alloc, &mut reader, &mut writer, &Options::usual());
