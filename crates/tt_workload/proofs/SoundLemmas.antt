@@ -147,9 +147,9 @@ written-ok tables r a sound e =
 
 asked : (tables : Tables) (v : Data) (first second third fourth : Bool) (a : Ask) (cause : List ℕ)
     → cond first (insert tables v >>= λ write. Ok (asks.Write write))
-        (cond second (update tables v >>= λ write. Ok (asks.Write write))
-        (cond third (delete tables v >>= λ write. Ok (asks.Write write))
-        (cond fourth (select tables v) (refuse cause)))) ≡ Ok a
+    (cond second (update tables v >>= λ write. Ok (asks.Write write))
+    (cond third (delete tables v >>= λ write. Ok (asks.Write write))
+    (cond fourth (select tables v) (refuse cause)))) ≡ Ok a
     → ask_fault tables a ≡ None
 asked tables v true second third fourth a cause e = written-ok tables (insert tables v) a (insert-ok tables v) e
 asked tables v false true third fourth a cause e = written-ok tables (update tables v) a (update-ok tables v) e

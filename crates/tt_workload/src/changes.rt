@@ -1,8 +1,7 @@
 //! Reading of the changes of an update.
-ghost use Rattle.std.specs.Prelude.{◌≡◌, map};
-ghost use Rattle.std.specs.Option.{option_copied};
+ghost use Rattle.std.specs.Prelude.{◌≡◌};
 ghost use Rattle.serde_json.specs.View.{view};
-ghost use Rattle.tt_workload.specs.Reading.{Gives, GivesSeen, with_path, item_path};
+ghost use Rattle.tt_workload.specs.Reading.{GivesSeen};
 ghost use Rattle.tt_workload.specs.Grammar.{triple, verb_named, verb, change_of, change};
 
 use crate::decoder::{Decoder, IntDecoder, OUT_OF_RANGE, WRONG_TYPE, array, item, text};

@@ -22,20 +22,13 @@ fn of_key(alloc: Global) -> Result<Items<Equal>, AllocError> {
 fn update_of_ann(alloc: Global) -> Result<Call, AllocError> {
     let value = Value::Text(text(alloc, "eve")?);
     let set = Change::Set { column: 1, value };
-    let add = Change::Add {
-        column: 2,
-        by: -3,
-    };
+    let add = Change::Add { column: 2, by: -3 };
     let changes = Vec::from_array(alloc, [set, add])?;
-    Ok(call(
-        Ask::Write(
-            Write::Update {
-                table: 0,
-                changes: Items::new(changes),
-                equals: of_key(alloc)?,
-            },
-        ),
-    ))
+    Ok(call(Ask::Write(Write::Update {
+        table: 0,
+        changes: Items::new(changes),
+        equals: of_key(alloc)?,
+    })))
 }
 
 fn delete_of_ann(alloc: Global) -> Result<Call, AllocError> {
@@ -48,12 +41,10 @@ fn select_at(alloc: Global, time: u64) -> Result<Call, AllocError> {
         table: 0,
         equals: of_key(alloc)?,
     };
-    Ok(call(
-        Ask::Read {
-            select,
-            at: Some(time),
-        },
-    ))
+    Ok(call(Ask::Read {
+        select,
+        at: Some(time),
+    }))
 }
 
 /// The calls are these.
@@ -104,8 +95,7 @@ fn updates_deletes_and_times(rt: HostRuntime) -> Result<(), Fail> {
 fn refuses_changes(rt: &impl Abort, alloc: Global, changes: &str, path: &str, cause: &str) {
     let calls = format!(in alloc;
         "{INSERT},{{\"worker\":1,\"update\":\"acct\",\"change\":{changes},\"where\":[[\"id\",1]]}}"
-    )
-    .expect(rt, "memory");
+    ).expect(rt, "memory");
     refuses_calls(rt, alloc, calls.as_str(), path, cause);
 }
 
@@ -122,11 +112,7 @@ fn faults_of_changes(rt: HostRuntime) {
         ),
         // The number of items comes before the items.
         (r#"[["mul","name"]]"#, "$.calls[1].change[0]", "wrong type"),
-        (
-            r#"[[7,"bal",1]]"#,
-            "$.calls[1].change[0][0]",
-            "wrong type",
-        ),
+        (r#"[[7,"bal",1]]"#, "$.calls[1].change[0][0]", "wrong type"),
         (
             r#"[["mul","bal",1]]"#,
             "$.calls[1].change[0][0]",
@@ -137,11 +123,7 @@ fn faults_of_changes(rt: HostRuntime) {
             "$.calls[1].change[1][1]",
             "no such column",
         ),
-        (
-            r#"[["set",2,1]]"#,
-            "$.calls[1].change[0][1]",
-            "wrong type",
-        ),
+        (r#"[["set",2,1]]"#, "$.calls[1].change[0][1]", "wrong type"),
         (
             r#"[["set","bal",1.5]]"#,
             "$.calls[1].change[0][2]",
@@ -154,6 +136,11 @@ fn faults_of_changes(rt: HostRuntime) {
         ),
         (
             r#"[["add","bal",9223372036854775808]]"#,
+            "$.calls[1].change[0][2]",
+            "wrong type",
+        ),
+        (
+            r#"[["add","bal",-0]]"#,
             "$.calls[1].change[0][2]",
             "wrong type",
         ),
@@ -240,10 +227,18 @@ fn faults_of_updates_and_deletes(rt: HostRuntime) {
 
 #[test]
 fn faults_of_times(rt: HostRuntime) {
-    for time in ["null", "-1", "-0", "1.0", "1e0", r#""1""#, "18446744073709551616"] {
-        let call =
-            format!(in rt.alloc(); "{{\"worker\":1,\"select\":\"acct\",\"where\":[],\"at\":{time}}}")
-                .expect(&rt, "memory");
+    for time in [
+        "null",
+        "-1",
+        "-0",
+        "1.0",
+        "1e0",
+        r#""1""#,
+        "18446744073709551616",
+    ] {
+        let call = format!(in rt.alloc();
+            "{{\"worker\":1,\"select\":\"acct\",\"where\":[],\"at\":{time}}}"
+        ).expect(&rt, "memory");
         refuses_calls(
             &rt,
             rt.alloc(),
