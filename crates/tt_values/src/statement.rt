@@ -25,7 +25,10 @@ pub enum Change {
 #[derive(Clone, Debug, PartialEq, Drop)]
 pub enum Write {
     /// Adds a whole row, unless a row with its key is there.
-    Insert { table: u16, row: Row },
+    Insert {
+        table: u16,
+        row: Row,
+    },
     /// Changes the rows in which each equality holds. Each is written and counted, also where no
     /// value changes.
     Update {
@@ -34,7 +37,10 @@ pub enum Write {
         equals: Items<Equal>,
     },
     /// Takes away the rows in which each equality holds.
-    Delete { table: u16, equals: Items<Equal> },
+    Delete {
+        table: u16,
+        equals: Items<Equal>,
+    },
 }
 
 /// A statement that reads the rows in which each equality holds.
