@@ -1,5 +1,5 @@
 -- What the changes of an update make of a row.
-use Rattle.std.specs.Prelude.{ℕ, suc, ℤ, ◌+ℤ◌, ◌==◌, Bool, List, [], ◌∷◌, if◌then◌else◌}
+use Rattle.std.specs.Prelude.{ℕ, suc, ℤ, ◌+ℤ◌, ◌==◌, List, [], ◌∷◌, if◌then◌else◌}
 use Rattle.std.specs.Int.{saturate_signed, w64}
 use Rattle.tt_values.specs.declared.value.Value.{Value}
 use Rattle.tt_values.specs.declared.value.Value.TheVariants as values

@@ -127,7 +127,7 @@ fn equals_fault(columns: &[Column], equals: &[Equal]) -> Option<CheckError>
     if has_long_text(equals) {
         return Some(CheckError::TextTooLong);
     }
-    if equals.len() > MAX_EQUALS {
+    if has_too_many(equals) {
         return Some(CheckError::TooManyEquals);
     }
     None
@@ -151,7 +151,7 @@ fn update_fault(columns: &[Column], changes: &[Change], equals: &[Equal]) -> Opt
     if changes_twice(changes) {
         return Some(CheckError::SameColumnTwice);
     }
-    if equals.len() > MAX_EQUALS {
+    if has_too_many(equals) {
         return Some(CheckError::TooManyEquals);
     }
     None
@@ -211,4 +211,10 @@ fn has_long_text(equals: &[Equal]) -> bool
     ensures { result ≡ has_long_text equals.now }
 {
     equals.iter().any(|equal| is_long_text(&equal.value))
+}
+
+fn has_too_many(equals: &[Equal]) -> bool
+    ensures { result ≡ has_too_many equals.now }
+{
+    equals.len() > MAX_EQUALS
 }

@@ -1,5 +1,6 @@
 mod calls;
 mod catalog;
+mod changing;
 mod copies;
 mod inserts;
 mod limits;
@@ -7,8 +8,11 @@ mod lookups;
 mod matching;
 mod names;
 mod selects;
+mod statements;
+mod updates;
+mod writes;
 
-use crate::{Catalog, Column, Equal, Items, Kind, Row, Select, TableDef, Text, Value, Write};
+use crate::{Catalog, Column, Items, Kind, Row, TableDef, Text, Value};
 use std::alloc::{AllocError, Global};
 use std::test::Fail;
 
@@ -42,31 +46,6 @@ fn row(alloc: Global, plains: &[Plain]) -> Result<Row, AllocError> {
     }
     Ok(Row {
         values: Items::new(values),
-    })
-}
-
-fn insert(alloc: Global, table: u16, plains: &[Plain]) -> Result<Write, AllocError> {
-    Ok(Write::Insert {
-        table,
-        row: row(alloc, plains)?,
-    })
-}
-
-fn equals(alloc: Global, pairs: &[(u16, Plain)]) -> Result<Vec<Equal>, AllocError> {
-    let mut equals = Vec::new(alloc);
-    for (column, plain) in pairs {
-        equals.push(Equal {
-            column: *column,
-            value: value(alloc, *plain)?,
-        })?;
-    }
-    Ok(equals)
-}
-
-fn select(alloc: Global, table: u16, pairs: &[(u16, Plain)]) -> Result<Select, AllocError> {
-    Ok(Select {
-        table,
-        equals: Items::new(equals(alloc, pairs)?),
     })
 }
 

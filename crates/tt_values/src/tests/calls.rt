@@ -1,5 +1,6 @@
 use super::Plain::{Number, Words};
-use super::{ANN, acct, insert, row, select, value};
+use super::statements::{insert, select};
+use super::{ANN, acct, row, value};
 use crate::{
     Catalog, Equal, Items, Kind, Reply, Row, Text, Value, check, check_select, laws, matches,
 };
@@ -93,4 +94,6 @@ fn laws_answer() {
     laws::slots_follow_one_another();
     laws::later_slots_change_no_earlier_row_write();
     laws::later_slots_change_no_earlier_content();
+    laws::the_last_content_stays();
+    laws::the_next_content_has_the_slot();
 }

@@ -1,5 +1,6 @@
 use super::Plain::{self, Long, Number, Words};
-use super::{ANN, equals, insert, row, select, text, value};
+use super::statements::{equals, select};
+use super::{ANN, row, text, value};
 use crate::{Items, Reply};
 use std::test::Fail;
 
@@ -39,11 +40,8 @@ fn values_and_rows_are_copied(rt: HostRuntime) -> Result<(), Fail> {
 }
 
 #[test]
-fn statements_are_copied(rt: HostRuntime) -> Result<(), Fail> {
+fn selects_are_copied(rt: HostRuntime) -> Result<(), Fail> {
     let alloc = rt.alloc();
-    let largest = [Number(1), Words("ann"), Number(i64::MAX)];
-    let write = insert(alloc, u16::MAX, &largest)?;
-    assert_eq!(rt; write.copy()?, write);
     for pairs in [
         &[][..],
         &[(1, Words("ann"))],
@@ -66,6 +64,12 @@ fn replies_are_copied(rt: HostRuntime) -> Result<(), Fail> {
     for reply in [Reply::Inserted, Reply::Duplicate, none, two] {
         assert_eq!(rt; reply.copy()?, reply);
     }
+    for rows in [0, 1, u32::MAX] {
+        assert_eq!(rt; Reply::Updated(rows).copy()?, Reply::Updated(rows));
+        assert_eq!(rt; Reply::Deleted(rows).copy()?, Reply::Deleted(rows));
+        assert_ne!(rt; Reply::Updated(rows), Reply::Deleted(rows));
+    }
+    assert_ne!(rt; Reply::Updated(0), Reply::Updated(1));
     Ok(())
 }
 

@@ -1,5 +1,6 @@
 use super::Plain::{self, Long, Number, Words};
-use super::{bank, insert, wide};
+use super::statements::insert;
+use super::{bank, wide};
 use crate::CheckError::{self, NoTable, TextTooLong, WrongKind, WrongWidth};
 use crate::check;
 use std::alloc::Global;

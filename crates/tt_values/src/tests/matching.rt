@@ -1,5 +1,6 @@
 use super::Plain::{self, Long, Number, Words};
-use super::{ANN, equals, row};
+use super::statements::equals;
+use super::{ANN, row};
 use crate::matches;
 use std::alloc::Global;
 use std::process::Abort;

@@ -1,13 +1,14 @@
 use super::Plain::{self, Long, Number, Words};
-use super::{bank, equals, select};
-use crate::CheckError::{self, NoColumn, NoTable, TextTooLong, TooManyEquals, WrongKind};
-use crate::{Items, Select, check_select};
-use std::alloc::{AllocError, Global};
+use super::bank;
+use super::statements::{Answer, delete, many, select};
+use crate::CheckError::{NoColumn, NoTable, TextTooLong, TooManyEquals, WrongKind};
+use crate::{Items, Select, Write, check, check_select};
+use std::alloc::Global;
 use std::process::Abort;
 use std::test::Fail;
 
-/// A table, equalities, and what `check_select` answers.
-type Selects = &'static [(u16, &'static [(u16, Plain)], Result<(), CheckError>)];
+/// A table, equalities, and what is answered to a select and to a delete with them.
+type Selects = &'static [(u16, &'static [(u16, Plain)], Answer)];
 
 const NO_FAULT: Selects = &[
     (0, &[], Ok(())),
@@ -38,46 +39,35 @@ const TWO_FAULTS: Selects = &[
     (0, &[(0, Long(1025))], Err(WrongKind)),
 ];
 
-/// Asserts that a catalogue of `acct` alone answers so to each select.
+/// Asserts that a catalogue of `acct` alone answers so to each select and delete.
 fn answers(rt: &impl Abort, alloc: Global, cases: Selects) -> Result<(), Fail> {
     let catalog = bank(alloc)?;
     for (table, pairs, want) in cases {
         let select = select(alloc, *table, pairs)?;
+        let delete = delete(alloc, *table, pairs)?;
         assert_eq!(rt; check_select(&catalog, &select), *want, "{table} {pairs:?}");
+        assert_eq!(rt; check(&catalog, &delete), *want, "delete {table} {pairs:?}");
     }
     Ok(())
 }
 
-/// A select of the table with `count` equalities `id = 1`, and then that one.
-fn long(alloc: Global, table: u16, count: u8, last: (u16, Plain)) -> Result<Select, AllocError> {
-    let mut list = Vec::new(alloc);
-    for _ in 0..count {
-        list.append(&mut equals(alloc, &[(0, Number(1))])?)?;
-    }
-    list.append(&mut equals(alloc, &[last])?)?;
-    Ok(Select {
-        table,
-        equals: Items::new(list),
-    })
-}
-
 #[test]
-fn a_good_select_passes(rt: HostRuntime) -> Result<(), Fail> {
+fn a_good_select_or_delete_passes(rt: HostRuntime) -> Result<(), Fail> {
     answers(&rt, rt.alloc(), NO_FAULT)
 }
 
 #[test]
-fn a_bad_select_is_refused(rt: HostRuntime) -> Result<(), Fail> {
+fn a_bad_select_or_delete_is_refused(rt: HostRuntime) -> Result<(), Fail> {
     answers(&rt, rt.alloc(), ONE_FAULT)
 }
 
 #[test]
-fn the_earlier_fault_of_a_select_is_told(rt: HostRuntime) -> Result<(), Fail> {
+fn the_earlier_fault_of_a_select_or_delete_is_told(rt: HostRuntime) -> Result<(), Fail> {
     answers(&rt, rt.alloc(), TWO_FAULTS)
 }
 
 #[test]
-fn a_select_has_32_equalities_at_most(rt: HostRuntime) -> Result<(), Fail> {
+fn a_select_or_delete_has_32_equalities_at_most(rt: HostRuntime) -> Result<(), Fail> {
     let alloc = rt.alloc();
     let catalog = bank(alloc)?;
     for (table, count, last, want) in [
@@ -88,11 +78,21 @@ fn a_select_has_32_equalities_at_most(rt: HostRuntime) -> Result<(), Fail> {
         (0, 32, (3, Number(1)), Err(NoColumn)),
         (1, 32, (0, Number(1)), Err(NoTable)),
     ] {
-        let select = long(alloc, table, count, last)?;
+        let equals = Items::new(many(alloc, count, last)?);
+        let delete = Write::Delete {
+            table,
+            equals: equals.clone()?,
+        };
+        let select = Select { table, equals };
         assert_eq!(rt;
             check_select(&catalog, &select),
             want,
             "{table} {count} {last:?}"
+        );
+        assert_eq!(rt;
+            check(&catalog, &delete),
+            want,
+            "delete {table} {count} {last:?}"
         );
     }
     Ok(())
