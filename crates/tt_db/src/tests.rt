@@ -1,18 +1,16 @@
+//! What runs of the program on documents don't show: the calls of a database one by one, the
+//! databases before a call, limits and refusals.
 mod calls;
+mod history;
 mod limits;
-mod reads;
 mod runs;
-mod statements;
 mod versions;
-mod writes;
 
-use crate::{Db, Entry, Event, Limits, MOST_EDITS};
-use std::alloc::{AllocError, Global};
+use crate::{Db, Entry, Event, Limits, MOST_EDITS, Outcome};
+use std::alloc::Global;
+use std::process::Abort;
 use std::sync::Arc;
-use std::test::Fail;
-use tt_values::{
-    Catalog, Column, Equal, Items, Kind, Reply, Row, Select, TableDef, Text, Value, Write,
-};
+use tt_values::{Catalog, Column, Items, Kind, Reply, Row, Select, TableDef, Text, Value, Write};
 
 /// An account as a case writes it down: its id, its owner and its balance.
 type Account = (i64, &'static str, i64);
@@ -21,94 +19,99 @@ const ANN: Account = (1, "ann", 10);
 
 const BOB: Account = (2, "bob", 20);
 
+/// An account under the key of `ANN`.
+const SAME_KEY: Account = (1, "bob", 20);
+
 /// The positions of the tables `acct` and, where there is one, `loan`.
 const ACCT: u16 = 0;
 
 const LOAN: u16 = 1;
 
-/// The positions of the columns.
-const ID: u16 = 0;
-
-const OWNER: u16 = 1;
-
-const BALANCE: u16 = 2;
-
-fn text(alloc: Global, words: &str) -> Result<Text, AllocError> {
-    Ok(Text::new(String::from_str(alloc, words)?))
+fn text(rt: &impl Abort, alloc: Global, words: &str) -> Text {
+    Text::new(String::from_str(alloc, words).expect(rt, "memory"))
 }
 
-fn column(alloc: Global, name: &str, kind: Kind, partition: bool) -> Result<Column, AllocError> {
-    Ok(Column {
-        name: text(alloc, name)?,
+fn column(rt: &impl Abort, alloc: Global, name: &str, kind: Kind, partition: bool) -> Column {
+    Column {
+        name: text(rt, alloc, name),
         kind,
         partition,
-    })
+    }
 }
 
-fn accounts_table(alloc: Global) -> Result<TableDef, AllocError> {
-    let id = column(alloc, "id", Kind::Int, false)?;
-    let owner = column(alloc, "owner", Kind::Text, true)?;
-    let balance = column(alloc, "bal", Kind::Int, false)?;
-    Ok(TableDef {
-        columns: Items::new(vec![in alloc; id, owner, balance]?),
-    })
+fn accounts_table(rt: &impl Abort, alloc: Global) -> TableDef {
+    let id = column(rt, alloc, "id", Kind::Int, false);
+    let owner = column(rt, alloc, "owner", Kind::Text, true);
+    let balance = column(rt, alloc, "bal", Kind::Int, false);
+    let columns = Vec::from_array(alloc, [id, owner, balance]).expect(rt, "memory");
+    TableDef {
+        columns: Items::new(columns),
+    }
 }
 
 /// A catalogue with tables of these names, each with the columns of `acct`.
-fn bank(alloc: Global, names: &[&str]) -> Result<Arc<Catalog>, Fail> {
+fn bank(rt: &impl Abort, alloc: Global, names: &[&str]) -> Arc<Catalog> {
     let mut catalog = Catalog::new(alloc);
     for name in names {
-        catalog.add(name, accounts_table(alloc)?)?;
+        let added = catalog.add(name, accounts_table(rt, alloc));
+        added.expect(rt, "a table");
     }
-    Ok(Arc::new(alloc, catalog)?)
+    Arc::new(alloc, catalog).expect(rt, "memory")
 }
 
 /// A new database of `acct` alone, with the usual limits.
-fn new_db(alloc: Global) -> Result<Db, Fail> {
-    Ok(Db::new(alloc, bank(alloc, &["acct"])?, Limits::usual()))
+fn new_db(rt: &impl Abort, alloc: Global) -> Db {
+    Db::new(alloc, bank(rt, alloc, &["acct"]), Limits::usual())
 }
 
 /// A new database of `acct` alone that takes in so many slots and entries.
-fn small_db(alloc: Global, slots: u64, events: u64) -> Result<Db, Fail> {
+fn small_db(rt: &impl Abort, alloc: Global, slots: u64, events: u64) -> Db {
     let limits = Limits {
         slots,
         events,
         edits: MOST_EDITS,
     };
-    if !limits.fits() {
-        return Err(Fail::new("limits past the largest"));
-    }
-    Ok(Db::new(alloc, bank(alloc, &["acct"])?, limits))
+    assert!(rt; limits.fits());
+    Db::new(alloc, bank(rt, alloc, &["acct"]), limits)
 }
 
-fn row(alloc: Global, account: Account) -> Result<Row, AllocError> {
+fn row(rt: &impl Abort, alloc: Global, account: Account) -> Row {
     let (id, owner, balance) = account;
-    let owner = text(alloc, owner)?;
-    let values = vec![in alloc; Value::Int(id), Value::Text(owner), Value::Int(balance)]?;
-    Ok(Row {
-        values: Items::new(values),
-    })
+    let owner = text(rt, alloc, owner);
+    let values = [Value::Int(id), Value::Text(owner), Value::Int(balance)];
+    Row {
+        values: Items::new(Vec::from_array(alloc, values).expect(rt, "memory")),
+    }
 }
 
-fn insert(alloc: Global, table: u16, account: Account) -> Result<Write, AllocError> {
-    Ok(Write::Insert {
+fn insert(rt: &impl Abort, alloc: Global, table: u16, account: Account) -> Write {
+    Write::Insert {
         table,
-        row: row(alloc, account)?,
-    })
+        row: row(rt, alloc, account),
+    }
 }
 
-fn entry(alloc: Global, worker: u32, account: Account) -> Result<Entry, AllocError> {
-    Ok(Entry {
+fn entry(rt: &impl Abort, alloc: Global, worker: u32, account: Account) -> Entry {
+    Entry {
         worker,
-        event: Event::Write(insert(alloc, ACCT, account)?),
-    })
+        event: Event::Write(insert(rt, alloc, ACCT, account)),
+    }
 }
 
-/// The database after an insert into a table, which it takes in.
-fn with_account(alloc: Global, db: &Db, table: u16, account: Account) -> Result<Db, Fail> {
-    let event = Event::Write(insert(alloc, table, account)?);
-    let (next, _) = db.apply(Entry { worker: 1, event })?;
-    Ok(next)
+/// An insert into a table that isn't there.
+fn bad_entry(rt: &impl Abort, alloc: Global) -> Entry {
+    Entry {
+        worker: 1,
+        event: Event::Write(insert(rt, alloc, LOAN, ANN)),
+    }
+}
+
+/// The database after an entry that is answered so.
+fn after(rt: &impl Abort, db: &Db, entry: Entry, reply: Reply) -> Db {
+    let slot = db.now().saturating_add(1);
+    let (next, outcome) = db.apply(entry).expect(rt, "an accepted entry");
+    assert_eq!(rt; outcome, Outcome::Written { slot, reply });
+    next
 }
 
 fn select_all(alloc: Global, table: u16) -> Select {
@@ -118,22 +121,17 @@ fn select_all(alloc: Global, table: u16) -> Select {
     }
 }
 
-fn select_by_owner(alloc: Global, owner: &str) -> Result<Select, AllocError> {
-    let equal = Equal {
-        column: OWNER,
-        value: Value::Text(text(alloc, owner)?),
-    };
-    Ok(Select {
-        table: ACCT,
-        equals: Items::new(vec![in alloc; equal]?),
-    })
-}
-
 /// The reply with these rows, in this order.
-fn rows(alloc: Global, accounts: &[Account]) -> Result<Reply, AllocError> {
+fn rows(rt: &impl Abort, alloc: Global, accounts: &[Account]) -> Reply {
     let mut rows = Vec::new(alloc);
     for account in accounts {
-        rows.push(row(alloc, *account)?)?;
+        rows.push(row(rt, alloc, *account)).expect(rt, "memory");
     }
-    Ok(Reply::Rows(Items::new(rows)))
+    Reply::Rows(Items::new(rows))
+}
+
+/// These are the accounts now, in this order.
+fn has(rt: &impl Abort, alloc: Global, db: &Db, accounts: &[Account]) {
+    let found = db.select(&select_all(alloc, ACCT)).expect(rt, "a reply");
+    assert_eq!(rt; found, rows(rt, alloc, accounts));
 }

@@ -35,11 +35,3 @@ pub const MAX_CALLS: usize = 100_000;
 
 #[cfg(test)]
 mod tests;
-#[cfg(test)]
-mod tests_changes;
-#[cfg(test)]
-mod tests_ends;
-#[cfg(test)]
-mod tests_report;
-#[cfg(test)]
-mod tests_run;

@@ -1,7 +1,7 @@
-use super::{ACCT, ANN, Account, BOB, LOAN, entry, insert, rows, select_all, small_db};
-use crate::{Db, DbError, Entry, Event, Limits, MOST_EVENTS, Outcome};
+use super::{ANN, Account, BOB, after, bad_entry, entry, has, small_db};
+use crate::{Db, DbError, Entry, Limits, MOST_EVENTS};
 use std::alloc::Global;
-use std::test::Fail;
+use std::process::Abort;
 use tt_values::{CheckError, Reply};
 
 /// What a small database answers to inserts of different keys.
@@ -36,63 +36,40 @@ const FILLINGS: [Filling; 3] = [
 ];
 
 /// The database after its fillings, if each took the next slot.
-fn filled(alloc: Global, filling: &Filling) -> Result<Db, Fail> {
-    let mut db = small_db(alloc, filling.slots, filling.events)?;
-    for (slot, account) in (1..).zip(filling.taken) {
-        let (next, outcome) = db.apply(entry(alloc, 1, *account)?)?;
-        let want = Outcome::Written {
-            slot,
-            reply: Reply::Inserted,
-        };
-        if outcome != want {
-            return Err(Fail::new("another outcome"));
-        }
-        db = next;
+fn filled(rt: &impl Abort, alloc: Global, filling: &Filling) -> Db {
+    let mut db = small_db(rt, alloc, filling.slots, filling.events);
+    for account in filling.taken {
+        db = after(rt, &db, entry(rt, alloc, 1, *account), Reply::Inserted);
     }
-    Ok(db)
+    db
 }
 
-fn refusal(db: &Db, entry: Entry) -> Option<DbError> {
-    db.apply(entry).err()
-}
-
-fn bad_entry(alloc: Global) -> Result<Entry, Fail> {
-    Ok(Entry {
-        worker: 1,
-        event: Event::Write(insert(alloc, LOAN, ANN)?),
-    })
+fn refuses(rt: &impl Abort, db: &Db, entry: Entry, want: DbError) {
+    assert_eq!(rt; db.apply(entry).err(), Some(want));
 }
 
 #[test]
-fn a_full_database_refuses(rt: HostRuntime) -> Result<(), Fail> {
+fn a_full_database_refuses(rt: HostRuntime) {
     let alloc = rt.alloc();
     for filling in &FILLINGS {
         let limit = filling.limit;
-        let db = filled(alloc, filling)?;
-        let refused = refusal(&db, entry(alloc, 1, (3, "cat", 30))?);
-        assert_eq!(rt; refused, Some(DbError::Full { limit }));
-        let found = db.select(&select_all(alloc, ACCT))?;
-        assert_eq!(rt; found, rows(alloc, filling.taken)?, "full at {limit}");
+        let db = filled(&rt, alloc, filling);
+        let next = entry(&rt, alloc, 1, (3, "cat", 30));
+        refuses(&rt, &db, next, DbError::Full { limit });
+        has(&rt, alloc, &db, filling.taken);
     }
-    Ok(())
 }
 
 #[test]
-fn a_bad_statement_comes_before_a_full_database(rt: HostRuntime) -> Result<(), Fail> {
+fn a_bad_statement_comes_before_a_full_database(rt: HostRuntime) {
     let alloc = rt.alloc();
     for (slots, events) in [(0, MOST_EVENTS), (2, 0), (0, 0)] {
-        let db = small_db(alloc, slots, events)?;
-        let bad = refusal(&db, bad_entry(alloc)?);
-        let good = refusal(&db, entry(alloc, 1, ANN)?);
+        let db = small_db(&rt, alloc, slots, events);
         let no_table = DbError::Statement(CheckError::NoTable);
-        assert_eq!(rt; bad, Some(no_table), "at {slots} and {events}");
-        assert_eq!(rt;
-            good,
-            Some(DbError::Full { limit: 0 }),
-            "at {slots} and {events}"
-        );
+        refuses(&rt, &db, bad_entry(&rt, alloc), no_table);
+        let full = DbError::Full { limit: 0 };
+        refuses(&rt, &db, entry(&rt, alloc, 1, ANN), full);
     }
-    Ok(())
 }
 
 #[test]
