@@ -11,4 +11,5 @@ pub mod RepairEdits
 pub mod RepairLemmas
 pub mod RepairSteps
 pub mod RepairLater
+pub mod NextSideLemmas
 pub mod RepairWorkedRows

@@ -6,3 +6,4 @@ pub mod Database
 pub mod Run
 pub mod Repair
 pub mod RepairLaws
+pub mod NextSide

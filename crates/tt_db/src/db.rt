@@ -2,7 +2,7 @@ ghost use Rattle.std.specs.Prelude.{◌≡◌, ◌<◌, ◌↔◌, IsSome, IfSom
 ghost use Rattle.std.specs.Option.{option_copied};
 ghost use Rattle.tt_db.specs.Told.{at_place};
 
-use crate::effect::{effect_of, found, reply_to, table_of};
+use crate::effect::{effect_of, found, reply_to};
 use crate::errors::{DbError, ReadError};
 use crate::event::{Entry, Event};
 use crate::limits::Limits;
@@ -169,7 +169,7 @@ impl Db {
         ensures outcome { IfOk result (λ r. r.1 ≡ told (state_of self.now) (Event.Write write)) }
     {
         let now = self.now();
-        let table = table_of(&write);
+        let table = write.table();
         let made = effect_of(
             *self.journal.allocator(),
             self.rows.table(table),

@@ -12,17 +12,6 @@ use std::alloc::{AllocError, Global};
 use tt_values::{Change, Equal, Reply, Row, Write, changed, matches};
 use tt_versions::{Side, Table};
 
-/// The table that the write is on.
-pub(crate) fn table_of(write: &Write) -> u16
-    ensures { result ≡ table_of write.now }
-{
-    match write {
-        Write::Insert { table, .. } | Write::Update { table, .. } | Write::Delete { table, .. } => {
-            *table
-        }
-    }
-}
-
 /// What the write makes of its table's rows at the time: keys with the rows that they get, or with
 /// none, by rising key.
 pub(crate) fn effect_of(

@@ -1,6 +1,7 @@
 //! Laws of repairs, which the contracts of this crate speak by. Each is the contract of a function
 //! without a body.
 ghost use Rattle.tt_db.specs.RepairLaws.{NoneIsMissed, CleanRowsAgree, DirtyRowsLieInDirtyPartitions, LaterSlotsChangeNoRepair, UneditedSlotsStay, LaterSlotsStay};
+ghost use Rattle.tt_db.specs.NextSide.{NextSideBegins, NextSideTellsEditedSlots, UndueSlotsLeaveIt, DueSlotsChangeRowsRedone, LaterSlotsLeaveDirtyRows, NextSideEnds};
 
 /// No affected slot is missed: a slot that isn't due is the same among the edited slots, and has the
 /// same effect and the same reply there.
@@ -32,4 +33,37 @@ pub fn unedited_slots_stay()
 /// Slots that are added, and that no edit names, stay behind the edited ones.
 pub fn later_slots_stay()
     ensures { LaterSlotsStay }
+{}
+
+/// At first the next side of each table is the current one.
+pub fn next_side_begins_as_the_current_one()
+    ensures { NextSideBegins }
+{}
+
+/// Once n slots are done, the next side tells what the first n edited slots leave, at each time up
+/// to n.
+pub fn next_side_tells_the_edited_slots()
+    ensures { NextSideTellsEditedSlots }
+{}
+
+/// A slot that isn't due leaves the next side as it is.
+pub fn undue_slots_leave_the_next_side()
+    ensures { UndueSlotsLeaveIt }
+{}
+
+/// A slot that's due changes the rows that are done again, and those alone: from its time on each
+/// is what the edited slots leave of it.
+pub fn due_slots_change_the_rows_done_again()
+    ensures { DueSlotsChangeRowsRedone }
+{}
+
+/// A slot that is added while a repair is under way leaves the dirty rows of the next side as they
+/// are; any other row is what it is on the current side.
+pub fn later_slots_leave_dirty_rows()
+    ensures { LaterSlotsLeaveDirtyRows }
+{}
+
+/// Once all slots are done, the next side tells at each time what the edited slots leave.
+pub fn next_side_ends_as_the_edited_slots()
+    ensures { NextSideEnds }
 {}

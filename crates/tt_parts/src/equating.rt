@@ -18,7 +18,7 @@ pub fn reads_of(alloc: Global, def: &TableDef, write: &Write) -> Result<Reads, A
     ensures sound { IfOk result (λ reads. IsSound def.now.columns write.now reads) }
 {
     let partitions = partitions_read(alloc, def, write)?;
-    Ok(reads_told(table_of(write), partitions))
+    Ok(reads_told(write.table(), partitions))
 }
 
 /// The partitions that a write equates: an insert that of its key.
@@ -42,15 +42,6 @@ fn partitions_read(
         Write::Update { table, equals, .. } | Write::Delete { table, equals } => {
             equated(alloc, *table, def, equals.as_slice())
         }
-    }
-}
-
-fn table_of(write: &Write) -> u16
-    ensures { result ≡ table_of write.now }
-{
-    match write {
-        Write::Insert { table, .. } | Write::Update { table, .. } | Write::Delete { table, .. } =>
-            *table,
     }
 }
 

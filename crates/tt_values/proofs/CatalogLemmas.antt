@@ -7,13 +7,15 @@ use Rattle.std.specs.Map.{keys_of, lookup}
 use Rattle.std.specs.Str.{bytes_eq}
 use Rattle.std.specs.String.{string_bytes, string_eq}
 use Rattle.std.proofs.lemmas.List.Elements.{All-push}
+use Rattle.std.proofs.lemmas.Bool.{or_parts}
 use Rattle.std.proofs.lemmas.Bool.Decides.{nat_tests}
+use Rattle.std.proofs.lemmas.Slice.Eq.{bytes_eq-Decides}
 use Rattle.indexmap.specs.IndexMap.{insert_entry}
 use Rattle.tt_values.proofs.Positions.{position-map}
 use Rattle.tt_values.proofs.FaultLemmas.{NoneHolds, none_holds}
 use Rattle.tt_values.specs.Limits.{most_tables, most_columns}
 use Rattle.tt_values.specs.declared.table.TableDef.{TableDef}
-use Rattle.tt_values.specs.Tables.{Tables, table_position, is_key_int, IsTable, IsCatalog, is_name, has_same_name}
+use Rattle.tt_values.specs.Tables.{Tables, table_position, is_key_int, IsTable, IsCatalog, is_name, has_same_name, has_same_table}
 use Rattle.tt_values.specs.Catalog.{table_tests, table_fault}
 
 -- the tables of a map's entries
@@ -73,6 +75,31 @@ accepted_without_fault tables name def h =
     room : NoneHolds (table_tests tables name def) → (length tables < most_tables) × (length def.columns ≤ most_columns)
     room none = both_within (length tables) (length def.columns) none.1.1.1.1.1.0
 
+-- names that differ one way differ the other way
+differ_both_ways : (xs ys : List ℕ) → bytes_eq xs ys ≡ false → bytes_eq ys xs ≡ false
+differ_both_ways xs ys h = by (bytes_eq ys xs) refl
+  where
+    by : (b : Bool) → bytes_eq ys xs ≡ b → b ≡ false
+    by false e = refl
+    by true e =
+        let same : ys ≡ xs = (bytes_eq-Decides ys xs).0 e in
+        let clash = sym ((bytes_eq-Decides xs ys).1 (sym same)) ∙ h in
+        cc
+
+none_with : (name : List ℕ) (ts : Tables) (t : List ℕ × TableDef) → list_any (λ u. bytes_eq name u.0) ts ≡ false → bytes_eq name t.0 ≡ false → list_any (λ u. bytes_eq name u.0) (ts ++ t ∷ []) ≡ false
+none_with name [] t h e = ap (λ b. b || false) e
+none_with name (u ∷ ts) t h e =
+    let both = or_parts (bytes_eq name u.0) (list_any (λ v. bytes_eq name v.0) ts) h in
+    (λ i. both.0 i || none_with name ts t both.1 e i)
+
+-- a table under a new name leaves the names apart
+names_differ-push : (ts : Tables) (t : List ℕ × TableDef) → has_same_table ts ≡ false → list_any (λ u. bytes_eq t.0 u.0) ts ≡ false → has_same_table (ts ++ t ∷ []) ≡ false
+names_differ-push [] t old new = refl
+names_differ-push (u ∷ ts) t old new =
+    let apart = or_parts (list_any (λ v. bytes_eq u.0 v.0) ts) (has_same_table ts) old in
+    let other = or_parts (bytes_eq t.0 u.0) (list_any (λ v. bytes_eq t.0 v.0) ts) new in
+    (λ i. none_with u.0 ts t apart.0 (differ_both_ways t.0 u.0 other.0) i || names_differ-push ts t apart.1 other.1 i)
+
 -- a catalogue with a further table that it doesn't refuse is a catalogue
 pub catalog_with : (tables : Tables) (name : List ℕ) (def : TableDef) → IsCatalog tables → IsAccepted tables name def → IsCatalog (tables ++ (name, def) ∷ [])
 catalog_with tables name def old new =
@@ -81,6 +108,7 @@ catalog_with tables name def old new =
       few_tables = omega (arith, length-append tables ((name, def) ∷ []), new.has_room);
       sound = All-push (λ t. IsTable t.1) tables (name, def) old.sound table;
       named = All-push (λ t. IsTrue (is_name t.0)) tables (name, def) old.named both_named.0;
+      names_differ = names_differ-push tables (name, def) old.names_differ new.is_new;
     }
   where
     split : (a b : Bool) → (a && b) ≡ true → IsTrue a × IsTrue b

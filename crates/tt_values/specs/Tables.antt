@@ -53,6 +53,11 @@ abbrev pub has_same_name : List Column → Bool
 has_same_name [] = false
 has_same_name (c ∷ cs) = list_any (λ d. bytes_eq c.name d.name) cs || has_same_name cs
 
+-- whether two of the tables have one name
+abbrev pub has_same_table : Tables → Bool
+has_same_table [] = false
+has_same_table (t ∷ ts) = list_any (λ u. bytes_eq t.0 u.0) ts || has_same_table ts
+
 -- a table has a first column of kind Int, and no more columns than a table may have
 pub record IsTable (def : TableDef) : Type 0 where
   pub key_is_int : IsTrue (is_key_int def.columns)
@@ -65,3 +70,4 @@ pub record IsCatalog (tables : Tables) : Type 0 where
   pub few_tables : length tables ≤ most_tables
   pub sound : All (λ t. IsTable t.1) tables
   pub named : All (λ t. IsTrue (is_name t.0)) tables
+  pub names_differ : has_same_table tables ≡ false

@@ -69,6 +69,19 @@ impl Change {
 }
 
 impl Write {
+    ghost use Rattle.tt_values.specs.Effect.{table_of};
+
+    /// The position of the table that the statement is on. Takes no memory.
+    pub fn table(&self) -> u16
+        ensures { result ≡ table_of self.now }
+    {
+        match self {
+            Write::Insert { table, .. }
+            | Write::Update { table, .. }
+            | Write::Delete { table, .. } => *table,
+        }
+    }
+
     /// The same statement, in memory of its own.
     pub fn copy(&self) -> Result<Write, AllocError>
         ensures { IfOk result (λ copy. copy ≡ self.now) }

@@ -80,6 +80,15 @@ fn writes_are_copied_and_told_apart(rt: HostRuntime) -> Result<(), Fail> {
 }
 
 #[test]
+fn writes_tell_their_table(rt: HostRuntime) -> Result<(), Fail> {
+    let alloc = rt.alloc();
+    assert_eq!(rt; insert(alloc, 7, ANN)?.table(), 7);
+    assert_eq!(rt; update(alloc, 0, &[By(2, 5)], &[])?.table(), 0);
+    assert_eq!(rt; delete(alloc, u16::MAX, &[])?.table(), u16::MAX);
+    Ok(())
+}
+
+#[test]
 fn writes_are_printed(rt: HostRuntime) -> Result<(), Fail> {
     let alloc = rt.alloc();
     let write = update(alloc, 0, &[By(2, 5)], &[])?;

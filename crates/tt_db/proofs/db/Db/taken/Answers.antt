@@ -15,7 +15,7 @@ reply_to-reply-requires c =
     let kept = c.self.invariant in
     let S = after c.self.inside.journal.items in
     let now = c.now-now.ensures ∙ ap (λ (d : Database). now_of (state_of d)) (sym c.self.view_is) in
-    let made = effect_is c.self.inside.rows S c.args.write c.table_of-table.result c.now-now.result c.table.result.now c.in_ok-made.made.items kept.rows_kept c.table.ensures c.table_of-table.ensures now c.in_ok-made.ensures in
+    let made = effect_is c.self.inside.rows S c.args.write c.table-table.result c.now-now.result c.table.result.now c.in_ok-made.made.items kept.rows_kept c.table.ensures c.table-table.ensures now c.in_ok-made.ensures in
     let few = effect_fits c.args.write (current_at S) (now_of S) (kept.few_rows (table_of c.args.write)) in
     omega (arith, ap length (c.deref.ensures.value ∙ made), few, kept.few_slots, kept.fits.slots)
 
@@ -25,8 +25,8 @@ invariant_of-db c =
     let S = after kept.journal.items in
     let none = subst (λ (d : Database). refusal d.catalog d.limits (state_of d) (events.Write c.args.write) ≡ None) (sym c.self.view_is) c.requires.none in
     let now = c.now-now.ensures ∙ ap (λ (d : Database). now_of (state_of d)) (sym c.self.view_is) in
-    let table = c.table_of-table.ensures in
-    let made = effect_is kept.rows S c.args.write c.table_of-table.result c.now-now.result c.table.result.now c.in_ok-made.made.items c.self.invariant.rows_kept c.table.ensures table now c.in_ok-made.ensures in
+    let table = c.table-table.ensures in
+    let made = effect_is kept.rows S c.args.write c.table-table.result c.now-now.result c.table.result.now c.in_ok-made.made.items c.self.invariant.rows_kept c.table.ensures table now c.in_ok-made.ensures in
     let next : c.now-now.result + 1 ≡ suc (now_of S) = omega (arith, now) in
     let follow = subst (Follow kept.rows c.in_ok-rows.rows) (λ i. writes_of (next i) (table i) (made i)) c.in_ok-rows.ensures in
     let told = c.in_ok-copy-2.ensures ∙ c.reply_to-reply.ensures (current_at S (now_of S) (table_of c.args.write)) (c.deref.ensures.value ∙ made) in
