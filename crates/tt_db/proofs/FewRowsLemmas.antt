@@ -11,16 +11,15 @@ use Rattle.tt_values.specs.declared.statement.Write.TheVariants.{Insert, Update,
 use Rattle.tt_values.specs.Row.{key_of}
 use Rattle.tt_values.specs.Matches.{matches}
 use Rattle.tt_values.specs.Change.{changed}
-use Rattle.tt_values.specs.Content.{RowsByKey, Content, RowWrite, row_at, with_row, written, content_at}
+use Rattle.tt_values.specs.Content.{RowsByKey, Content, RowWrite, row_at, with_row_at, with_row_write, content_at}
 use Rattle.tt_values.specs.Effect.{table_of, effect_on, effect}
 use Rattle.tt_values.specs.RowWrites.{Slots, row_writes, slot_after, slot_writes}
-use Rattle.tt_values.proofs.ContentLemmas.{row_at-with_row, is_sorted-with_row, rows_rise}
-use Rattle.tt_values.proofs.RowWritesLemmas.{next_content}
-use Rattle.tt_db.specs.Rows.{writes_of}
+use Rattle.tt_values.proofs.LawProofs.{one_key_changes, rows_rise, next_content}
+use Rattle.tt_db.specs.Rows.{as_row_writes}
 
 -- keys with their rows, put one after another
 abbrev all_put : RowsByKey → List (ℤ × Option Row) → RowsByKey
-all_put rows made = fold (λ rs e. with_row rs e.0 e.1) rows made
+all_put rows made = fold (λ rs e. with_row_at rs e.0 e.1) rows made
 
 -- each key is that of a row
 abbrev AllFound : List (ℤ × Row) → RowsByKey → Type 0
@@ -28,14 +27,14 @@ AllFound [] rows = Unit {0}
 AllFound (e ∷ es) rows = (is_some (row_at rows e.0) ≡ true) × AllFound es rows
 
 -- what is found stays found where a key gets a row
-found-put : (rows : RowsByKey) (key : ℤ) (row : Row) (q : ℤ) → is_some (row_at rows q) ≡ true → is_some (row_at (with_row rows key (Some row)) q) ≡ true
-found-put rows key row q h = ap is_some (row_at-with_row rows key (Some row) q) ∙ by (int_eq q key)
+found-put : (rows : RowsByKey) (key : ℤ) (row : Row) (q : ℤ) → is_some (row_at rows q) ≡ true → is_some (row_at (with_row_at rows key (Some row)) q) ≡ true
+found-put rows key row q h = ap is_some (one_key_changes rows key (Some row) q) ∙ by (int_eq q key)
   where
     by : (b : Bool) → is_some (cond b (Some row) (row_at rows q)) ≡ true
     by true = refl
     by false = h
 
-all_found-put : (es : List (ℤ × Row)) (rows : RowsByKey) (key : ℤ) (row : Row) → AllFound es rows → AllFound es (with_row rows key (Some row))
+all_found-put : (es : List (ℤ × Row)) (rows : RowsByKey) (key : ℤ) (row : Row) → AllFound es rows → AllFound es (with_row_at rows key (Some row))
 all_found-put [] rows key row h = tt
 all_found-put (e ∷ es) rows key row h = (found-put rows key row e.0 h.0, all_found-put es rows key row h.1)
 
@@ -43,7 +42,7 @@ all_found-put (e ∷ es) rows key row h = (found-put rows key row e.0 h.0, all_f
 length-all_put : (f : Row → Row) (es : List (ℤ × Row)) (rows : RowsByKey) → T (sorted.is_sorted int_cmp rows) → AllFound es rows → length (all_put rows (map (λ e. (e.0, Some (f e.1))) es)) ≡ length rows
 length-all_put f [] rows h found = refl
 length-all_put f (e ∷ es) rows h found =
-    length-all_put f es (with_row rows e.0 (Some (f e.1))) (is_sorted-with_row rows e.0 (Some (f e.1)) h) (all_found-put es rows e.0 (f e.1) found.1)
+    length-all_put f es (with_row_at rows e.0 (Some (f e.1))) (sorted.is_sorted-put int_cmp int_cmp_total e.0 (f e.1) rows h) (all_found-put es rows e.0 (f e.1) found.1)
     ∙ sorted.length-put int_cmp int_cmp_total e.0 (f e.1) rows h
     ∙ ap (λ b. cond b (length rows) (length rows + 1)) found.0
 
@@ -59,7 +58,7 @@ length-filter p (x ∷ xs) = by (p x) (length-filter p xs)
 length-all_gone : (es : List (ℤ × Row)) (rows : RowsByKey) → length (all_put rows (map (λ e. (e.0, None)) es)) ≤ length rows
 length-all_gone [] rows = omega arith
 length-all_gone (e ∷ es) rows =
-    let rest = length-all_gone es (with_row rows e.0 None) in
+    let rest = length-all_gone es (with_row_at rows e.0 None) in
     let fewer = length-filter (λ (x : ℤ × Row). not (int_eq x.0 e.0)) rows in
     omega (arith, rest, fewer)
 
@@ -117,7 +116,7 @@ length-made (Delete table equals) rows =
     omega (arith, as_many, fewer)
 
 -- what row writes on one table make of a table
-written_on : (made : List (ℤ × Option Row)) (time table : ℕ) (X : Content) (t : ℕ) → fold written X (writes_of time table made) t ≡ cond (t == table) (all_put (X t) made) (X t)
+written_on : (made : List (ℤ × Option Row)) (time table : ℕ) (X : Content) (t : ℕ) → fold with_row_write X (as_row_writes time table made) t ≡ cond (t == table) (all_put (X t) made) (X t)
 written_on [] time table X t = by (t == table)
   where
     by : (b : Bool) → X t ≡ cond b (X t) (X t)
@@ -125,14 +124,14 @@ written_on [] time table X t = by (t == table)
     by false = refl
 written_on (e ∷ es) time table X t =
     let w : RowWrite = record { time = time; table = table; key = e.0; row = e.1 } in
-    written_on es time table (written X w) t ∙ by (t == table)
+    written_on es time table (with_row_write X w) t ∙ by (t == table)
   where
-    by : (b : Bool) → cond b (all_put (if b then with_row (X t) e.0 e.1 else X t) es) (if b then with_row (X t) e.0 e.1 else X t) ≡ cond b (all_put (X t) (e ∷ es)) (X t)
+    by : (b : Bool) → cond b (all_put (if b then with_row_at (X t) e.0 e.1 else X t) es) (if b then with_row_at (X t) e.0 e.1 else X t) ≡ cond b (all_put (X t) (e ∷ es)) (X t)
     by true = refl
     by false = refl
 
 -- one more slot adds one row at most
-length-next : (s : Option Write) (time : ℕ) (X : Content) (t : ℕ) → T (sorted.is_sorted int_cmp (X t)) → length (fold written X (slot_writes time s X) t) ≤ length (X t) + 1
+length-next : (s : Option Write) (time : ℕ) (X : Content) (t : ℕ) → T (sorted.is_sorted int_cmp (X t)) → length (fold with_row_write X (slot_writes time s X) t) ≤ length (X t) + 1
 length-next None time X t h = omega arith
 length-next (Some w) time X t h =
     subst (λ rows. length rows ≤ length (X t) + 1) (sym (written_on (effect w X) time (table_of w) X t)) (by (t == table_of w) refl)

@@ -1,15 +1,5 @@
+pub mod ListLemmas
 pub mod RowsLemmas
 pub mod FewRowsLemmas
 pub mod HistoryLemmas
 mod WorkedRows
-pub mod RowLists
-pub mod Soundness
-pub mod RepairMarks
-pub mod RepairEffects
-pub mod RepairTracking
-pub mod RepairEdits
-pub mod RepairLemmas
-pub mod RepairSteps
-pub mod RepairLater
-pub mod NextSideLemmas
-pub mod RepairWorkedRows

@@ -20,8 +20,8 @@ use Rattle.tt_db.specs.declared.event.Entry.{Entry}
 use Rattle.tt_db.specs.declared.outcome.Outcome.TheVariants.{Written}
 use Rattle.tt_db.specs.declared.errors.DbError.TheVariants as errors
 use Rattle.tt_db.specs.declared.errors.ReadError.TheVariants as read_errors
-use Rattle.tt_db.specs.Limits.{largest}
-use Rattle.tt_db.specs.State.{after, now_of, current_at, refusal, told}
+use Rattle.tt_db.specs.Limits.{max_limits}
+use Rattle.tt_db.specs.State.{after, now_of, current_at, refusal, outcome_of}
 use Rattle.tt_db.specs.Told.{right_select, right_select_at, slot_at, at_place}
 use Rattle.tt_db.specs.Run.{IsRun}
 
@@ -86,11 +86,11 @@ unfolding row_writes
 nothing_at_first = refl
 
 -- the first insert is accepted
-first_accepted : refusal catalog largest (after []) (insert ann) ≡ None
+first_accepted : refusal catalog max_limits (after []) (insert ann) ≡ None
 first_accepted = refl
 
 -- and is told that it took slot 1 and added its row
-first_told : told (after []) (insert ann) ≡ Written 1 Inserted
+first_told : outcome_of (after []) (insert ann) ≡ Written 1 Inserted
 unfolding row_writes
 first_told = refl
 
@@ -109,11 +109,11 @@ unfolding row_writes
 none_before = refl
 
 -- a second insert of the key is accepted too
-second_accepted : refusal catalog largest (after one) (insert other_ann) ≡ None
+second_accepted : refusal catalog max_limits (after one) (insert other_ann) ≡ None
 second_accepted = refl
 
 -- and is told that it took slot 2 and met the key
-second_told : told (after one) (insert other_ann) ≡ Written 2 Duplicate
+second_told : outcome_of (after one) (insert other_ann) ≡ Written 2 Duplicate
 unfolding row_writes
 second_told = refl
 
@@ -204,7 +204,7 @@ unfolding row_writes
 bad_select_first = refl
 
 -- an update that matches nothing, one that adds, and a delete
-update_told : told (after one) (events.Write (Update 0 (Set 2 (values.Int (pos 0)) ∷ []) (record { column = 1; value = values.Text (codes "zed") } ∷ []))) ≡ Written 2 (Updated 0)
+update_told : outcome_of (after one) (events.Write (Update 0 (Set 2 (values.Int (pos 0)) ∷ []) (record { column = 1; value = values.Text (codes "zed") } ∷ []))) ≡ Written 2 (Updated 0)
 unfolding row_writes
 update_told = refl
 
@@ -212,7 +212,7 @@ added : right_select catalog (current_at (after (entry ann ∷ of_write (Update 
 unfolding row_writes
 added = refl
 
-delete_told : told (after two) (events.Write (Delete 0 [])) ≡ Written 3 (Deleted 2)
+delete_told : outcome_of (after two) (events.Write (Delete 0 [])) ≡ Written 3 (Deleted 2)
 unfolding row_writes
 delete_told = refl
 

@@ -4,6 +4,3 @@ pub mod Told
 pub mod Rows
 pub mod Database
 pub mod Run
-pub mod Repair
-pub mod RepairLaws
-pub mod NextSide

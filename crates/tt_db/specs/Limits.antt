@@ -3,11 +3,11 @@ use Rattle.std.specs.Prelude.{◌≤◌}
 use Rattle.tt_db.specs.declared.limits.Limits.{Limits}
 
 -- the largest limits
-abbrev pub largest : Limits
-largest = record { slots = 1000000; events = 4000000; edits = 10000 }
+abbrev pub max_limits : Limits
+max_limits = record { slots = 1000000; events = 4000000; edits = 10000 }
 
 -- each limit is at most the largest
 pub record Fits (limits : Limits) : Type 0 where
-  pub slots : limits.slots ≤ largest.slots
-  pub events : limits.events ≤ largest.events
-  pub edits : limits.edits ≤ largest.edits
+  pub slots : limits.slots ≤ max_limits.slots
+  pub events : limits.events ≤ max_limits.events
+  pub edits : limits.edits ≤ max_limits.edits

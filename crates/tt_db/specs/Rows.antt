@@ -8,30 +8,30 @@ use Rattle.tt_values.specs.declared.statement.Write.{Write}
 use Rattle.tt_values.specs.Content.{RowWrite, content_at}
 use Rattle.tt_values.specs.Effect.{table_of, effect}
 use Rattle.tt_versions.specs.declared.side.Side.TheVariants.{Current}
-use Rattle.tt_versions.specs.Sides.{Kept, nothing_kept, RowsInTime, side_of, is_split, none_split}
-use Rattle.tt_versions.specs.Told.{told_by}
+use Rattle.tt_versions.specs.Sides.{LineagesByKey, no_lineages, RowsOverTime, side_of, is_split, none_split}
+use Rattle.tt_versions.specs.RowsByWrites.{rows_by}
 
 -- the tables that were written, by rising position
-abbrev pub KeptTables : Type 0
-KeptTables = List (ℕ × Kept)
+abbrev pub TablesByPosition : Type 0
+TablesByPosition = List (ℕ × LineagesByKey)
 
 -- the table at a position. One that was never written has no rows
-abbrev pub kept_at : KeptTables → ℕ → Kept
-kept_at tables table = unwrap_or (sorted.find nat_cmp table tables) nothing_kept
+abbrev pub versions_at : TablesByPosition → ℕ → LineagesByKey
+versions_at tables table = unwrap_or (sorted.find nat_cmp table tables) no_lineages
 
 -- on its current side each table is what row writes tell of it, and no row is split
-pub record Tell (tables : KeptTables) (ws : List RowWrite) : Type 0 where
-  pub current : (table : ℕ) → side_of (kept_at tables table) Current ≡ told_by table ws
-  pub whole : (table : ℕ) → is_split (kept_at tables table) ≡ none_split
+pub record TablesAgree (tables : TablesByPosition) (ws : List RowWrite) : Type 0 where
+  pub current : (table : ℕ) → side_of (versions_at tables table) Current ≡ rows_by table ws
+  pub whole : (table : ℕ) → is_split (versions_at tables table) ≡ none_split
 
 -- where tables are what row writes tell, others are what these and further ones tell
-abbrev pub Follow : KeptTables → KeptTables → List RowWrite → Type 0
-Follow before after further = (ws : List RowWrite) → Tell before ws → Tell after (ws ++ further)
+abbrev pub AddsRowWrites : TablesByPosition → TablesByPosition → List RowWrite → Type 0
+AddsRowWrites before after further = (ws : List RowWrite) → TablesAgree before ws → TablesAgree after (ws ++ further)
 
 -- rows of a table by key, as row writes at a time
-abbrev pub writes_of : ℕ → ℕ → List (ℤ × Option Row) → List RowWrite
-writes_of time table made = map (λ e. record { time = time; table = table; key = e.0; row = e.1 }) made
+abbrev pub as_row_writes : ℕ → ℕ → List (ℤ × Option Row) → List RowWrite
+as_row_writes time table made = map (λ e. record { time = time; table = table; key = e.0; row = e.1 }) made
 
 -- what a write makes at a time of a table that row writes tell
-abbrev pub IsEffect : List (ℤ × Option Row) → Write → RowsInTime → ℕ → Type 0
-IsEffect made w rows time = (ws : List RowWrite) → rows ≡ told_by (table_of w) ws → made ≡ effect w (content_at ws time)
+abbrev pub IsEffect : List (ℤ × Option Row) → Write → RowsOverTime → ℕ → Type 0
+IsEffect made w rows time = (ws : List RowWrite) → rows ≡ rows_by (table_of w) ws → made ≡ effect w (content_at ws time)

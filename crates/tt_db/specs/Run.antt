@@ -5,16 +5,16 @@ use Rattle.tt_db.specs.declared.limits.Limits.{Limits}
 use Rattle.tt_db.specs.declared.event.Entry.{Entry}
 use Rattle.tt_db.specs.declared.outcome.Outcome.{Outcome}
 use Rattle.tt_db.specs.declared.errors.DbError.{DbError}
-use Rattle.tt_db.specs.State.{after, refusal, told}
-use Rattle.tt_db.specs.Told.{memory_aside}
+use Rattle.tt_db.specs.State.{after, refusal, outcome_of}
+use Rattle.tt_db.specs.Told.{refusal_of_error}
 
 -- given entries from a history on, the answers are those of the sequential table at each point: an accepted entry joins the history
 -- and is answered by what the table tells; another is answered by the table's refusal, or by want of memory where there is none
 abbrev pub IsRun : Tables → Limits → List Entry → List Entry → List (Result Outcome DbError) → List Entry → Type 0
 IsRun tables limits before [] [] last = last ≡ before
 IsRun tables limits before (e ∷ entries) (Ok outcome ∷ answers) last =
-    (refusal tables limits (after before) e.event ≡ None) × (outcome ≡ told (after before) e.event) × IsRun tables limits (before ++ e ∷ []) entries answers last
+    (refusal tables limits (after before) e.event ≡ None) × (outcome ≡ outcome_of (after before) e.event) × IsRun tables limits (before ++ e ∷ []) entries answers last
 IsRun tables limits before (e ∷ entries) (Err error ∷ answers) last =
-    (refusal tables limits (after before) e.event ≡ memory_aside error) × IsRun tables limits before entries answers last
+    (refusal tables limits (after before) e.event ≡ refusal_of_error error) × IsRun tables limits before entries answers last
 IsRun tables limits before [] (answer ∷ answers) last = ⊥
 IsRun tables limits before (e ∷ entries) [] last = ⊥

@@ -61,21 +61,21 @@ abbrev pub HasKeys : Event → Type 0
 HasKeys (events.Write w) = HasKey w
 
 -- the state after an event that isn't refused
-abbrev pub moved : State → Event → State
-moved S (events.Write w) = record S { slots = S.slots ++ Some w ∷ []; events = S.events + 1 }
+abbrev pub next_state : State → Event → State
+next_state S (events.Write w) = record S { slots = S.slots ++ Some w ∷ []; events = S.events + 1 }
 
 -- what the table tells of an event that isn't refused
-abbrev pub told : State → Event → Outcome
-told S (events.Write w) = Written (now_of S + 1) (reply_of w (current_at S (now_of S)))
+abbrev pub outcome_of : State → Event → Outcome
+outcome_of S (events.Write w) = Written (now_of S + 1) (reply_of w (current_at S (now_of S)))
 
 -- the state after a history
 abbrev pub after : List Entry → State
-after history = fold (λ S e. moved S e.event) start history
+after history = fold (λ S e. next_state S e.event) start history
 
 -- each event of a history, from a state on, isn't refused at its point
 abbrev pub IsLegalFrom : Tables → Limits → State → List Entry → Type 0
 IsLegalFrom tables limits S [] = Unit {0}
-IsLegalFrom tables limits S (e ∷ history) = (refusal tables limits S e.event ≡ None) × IsLegalFrom tables limits (moved S e.event) history
+IsLegalFrom tables limits S (e ∷ history) = (refusal tables limits S e.event ≡ None) × IsLegalFrom tables limits (next_state S e.event) history
 
 -- no event of a history is refused
 abbrev pub IsLegal : Tables → Limits → List Entry → Type 0

@@ -22,22 +22,22 @@ at_place xs zero = None
 at_place xs (suc n) = slice_get xs n
 
 -- what is told of slot n + 1: its write, and what that answers on the content just before
-abbrev pub slot_told : State → ℕ → Slot
-slot_told S n = record { write = slot_after S.slots n; reply = slot_reply (slot_after S.slots n) (current_at S n) }
+abbrev pub slot_with_reply : State → ℕ → Slot
+slot_with_reply S n = record { write = slot_after S.slots n; reply = slot_reply (slot_after S.slots n) (current_at S n) }
 
 -- what is told of the slot at a place, where there is one
 abbrev pub slot_at : State → ℕ → Option Slot
 slot_at S zero = None
-slot_at S (suc n) = if nat_lt n (now_of S) then Some (slot_told S n) else None
+slot_at S (suc n) = if nat_lt n (now_of S) then Some (slot_with_reply S n) else None
 
 -- for each key and time, the row of a table in the current contents
-abbrev pub rows_told : State → ℕ → ℤ → ℕ → Option Row
-rows_told S table key time = row_at (current_at S time table) key
+abbrev pub current_rows : State → ℕ → ℤ → ℕ → Option Row
+current_rows S table key time = row_at (current_at S time table) key
 
 -- the refusal that an error tells, where it isn't want of memory
-abbrev pub memory_aside : DbError → Option DbError
-memory_aside errors.Memory = None
-memory_aside e = Some e
+abbrev pub refusal_of_error : DbError → Option DbError
+refusal_of_error errors.Memory = None
+refusal_of_error e = Some e
 
 -- an answer, where no fault of the statement is in its way
 abbrev pub unless_refused : Option CheckError → Result Reply ReadError → Result Reply ReadError

@@ -26,13 +26,13 @@ pub struct Db {
 }
 
 impl Model for Db {
-    ghost use Rattle.tt_db.specs.Database.{Database, Keeps};
+    ghost use Rattle.tt_db.specs.Database.{Database, IsConsistent};
 
     ghost Value = { Database };
 
     ghost view = { λ d. record { catalog = d.catalog.value; limits = d.limits; history = d.journal.items } };
 
-    ghost invariant = { λ d. Keeps d.catalog.value d.limits d.journal.items d.slots.items d.generation d.rows };
+    ghost invariant = { λ d. IsConsistent d.catalog.value d.limits d.journal.items d.slots.items d.generation d.rows };
 }
 
 impl Db {
@@ -40,8 +40,8 @@ impl Db {
     ghost use Rattle.tt_values.specs.Effect.{answer_of};
     ghost use Rattle.tt_versions.specs.Sides.{side_of, is_split, none_split};
     ghost use Rattle.tt_db.specs.Limits.{Fits};
-    ghost use Rattle.tt_db.specs.State.{now_of, current_at, refusal, told, HasKeys, IsLegal};
-    ghost use Rattle.tt_db.specs.Told.{at_place, slot_at, memory_aside, right_select, right_select_at, rows_told, Answers};
+    ghost use Rattle.tt_db.specs.State.{now_of, current_at, refusal, outcome_of, HasKeys, IsLegal};
+    ghost use Rattle.tt_db.specs.Told.{at_place, slot_at, refusal_of_error, right_select, right_select_at, current_rows, Answers};
     ghost use Rattle.tt_db.specs.Database.{Database, state_of};
     ghost use Rattle.tt_db.specs.Run.{IsRun};
 
@@ -107,9 +107,9 @@ impl Db {
     /// This database stays as it is.
     pub fn apply(&self, entry: Entry) -> Result<(Db, Outcome), DbError>
         ensures state { IfOk result (λ r. r.0 ≡ record self.now { history = self.now.history ++ entry ∷ [] }) }
-        ensures outcome { IfOk result (λ r. r.1 ≡ told (state_of self.now) entry.event) }
+        ensures outcome { IfOk result (λ r. r.1 ≡ outcome_of (state_of self.now) entry.event) }
         ensures accepted { OnOk result (refusal self.now.catalog self.now.limits (state_of self.now) entry.event ≡ None) }
-        ensures refused { IfErr result (λ e. refusal self.now.catalog self.now.limits (state_of self.now) entry.event ≡ memory_aside e) }
+        ensures refused { IfErr result (λ e. refusal self.now.catalog self.now.limits (state_of self.now) entry.event ≡ refusal_of_error e) }
     {
         if let Some(refusal) = self.refusal(&entry.event) {
             return Err(refusal);
@@ -150,7 +150,7 @@ impl Db {
         requires none { refusal self.now.catalog self.now.limits (state_of self.now) entry.event ≡ None }
         requires keyed { HasKeys entry.event }
         ensures state { IfOk result (λ r. r.0 ≡ record self.now { history = self.now.history ++ entry ∷ [] }) }
-        ensures outcome { IfOk result (λ r. r.1 ≡ told (state_of self.now) entry.event) }
+        ensures outcome { IfOk result (λ r. r.1 ≡ outcome_of (state_of self.now) entry.event) }
     {
         let Entry { worker, event } = entry;
         match event {
@@ -166,7 +166,7 @@ impl Db {
         requires none { refusal self.now.catalog self.now.limits (state_of self.now) (Event.Write write) ≡ None }
         requires keyed { HasKey write }
         ensures state { IfOk result (λ r. r.0 ≡ record self.now { history = self.now.history ++ record { worker = worker; event = Event.Write write } ∷ [] }) }
-        ensures outcome { IfOk result (λ r. r.1 ≡ told (state_of self.now) (Event.Write write)) }
+        ensures outcome { IfOk result (λ r. r.1 ≡ outcome_of (state_of self.now) (Event.Write write)) }
     {
         let now = self.now();
         let table = write.table();
@@ -180,7 +180,7 @@ impl Db {
         let rows = self.rows.rewritten(table, made, now + 1)?;
         let slot = Slot {
             write: Some(write.copy()?),
-            reply: Some(reply.copy()?),
+            reply: Some(reply.clone()?),
         };
         let slots = with_slot(&self.slots, slot)?;
         let entry = Entry {
@@ -230,9 +230,9 @@ impl Db {
     /// Becomes the database after the entry, or stays where it isn't taken in.
     fn advance(&mut self, entry: &Entry) -> Result<Outcome, DbError>
         ensures ok { OnOk result (self.new ≡ record self.old { history = self.old.history ++ entry.now ∷ [] }) }
-        ensures outcome { IfOk result (λ o. o ≡ told (state_of self.old) entry.now.event) }
+        ensures outcome { IfOk result (λ o. o ≡ outcome_of (state_of self.old) entry.now.event) }
         ensures accepted { OnOk result (refusal self.old.catalog self.old.limits (state_of self.old) entry.now.event ≡ None) }
-        ensures refused { IfErr result (λ e. refusal self.old.catalog self.old.limits (state_of self.old) entry.now.event ≡ memory_aside e) }
+        ensures refused { IfErr result (λ e. refusal self.old.catalog self.old.limits (state_of self.old) entry.now.event ≡ refusal_of_error e) }
         ensures err { OnErr result (self.new ≡ self.old) }
     {
         if let Some(refusal) = self.refusal(&entry.event) {
@@ -251,9 +251,9 @@ impl Db {
         requires none { refusal self.now.catalog self.now.limits (state_of self.now) entry.now.event ≡ None }
         requires keyed { HasKeys entry.now.event }
         ensures state { IfOk result (λ r. r.0 ≡ record self.now { history = self.now.history ++ entry.now ∷ [] }) }
-        ensures outcome { IfOk result (λ r. r.1 ≡ told (state_of self.now) entry.now.event) }
+        ensures outcome { IfOk result (λ r. r.1 ≡ outcome_of (state_of self.now) entry.now.event) }
     {
-        let entry = entry.copy()?;
+        let entry = entry.clone()?;
         let moved = self.moved(entry)?;
         Ok(moved)
     }
@@ -301,7 +301,7 @@ impl Db {
     /// The versions of the rows of a table; None past the last table. Takes no memory.
     pub fn versions(&self, table: u16) -> Option<&Table>
         ensures there { IsSome result ↔ (table < length self.now.catalog) }
-        ensures current { IfSome result (λ t. side_of t.now Side.Current ≡ rows_told (state_of self.now) table) }
+        ensures current { IfSome result (λ t. side_of t.now Side.Current ≡ current_rows (state_of self.now) table) }
         ensures whole { IfSome result (λ t. is_split t.now ≡ none_split) }
     {
         if usize::from(table) < self.catalog.len() {
@@ -326,7 +326,7 @@ fn with_slot(slots: &Vec<Slot>, slot: Slot) -> Result<Vec<Slot>, AllocError>
 {
     let mut with = Vec::new(*slots.allocator());
     for kept in slots {
-        with.push(kept.copy()?)?;
+        with.push(kept.clone()?)?;
     }
     with.push(slot)?;
     Ok(with)
@@ -338,7 +338,7 @@ fn with_entry(journal: &Vec<Entry>, entry: Entry) -> Result<Vec<Entry>, AllocErr
 {
     let mut with = Vec::new(*journal.allocator());
     for earlier in journal {
-        with.push(earlier.copy()?)?;
+        with.push(earlier.clone()?)?;
     }
     with.push(entry)?;
     Ok(with)

@@ -1,27 +1,45 @@
-ghost use Rattle.std.specs.Prelude.{◌≡◌, IfOk};
-
 use std::alloc::AllocError;
 use tt_values::Write;
 
 /// What a history is made of.
-#[derive(Clone, Debug, PartialEq, Drop)]
+#[derive(Debug, PartialEq, Drop)]
 pub enum Event {
     /// A write of the current generation.
     Write(Write),
 }
 
 /// An event with the number of the worker who made it.
-#[derive(Clone, Debug, PartialEq, Drop)]
+#[derive(Debug, PartialEq, Drop)]
 pub struct Entry {
     pub worker: u32,
     pub event: Event,
 }
 
-impl Entry {
-    /// The same entry, in memory of its own.
-    pub fn copy(&self) -> Result<Entry, AllocError>
-        ensures { IfOk result (λ copy. copy ≡ self.now) }
-    {
-        self.clone()
+impl Clone for Event {
+    ghost use Rattle.std.specs.Prelude.{◌≡◌};
+
+    ghost is_clone = { λ source copy. copy ≡ source };
+
+    fn clone(&self) -> Result<Self, AllocError> {
+        match self {
+            Event::Write(write) => {
+                let write = write.copy()?;
+                Ok(Event::Write(write))
+            }
+        }
+    }
+}
+
+impl Clone for Entry {
+    ghost use Rattle.std.specs.Prelude.{◌≡◌};
+
+    ghost is_clone = { λ source copy. copy ≡ source };
+
+    fn clone(&self) -> Result<Self, AllocError> {
+        let event = self.event.clone()?;
+        Ok(Entry {
+            worker: self.worker,
+            event,
+        })
     }
 }

@@ -3,11 +3,9 @@
 #![tactic(auto)]
 
 mod db;
-mod edit;
 mod effect;
 mod errors;
 mod event;
-pub mod laws;
 mod limits;
 mod outcome;
 mod rows;
@@ -15,7 +13,7 @@ mod rows;
 mod tests;
 
 pub use db::Db;
-pub use edit::Edit;
+pub use tt_repair_laws::Edit;
 pub use errors::{DbError, ReadError};
 pub use event::{Entry, Event};
 pub use limits::Limits;

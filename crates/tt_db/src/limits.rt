@@ -14,11 +14,11 @@ pub struct Limits {
 }
 
 impl Limits {
-    ghost use Rattle.tt_db.specs.Limits.{largest, Fits};
+    ghost use Rattle.tt_db.specs.Limits.{max_limits, Fits};
 
     /// The usual limits, which are also the largest: 1,000,000 slots, 4,000,000 entries, 10,000 edits.
     pub const fn usual() -> Limits
-        ensures { result ≡ largest }
+        ensures { result ≡ max_limits }
     {
         Limits {
             slots: MOST_SLOTS,

@@ -1,5 +1,3 @@
-ghost use Rattle.std.specs.Prelude.{◌≡◌, IfOk};
-
 use std::alloc::AllocError;
 use tt_values::{Reply, Write};
 
@@ -12,23 +10,24 @@ pub enum Outcome {
 
 /// A slot of the current generation: a write and what it answered. Both are None where the slot was
 /// cancelled.
-#[derive(Clone, Debug, PartialEq, Drop)]
+#[derive(Debug, PartialEq, Drop)]
 pub struct Slot {
     pub write: Option<Write>,
     pub reply: Option<Reply>,
 }
 
-impl Slot {
-    /// The same slot, in memory of its own.
-    pub fn copy(&self) -> Result<Slot, AllocError>
-        ensures { IfOk result (λ copy. copy ≡ self.now) }
-    {
+impl Clone for Slot {
+    ghost use Rattle.std.specs.Prelude.{◌≡◌};
+
+    ghost is_clone = { λ source copy. copy ≡ source };
+
+    fn clone(&self) -> Result<Self, AllocError> {
         let write = match &self.write {
             Some(write) => Some(write.copy()?),
             None => None,
         };
         let reply = match &self.reply {
-            Some(reply) => Some(reply.copy()?),
+            Some(reply) => Some(reply.clone()?),
             None => None,
         };
         Ok(Slot { write, reply })

@@ -17,9 +17,9 @@ struct SharedTable {
 }
 
 impl Model for SharedTable {
-    ghost use Rattle.tt_versions.specs.Sides.{Kept};
+    ghost use Rattle.tt_versions.specs.Sides.{LineagesByKey};
 
-    ghost Value = { Kept };
+    ghost Value = { LineagesByKey };
 
     ghost view = { λ s. s.table.value };
 }
@@ -60,18 +60,18 @@ pub(crate) struct Rows {
 
 impl Model for Rows {
     ghost use Rattle.std.specs.Prelude.{◌≡◌};
-    ghost use Rattle.tt_versions.specs.Sides.{nothing_kept};
-    ghost use Rattle.tt_db.specs.Rows.{KeptTables};
+    ghost use Rattle.tt_versions.specs.Sides.{no_lineages};
+    ghost use Rattle.tt_db.specs.Rows.{TablesByPosition};
 
-    ghost Value = { KeptTables };
+    ghost Value = { TablesByPosition };
 
     ghost view = { λ r. r.tables.entries };
 
-    ghost invariant = { λ r. r.empty ≡ nothing_kept };
+    ghost invariant = { λ r. r.empty ≡ no_lineages };
 }
 
 impl Rows {
-    ghost use Rattle.tt_db.specs.Rows.{kept_at, Follow, writes_of};
+    ghost use Rattle.tt_db.specs.Rows.{versions_at, AddsRowWrites, as_row_writes};
 
     /// No rows. Takes no memory.
     pub(crate) fn new(alloc: Global) -> Rows
@@ -86,7 +86,7 @@ impl Rows {
 
     /// The table at a position.
     pub(crate) fn table(&self, table: u16) -> &Table
-        ensures { result.now ≡ kept_at self.now table }
+        ensures { result.now ≡ versions_at self.now table }
     {
         match self.tables.get(&table) {
             Some(shared) => shared.table(),
@@ -101,7 +101,7 @@ impl Rows {
         made: Vec<(i64, Option<Row>)>,
         time: u64,
     ) -> Result<Rows, AllocError>
-        ensures { IfOk result (λ r. Follow self.now r (writes_of time table made.items)) }
+        ensures { IfOk result (λ r. AddsRowWrites self.now r (as_row_writes time table made.items)) }
     {
         let mut rows = self.copy()?;
         for (key, row) in made {
@@ -111,7 +111,7 @@ impl Rows {
     }
 
     fn written(&self, table: u16, key: i64, row: Option<Row>, time: u64) -> Result<Rows, AllocError>
-        ensures { IfOk result (λ r. Follow self.now r (writes_of time table ((key, row) ∷ []))) }
+        ensures { IfOk result (λ r. AddsRowWrites self.now r (as_row_writes time table ((key, row) ∷ []))) }
     {
         let written = self.table(table).written(key, row, time)?;
         let rows = self.with(table, written)?;

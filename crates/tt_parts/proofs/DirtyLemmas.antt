@@ -10,7 +10,7 @@ use Rattle.tt_values.specs.declared.table.Column.{Column}
 use Rattle.tt_parts.specs.declared.partition.Partition.{Partition}
 use Rattle.tt_parts.specs.declared.partition.Reads.{Reads}
 use Rattle.tt_parts.specs.declared.partition.Reads.TheVariants.{All, Equated}
-use Rattle.tt_parts.specs.Partitions.{is_same_partition, reads_told}
+use Rattle.tt_parts.specs.Partitions.{is_same_partition, reads_or_all}
 use Rattle.tt_parts.specs.Dirty.{DirtySet, is_row_in, has_row_of, SameRows, SamePartitions, SameMembers, parts_if, with_row, is_clear, is_clear_of}
 
 -- lists added one after another, in another order
@@ -76,6 +76,6 @@ clear_by_members D E (All table) h = ap not (one_test (has_row_of D table) (has_
 clear_by_members D E (Equated ps) h = λ j. list_any (λ p. not (h.partitions p j)) ps
 
 -- what is told to be read says whether a statement is clear
-pub clear_as_told : (D : DirtySet) (table : ℕ) (ps : List Partition) → is_clear_of D (reads_told table ps) ≡ is_clear D table ps
+pub clear_as_told : (D : DirtySet) (table : ℕ) (ps : List Partition) → is_clear_of D (reads_or_all table ps) ≡ is_clear D table ps
 clear_as_told D table [] = refl
 clear_as_told D table (p ∷ ps) = refl

@@ -2,7 +2,7 @@
 use Rattle.std.proofs.Common.{◌≡◌, ℕ, zero, suc, Bool, true, false, List, [], ◌∷◌, ◌++◌, drop, Some, slice_get, if◌then◌else◌, refl, sym, ap, ◌∙◌}
 use Rattle.tt_values.specs.declared.value.Value.{Value}
 use Rattle.tt_values.specs.declared.table.Column.{Column}
-use Rattle.tt_parts.specs.Partitions.{tells_apart, part_at, parts_from}
+use Rattle.tt_parts.specs.Partitions.{is_partition_column, part_at, parts_from}
 
 -- a row without values lies in no partition
 pub parts_from-nil : (table i : ℕ) (cs : List Column) → parts_from table i cs [] ≡ []
@@ -20,6 +20,6 @@ parts_from-drop table p i [] vs c h = cc
 parts_from-drop table p zero (d ∷ cs) [] c h = sym (parts_from-nil table (suc p) cs)
 parts_from-drop table p zero (d ∷ cs) (v ∷ vs) c h =
     let same : d ≡ c = cc in
-    put_if (tells_apart p d) (record { table = table; column = p; value = v }) (parts_from table (suc p) cs vs) ∙ ap (λ e. part_at table p e (Some v) ++ parts_from table (suc p) cs vs) same
+    put_if (is_partition_column p d) (record { table = table; column = p; value = v }) (parts_from table (suc p) cs vs) ∙ ap (λ e. part_at table p e (Some v) ++ parts_from table (suc p) cs vs) same
 parts_from-drop table p (suc i) (d ∷ cs) [] c h = parts_from-nil table p (drop i cs) ∙ sym (parts_from-nil table (suc p) (drop (suc i) cs))
 parts_from-drop table p (suc i) (d ∷ cs) (v ∷ vs) c h = parts_from-drop table p i cs vs c h

@@ -12,8 +12,8 @@ use Rattle.tt_values.specs.declared.statement.Write.TheVariants.{Insert, Update}
 use Rattle.tt_parts.specs.declared.partition.Partition.{Partition}
 use Rattle.tt_parts.specs.declared.partition.Reads.{Reads}
 use Rattle.tt_parts.specs.declared.partition.Reads.TheVariants.{All, Equated}
-use Rattle.tt_parts.specs.Partitions.{parts_of, partitions_read, reads_told}
-use Rattle.tt_parts.specs.Dirty.{DirtySet, clean, with_row, has_row, is_clear_of}
+use Rattle.tt_parts.specs.Partitions.{parts_of, partitions_read, reads_or_all}
+use Rattle.tt_parts.specs.Dirty.{DirtySet, nothing_dirty, with_row, has_row, is_clear_of}
 
 -- the owners' names in bytes
 abbrev ann : Value
@@ -52,7 +52,7 @@ abbrev update : List Equal → Write
 update qs = Update 0 (changes.Set 2 (number 0) ∷ []) qs
 
 abbrev reads : Write → Reads
-reads w = reads_told 0 (partitions_read columns w)
+reads w = reads_or_all 0 (partitions_read columns w)
 
 -- a row lies in the partitions of its key and its owner
 lies_in : parts_of 0 columns (account 1 ann 10) ≡ of_key 1 ∷ of_owner ann ∷ []
@@ -80,7 +80,7 @@ reads_the_key = refl
 
 -- the row 1 was Ann's before and is Eve's after
 abbrev dirty : DirtySet
-dirty = with_row clean 0 columns (pos 1) (Some (account 1 ann 10)) (Some (account 1 eve 10))
+dirty = with_row nothing_dirty 0 columns (pos 1) (Some (account 1 ann 10)) (Some (account 1 eve 10))
 
 is_dirty : has_row dirty 0 (pos 1) ≡ true
 is_dirty = refl

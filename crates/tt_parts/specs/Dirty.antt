@@ -23,8 +23,8 @@ pub record DirtyTables : Type 0 where
   pub dirty : DirtySet
 
 -- nothing is dirty
-abbrev pub clean : DirtySet
-clean = record { rows = []; partitions = [] }
+abbrev pub nothing_dirty : DirtySet
+nothing_dirty = record { rows = []; partitions = [] }
 
 -- whether a list of rows has the one with a key of a table
 abbrev pub is_row_in : List (ℕ × ℤ) → ℕ → ℤ → Bool

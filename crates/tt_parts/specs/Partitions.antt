@@ -15,20 +15,20 @@ use Rattle.tt_parts.specs.declared.partition.Reads.{Reads}
 use Rattle.tt_parts.specs.declared.partition.Reads.TheVariants.{All, Equated}
 
 -- whether the column at a position tells partitions apart: the first, which holds the key, and each that is declared so
-abbrev pub tells_apart : ℕ → Column → Bool
-tells_apart i column = (i == 0) || column.partition
+abbrev pub is_partition_column : ℕ → Column → Bool
+is_partition_column i column = (i == 0) || column.partition
 
 -- the partition of the value in the column at a position, where there is a value, and the column tells partitions apart
 abbrev pub part_at : ℕ → ℕ → Column → Option Value → List Partition
 part_at table i c None = []
-part_at table i c (Some v) = if tells_apart i c then record { table = table; column = i; value = v } ∷ [] else []
+part_at table i c (Some v) = if is_partition_column i c then record { table = table; column = i; value = v } ∷ [] else []
 
 -- the partitions of a row by its columns from a position on
 abbrev pub parts_from : ℕ → ℕ → List Column → List Value → List Partition
 parts_from table i [] vs = []
 parts_from table i (c ∷ cs) [] = []
 parts_from table i (c ∷ cs) (v ∷ vs) =
-    if tells_apart i c then record { table = table; column = i; value = v } ∷ parts_from table (suc i) cs vs
+    if is_partition_column i c then record { table = table; column = i; value = v } ∷ parts_from table (suc i) cs vs
     else parts_from table (suc i) cs vs
 
 -- the partitions that a row of a table lies in: one for each column that tells them apart, in their order
@@ -36,16 +36,16 @@ abbrev pub parts_of : ℕ → List Column → Row → List Partition
 parts_of table columns row = parts_from table 0 columns row.values
 
 -- whether there is a column at a position, and it tells partitions apart
-abbrev pub is_told_apart : List Column → ℕ → Bool
-is_told_apart columns i = option_map_or (tells_apart i) (slice_get columns i) false
+abbrev pub is_partition_position : List Column → ℕ → Bool
+is_partition_position columns i = option_map_or (is_partition_column i) (slice_get columns i) false
 
 -- the partition that an equality equates
 abbrev pub partition_of : ℕ → Equal → Partition
 partition_of table q = record { table = table; column = q.column; value = q.value }
 
 -- the partitions that equalities equate: one for each on a column that tells them apart, in their order
-abbrev pub equated : ℕ → List Column → List Equal → List Partition
-equated table columns qs = map (partition_of table) (filter (λ q. is_told_apart columns q.column) qs)
+abbrev pub equated_partitions : ℕ → List Column → List Equal → List Partition
+equated_partitions table columns qs = map (partition_of table) (filter (λ q. is_partition_position columns q.column) qs)
 
 -- the partition of a key
 abbrev pub key_partition : ℕ → Row → Partition
@@ -54,13 +54,13 @@ key_partition table row = record { table = table; column = 0; value = values.Int
 -- the partitions that a write equates: an insert that of its key
 abbrev pub partitions_read : List Column → Write → List Partition
 partitions_read columns (Insert table row) = key_partition table row ∷ []
-partitions_read columns (Update table changes qs) = equated table columns qs
-partitions_read columns (Delete table qs) = equated table columns qs
+partitions_read columns (Update table changes qs) = equated_partitions table columns qs
+partitions_read columns (Delete table qs) = equated_partitions table columns qs
 
 -- what a write reads, as `reads_of` tells it: the whole table where it equates no partition
-abbrev pub reads_told : ℕ → List Partition → Reads
-reads_told table [] = All table
-reads_told table (p ∷ ps) = Equated (p ∷ ps)
+abbrev pub reads_or_all : ℕ → List Partition → Reads
+reads_or_all table [] = All table
+reads_or_all table (p ∷ ps) = Equated (p ∷ ps)
 
 -- whether two partitions are the same
 abbrev pub is_same_partition : Partition → Partition → Bool

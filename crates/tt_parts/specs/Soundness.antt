@@ -23,5 +23,5 @@ LiesIn table columns row (Whole t) = t ≡ table
 LiesIn table columns row (Equated ps) = All (Contains (parts_of table columns row)) ps
 
 -- each row that a write matches lies in what is read, on a table that has a first column
-pub record IsSound (columns : List Column) (write : Write) (reads : Reads) : Type 0 where
+pub record CoversMatches (columns : List Column) (write : Write) (reads : Reads) : Type 0 where
   pub covers : 0 < length columns → (row : Row) → Matches write row → LiesIn (table_of write) columns row reads

@@ -26,13 +26,13 @@ impl Model for Dirty {
 }
 
 impl Dirty {
-    ghost use Rattle.tt_parts.specs.Dirty.{SameRows, SamePartitions, SameMembers, clean, columns_in, has_row, is_clear_of, with_row};
+    ghost use Rattle.tt_parts.specs.Dirty.{SameRows, SamePartitions, SameMembers, nothing_dirty, columns_in, has_row, is_clear_of, with_row};
 
     /// A set without members, for the tables of the catalogue. Takes no memory; what `with_row`
     /// takes comes from this allocator.
     pub fn new(alloc: Global, catalog: Arc<Catalog>) -> Dirty
         ensures catalog { result.catalog ≡ catalog.value }
-        ensures clean { SameMembers result.dirty clean }
+        ensures nothing_dirty { SameMembers result.dirty nothing_dirty }
     {
         Dirty {
             catalog,

@@ -1,11 +1,11 @@
 ghost use Rattle.std.specs.Prelude.{◌≡◌, IfOk};
 ghost use Rattle.tt_values.specs.Check.{HasKey};
 ghost use Rattle.tt_values.specs.Effect.{table_of};
-ghost use Rattle.tt_parts.specs.Partitions.{is_told_apart, equated, partitions_read, reads_told};
-ghost use Rattle.tt_parts.specs.Soundness.{IsSound};
+ghost use Rattle.tt_parts.specs.Partitions.{is_partition_position, equated_partitions, partitions_read, reads_or_all};
+ghost use Rattle.tt_parts.specs.Soundness.{CoversMatches};
 
 use crate::partition::{Partition, Reads};
-use crate::parts::tells_apart;
+use crate::parts::is_partition_column;
 use std::alloc::{AllocError, Global};
 use tt_values::{Column, Equal, Items, TableDef, Value, Write};
 
@@ -14,11 +14,11 @@ use tt_values::{Column, Equal, Items, TableDef, Value, Write};
 #[tactic(auto, using(crate::proofs::SoundnessLemmas::is_sound))]
 pub fn reads_of(alloc: Global, def: &TableDef, write: &Write) -> Result<Reads, AllocError>
     requires { HasKey write.now }
-    ensures told { IfOk result (λ reads. reads ≡ reads_told (table_of write.now) (partitions_read def.now.columns write.now)) }
-    ensures sound { IfOk result (λ reads. IsSound def.now.columns write.now reads) }
+    ensures told { IfOk result (λ reads. reads ≡ reads_or_all (table_of write.now) (partitions_read def.now.columns write.now)) }
+    ensures sound { IfOk result (λ reads. CoversMatches def.now.columns write.now reads) }
 {
     let partitions = partitions_read(alloc, def, write)?;
-    Ok(reads_told(write.table(), partitions))
+    Ok(reads_or_all(write.table(), partitions))
 }
 
 /// The partitions that a write equates: an insert that of its key.
@@ -40,13 +40,13 @@ fn partitions_read(
             Ok(vec![in alloc; key]?)
         }
         Write::Update { table, equals, .. } | Write::Delete { table, equals } => {
-            equated(alloc, *table, def, equals.as_slice())
+            equated_partitions(alloc, *table, def, equals.as_slice())
         }
     }
 }
 
-fn reads_told(table: u16, partitions: Vec<Partition>) -> Reads
-    ensures { result ≡ reads_told table partitions.items }
+fn reads_or_all(table: u16, partitions: Vec<Partition>) -> Reads
+    ensures { result ≡ reads_or_all table partitions.items }
 {
     if partitions.is_empty() {
         Reads::All { table }
@@ -56,18 +56,18 @@ fn reads_told(table: u16, partitions: Vec<Partition>) -> Reads
 }
 
 /// The partitions that equalities equate, in their order.
-fn equated(
+fn equated_partitions(
     alloc: Global,
     table: u16,
     def: &TableDef,
     equals: &[Equal],
 ) -> Result<Vec<Partition>, AllocError>
-    ensures { IfOk result (λ partitions. partitions.items ≡ equated table def.now.columns equals.now) }
+    ensures { IfOk result (λ partitions. partitions.items ≡ equated_partitions table def.now.columns equals.now) }
 {
     let columns = def.columns.as_slice();
     let mut partitions = Vec::new(alloc);
     for equal in equals {
-        if is_told_apart(columns, equal.column) {
+        if is_partition_position(columns, equal.column) {
             partitions.push(Partition {
                 table,
                 column: equal.column,
@@ -79,11 +79,11 @@ fn equated(
 }
 
 /// Whether there is a column at the position, and it tells partitions apart.
-fn is_told_apart(columns: &[Column], position: u16) -> bool
-    ensures { result ≡ is_told_apart columns.now position }
+fn is_partition_position(columns: &[Column], position: u16) -> bool
+    ensures { result ≡ is_partition_position columns.now position }
 {
     match columns.get(usize::from(position)) {
-        Some(column) => tells_apart(position, column),
+        Some(column) => is_partition_column(position, column),
         None => false,
     }
 }

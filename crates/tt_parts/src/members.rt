@@ -51,7 +51,7 @@ fn add_partition(members: &mut Vec<Partition>, partition: &Partition) -> Result<
     ensures { OnOk result (SamePartitions members.new.items (partition.now ∷ members.old.items)) }
 {
     if !has_partition(members, partition) {
-        members.push(partition.copy()?)?;
+        members.push(partition.clone()?)?;
     }
     Ok(())
 }

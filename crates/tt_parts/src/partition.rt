@@ -1,10 +1,10 @@
-ghost use Rattle.std.specs.Prelude.{◌≡◌, IfOk};
+ghost use Rattle.std.specs.Prelude.{◌≡◌};
 
 use std::alloc::AllocError;
 use tt_values::{Items, Value};
 
 /// The rows of a table that have a value in a column. Tables and columns go by position, from 0.
-#[derive(Clone, Debug, PartialEq, Drop)]
+#[derive(Debug, PartialEq, Drop)]
 pub struct Partition {
     pub table: u16,
     pub column: u16,
@@ -12,7 +12,7 @@ pub struct Partition {
 }
 
 /// What a statement reads.
-#[derive(Clone, Debug, PartialEq, Drop)]
+#[derive(Debug, PartialEq, Drop)]
 pub enum Reads {
     /// The whole table: the statement equates no partition.
     All { table: u16 },
@@ -29,20 +29,35 @@ impl Partition {
     {
         self.table == other.table && self.column == other.column && self.value.is_same(&other.value)
     }
+}
 
-    /// The same partition, in memory of its own.
-    pub fn copy(&self) -> Result<Partition, AllocError>
-        ensures { IfOk result (λ copy. copy ≡ self.now) }
-    {
-        self.clone()
+impl Clone for Partition {
+    ghost use Rattle.std.specs.Prelude.{◌≡◌};
+
+    ghost is_clone = { λ source copy. copy ≡ source };
+
+    fn clone(&self) -> Result<Self, AllocError> {
+        let value = self.value.copy()?;
+        Ok(Partition {
+            table: self.table,
+            column: self.column,
+            value,
+        })
     }
 }
 
-impl Reads {
-    /// The same, in memory of its own.
-    pub fn copy(&self) -> Result<Reads, AllocError>
-        ensures { IfOk result (λ copy. copy ≡ self.now) }
-    {
-        self.clone()
+impl Clone for Reads {
+    ghost use Rattle.std.specs.Prelude.{◌≡◌};
+
+    ghost is_clone = { λ source copy. copy ≡ source };
+
+    fn clone(&self) -> Result<Self, AllocError> {
+        match self {
+            Reads::All { table } => Ok(Reads::All { table: *table }),
+            Reads::Equated(partitions) => {
+                let partitions = partitions.clone()?;
+                Ok(Reads::Equated(partitions))
+            }
+        }
     }
 }

@@ -1,6 +1,6 @@
 ghost use Rattle.std.specs.Prelude.{◌≡◌, ◌≤◌, ◌^◌, ◌++◌, length, IfOk, OnOk};
 ghost use Rattle.std.specs.Option.{option_copied};
-ghost use Rattle.tt_parts.specs.Partitions.{tells_apart, part_at, parts_of};
+ghost use Rattle.tt_parts.specs.Partitions.{is_partition_column, part_at, parts_of};
 
 use crate::partition::Partition;
 use std::alloc::{AllocError, Global};
@@ -38,7 +38,7 @@ fn push_part(
     let Some(value) = value else {
         return Ok(());
     };
-    if tells_apart(position, column) {
+    if is_partition_column(position, column) {
         parts.push(Partition {
             table,
             column: position,
@@ -49,8 +49,8 @@ fn push_part(
 }
 
 /// Whether the column at a position tells partitions apart.
-pub(crate) fn tells_apart(position: u16, column: &Column) -> bool
-    ensures { result ≡ tells_apart position column.now }
+pub(crate) fn is_partition_column(position: u16, column: &Column) -> bool
+    ensures { result ≡ is_partition_column position column.now }
 {
     position == 0 || column.partition
 }

@@ -13,7 +13,7 @@ use Rattle.std.proofs.lemmas.Slice.Eq.{bytes_eq-Decides}
 use Rattle.indexmap.specs.IndexMap.{insert_entry}
 use Rattle.tt_values.proofs.Positions.{position-map}
 use Rattle.tt_values.proofs.FaultLemmas.{NoneHolds, none_holds}
-use Rattle.tt_values.specs.Limits.{most_tables, most_columns}
+use Rattle.tt_values.specs.Limits.{max_tables, max_columns}
 use Rattle.tt_values.specs.declared.table.TableDef.{TableDef}
 use Rattle.tt_values.specs.Tables.{Tables, table_position, is_key_int, IsTable, IsCatalog, is_name, has_same_name, has_same_table}
 use Rattle.tt_values.specs.Catalog.{table_tests, table_fault}
@@ -48,15 +48,15 @@ is_true_from_not true e = refl
 is_true_from_not false e = cc
 
 -- neither number is past its bound
-both_within : (m n : ℕ) → (nat_le most_tables m || nat_lt most_columns n) ≡ false → (m < most_tables) × (n ≤ most_columns)
+both_within : (m n : ℕ) → (nat_le max_tables m || nat_lt max_columns n) ≡ false → (m < max_tables) × (n ≤ max_columns)
 both_within m n h = (grind (arith, nat_tests), grind (arith, nat_tests))
 
 -- what a catalogue knows of a table that it doesn't refuse
 pub record IsAccepted (tables : Tables) (name : List ℕ) (def : TableDef) : Type 0 where
   pub is_new : list_any (λ t. bytes_eq name t.0) tables ≡ false
   pub key_is_int : IsTrue (is_key_int def.columns)
-  pub has_room : length tables < most_tables
-  pub few_columns : length def.columns ≤ most_columns
+  pub has_room : length tables < max_tables
+  pub few_columns : length def.columns ≤ max_columns
   pub named : (is_name name && list_all (λ c. is_name c.name) def.columns) ≡ true
   pub names_differ : has_same_name def.columns ≡ false
 
@@ -72,7 +72,7 @@ accepted_without_fault tables name def h =
       names_differ = none.1.1.1.1.0;
     }
   where
-    room : NoneHolds (table_tests tables name def) → (length tables < most_tables) × (length def.columns ≤ most_columns)
+    room : NoneHolds (table_tests tables name def) → (length tables < max_tables) × (length def.columns ≤ max_columns)
     room none = both_within (length tables) (length def.columns) none.1.1.1.1.1.0
 
 -- names that differ one way differ the other way

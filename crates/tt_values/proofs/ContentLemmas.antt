@@ -4,71 +4,66 @@ use Rattle.std.specs.Ordering.{int_cmp, int_eq, is_eq}
 use Rattle.std.specs.Cmp.{int_cmp_total}
 use Rattle.std.specs.FinMap.Entries as sorted
 use Rattle.tt_values.specs.declared.row.Row.{Row}
-use Rattle.tt_values.specs.Content.{RowsByKey, Content, row_at, with_row, RowWrite, written, no_rows, up_to, for_key, last_row_written}
-use Rattle.tt_values.specs.Laws.{TellsLastRowWrite, RowsRise}
+use Rattle.tt_values.specs.Content.{RowsByKey, Content, row_at, with_row_at, RowWrite, with_row_write, empty_content, up_to, for_key, last_row_written, last_row_written_or}
+use Rattle.tt_values.specs.Laws.{ShowsLastRowWrite, RowsRise}
 
 turned : {A : Type 0} → (b : Bool) (x : A) (y : A) → cond (not b) x y ≡ cond b y x
 turned true x y = refl
 turned false x y = refl
 
 -- one key gets a row or loses it, and the others stay
-pub row_at-with_row : (rows : RowsByKey) (key : ℤ) (row : Option Row) (q : ℤ) → row_at (with_row rows key row) q ≡ cond (int_eq q key) row (row_at rows q)
-row_at-with_row rows key None q =
+pub row_at-with_row_at : (rows : RowsByKey) (key : ℤ) (row : Option Row) (q : ℤ) → row_at (with_row_at rows key row) q ≡ cond (int_eq q key) row (row_at rows q)
+row_at-with_row_at rows key None q =
     sorted.find-where_key int_cmp (λ k. not (int_eq k key)) q (λ x t. ap (λ o. not (is_eq o)) (sym (int_cmp_total.congr q x key t))) rows ∙ turned (int_eq q key) (row_at rows q) None
-row_at-with_row rows key (Some row) q = sorted.find-put int_cmp int_cmp_total q key row rows
+row_at-with_row_at rows key (Some row) q = sorted.find-put int_cmp int_cmp_total q key row rows
 
-pub is_sorted-with_row : (rows : RowsByKey) (key : ℤ) (row : Option Row) → T (sorted.is_sorted int_cmp rows) → T (sorted.is_sorted int_cmp (with_row rows key row))
-is_sorted-with_row rows key None h = sorted.is_sorted-where_key int_cmp (λ k. not (int_eq k key)) rows h
-is_sorted-with_row rows key (Some row) h = sorted.is_sorted-put int_cmp int_cmp_total key row rows h
+pub is_sorted-with_row_at : (rows : RowsByKey) (key : ℤ) (row : Option Row) → T (sorted.is_sorted int_cmp rows) → T (sorted.is_sorted int_cmp (with_row_at rows key row))
+is_sorted-with_row_at rows key None h = sorted.is_sorted-where_key int_cmp (λ k. not (int_eq k key)) rows h
+is_sorted-with_row_at rows key (Some row) h = sorted.is_sorted-put int_cmp int_cmp_total key row rows h
 
 -- a row write changes one key of one table
-pub row_at-written : (X : Content) (w : RowWrite) (table : ℕ) (q : ℤ) → row_at (written X w table) q ≡ cond ((table == w.table) && int_eq q w.key) w.row (row_at (X table) q)
-row_at-written X w table q =
-    elim (table == w.table) as (λ b. row_at (if b then with_row (X table) w.key w.row else X table) q ≡ cond (b && int_eq q w.key) w.row (row_at (X table) q)) [
-      | true ↦ row_at-with_row (X table) w.key w.row q
+pub row_at-with_row_write : (X : Content) (w : RowWrite) (table : ℕ) (q : ℤ) → row_at (with_row_write X w table) q ≡ cond ((table == w.table) && int_eq q w.key) w.row (row_at (X table) q)
+row_at-with_row_write X w table q =
+    elim (table == w.table) as (λ b. row_at (if b then with_row_at (X table) w.key w.row else X table) q ≡ cond (b && int_eq q w.key) w.row (row_at (X table) q)) [
+      | true ↦ row_at-with_row_at (X table) w.key w.row q
       | false ↦ refl
     ]
 
--- what the last row write of a list says, and d where there is none
-abbrev pub said_or : Option Row → List RowWrite → Option Row
-said_or d [] = d
-said_or d (w ∷ ws) = said_or w.row ws
+last_row_written_or-cond : (b : Bool) (d : Option Row) (w : RowWrite) (ws : List RowWrite) → last_row_written_or d (cond b (w ∷ ws) ws) ≡ last_row_written_or (cond b w.row d) ws
+last_row_written_or-cond true d w ws = refl
+last_row_written_or-cond false d w ws = refl
 
-said_or-cond : (b : Bool) (d : Option Row) (w : RowWrite) (ws : List RowWrite) → said_or d (cond b (w ∷ ws) ws) ≡ said_or (cond b w.row d) ws
-said_or-cond true d w ws = refl
-said_or-cond false d w ws = refl
+last_row_written_or-None : (d : Option Row) (w : RowWrite) (ws : List RowWrite) → last_row_written_or d (w ∷ ws) ≡ last_row_written (w ∷ ws)
+last_row_written_or-None d w [] = refl
+last_row_written_or-None d w (v ∷ ws) = last_row_written_or-None w.row v ws
 
-said_or-None : (d : Option Row) (w : RowWrite) (ws : List RowWrite) → said_or d (w ∷ ws) ≡ last_row_written (w ∷ ws)
-said_or-None d w [] = refl
-said_or-None d w (v ∷ ws) = said_or-None w.row v ws
-
-pub last_row_written-said_or : (ws : List RowWrite) → said_or None ws ≡ last_row_written ws
-last_row_written-said_or [] = refl
-last_row_written-said_or (w ∷ ws) = said_or-None None w ws
+pub last_row_written_or-None-is : (ws : List RowWrite) → last_row_written_or None ws ≡ last_row_written ws
+last_row_written_or-None-is [] = refl
+last_row_written_or-None-is (w ∷ ws) = last_row_written_or-None None w ws
 
 -- what row writes leave at a key of a content: what the last for it says, or else what was there
-pub row_at-fold : (ws : List RowWrite) (X : Content) (table : ℕ) (q : ℤ) → row_at (fold written X ws table) q ≡ said_or (row_at (X table) q) (for_key table q ws)
+pub row_at-fold : (ws : List RowWrite) (X : Content) (table : ℕ) (q : ℤ) → row_at (fold with_row_write X ws table) q ≡ last_row_written_or (row_at (X table) q) (for_key table q ws)
 row_at-fold [] X table q = refl
 row_at-fold (w ∷ ws) X table q =
-    row_at-fold ws (written X w) table q
-    ∙ ap (λ d. said_or d (for_key table q ws)) (row_at-written X w table q)
-    ∙ sym (said_or-cond ((table == w.table) && int_eq q w.key) (row_at (X table) q) w (for_key table q ws))
+    row_at-fold ws (with_row_write X w) table q
+    ∙ ap (λ d. last_row_written_or d (for_key table q ws)) (row_at-with_row_write X w table q)
+    ∙ sym (last_row_written_or-cond ((table == w.table) && int_eq q w.key) (row_at (X table) q) w (for_key table q ws))
 
-pub tells_last_row_write : TellsLastRowWrite
-tells_last_row_write ws time table key = row_at-fold (up_to time ws) no_rows table key ∙ last_row_written-said_or (for_key table key (up_to time ws))
+pub shows_last_row_write : ShowsLastRowWrite
+shows_last_row_write ws time table key = row_at-fold (up_to time ws) empty_content table key ∙ last_row_written_or-None-is (for_key table key (up_to time ws))
 
-is_sorted-fold : (ws : List RowWrite) (X : Content) (table : ℕ) → T (sorted.is_sorted int_cmp (X table)) → T (sorted.is_sorted int_cmp (fold written X ws table))
+is_sorted-fold : (ws : List RowWrite) (X : Content) (table : ℕ) → T (sorted.is_sorted int_cmp (X table)) → T (sorted.is_sorted int_cmp (fold with_row_write X ws table))
 is_sorted-fold [] X table h = h
-is_sorted-fold (w ∷ ws) X table h = is_sorted-fold ws (written X w) table (by (table == w.table))
+is_sorted-fold (w ∷ ws) X table h = is_sorted-fold ws (with_row_write X w) table (by (table == w.table))
   where
-    by : (b : Bool) → T (sorted.is_sorted int_cmp (if b then with_row (X table) w.key w.row else X table))
-    by true = is_sorted-with_row (X table) w.key w.row h
+    by : (b : Bool) → T (sorted.is_sorted int_cmp (if b then with_row_at (X table) w.key w.row else X table))
+    by true = is_sorted-with_row_at (X table) w.key w.row h
     by false = h
 
 -- a test that holds computes to true
-true_from_T : (b : Bool) → T b → IsTrue b
+pub true_from_T : (b : Bool) → T b → IsTrue b
 true_from_T true h = refl
 true_from_T false h = absurd h
 
 pub rows_rise : RowsRise
-rows_rise ws time table = true_from_T _ (is_sorted-fold (up_to time ws) no_rows table tt)
+rows_rise ws time table = true_from_T _ (is_sorted-fold (up_to time ws) empty_content table tt)

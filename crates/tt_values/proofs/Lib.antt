@@ -3,4 +3,5 @@ pub mod FaultLemmas
 pub mod CatalogLemmas
 pub mod ContentLemmas
 pub mod RowWritesLemmas
-pub mod WorkedRows
+pub mod LawProofs
+mod WorkedRows

@@ -5,7 +5,7 @@ use Rattle.std.proofs.lemmas.Bool.Decides.{nat_tests}
 use Rattle.std.specs.Option.{unwrap_or}
 use Rattle.tt_values.specs.declared.row.Row.{Row}
 use Rattle.tt_values.specs.declared.statement.Write.{Write}
-use Rattle.tt_values.specs.Content.{Content, RowWrite, written, content_at, no_rows, up_to}
+use Rattle.tt_values.specs.Content.{Content, RowWrite, with_row_write, content_at, empty_content, up_to}
 use Rattle.tt_values.specs.Effect.{table_of, effect}
 use Rattle.tt_values.specs.RowWrites.{Slots, slot_after, slot_writes, row_writes, content_of}
 use Rattle.tt_values.specs.Laws.{SlotsFollow, LaterSlotsChangeNothing, PastStays, LastContentStays, NextContent}
@@ -81,7 +81,7 @@ up_to-more W n (suc more) time h =
 pub past_stays : PastStays
 past_stays W n m time early later =
     let apart : m ≡ (m - n) + n = omega arith in
-    ap (λ k. content_at (row_writes W k) time) apart ∙ ap (fold written no_rows) (up_to-more W n (m - n) time early)
+    ap (λ k. content_at (row_writes W k) time) apart ∙ ap (fold with_row_write empty_content) (up_to-more W n (m - n) time early)
 
 soon : (time later : ℕ) → later ≤ time → nat_le later time ≡ true
 soon time later h = grind (arith, nat_tests)
@@ -108,16 +108,16 @@ up_to-all W (suc n) time h =
     ∙ (λ i. up_to-all W n time (omega arith) i ++ up_to-slot time (suc n) h (slot_after W n) (content_at (row_writes W n) n) i)
 
 pub last_content_stays : LastContentStays
-last_content_stays W n time h = ap (fold written no_rows) (up_to-all W n time h ∙ sym (up_to-all W n n (omega arith)))
+last_content_stays W n time h = ap (fold with_row_write empty_content) (up_to-all W n time h ∙ sym (up_to-all W n n (omega arith)))
 
 pub next_content : NextContent
 unfolding row_writes
 next_content W n =
     let X = content_at (row_writes W n) n in
     let sw = slot_writes (suc n) (slot_after W n) X in
-    ap (fold written no_rows) (up_to-all W (suc n) (suc n) (omega arith))
-    ∙ fold-append written no_rows (row_writes W n) sw
-    ∙ ap (λ ws. fold written (fold written no_rows ws) sw) (sym (up_to-all W n n (omega arith)))
+    ap (fold with_row_write empty_content) (up_to-all W (suc n) (suc n) (omega arith))
+    ∙ fold-append with_row_write empty_content (row_writes W n) sw
+    ∙ ap (λ ws. fold with_row_write (fold with_row_write empty_content ws) sw) (sym (up_to-all W n n (omega arith)))
 
 -- one more slot leaves the content up to now as it was
 pub content_of-stays : (W : Slots) (s : Option Write) (time : ℕ) → time ≤ length W → content_of (W ++ s ∷ []) time ≡ content_of W time
@@ -129,7 +129,7 @@ content_of-stays W s time h =
     ∙ ap (λ ws. content_at ws time) (later_slots_change_nothing W (s ∷ []) n (omega arith))
 
 -- and from the next time on the content is that now with the slot's row writes
-pub content_of-next : (W : Slots) (s : Option Write) (time : ℕ) → suc (length W) ≤ time → let X = content_of W (length W) in content_of (W ++ s ∷ []) time ≡ fold written X (slot_writes (suc (length W)) s X)
+pub content_of-next : (W : Slots) (s : Option Write) (time : ℕ) → suc (length W) ≤ time → let X = content_of W (length W) in content_of (W ++ s ∷ []) time ≡ fold with_row_write X (slot_writes (suc (length W)) s X)
 content_of-next W s time h =
     let n = length W in
     let next : length (W ++ s ∷ []) ≡ suc n = omega (arith, length-append W (s ∷ [])) in
@@ -137,4 +137,4 @@ content_of-next W s time h =
     ap (λ m. content_at (row_writes (W ++ s ∷ []) m) time) next
     ∙ last_content_stays (W ++ s ∷ []) (suc n) time h
     ∙ next_content (W ++ s ∷ []) n
-    ∙ (λ i. fold written (content_at (same i) n) (slot_writes (suc n) (slot_after-next W s i) (content_at (same i) n)))
+    ∙ (λ i. fold with_row_write (content_at (same i) n) (slot_writes (suc n) (slot_after-next W s i) (content_at (same i) n)))

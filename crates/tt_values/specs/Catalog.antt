@@ -2,7 +2,7 @@
 use Rattle.std.specs.Prelude.{ℕ, Bool, not, ◌&&◌, ◌||◌, nat_lt, nat_le, ◌==◌, List, [], ◌∷◌, length, Option, None, Some}
 use Rattle.std.specs.List.{list_all, list_any}
 use Rattle.std.specs.Str.{bytes_eq}
-use Rattle.tt_values.specs.Limits.{most_tables, most_columns}
+use Rattle.tt_values.specs.Limits.{max_tables, max_columns}
 use Rattle.tt_values.specs.declared.table.TableDef.{TableDef}
 use Rattle.tt_values.specs.declared.catalog.CatalogError.{CatalogError}
 use Rattle.tt_values.specs.declared.catalog.CatalogError.TheVariants as errors
@@ -17,7 +17,7 @@ table_tests tables name def =
     ∷ (length def.columns == 0, errors.NoColumns)
     ∷ (not (is_key_int def.columns), errors.KeyNotInt)
     ∷ (has_same_name def.columns, errors.SameColumn)
-    ∷ (nat_le most_tables (length tables) || nat_lt most_columns (length def.columns), errors.TooMany)
+    ∷ (nat_le max_tables (length tables) || nat_lt max_columns (length def.columns), errors.TooMany)
     ∷ []
 
 -- why a catalogue refuses a further table, if it does
@@ -25,6 +25,6 @@ abbrev pub table_fault : Tables → List ℕ → TableDef → Option CatalogErro
 table_fault tables name def = first_fault (table_tests tables name def)
 
 -- the fault that an error tells, where it isn't want of memory
-abbrev pub memory_aside : CatalogError → Option CatalogError
-memory_aside errors.Memory = None
-memory_aside e = Some e
+abbrev pub fault_of_error : CatalogError → Option CatalogError
+fault_of_error errors.Memory = None
+fault_of_error e = Some e

@@ -13,19 +13,19 @@ column_of (changes.Set column value) = column
 column_of (changes.Add column by) = column
 
 -- a number grown by another, held at the bounds of an `i64`. A text stays
-abbrev pub grown : Value → ℤ → Value
-grown (values.Int n) by = values.Int (saturate_signed w64 (n +ℤ by))
-grown (values.Text t) by = values.Text t
+abbrev pub value_plus : Value → ℤ → Value
+value_plus (values.Int n) by = values.Int (saturate_signed w64 (n +ℤ by))
+value_plus (values.Text t) by = values.Text t
 
 -- the value that a change makes of the one in its column
-abbrev pub made_of : Change → Value → Value
-made_of (changes.Set column value) v = value
-made_of (changes.Add column by) v = grown v by
+abbrev pub value_after : Change → Value → Value
+value_after (changes.Set column value) v = value
+value_after (changes.Add column by) v = value_plus v by
 
 -- the value of a column after the change of it, where there is one (the first, where there are several)
 abbrev pub changed_value : List Change → ℕ → Value → Value
 changed_value [] column v = v
-changed_value (c ∷ cs) column v = if column_of c == column then made_of c v else changed_value cs column v
+changed_value (c ∷ cs) column v = if column_of c == column then value_after c v else changed_value cs column v
 
 -- the values of the columns from a position on, after the changes
 abbrev pub changed_values : List Change → ℕ → List Value → List Value

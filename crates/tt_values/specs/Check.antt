@@ -1,7 +1,7 @@
 -- What a statement has to obey on a catalogue.
 use Rattle.std.specs.Prelude.{Bool, false, not, ◌||◌, nat_lt, nat_le, ◌==◌, List, [], ◌∷◌, length, Option, None, Some, IsSome, slice_get}
 use Rattle.std.specs.List.{list_any, zip}
-use Rattle.tt_values.specs.Limits.{most_equals}
+use Rattle.tt_values.specs.Limits.{max_equals}
 use Rattle.tt_values.specs.declared.value.Value.{Value}
 use Rattle.tt_values.specs.declared.table.Column.{Column}
 use Rattle.tt_values.specs.declared.statement.Equal.{Equal}
@@ -45,7 +45,7 @@ has_long_text qs = list_any (λ q. is_long_text q.value) qs
 
 -- whether there are too many equalities
 abbrev pub has_too_many : List Equal → Bool
-has_too_many qs = nat_lt most_equals (length qs)
+has_too_many qs = nat_lt max_equals (length qs)
 
 -- what is looked for in the equalities of a statement, in order
 abbrev pub equals_tests : List Column → List Equal → List (Bool × CheckError)

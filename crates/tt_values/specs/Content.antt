@@ -12,17 +12,17 @@ RowsByKey = List (ℤ × Row)
 abbrev pub Content : Type 0
 Content = ℕ → RowsByKey
 
-abbrev pub no_rows : Content
-no_rows table = []
+abbrev pub empty_content : Content
+empty_content table = []
 
 -- the row with a key
 abbrev pub row_at : RowsByKey → ℤ → Option Row
 row_at rows key = sorted.find int_cmp key rows
 
 -- the rows once a key has that row, or none (the row is gone)
-abbrev pub with_row : RowsByKey → ℤ → Option Row → RowsByKey
-with_row rows key None = sorted.where_key int_cmp (λ k. not (int_eq k key)) rows
-with_row rows key (Some row) = sorted.put int_cmp key row rows
+abbrev pub with_row_at : RowsByKey → ℤ → Option Row → RowsByKey
+with_row_at rows key None = sorted.where_key int_cmp (λ k. not (int_eq k key)) rows
+with_row_at rows key (Some row) = sorted.put int_cmp key row rows
 
 -- a row write: at a time, the key of a table got this row, or lost it
 pub record RowWrite : Type 0 where
@@ -32,8 +32,8 @@ pub record RowWrite : Type 0 where
   pub row : Option Row
 
 -- the content after one more row write
-abbrev pub written : Content → RowWrite → Content
-written X w table = if table == w.table then with_row (X table) w.key w.row else X table
+abbrev pub with_row_write : Content → RowWrite → Content
+with_row_write X w table = if table == w.table then with_row_at (X table) w.key w.row else X table
 
 -- the row writes up to a time
 abbrev pub up_to : ℕ → List RowWrite → List RowWrite
@@ -41,13 +41,18 @@ up_to time ws = filter (λ w. nat_le w.time time) ws
 
 -- the content at a time: that of the row writes up to it, one after another
 abbrev pub content_at : List RowWrite → ℕ → Content
-content_at ws time = fold written no_rows (up_to time ws)
+content_at ws time = fold with_row_write empty_content (up_to time ws)
 
 -- what the last row write of a list says, none where there is none
 abbrev pub last_row_written : List RowWrite → Option Row
 last_row_written [] = None
 last_row_written (w ∷ []) = w.row
 last_row_written (w ∷ v ∷ ws) = last_row_written (v ∷ ws)
+
+-- the same, and a row that was there before where the list is empty
+abbrev pub last_row_written_or : Option Row → List RowWrite → Option Row
+last_row_written_or before [] = before
+last_row_written_or before (w ∷ ws) = last_row_written_or w.row ws
 
 -- the row writes for a key of a table
 abbrev pub for_key : ℕ → ℤ → List RowWrite → List RowWrite

@@ -7,5 +7,5 @@ first_fault [] = None
 first_fault (test ∷ tests) = if test.0 then Some test.1 else first_fault tests
 
 -- the answer of a check: Ok where there is no fault, and else the fault
-abbrev pub TellsFault : {T E : Type 0} → Result T E → Option E → Type 0
-TellsFault r fault = MatchResult r (λ _. fault ≡ None) (λ e. fault ≡ Some e)
+abbrev pub ReportsFault : {T E : Type 0} → Result T E → Option E → Type 0
+ReportsFault r fault = MatchResult r (λ _. fault ≡ None) (λ e. fault ≡ Some e)

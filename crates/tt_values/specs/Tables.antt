@@ -3,7 +3,7 @@ use Rattle.std.specs.Prelude.{◌≡◌, ℕ, ◌≤◌, ◌^◌, if◌then◌el
 use Rattle.std.specs.List.{list_all, list_any}
 use Rattle.std.specs.Option.{option_map}
 use Rattle.std.specs.Str.{bytes_eq}
-use Rattle.tt_values.specs.Limits.{most_name_bytes, most_tables, most_columns}
+use Rattle.tt_values.specs.Limits.{max_name_bytes, max_tables, max_columns}
 use Rattle.tt_values.specs.declared.value.Kind.{Kind}
 use Rattle.tt_values.specs.declared.value.Kind.TheVariants as kinds
 use Rattle.tt_values.specs.declared.table.Column.{Column}
@@ -36,7 +36,7 @@ is_name_byte b = (nat_le 97 b && nat_le b 122) || (nat_le 65 b && nat_le b 90) |
 
 -- whether a text is a name
 abbrev pub is_name : List ℕ → Bool
-is_name name = nat_le 1 (length name) && nat_le (length name) most_name_bytes && list_all is_name_byte name
+is_name name = nat_le 1 (length name) && nat_le (length name) max_name_bytes && list_all is_name_byte name
 
 -- whether a kind is Int
 abbrev pub is_int : Kind → Bool
@@ -61,13 +61,13 @@ has_same_table (t ∷ ts) = list_any (λ u. bytes_eq t.0 u.0) ts || has_same_tab
 -- a table has a first column of kind Int, and no more columns than a table may have
 pub record IsTable (def : TableDef) : Type 0 where
   pub key_is_int : IsTrue (is_key_int def.columns)
-  pub few_columns : length def.columns ≤ most_columns
+  pub few_columns : length def.columns ≤ max_columns
   pub columns_are_named : IsTrue (list_all (λ c. is_name c.name) def.columns)
   pub names_differ : has_same_name def.columns ≡ false
 
 -- what holds of every catalogue
 pub record IsCatalog (tables : Tables) : Type 0 where
-  pub few_tables : length tables ≤ most_tables
+  pub few_tables : length tables ≤ max_tables
   pub sound : All (λ t. IsTable t.1) tables
   pub named : All (λ t. IsTrue (is_name t.0)) tables
   pub names_differ : has_same_table tables ≡ false

@@ -2,7 +2,7 @@
 use Rattle.std.specs.Prelude.{Bool, true, false, nat_lt, length}
 use Rattle.std.specs.Ordering.{int_eq}
 use Rattle.std.specs.Str.{bytes_eq}
-use Rattle.tt_values.specs.Limits.{most_text_bytes}
+use Rattle.tt_values.specs.Limits.{max_text_bytes}
 use Rattle.tt_values.specs.declared.value.Kind.{Kind}
 use Rattle.tt_values.specs.declared.value.Kind.TheVariants as kinds
 use Rattle.tt_values.specs.declared.value.Value.{Value}
@@ -25,4 +25,4 @@ is_same (values.Text s) (values.Text t) = bytes_eq s t
 -- whether a value is a text of more bytes than a text may have
 abbrev pub is_long_text : Value → Bool
 is_long_text (values.Int n) = false
-is_long_text (values.Text t) = nat_lt most_text_bytes (length t)
+is_long_text (values.Text t) = nat_lt max_text_bytes (length t)

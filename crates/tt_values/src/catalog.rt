@@ -1,7 +1,7 @@
 ghost use Rattle.std.specs.Prelude.{◌≡◌, ◌==◌, [], ◌∷◌, ◌++◌, length, slice_get, ◌||◌, nat_le, nat_lt, None, IfSome, OnOk, OnErr, IfErr, ◌≤◌};
 ghost use Rattle.std.specs.List.{list_any};
 ghost use Rattle.std.specs.Str.{bytes_eq};
-ghost use Rattle.tt_values.specs.Limits.{most_tables, most_columns};
+ghost use Rattle.tt_values.specs.Limits.{max_tables, max_columns};
 ghost use Rattle.std.specs.Option.{option_copied, option_map};
 
 use crate::naming::{has_same_name, has_valid_names, is_key_int};
@@ -58,7 +58,7 @@ impl Model for Catalog {
 
 impl Catalog {
     ghost use Rattle.tt_values.specs.Tables.{Tables, table_position, IsTable, IsCatalog};
-    ghost use Rattle.tt_values.specs.Catalog.{table_fault, memory_aside};
+    ghost use Rattle.tt_values.specs.Catalog.{table_fault, fault_of_error};
 
     /// A catalogue without tables. Takes no memory; what `add` takes comes from this allocator.
     pub fn new(alloc: Global) -> Self
@@ -113,7 +113,7 @@ impl Catalog {
     pub fn add(&mut self, name: &str, def: TableDef) -> Result<(), CatalogError>
         ensures ok { OnOk result (self.new ≡ self.old ++ (name.now, def) ∷ []) }
         ensures accepted { OnOk result (table_fault self.old name.now def ≡ None) }
-        ensures refused { IfErr result (λ e. table_fault self.old name.now def ≡ memory_aside e) }
+        ensures refused { IfErr result (λ e. table_fault self.old name.now def ≡ fault_of_error e) }
         ensures err { OnErr result (self.new ≡ self.old) }
     {
         if let Some(fault) = self.fault(name, &def) {
@@ -132,7 +132,7 @@ impl Catalog {
     }
 
     fn has_no_room(&self, def: &TableDef) -> bool
-        ensures { result ≡ (nat_le most_tables (length self.now) || nat_lt most_columns (length def.now.columns)) }
+        ensures { result ≡ (nat_le max_tables (length self.now) || nat_lt max_columns (length def.now.columns)) }
     {
         self.len() >= MAX_TABLES || def.columns.len() > MAX_COLUMNS
     }

@@ -1,5 +1,5 @@
 ghost use Rattle.std.specs.Prelude.{◌≡◌, ◌==◌, IfOk};
-ghost use Rattle.tt_values.specs.Change.{column_of, grown, made_of, changed_value, changed};
+ghost use Rattle.tt_values.specs.Change.{column_of, value_plus, value_after, changed_value, changed};
 
 use crate::items::Items;
 use crate::row::Row;
@@ -28,7 +28,7 @@ fn changed_value(changes: &[Change], column: usize, value: &Value) -> Result<Val
 {
     for change in changes {
         if usize::from(column_of(change)) == column {
-            return made_of(change, value);
+            return value_after(change, value);
         }
     }
     value.copy()
@@ -44,18 +44,18 @@ pub(crate) fn column_of(change: &Change) -> u16
 }
 
 /// What the change makes of the value in its column.
-fn made_of(change: &Change, value: &Value) -> Result<Value, AllocError>
-    ensures { IfOk result (λ v. v ≡ made_of change.now value.now) }
+fn value_after(change: &Change, value: &Value) -> Result<Value, AllocError>
+    ensures { IfOk result (λ v. v ≡ value_after change.now value.now) }
 {
     match change {
         Change::Set { value, .. } => value.copy(),
-        Change::Add { by, .. } => grown(value, *by),
+        Change::Add { by, .. } => value_plus(value, *by),
     }
 }
 
 /// The sum of a number and another, held at the bounds of an `i64`. A text stays.
-fn grown(value: &Value, by: i64) -> Result<Value, AllocError>
-    ensures { IfOk result (λ v. v ≡ grown value.now by) }
+fn value_plus(value: &Value, by: i64) -> Result<Value, AllocError>
+    ensures { IfOk result (λ v. v ≡ value_plus value.now by) }
 {
     match value {
         Value::Int(number) => Ok(Value::Int(number.saturating_add(by))),

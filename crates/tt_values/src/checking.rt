@@ -1,7 +1,7 @@
 ghost use Rattle.std.specs.Prelude.{◌≡◌, ◌==◌, not, length, None, OnOk};
 ghost use Rattle.std.specs.List.{list_any, zip};
 ghost use Rattle.std.specs.Option.{option_copied};
-ghost use Rattle.tt_values.specs.Faults.{first_fault, TellsFault};
+ghost use Rattle.tt_values.specs.Faults.{first_fault, ReportsFault};
 ghost use Rattle.tt_values.specs.Value.{is_of_kind, is_long_text};
 ghost use Rattle.tt_values.specs.Check.{row_tests, equals_tests, update_tests, write_fault, select_fault, has_no_column, has_wrong_kind, has_long_text, has_too_many, is_wrong_kind, HasKey};
 
@@ -48,7 +48,7 @@ pub enum CheckError {
 
 /// Whether a write can be carried out on the catalogue. Takes no memory.
 pub fn check(catalog: &Catalog, write: &Write) -> Result<(), CheckError>
-    ensures fault { TellsFault result (write_fault catalog.now write.now) }
+    ensures fault { ReportsFault result (write_fault catalog.now write.now) }
     ensures keyed { OnOk result (HasKey write.now) }
 {
     match write {
@@ -83,7 +83,7 @@ pub fn check(catalog: &Catalog, write: &Write) -> Result<(), CheckError>
 
 /// Whether a select can be answered on the catalogue. Takes no memory.
 pub fn check_select(catalog: &Catalog, select: &Select) -> Result<(), CheckError>
-    ensures { TellsFault result (select_fault catalog.now select.now) }
+    ensures { ReportsFault result (select_fault catalog.now select.now) }
 {
     let Some(def) = catalog.table(select.table) else {
         return Err(CheckError::NoTable);
@@ -92,7 +92,7 @@ pub fn check_select(catalog: &Catalog, select: &Select) -> Result<(), CheckError
 }
 
 fn ok_unless(fault: Option<CheckError>) -> Result<(), CheckError>
-    ensures { TellsFault result fault }
+    ensures { ReportsFault result fault }
 {
     match fault {
         Some(fault) => Err(fault),

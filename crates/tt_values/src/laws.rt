@@ -1,11 +1,11 @@
 //! Laws of the definitions that the contracts of this crate and of those above it speak by. Each is
 //! the contract of a function without a body.
-ghost use Rattle.tt_values.specs.Laws.{TellsLastRowWrite, RowsRise, SlotsFollow, LaterSlotsChangeNothing, PastStays, LastContentStays, NextContent};
+ghost use Rattle.tt_values.specs.Laws.{ShowsLastRowWrite, RowsRise, SlotsFollow, LaterSlotsChangeNothing, PastStays, LastContentStays, NextContent, OneKeyChanges, RowsStayByRisingKey, RowWriteChangesOneRow, LastRowWriteCounts, EarlierSlotsStay, AddedSlotIsNext, AddedSlotLeavesPast};
 
 /// A content at a time has, for each table and key, what the last row write for it up to that time
 /// says: no row where there is none, or where it says that the row is gone.
-pub fn content_tells_the_last_row_write()
-    ensures { TellsLastRowWrite }
+pub fn a_content_shows_the_last_row_write()
+    ensures { ShowsLastRowWrite }
 {}
 
 /// The rows of a table stand by rising key, each key once.
@@ -36,4 +36,39 @@ pub fn the_last_content_stays()
 /// The content after one more slot is that before it with the slot's row writes.
 pub fn the_next_content_has_the_slot()
     ensures { NextContent }
+{}
+
+/// Among the rows of a table one key gets a row or loses it, and every other key keeps its row.
+pub fn one_key_changes()
+    ensures { OneKeyChanges }
+{}
+
+/// Rows by rising key stay so.
+pub fn rows_stay_by_rising_key()
+    ensures { RowsStayByRisingKey }
+{}
+
+/// One row write changes one key of one table.
+pub fn a_row_write_changes_one_row()
+    ensures { RowWriteChangesOneRow }
+{}
+
+/// Row writes leave at a key what the last of them for it says, or else what was there.
+pub fn the_last_row_write_counts()
+    ensures { LastRowWriteCounts }
+{}
+
+/// The slots of a list are also those of a longer list.
+pub fn earlier_slots_stay()
+    ensures { EarlierSlotsStay }
+{}
+
+/// A slot that is added is the next one.
+pub fn an_added_slot_is_next()
+    ensures { AddedSlotIsNext }
+{}
+
+/// One more slot leaves the contents up to now as they were.
+pub fn an_added_slot_leaves_the_past()
+    ensures { AddedSlotLeavesPast }
 {}

@@ -10,6 +10,7 @@ mod matching;
 mod naming;
 mod reply;
 mod row;
+mod shared;
 mod statement;
 mod table;
 #[cfg(test)]
@@ -24,6 +25,7 @@ pub use items::Items;
 pub use matching::matches;
 pub use reply::Reply;
 pub use row::Row;
+pub use shared::Shared;
 pub use statement::{Change, Equal, Select, Write};
 pub use table::{Column, TableDef};
 pub use text::Text;

@@ -1,11 +1,9 @@
-ghost use Rattle.std.specs.Prelude.{◌≡◌, IfOk};
-
 use crate::items::Items;
 use crate::row::Row;
 use std::alloc::AllocError;
 
 /// What a statement answers.
-#[derive(Clone, Debug, PartialEq, Drop)]
+#[derive(Debug, PartialEq, Drop)]
 pub enum Reply {
     /// An insert added its row.
     Inserted,
@@ -19,11 +17,21 @@ pub enum Reply {
     Rows(Items<Row>),
 }
 
-impl Reply {
-    /// The same reply, in memory of its own.
-    pub fn copy(&self) -> Result<Reply, AllocError>
-        ensures { IfOk result (λ copy. copy ≡ self.now) }
-    {
-        self.clone()
+impl Clone for Reply {
+    ghost use Rattle.std.specs.Prelude.{◌≡◌};
+
+    ghost is_clone = { λ source copy. copy ≡ source };
+
+    fn clone(&self) -> Result<Self, AllocError> {
+        match self {
+            Reply::Inserted => Ok(Reply::Inserted),
+            Reply::Duplicate => Ok(Reply::Duplicate),
+            Reply::Updated(count) => Ok(Reply::Updated(*count)),
+            Reply::Deleted(count) => Ok(Reply::Deleted(*count)),
+            Reply::Rows(rows) => {
+                let rows = rows.clone()?;
+                Ok(Reply::Rows(rows))
+            }
+        }
     }
 }

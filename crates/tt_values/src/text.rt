@@ -1,4 +1,4 @@
-ghost use Rattle.std.specs.Prelude.{◌≡◌, ◌==◌, IfOk, length};
+ghost use Rattle.std.specs.Prelude.{◌≡◌, ◌==◌, length};
 ghost use Rattle.std.specs.String.{string_bytes, string_len};
 
 use std::alloc::AllocError;
@@ -51,13 +51,6 @@ impl Text {
         ensures { string_bytes result ≡ self }
     {
         self.text
-    }
-
-    /// The same text, kept in memory of its own.
-    pub fn copy(&self) -> Result<Self, AllocError>
-        ensures { IfOk result (λ copy. copy ≡ self.now) }
-    {
-        self.clone()
     }
 }
 

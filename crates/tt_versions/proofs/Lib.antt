@@ -1,6 +1,6 @@
 pub mod EntriesLemmas
 pub mod VersionsLemmas
 pub mod SidesLemmas
-pub mod ToldLemmas
+pub mod RowsByWritesLemmas
 pub mod RowsAtLemmas
 pub mod SettledLemmas

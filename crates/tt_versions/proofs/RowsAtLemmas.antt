@@ -7,12 +7,12 @@ use Rattle.std.specs.FinMap.{int_cmp-IsAntisymmetric}
 use Rattle.std.specs.FinMap.Entries as sorted
 use Rattle.tt_values.specs.declared.row.Row.{Row}
 use Rattle.tt_values.specs.Content.{RowsByKey, content_at, row_at}
-use Rattle.tt_values.proofs.ContentLemmas.{rows_rise}
+use Rattle.tt_values.proofs.LawProofs.{rows_rise}
 use Rattle.tt_versions.specs.declared.side.Side.{Side}
-use Rattle.tt_versions.specs.Versions.{shown}
-use Rattle.tt_versions.specs.Lineage.{unwritten, history_on}
-use Rattle.tt_versions.specs.Sides.{Kept, RowsInTime, lineage_at, side_of, Lists}
-use Rattle.tt_versions.specs.Told.{ListsContent}
+use Rattle.tt_versions.specs.Versions.{visible_row}
+use Rattle.tt_versions.specs.Lineage.{unwritten, chain_on}
+use Rattle.tt_versions.specs.Sides.{LineagesByKey, RowsOverTime, lineage_at, side_of, ListsRows}
+use Rattle.tt_versions.specs.RowsByWrites.{ListsContent}
 use Rattle.tt_versions.proofs.EntriesLemmas.{both, first, second, find-below}
 use Rattle.tt_versions.proofs.SidesLemmas.{same_key, shown-unwritten}
 
@@ -22,9 +22,9 @@ with_first key None rows = rows
 with_first key (Some row) rows = (key, row) ∷ rows
 
 -- the rows that a side shows at a time
-abbrev pub rows_of : ℕ → Side → Kept → RowsByKey
+abbrev pub rows_of : ℕ → Side → LineagesByKey → RowsByKey
 rows_of time side [] = []
-rows_of time side (e ∷ es) = with_first e.0 (shown time (history_on side e.1)) (rows_of time side es)
+rows_of time side (e ∷ es) = with_first e.0 (visible_row time (chain_on side e.1)) (rows_of time side es)
 
 with_first-other : (key : ℤ) (o : Option Row) (rows : RowsByKey) (q : ℤ) → int_eq q key ≡ false → row_at (with_first key o rows) q ≡ row_at rows q
 with_first-other key None rows q e = refl
@@ -35,7 +35,7 @@ with_first-same key None rows q e none = none
 with_first-same key (Some row) rows q e none = ap (λ b. cond b (Some row) (row_at rows q)) e
 
 -- the rows have at each key what the side has
-finds : (t : Kept) (time : ℕ) (side : Side) → sorted.is_sorted int_cmp t ≡ true → (q : ℤ) → row_at (rows_of time side t) q ≡ shown time (history_on side (lineage_at t q))
+finds : (t : LineagesByKey) (time : ℕ) (side : Side) → sorted.is_sorted int_cmp t ≡ true → (q : ℤ) → row_at (rows_of time side t) q ≡ visible_row time (chain_on side (lineage_at t q))
 finds [] time side h q = sym (shown-unwritten time side)
 finds (e ∷ es) time side h q = by (int_eq q e.0) refl (finds es time side (second _ _ h) q)
   where
@@ -43,38 +43,38 @@ finds (e ∷ es) time side h q = by (int_eq q e.0) refl (finds es time side (sec
     rows = rows_of time side es
 
     o : Option Row
-    o = shown time (history_on side e.1)
+    o = visible_row time (chain_on side e.1)
 
-    by : (b : Bool) → int_eq q e.0 ≡ b → row_at rows q ≡ shown time (history_on side (lineage_at es q))
-        → row_at (with_first e.0 o rows) q ≡ shown time (history_on side (unwrap_or (cond b (Some e.1) (sorted.find int_cmp q es)) unwritten))
+    by : (b : Bool) → int_eq q e.0 ≡ b → row_at rows q ≡ visible_row time (chain_on side (lineage_at es q))
+        → row_at (with_first e.0 o rows) q ≡ visible_row time (chain_on side (unwrap_or (cond b (Some e.1) (sorted.find int_cmp q es)) unwritten))
     by true is rest =
         let missing = ap (λ k. sorted.find int_cmp k es) (same_key q e.0 is) ∙ find-below e.0 es (first _ _ h) in
-        with_first-same e.0 o rows q is (rest ∙ ap (λ l. shown time (history_on side (unwrap_or l unwritten))) missing ∙ shown-unwritten time side)
+        with_first-same e.0 o rows q is (rest ∙ ap (λ l. visible_row time (chain_on side (unwrap_or l unwritten))) missing ∙ shown-unwritten time side)
     by false is rest = with_first-other e.0 o rows q is ∙ rest
 
-below_all-rows_of : (k : ℤ) (t : Kept) (time : ℕ) (side : Side) → sorted.below_all int_cmp k t ≡ true → sorted.below_all int_cmp k (rows_of time side t) ≡ true
+below_all-rows_of : (k : ℤ) (t : LineagesByKey) (time : ℕ) (side : Side) → sorted.below_all int_cmp k t ≡ true → sorted.below_all int_cmp k (rows_of time side t) ≡ true
 below_all-rows_of k [] time side h = refl
-below_all-rows_of k (e ∷ es) time side h = by (shown time (history_on side e.1)) (below_all-rows_of k es time side (second _ _ h))
+below_all-rows_of k (e ∷ es) time side h = by (visible_row time (chain_on side e.1)) (below_all-rows_of k es time side (second _ _ h))
   where
     by : (o : Option Row) → sorted.below_all int_cmp k (rows_of time side es) ≡ true → sorted.below_all int_cmp k (with_first e.0 o (rows_of time side es)) ≡ true
     by None rest = rest
     by (Some row) rest = both _ _ (first _ _ h) rest
 
 -- and stand by rising key, as the entries do
-is_sorted-rows_of : (t : Kept) (time : ℕ) (side : Side) → sorted.is_sorted int_cmp t ≡ true → sorted.is_sorted int_cmp (rows_of time side t) ≡ true
+is_sorted-rows_of : (t : LineagesByKey) (time : ℕ) (side : Side) → sorted.is_sorted int_cmp t ≡ true → sorted.is_sorted int_cmp (rows_of time side t) ≡ true
 is_sorted-rows_of [] time side h = refl
-is_sorted-rows_of (e ∷ es) time side h = by (shown time (history_on side e.1)) (is_sorted-rows_of es time side (second _ _ h))
+is_sorted-rows_of (e ∷ es) time side h = by (visible_row time (chain_on side e.1)) (is_sorted-rows_of es time side (second _ _ h))
   where
     by : (o : Option Row) → sorted.is_sorted int_cmp (rows_of time side es) ≡ true → sorted.is_sorted int_cmp (with_first e.0 o (rows_of time side es)) ≡ true
     by None rest = rest
     by (Some row) rest = both _ _ (below_all-rows_of e.0 es time side (first _ _ h)) rest
 
-pub lists_rows : (t : Kept) (time : ℕ) (side : Side) → IsTrue (sorted.is_sorted int_cmp t) → Lists (rows_of time side t) (λ key. side_of t side key time)
+pub lists_rows : (t : LineagesByKey) (time : ℕ) (side : Side) → IsTrue (sorted.is_sorted int_cmp t) → ListsRows (rows_of time side t) (λ key. side_of t side key time)
 unfolding side_of
 lists_rows t time side h = record { sorted = is_sorted-rows_of t time side h; finds = finds t time side h }
 
 -- rows by rising key that a side has are those of the content that it is told by
-pub lists_content : (es : RowsByKey) (rows : RowsInTime) (time : ℕ) → Lists es (λ key. rows key time) → ListsContent es rows time
+pub lists_content : (es : RowsByKey) (rows : RowsOverTime) (time : ℕ) → ListsRows es (λ key. rows key time) → ListsContent es rows time
 lists_content es rows time l table ws told =
     sorted.same_entries int_cmp int_cmp_total int_cmp-IsAntisymmetric es (content_at ws time table) (subst T (sym l.sorted) tt) (subst T (sym (rows_rise ws time table)) tt)
     (λ q. l.finds q ∙ (λ i. told i q time))

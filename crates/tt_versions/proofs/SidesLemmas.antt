@@ -11,10 +11,10 @@ use Rattle.tt_versions.specs.declared.side.Side.{Side}
 use Rattle.tt_versions.specs.declared.side.Side.TheVariants.{Current, Next}
 use Rattle.tt_versions.specs.declared.version.Version.{Version}
 use Rattle.tt_versions.specs.declared.lineage.Lineage.{Lineage}
-use Rattle.tt_versions.specs.Versions.{shown}
+use Rattle.tt_versions.specs.Versions.{visible_row}
 use Rattle.tt_versions.specs.Versions as versions
-use Rattle.tt_versions.specs.Lineage.{unwritten, history_on, written, split_back, next_written}
-use Rattle.tt_versions.specs.Sides.{Kept, lineage_at, side_of, is_split, no_rows, none_split, written_from, just_before, held_from, with_key}
+use Rattle.tt_versions.specs.Lineage.{unwritten, chain_on, with_current_write, split_back, with_next_write}
+use Rattle.tt_versions.specs.Sides.{LineagesByKey, lineage_at, side_of, is_split, no_rows, none_split, written_from, just_before, rolled_back_from, with_key}
 use Rattle.tt_versions.proofs.VersionsLemmas.{shown-written, shown-rolled_back}
 
 tied : (o : Ordering) → is_eq o ≡ true → o ≡ Equal
@@ -27,7 +27,7 @@ pub same_key : (q key : ℤ) → int_eq q key ≡ true → q ≡ key
 same_key q key e = int_cmp-IsAntisymmetric q key (tied (int_cmp q key) e)
 
 -- one key gets a lineage, and the others keep theirs
-pub lineage_at-put : (t : Kept) (key : ℤ) (l : Lineage) (q : ℤ) → lineage_at (sorted.put int_cmp key l t) q ≡ cond (int_eq q key) l (lineage_at t q)
+pub lineage_at-put : (t : LineagesByKey) (key : ℤ) (l : Lineage) (q : ℤ) → lineage_at (sorted.put int_cmp key l t) q ≡ cond (int_eq q key) l (lineage_at t q)
 lineage_at-put t key l q = ap (λ o. unwrap_or o unwritten) (sorted.find-put int_cmp int_cmp_total q key l t) ∙ by (int_eq q key)
   where
     by : (b : Bool) → unwrap_or (cond b (Some l) (sorted.find int_cmp q t)) unwritten ≡ cond b l (lineage_at t q)
@@ -35,7 +35,7 @@ lineage_at-put t key l q = ap (λ o. unwrap_or o unwritten) (sorted.find-put int
     by false = refl
 
 -- a row that was never written shows nothing
-pub shown-unwritten : (time : ℕ) (side : Side) → shown time (history_on side unwritten) ≡ None
+pub shown-unwritten : (time : ℕ) (side : Side) → visible_row time (chain_on side unwritten) ≡ None
 shown-unwritten time Current = refl
 shown-unwritten time Next = refl
 
@@ -50,28 +50,28 @@ unfolding is_split
 is_split-new = refl
 
 -- a side on which a row is written
-pub side_written : (t : Kept) (side : Side) (key : ℤ) (row : Option Row) (time : ℕ) (l : Lineage)
-    → ((u : ℕ) → shown u (history_on side l) ≡ (if nat_le time u then row else shown u (history_on side (lineage_at t key))))
+pub side_written : (t : LineagesByKey) (side : Side) (key : ℤ) (row : Option Row) (time : ℕ) (l : Lineage)
+    → ((u : ℕ) → visible_row u (chain_on side l) ≡ (if nat_le time u then row else visible_row u (chain_on side (lineage_at t key))))
     → side_of (sorted.put int_cmp key l t) side ≡ written_from key row time (side_of t side)
 unfolding side_of
-side_written t side key row time l shows = λ i q u. (ap (λ x. shown u (history_on side x)) (lineage_at-put t key l q) ∙ by q u (int_eq q key) refl) i
+side_written t side key row time l shows = λ i q u. (ap (λ x. visible_row u (chain_on side x)) (lineage_at-put t key l q) ∙ by q u (int_eq q key) refl) i
   where
     by : (q : ℤ) (u : ℕ) (b : Bool) → int_eq q key ≡ b
-        → shown u (history_on side (cond b l (lineage_at t q))) ≡ (if b && nat_le time u then row else shown u (history_on side (lineage_at t q)))
-    by q u true e = shows u ∙ ap (λ k. if nat_le time u then row else shown u (history_on side (lineage_at t k))) (sym (same_key q key e))
+        → visible_row u (chain_on side (cond b l (lineage_at t q))) ≡ (if b && nat_le time u then row else visible_row u (chain_on side (lineage_at t q)))
+    by q u true e = shows u ∙ ap (λ k. if nat_le time u then row else visible_row u (chain_on side (lineage_at t k))) (sym (same_key q key e))
     by q u false e = refl
 
 -- a side on which a row keeps its history
-pub side_stays : (t : Kept) (side : Side) (key : ℤ) (l : Lineage) → history_on side l ≡ history_on side (lineage_at t key) → side_of (sorted.put int_cmp key l t) side ≡ side_of t side
+pub side_stays : (t : LineagesByKey) (side : Side) (key : ℤ) (l : Lineage) → chain_on side l ≡ chain_on side (lineage_at t key) → side_of (sorted.put int_cmp key l t) side ≡ side_of t side
 unfolding side_of
-side_stays t side key l same = λ i q u. (ap (λ x. shown u (history_on side x)) (lineage_at-put t key l q) ∙ by q u (int_eq q key) refl) i
+side_stays t side key l same = λ i q u. (ap (λ x. visible_row u (chain_on side x)) (lineage_at-put t key l q) ∙ by q u (int_eq q key) refl) i
   where
-    by : (q : ℤ) (u : ℕ) (b : Bool) → int_eq q key ≡ b → shown u (history_on side (cond b l (lineage_at t q))) ≡ shown u (history_on side (lineage_at t q))
-    by q u true e = ap (shown u) same ∙ ap (λ k. shown u (history_on side (lineage_at t k))) (sym (same_key q key e))
+    by : (q : ℤ) (u : ℕ) (b : Bool) → int_eq q key ≡ b → visible_row u (chain_on side (cond b l (lineage_at t q))) ≡ visible_row u (chain_on side (lineage_at t q))
+    by q u true e = ap (visible_row u) same ∙ ap (λ k. visible_row u (chain_on side (lineage_at t k))) (sym (same_key q key e))
     by q u false e = refl
 
 -- the split keys, where a row stays split or stays whole
-pub split_stays : (t : Kept) (key : ℤ) (l : Lineage) → is_some l.next ≡ is_split t key → is_split (sorted.put int_cmp key l t) ≡ is_split t
+pub split_stays : (t : LineagesByKey) (key : ℤ) (l : Lineage) → is_some l.next ≡ is_split t key → is_split (sorted.put int_cmp key l t) ≡ is_split t
 unfolding is_split
 split_stays t key l same = λ i q. (ap (λ x. is_some x.next) (lineage_at-put t key l q) ∙ by q (int_eq q key) refl) i
   where
@@ -80,7 +80,7 @@ split_stays t key l same = λ i q. (ap (λ x. is_some x.next) (lineage_at-put t 
     by q false e = refl
 
 -- and where it is split
-pub split_grows : (t : Kept) (key : ℤ) (l : Lineage) → is_some l.next ≡ true → is_split (sorted.put int_cmp key l t) ≡ with_key key (is_split t)
+pub split_grows : (t : LineagesByKey) (key : ℤ) (l : Lineage) → is_some l.next ≡ true → is_split (sorted.put int_cmp key l t) ≡ with_key key (is_split t)
 unfolding is_split
 split_grows t key l split = λ i q. (ap (λ x. is_some x.next) (lineage_at-put t key l q) ∙ by q (int_eq q key)) i
   where
@@ -89,12 +89,12 @@ split_grows t key l split = λ i q. (ap (λ x. is_some x.next) (lineage_at-put t
     by q false = refl
 
 -- a current write: the current side
-pub current_written : (t : Kept) (key : ℤ) (row : Option Row) (time : ℕ) → side_of (sorted.put int_cmp key (written row time (lineage_at t key)) t) Current ≡ written_from key row time (side_of t Current)
-current_written t key row time = side_written t Current key row time (written row time (lineage_at t key)) (λ u. shown-written row time u (lineage_at t key).current)
+pub current_written : (t : LineagesByKey) (key : ℤ) (row : Option Row) (time : ℕ) → side_of (sorted.put int_cmp key (with_current_write row time (lineage_at t key)) t) Current ≡ written_from key row time (side_of t Current)
+current_written t key row time = side_written t Current key row time (with_current_write row time (lineage_at t key)) (λ u. shown-written row time u (lineage_at t key).current)
 
 -- and the next side, which it changes where the row isn't split
-pub next_of_written : (t : Kept) (key : ℤ) (row : Option Row) (time : ℕ)
-    → side_of (sorted.put int_cmp key (written row time (lineage_at t key)) t) Next ≡ (if is_split t key then side_of t Next else written_from key row time (side_of t Next))
+pub next_of_written : (t : LineagesByKey) (key : ℤ) (row : Option Row) (time : ℕ)
+    → side_of (sorted.put int_cmp key (with_current_write row time (lineage_at t key)) t) Next ≡ (if is_split t key then side_of t Next else written_from key row time (side_of t Next))
 unfolding is_split
 next_of_written t key row time = by (lineage_at t key).next refl
   where
@@ -102,45 +102,45 @@ next_of_written t key row time = by (lineage_at t key).next refl
     l = lineage_at t key
 
     new : List Version
-    new = versions.written row time l.current
+    new = versions.with_write row time l.current
 
     by : (n : Option (List Version)) → l.next ≡ n
-        → side_of (sorted.put int_cmp key (written row time l) t) Next ≡ (if is_some n then side_of t Next else written_from key row time (side_of t Next))
-    by (Some n) e = side_stays t Next key (written row time l) (ap (λ m. unwrap_or m new) e ∙ sym (ap (λ m. unwrap_or m l.current) e))
+        → side_of (sorted.put int_cmp key (with_current_write row time l) t) Next ≡ (if is_some n then side_of t Next else written_from key row time (side_of t Next))
+    by (Some n) e = side_stays t Next key (with_current_write row time l) (ap (λ m. unwrap_or m new) e ∙ sym (ap (λ m. unwrap_or m l.current) e))
     by None e =
-        side_written t Next key row time (written row time l)
-        (λ u. ap (λ m. shown u (unwrap_or m new)) e ∙ shown-written row time u l.current ∙ ap (λ m. if nat_le time u then row else shown u (unwrap_or m l.current)) (sym e))
+        side_written t Next key row time (with_current_write row time l)
+        (λ u. ap (λ m. visible_row u (unwrap_or m new)) e ∙ shown-written row time u l.current ∙ ap (λ m. if nat_le time u then row else visible_row u (unwrap_or m l.current)) (sym e))
 
-pub split_of_written : (t : Kept) (key : ℤ) (row : Option Row) (time : ℕ) → is_split (sorted.put int_cmp key (written row time (lineage_at t key)) t) ≡ is_split t
-split_of_written t key row time = split_stays t key (written row time (lineage_at t key)) (unfold is_split in refl)
+pub split_of_written : (t : LineagesByKey) (key : ℤ) (row : Option Row) (time : ℕ) → is_split (sorted.put int_cmp key (with_current_write row time (lineage_at t key)) t) ≡ is_split t
+split_of_written t key row time = split_stays t key (with_current_write row time (lineage_at t key)) (unfold is_split in refl)
 
 -- a row is split and rolled back
-pub current_of_split_back : (t : Kept) (key : ℤ) (time : ℕ) → side_of (sorted.put int_cmp key (split_back time (lineage_at t key)) t) Current ≡ side_of t Current
+pub current_of_split_back : (t : LineagesByKey) (key : ℤ) (time : ℕ) → side_of (sorted.put int_cmp key (split_back time (lineage_at t key)) t) Current ≡ side_of t Current
 current_of_split_back t key time = side_stays t Current key (split_back time (lineage_at t key)) refl
 
-pub next_rolled_back : (t : Kept) (key : ℤ) (time : ℕ) → side_of (sorted.put int_cmp key (split_back time (lineage_at t key)) t) Next ≡ held_from key time (side_of t Next)
+pub next_rolled_back : (t : LineagesByKey) (key : ℤ) (time : ℕ) → side_of (sorted.put int_cmp key (split_back time (lineage_at t key)) t) Next ≡ rolled_back_from key time (side_of t Next)
 unfolding side_of
 next_rolled_back t key time =
-    side_written t Next key (just_before time (side_of t Next key)) time (split_back time (lineage_at t key)) (λ u. shown-rolled_back time u (history_on Next (lineage_at t key)))
+    side_written t Next key (just_before time (side_of t Next key)) time (split_back time (lineage_at t key)) (λ u. shown-rolled_back time u (chain_on Next (lineage_at t key)))
 
-pub split_of_split_back : (t : Kept) (key : ℤ) (time : ℕ) → is_split (sorted.put int_cmp key (split_back time (lineage_at t key)) t) ≡ with_key key (is_split t)
+pub split_of_split_back : (t : LineagesByKey) (key : ℤ) (time : ℕ) → is_split (sorted.put int_cmp key (split_back time (lineage_at t key)) t) ≡ with_key key (is_split t)
 split_of_split_back t key time = split_grows t key (split_back time (lineage_at t key)) refl
 
 -- a write on the next side of a split row
-pub current_of_next_written : (t : Kept) (key : ℤ) (row : Option Row) (time : ℕ) → side_of (sorted.put int_cmp key (next_written row time (lineage_at t key)) t) Current ≡ side_of t Current
-current_of_next_written t key row time = side_stays t Current key (next_written row time (lineage_at t key)) refl
+pub current_of_next_written : (t : LineagesByKey) (key : ℤ) (row : Option Row) (time : ℕ) → side_of (sorted.put int_cmp key (with_next_write row time (lineage_at t key)) t) Current ≡ side_of t Current
+current_of_next_written t key row time = side_stays t Current key (with_next_write row time (lineage_at t key)) refl
 
-pub next_of_next_written : (t : Kept) (key : ℤ) (row : Option Row) (time : ℕ) → side_of (sorted.put int_cmp key (next_written row time (lineage_at t key)) t) Next ≡ written_from key row time (side_of t Next)
-next_of_next_written t key row time = side_written t Next key row time (next_written row time (lineage_at t key)) (λ u. shown-written row time u (history_on Next (lineage_at t key)))
+pub next_of_next_written : (t : LineagesByKey) (key : ℤ) (row : Option Row) (time : ℕ) → side_of (sorted.put int_cmp key (with_next_write row time (lineage_at t key)) t) Next ≡ written_from key row time (side_of t Next)
+next_of_next_written t key row time = side_written t Next key row time (with_next_write row time (lineage_at t key)) (λ u. shown-written row time u (chain_on Next (lineage_at t key)))
 
-pub split_of_next_written : (t : Kept) (key : ℤ) (row : Option Row) (time : ℕ) → is_split t key ≡ true → is_split (sorted.put int_cmp key (next_written row time (lineage_at t key)) t) ≡ is_split t
-split_of_next_written t key row time split = split_stays t key (next_written row time (lineage_at t key)) (sym split)
+pub split_of_next_written : (t : LineagesByKey) (key : ℤ) (row : Option Row) (time : ℕ) → is_split t key ≡ true → is_split (sorted.put int_cmp key (with_next_write row time (lineage_at t key)) t) ≡ is_split t
+split_of_next_written t key row time split = split_stays t key (with_next_write row time (lineage_at t key)) (sym split)
 
 -- a row that isn't split shows the same on both sides
-pub shared : (t : Kept) (key : ℤ) → is_split t key ≡ false → side_of t Next key ≡ side_of t Current key
+pub shared : (t : LineagesByKey) (key : ℤ) → is_split t key ≡ false → side_of t Next key ≡ side_of t Current key
 unfolding is_split side_of
 shared t key whole = λ i u. by (lineage_at t key).next whole u i
   where
-    by : (n : Option (List Version)) → is_some n ≡ false → (u : ℕ) → shown u (unwrap_or n (lineage_at t key).current) ≡ shown u (lineage_at t key).current
+    by : (n : Option (List Version)) → is_some n ≡ false → (u : ℕ) → visible_row u (unwrap_or n (lineage_at t key).current) ≡ visible_row u (lineage_at t key).current
     by None e u = refl
     by (Some n) e u = cc

@@ -3,46 +3,46 @@ use Rattle.std.proofs.Common.{◌≡◌, ℕ, zero, suc, ◌<◌, ◌≤◌, Boo
 use Rattle.std.proofs.lemmas.Bool.Decides.{nat_tests}
 use Rattle.tt_values.specs.declared.row.Row.{Row}
 use Rattle.tt_versions.specs.declared.version.Version.{Version}
-use Rattle.tt_versions.specs.Versions.{is_after, is_before, is_visible, shown, started_before, ended_by, reopened_from, version_of, written, rolled_back}
+use Rattle.tt_versions.specs.Versions.{is_after, is_before, is_visible, visible_row, started_before, ended_by, reopened_from, version_of, with_write, without_writes_from}
 use Rattle.tt_versions.specs.Sides.{just_before}
 
 -- versions that were filtered and changed show what passes both tests
 shown-changed : (f : Version → Version) (p : Version → Bool) (u w : ℕ) → ((v : Version) → (f v).row ≡ v.row) → ((v : Version) → (p v && is_visible u (f v)) ≡ is_visible w v)
-    → (vs : List Version) → shown u (map f (filter p vs)) ≡ shown w vs
+    → (vs : List Version) → visible_row u (map f (filter p vs)) ≡ visible_row w vs
 shown-changed f p u w row same [] = refl
-shown-changed f p u w row same (v ∷ vs) = by (p v) (shown-changed f p u w row same vs) ∙ ap (λ b. if b then Some v.row else shown w vs) (same v)
+shown-changed f p u w row same (v ∷ vs) = by (p v) (shown-changed f p u w row same vs) ∙ ap (λ b. if b then Some v.row else visible_row w vs) (same v)
   where
-    by : (b : Bool) → shown u (map f (filter p vs)) ≡ shown w vs → shown u (map f (cond b (v ∷ filter p vs) (filter p vs))) ≡ (if b && is_visible u (f v) then Some v.row else shown w vs)
+    by : (b : Bool) → visible_row u (map f (filter p vs)) ≡ visible_row w vs → visible_row u (map f (cond b (v ∷ filter p vs) (filter p vs))) ≡ (if b && is_visible u (f v) then Some v.row else visible_row w vs)
     by true h = λ i. if is_visible u (f v) then Some (row v i) else h i
     by false h = h
 
 -- versions that are no longer there show nothing
-shown-gone : (f : Version → Version) (p : Version → Bool) (u : ℕ) → ((v : Version) → (p v && is_visible u (f v)) ≡ false) → (vs : List Version) → shown u (map f (filter p vs)) ≡ None
+shown-gone : (f : Version → Version) (p : Version → Bool) (u : ℕ) → ((v : Version) → (p v && is_visible u (f v)) ≡ false) → (vs : List Version) → visible_row u (map f (filter p vs)) ≡ None
 shown-gone f p u gone [] = refl
 shown-gone f p u gone (v ∷ vs) = by (p v) (gone v) (shown-gone f p u gone vs)
   where
-    by : (b : Bool) → (b && is_visible u (f v)) ≡ false → shown u (map f (filter p vs)) ≡ None → shown u (map f (cond b (v ∷ filter p vs) (filter p vs))) ≡ None
-    by true g h = ap (λ b. if b then Some (f v).row else shown u (map f (filter p vs))) g ∙ h
+    by : (b : Bool) → (b && is_visible u (f v)) ≡ false → visible_row u (map f (filter p vs)) ≡ None → visible_row u (map f (cond b (v ∷ filter p vs) (filter p vs))) ≡ None
+    by true g h = ap (λ b. if b then Some (f v).row else visible_row u (map f (filter p vs))) g ∙ h
     by false g h = h
 
-shown-append : (u : ℕ) (vs ws : List Version) → shown u vs ≡ None → shown u (vs ++ ws) ≡ shown u ws
+shown-append : (u : ℕ) (vs ws : List Version) → visible_row u vs ≡ None → visible_row u (vs ++ ws) ≡ visible_row u ws
 shown-append u [] ws none = refl
 shown-append u (v ∷ vs) ws none = by (is_visible u v) none (shown-append u vs ws)
   where
-    by : (b : Bool) → (if b then Some v.row else shown u vs) ≡ None → (shown u vs ≡ None → shown u (vs ++ ws) ≡ shown u ws) → (if b then Some v.row else shown u (vs ++ ws)) ≡ shown u ws
+    by : (b : Bool) → (if b then Some v.row else visible_row u vs) ≡ None → (visible_row u vs ≡ None → visible_row u (vs ++ ws) ≡ visible_row u ws) → (if b then Some v.row else visible_row u (vs ++ ws)) ≡ visible_row u ws
     by true none h = cc
     by false none h = h none
 
-shown-append_hidden : (u : ℕ) (vs ws : List Version) → shown u ws ≡ None → shown u (vs ++ ws) ≡ shown u vs
+shown-append_hidden : (u : ℕ) (vs ws : List Version) → visible_row u ws ≡ None → visible_row u (vs ++ ws) ≡ visible_row u vs
 shown-append_hidden u [] ws none = none
 shown-append_hidden u (v ∷ vs) ws none = ap (λ rest. if is_visible u v then Some v.row else rest) (shown-append_hidden u vs ws none)
 
 -- the version of a write shows from its time on
-version_of-early : (row : Option Row) (time u : ℕ) → u < time → shown u (version_of row time) ≡ None
+version_of-early : (row : Option Row) (time u : ℕ) → u < time → visible_row u (version_of row time) ≡ None
 version_of-early None time u h = refl
 version_of-early (Some row) time u h = let late : nat_le time u ≡ false = grind (arith, nat_tests) in ap (λ b. if b && true then Some row else None) late
 
-version_of-late : (row : Option Row) (time u : ℕ) → time ≤ u → shown u (version_of row time) ≡ row
+version_of-late : (row : Option Row) (time u : ℕ) → time ≤ u → visible_row u (version_of row time) ≡ row
 version_of-late None time u h = refl
 version_of-late (Some row) time u h = let soon : nat_le time u ≡ true = grind (arith, nat_tests) in ap (λ b. if b && true then Some row else None) soon
 
@@ -110,13 +110,13 @@ pub late : (time u : ℕ) → nat_le time u ≡ true → time ≤ u
 late time u h = grind (arith, nat_tests)
 
 -- a row that is written shows from its time on
-pub shown-written : (row : Option Row) (time u : ℕ) (vs : List Version) → shown u (written row time vs) ≡ (if nat_le time u then row else shown u vs)
+pub shown-written : (row : Option Row) (time u : ℕ) (vs : List Version) → visible_row u (with_write row time vs) ≡ (if nat_le time u then row else visible_row u vs)
 shown-written row time u vs = by (nat_le time u) refl
   where
     kept : List Version
     kept = map (ended_by time) (started_before time vs)
 
-    by : (b : Bool) → nat_le time u ≡ b → shown u (kept ++ version_of row time) ≡ (if b then row else shown u vs)
+    by : (b : Bool) → nat_le time u ≡ b → visible_row u (kept ++ version_of row time) ≡ (if b then row else visible_row u vs)
     by true e =
         let h = late time u e in
         shown-append u kept (version_of row time) (shown-gone (ended_by time) (λ v. nat_lt v.start time) u (λ v. ended_late v.start time u v.end v.row h) vs) ∙ version_of-late row time u h
@@ -126,13 +126,13 @@ shown-written row time u vs = by (nat_le time u) refl
         ∙ shown-changed (ended_by time) (λ v. nat_lt v.start time) u u (row-ended_by time) (λ v. ended_early v.start time u v.end v.row h) vs
 
 -- a row that is rolled back shows from the time on what it showed just before
-pub shown-rolled_back : (time u : ℕ) (vs : List Version) → shown u (rolled_back time vs) ≡ (if nat_le time u then just_before time (λ w. shown w vs) else shown u vs)
+pub shown-rolled_back : (time u : ℕ) (vs : List Version) → visible_row u (without_writes_from time vs) ≡ (if nat_le time u then just_before time (λ w. visible_row w vs) else visible_row u vs)
 shown-rolled_back time u vs = by (nat_le time u) refl
   where
-    after : (t : ℕ) → t ≤ u → shown u (rolled_back t vs) ≡ just_before t (λ w. shown w vs)
+    after : (t : ℕ) → t ≤ u → visible_row u (without_writes_from t vs) ≡ just_before t (λ w. visible_row w vs)
     after zero h = shown-gone (reopened_from zero) (λ v. nat_lt v.start zero) u (λ v. never_started v.start (is_visible u (reopened_from zero v))) vs
     after (suc n) h = shown-changed (reopened_from (suc n)) (λ v. nat_lt v.start (suc n)) u n (row-reopened_from (suc n)) (λ v. reopened_late v.start n u v.end v.row (omega arith)) vs
 
-    by : (b : Bool) → nat_le time u ≡ b → shown u (rolled_back time vs) ≡ (if b then just_before time (λ w. shown w vs) else shown u vs)
+    by : (b : Bool) → nat_le time u ≡ b → visible_row u (without_writes_from time vs) ≡ (if b then just_before time (λ w. visible_row w vs) else visible_row u vs)
     by true e = after time (late time u e)
     by false e = shown-changed (reopened_from time) (λ v. nat_lt v.start time) u u (row-reopened_from time) (λ v. reopened_early v.start time u v.end v.row (early time u e)) vs

@@ -1,4 +1,4 @@
 pub mod Versions
 pub mod Lineage
 pub mod Sides
-pub mod Told
+pub mod RowsByWrites

@@ -13,26 +13,26 @@ abbrev pub unwritten : Lineage
 unwritten = record { current = []; next = None }
 
 -- the versions that a side shows: a row that isn't split has the current ones on both sides
-abbrev pub history_on : Side → Lineage → List Version
-history_on Current l = l.current
-history_on Next l = unwrap_or l.next l.current
+abbrev pub chain_on : Side → Lineage → List Version
+chain_on Current l = l.current
+chain_on Next l = unwrap_or l.next l.current
 
 -- a current write changes the history that both sides share, or that of the current side alone
-abbrev pub written : Option Row → ℕ → Lineage → Lineage
-written row time l = record l { current = versions.written row time l.current }
+abbrev pub with_current_write : Option Row → ℕ → Lineage → Lineage
+with_current_write row time l = record l { current = versions.with_write row time l.current }
 
 -- the row gets a next side of its own, rolled back to before a time
 abbrev pub split_back : ℕ → Lineage → Lineage
-split_back time l = record l { next = Some (versions.rolled_back time (history_on Next l)) }
+split_back time l = record l { next = Some (versions.without_writes_from time (chain_on Next l)) }
 
 -- a write on the next side of its own
-abbrev pub next_written : Option Row → ℕ → Lineage → Lineage
-next_written row time l = record l { next = Some (versions.written row time (history_on Next l)) }
+abbrev pub with_next_write : Option Row → ℕ → Lineage → Lineage
+with_next_write row time l = record l { next = Some (versions.with_write row time (chain_on Next l)) }
 
 -- both sides share what the next one has
-abbrev pub switched : Lineage → Lineage
-switched l = record { current = history_on Next l; next = None }
+abbrev pub switched_lineage : Lineage → Lineage
+switched_lineage l = record { current = chain_on Next l; next = None }
 
 -- both sides share what the current one has
-abbrev pub aborted : Lineage → Lineage
-aborted l = record { current = l.current; next = None }
+abbrev pub aborted_lineage : Lineage → Lineage
+aborted_lineage l = record { current = l.current; next = None }

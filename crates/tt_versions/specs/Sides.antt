@@ -7,39 +7,39 @@ use Rattle.tt_values.specs.declared.row.Row.{Row}
 use Rattle.tt_values.specs.Content.{RowsByKey, row_at}
 use Rattle.tt_versions.specs.declared.side.Side.{Side}
 use Rattle.tt_versions.specs.declared.lineage.Lineage.{Lineage}
-use Rattle.tt_versions.specs.Versions.{shown}
-use Rattle.tt_versions.specs.Lineage.{unwritten, history_on}
+use Rattle.tt_versions.specs.Versions.{visible_row}
+use Rattle.tt_versions.specs.Lineage.{unwritten, chain_on}
 
 -- what a table keeps, by rising key
-abbrev pub Kept : Type 0
-Kept = List (ℤ × Lineage)
+abbrev pub LineagesByKey : Type 0
+LineagesByKey = List (ℤ × Lineage)
 
 -- nothing, as a table without rows keeps
-abbrev pub nothing_kept : Kept
-nothing_kept = []
+abbrev pub no_lineages : LineagesByKey
+no_lineages = []
 
 -- for each key and time, the row, or none
-abbrev pub RowsInTime : Type 0
-RowsInTime = ℤ → ℕ → Option Row
+abbrev pub RowsOverTime : Type 0
+RowsOverTime = ℤ → ℕ → Option Row
 
 -- what is kept of the row with a key
-abbrev pub lineage_at : Kept → ℤ → Lineage
+abbrev pub lineage_at : LineagesByKey → ℤ → Lineage
 lineage_at t key = unwrap_or (sorted.find int_cmp key t) unwritten
 
 -- a side of a table
-unfoldable pub side_of : Kept → Side → RowsInTime
-side_of t side key time = shown time (history_on side (lineage_at t key))
+unfoldable pub side_of : LineagesByKey → Side → RowsOverTime
+side_of t side key time = visible_row time (chain_on side (lineage_at t key))
 
 -- whether the row with a key is split: it has a next side of its own
-unfoldable pub is_split : Kept → ℤ → Bool
+unfoldable pub is_split : LineagesByKey → ℤ → Bool
 is_split t key = is_some (lineage_at t key).next
 
 -- no key has a row at any time
-abbrev pub no_rows : RowsInTime
+abbrev pub no_rows : RowsOverTime
 no_rows key time = None
 
 -- a side, once a key has that row, or none, from a time on
-abbrev pub written_from : ℤ → Option Row → ℕ → RowsInTime → RowsInTime
+abbrev pub written_from : ℤ → Option Row → ℕ → RowsOverTime → RowsOverTime
 written_from key row time rows q u = if int_eq q key && nat_le time u then row else rows q u
 
 -- the row just before a time. Before time 0 there is none
@@ -48,8 +48,8 @@ just_before zero rows = None
 just_before (suc n) rows = rows n
 
 -- a side, once a key is rolled back to before a time: from then on it is held at the row that it had just before
-abbrev pub held_from : ℤ → ℕ → RowsInTime → RowsInTime
-held_from key time rows = written_from key (just_before time (rows key)) time rows
+abbrev pub rolled_back_from : ℤ → ℕ → RowsOverTime → RowsOverTime
+rolled_back_from key time rows = written_from key (just_before time (rows key)) time rows
 
 -- no key is split
 abbrev pub none_split : ℤ → Bool
@@ -60,6 +60,6 @@ abbrev pub with_key : ℤ → (ℤ → Bool) → ℤ → Bool
 with_key key keys q = int_eq q key || keys q
 
 -- a list has the row of each key, by rising key
-pub record Lists (es : RowsByKey) (rows : ℤ → Option Row) : Type 0 where
+pub record ListsRows (es : RowsByKey) (rows : ℤ → Option Row) : Type 0 where
   pub sorted : IsTrue (sorted.is_sorted int_cmp es)
   pub finds : (key : ℤ) → row_at es key ≡ rows key

@@ -18,9 +18,9 @@ abbrev pub is_visible : ℕ → Version → Bool
 is_visible time v = nat_le v.start time && is_after time v.end
 
 -- the row that versions show at a time: that of the first that is visible then
-abbrev pub shown : ℕ → List Version → Option Row
-shown time [] = None
-shown time (v ∷ vs) = if is_visible time v then Some v.row else shown time vs
+abbrev pub visible_row : ℕ → List Version → Option Row
+visible_row time [] = None
+visible_row time (v ∷ vs) = if is_visible time v then Some v.row else visible_row time vs
 
 -- the versions that started before a time
 abbrev pub started_before : ℕ → List Version → List Version
@@ -40,9 +40,9 @@ version_of None time = []
 version_of (Some row) time = record { row = row; start = time; end = None } ∷ []
 
 -- a row, or none, is written at a time: it ends the version that is live then, and takes the place of later ones
-abbrev pub written : Option Row → ℕ → List Version → List Version
-written row time vs = map (ended_by time) (started_before time vs) ++ version_of row time
+abbrev pub with_write : Option Row → ℕ → List Version → List Version
+with_write row time vs = map (ended_by time) (started_before time vs) ++ version_of row time
 
 -- rolling back to before a time drops the versions that started then or later, and opens the ends that came then or later
-abbrev pub rolled_back : ℕ → List Version → List Version
-rolled_back time vs = map (reopened_from time) (started_before time vs)
+abbrev pub without_writes_from : ℕ → List Version → List Version
+without_writes_from time vs = map (reopened_from time) (started_before time vs)

@@ -2,7 +2,6 @@
 //! can be rolled back and rewritten row by row while the current one stays.
 #![tactic(auto)]
 
-mod history;
 mod lineage;
 mod lineages;
 mod side;
@@ -10,6 +9,7 @@ mod table;
 #[cfg(test)]
 mod tests;
 mod version;
+mod version_chain;
 
 pub use side::Side;
 pub use table::Table;

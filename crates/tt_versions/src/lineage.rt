@@ -1,30 +1,30 @@
 ghost use Rattle.std.specs.Prelude.{◌≡◌, None, is_some, IfOk};
 ghost use Rattle.std.specs.Option.{option_copied};
 
-use crate::history::History;
+use crate::version_chain::VersionChain;
 use crate::side::Side;
 use std::alloc::{AllocError, Global};
 use tt_values::Row;
 
 /// What is kept of one row. Where a version lies tells the generations that it belongs to: a row
-/// that isn't split has one history, which both sides share.
+/// that isn't split has one chain, which both sides share.
 #[derive(Debug, Drop)]
 pub(crate) struct Lineage {
-    current: History,
-    /// The next side's own history, where the row is split.
-    next: Option<History>,
+    current: VersionChain,
+    /// The next side's own chain, where the row is split.
+    next: Option<VersionChain>,
 }
 
 impl Lineage {
-    ghost use Rattle.tt_versions.specs.Versions.{shown};
-    ghost use Rattle.tt_versions.specs.Lineage.{unwritten, history_on, written, split_back, next_written, switched, aborted};
+    ghost use Rattle.tt_versions.specs.Versions.{visible_row};
+    ghost use Rattle.tt_versions.specs.Lineage.{unwritten, chain_on, with_current_write, split_back, with_next_write, switched_lineage, aborted_lineage};
 
     /// A row that was never written.
     pub(crate) fn new(alloc: Global) -> Lineage
         ensures { result ≡ unwritten }
     {
         Lineage {
-            current: History::new(alloc),
+            current: VersionChain::new(alloc),
             next: None,
         }
     }
@@ -37,23 +37,23 @@ impl Lineage {
 
     /// The row at the time on that side.
     pub(crate) fn at(&self, time: u64, side: Side) -> Option<&Row>
-        ensures { option_copied result ≡ shown time (history_on side self.now) }
+        ensures { option_copied result ≡ visible_row time (chain_on side self.now) }
     {
-        self.history(side).at(time)
+        self.chain(side).at(time)
     }
 
-    /// The history that a side shows.
-    fn history(&self, side: Side) -> &History
-        ensures { result.now ≡ history_on side self.now }
+    /// The chain that a side shows.
+    fn chain(&self, side: Side) -> &VersionChain
+        ensures { result.now ≡ chain_on side self.now }
     {
         match side {
             Side::Current => &self.current,
-            Side::Next => self.next_history(),
+            Side::Next => self.next_chain(),
         }
     }
 
-    fn next_history(&self) -> &History
-        ensures { result.now ≡ history_on Side.Next self.now }
+    fn next_chain(&self) -> &VersionChain
+        ensures { result.now ≡ chain_on Side.Next self.now }
     {
         match &self.next {
             Some(next) => next,
@@ -62,10 +62,10 @@ impl Lineage {
     }
 
     /// The row, or none, is written at the time in the current generation.
-    pub(crate) fn written(self, row: Option<Row>, time: u64) -> Result<Lineage, AllocError>
-        ensures { IfOk result (λ l. l ≡ written row time self) }
+    pub(crate) fn with_current_write(self, row: Option<Row>, time: u64) -> Result<Lineage, AllocError>
+        ensures { IfOk result (λ l. l ≡ with_current_write row time self) }
     {
-        let current = self.current.written(row, time)?;
+        let current = self.current.with_write(row, time)?;
         Ok(Lineage {
             current,
             next: self.next,
@@ -76,8 +76,8 @@ impl Lineage {
     pub(crate) fn split_back(self, time: u64) -> Result<Lineage, AllocError>
         ensures { IfOk result (λ l. l ≡ split_back time self) }
     {
-        let (current, next) = self.histories()?;
-        let next = next.rolled_back(time);
+        let (current, next) = self.both_chains()?;
+        let next = next.without_writes_from(time);
         Ok(Lineage {
             current,
             next: Some(next),
@@ -85,21 +85,21 @@ impl Lineage {
     }
 
     /// The row, or none, is written at the time on its own next side.
-    pub(crate) fn next_written(self, row: Option<Row>, time: u64) -> Result<Lineage, AllocError>
-        ensures { IfOk result (λ l. l ≡ next_written row time self) }
+    pub(crate) fn with_next_write(self, row: Option<Row>, time: u64) -> Result<Lineage, AllocError>
+        ensures { IfOk result (λ l. l ≡ with_next_write row time self) }
     {
-        let (current, next) = self.histories()?;
-        let next = next.written(row, time)?;
+        let (current, next) = self.both_chains()?;
+        let next = next.with_write(row, time)?;
         Ok(Lineage {
             current,
             next: Some(next),
         })
     }
 
-    /// The history of each side, in memory of its own.
-    fn histories(self) -> Result<(History, History), AllocError>
+    /// The chain of each side, in memory of its own.
+    fn both_chains(self) -> Result<(VersionChain, VersionChain), AllocError>
         ensures current { IfOk result (λ both. both.0 ≡ self.current) }
-        ensures next { IfOk result (λ both. both.1 ≡ history_on Side.Next self) }
+        ensures next { IfOk result (λ both. both.1 ≡ chain_on Side.Next self) }
     {
         let Lineage { current, next } = self;
         match next {
@@ -113,9 +113,9 @@ impl Lineage {
 
     /// Both sides share what the next one has.
     pub(crate) fn switched(&self) -> Result<Lineage, AllocError>
-        ensures { IfOk result (λ l. l ≡ switched self.now) }
+        ensures { IfOk result (λ l. l ≡ switched_lineage self.now) }
     {
-        let current = self.next_history().clone()?;
+        let current = self.next_chain().clone()?;
         Ok(Lineage {
             current,
             next: None,
@@ -124,7 +124,7 @@ impl Lineage {
 
     /// Both sides share what the current one has.
     pub(crate) fn aborted(&self) -> Result<Lineage, AllocError>
-        ensures { IfOk result (λ l. l ≡ aborted self.now) }
+        ensures { IfOk result (λ l. l ≡ aborted_lineage self.now) }
     {
         let current = self.current.clone()?;
         Ok(Lineage {

@@ -20,20 +20,20 @@ pub struct Table {
 }
 
 impl Model for Table {
-    ghost use Rattle.tt_versions.specs.Sides.{Kept};
+    ghost use Rattle.tt_versions.specs.Sides.{LineagesByKey};
 
-    ghost Value = { Kept };
+    ghost Value = { LineagesByKey };
 
     ghost view = { λ t. t.lineages };
 }
 
 impl Table {
-    ghost use Rattle.tt_versions.specs.Sides.{nothing_kept, lineage_at, side_of, is_split, written_from, held_from, no_rows, none_split, with_key, Lists};
-    ghost use Rattle.tt_versions.specs.Told.{AddsRowWrite, DropsRowWrites, ListsContent};
+    ghost use Rattle.tt_versions.specs.Sides.{no_lineages, lineage_at, side_of, is_split, written_from, rolled_back_from, no_rows, none_split, with_key, ListsRows};
+    ghost use Rattle.tt_versions.specs.RowsByWrites.{AddsRowWrite, DropsRowWrites, ListsContent};
 
     /// A table without rows. Takes no memory; what the other calls take comes from this allocator.
     pub fn new(alloc: Global) -> Table
-        ensures kept { result ≡ nothing_kept }
+        ensures kept { result ≡ no_lineages }
         ensures empty { (side : Side) → side_of result side ≡ no_rows }
         ensures split { is_split result ≡ none_split }
     {
@@ -64,7 +64,7 @@ impl Table {
 
     /// The rows of that side at the time, each with its key, by rising key.
     pub fn rows_at(&self, time: u64, side: Side) -> Result<Vec<(i64, &Row)>, AllocError>
-        ensures lists { IfOk result (λ rows. Lists (map (λ e. (e.0, e.1.now)) rows.items) (λ key. side_of self.now side key time)) }
+        ensures lists { IfOk result (λ rows. ListsRows (map (λ e. (e.0, e.1.now)) rows.items) (λ key. side_of self.now side key time)) }
         ensures content { IfOk result (λ rows. ListsContent (map (λ e. (e.0, e.1.now)) rows.items) (side_of self.now side) time) }
     {
         let mut rows = Vec::new(self.alloc);
@@ -85,7 +85,7 @@ impl Table {
         ensures current_adds { IfOk result (λ t. AddsRowWrite (side_of self.now Side.Current) (side_of t Side.Current) key row time) }
         ensures next_adds { IfOk result (λ t. is_split self.now key ≡ false → AddsRowWrite (side_of self.now Side.Next) (side_of t Side.Next) key row time) }
     {
-        let lineage = self.lineage(key)?.written(row, time)?;
+        let lineage = self.lineage(key)?.with_current_write(row, time)?;
         let table = self.with(key, lineage)?;
         Ok(table)
     }
@@ -94,7 +94,7 @@ impl Table {
     /// before. The current side stays.
     pub fn split_back(&self, key: i64, time: u64) -> Result<Table, AllocError>
         ensures current { IfOk result (λ t. side_of t Side.Current ≡ side_of self.now Side.Current) }
-        ensures next { IfOk result (λ t. side_of t Side.Next ≡ held_from key time (side_of self.now Side.Next)) }
+        ensures next { IfOk result (λ t. side_of t Side.Next ≡ rolled_back_from key time (side_of self.now Side.Next)) }
         ensures split { IfOk result (λ t. is_split t ≡ with_key key (is_split self.now)) }
         ensures next_drops { IfOk result (λ t. DropsRowWrites (side_of self.now Side.Next) (side_of t Side.Next) key time) }
     {
@@ -111,7 +111,7 @@ impl Table {
         ensures split { IfOk result (λ t. is_split t ≡ is_split self.now) }
         ensures next_adds { IfOk result (λ t. AddsRowWrite (side_of self.now Side.Next) (side_of t Side.Next) key row time) }
     {
-        let lineage = self.lineage(key)?.next_written(row, time)?;
+        let lineage = self.lineage(key)?.with_next_write(row, time)?;
         let table = self.with(key, lineage)?;
         Ok(table)
     }

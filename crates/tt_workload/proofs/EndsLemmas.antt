@@ -10,11 +10,11 @@ use Rattle.serde_json.specs.Data.{Data}
 use Rattle.serde_json.specs.Read.{read}
 use Rattle.tt_workload.specs.Reading.{refuse, with_path, document_path}
 use Rattle.tt_workload.specs.Grammar.{document_of}
-use Rattle.tt_workload.specs.Ends.{most_bytes, json_of, document_read, TakesAtMost}
+use Rattle.tt_workload.specs.Ends.{max_document_bytes, json_of, document_of_bytes, TakesAtMost}
 
-pub document_read-long : (bytes : List ℕ) → most_bytes < length bytes → document_read bytes ≡ with_path document_path (refuse (codes "longer than 16777216 bytes"))
-unfolding document_read
-document_read-long bytes long = rw (lt-ltb most_bytes (length bytes) long) refl
+pub document_read-long : (bytes : List ℕ) → max_document_bytes < length bytes → document_of_bytes bytes ≡ with_path document_path (refuse (codes "longer than 16777216 bytes"))
+unfolding document_of_bytes
+document_read-long bytes long = rw (lt-ltb max_document_bytes (length bytes) long) refl
 
 pub json_of-none : (bytes : List ℕ) → (IsUtf8 bytes → read bytes ≡ None) → json_of bytes ≡ None
 json_of-none bytes refused = elim (is_utf8 bytes) as (λ b. is_utf8 bytes ≡ b → json_of bytes ≡ None) [ true ↦ λ e. rw e (refused (IsUtf8-from_is_utf8 bytes e)) | false ↦ λ e. rw e refl ] refl
@@ -22,13 +22,13 @@ json_of-none bytes refused = elim (is_utf8 bytes) as (λ b. is_utf8 bytes ≡ b 
 pub json_of-some : (bytes : List ℕ) (d : Data) → IsUtf8 bytes → read bytes ≡ Some d → json_of bytes ≡ Some d
 json_of-some bytes d text value = rw (is_utf8-from_IsUtf8 bytes text) value
 
-pub document_read-refused : (bytes : List ℕ) → length bytes ≤ most_bytes → (IsUtf8 bytes → read bytes ≡ None) → document_read bytes ≡ with_path document_path (refuse (codes "not JSON"))
-unfolding document_read
-document_read-refused bytes short refused = rw (le-ltb most_bytes (length bytes) short, json_of-none bytes refused) refl
+pub document_read-refused : (bytes : List ℕ) → length bytes ≤ max_document_bytes → (IsUtf8 bytes → read bytes ≡ None) → document_of_bytes bytes ≡ with_path document_path (refuse (codes "not JSON"))
+unfolding document_of_bytes
+document_read-refused bytes short refused = rw (le-ltb max_document_bytes (length bytes) short, json_of-none bytes refused) refl
 
-pub document_read-value : (bytes : List ℕ) (d : Data) → length bytes ≤ most_bytes → IsUtf8 bytes → read bytes ≡ Some d → document_read bytes ≡ document_of d
-unfolding document_read
-document_read-value bytes d short text value = rw (le-ltb most_bytes (length bytes) short, json_of-some bytes d text value) refl
+pub document_read-value : (bytes : List ℕ) (d : Data) → length bytes ≤ max_document_bytes → IsUtf8 bytes → read bytes ≡ Some d → document_of_bytes bytes ≡ document_of d
+unfolding document_of_bytes
+document_read-value bytes d short text value = rw (le-ltb max_document_bytes (length bytes) short, json_of-some bytes d text value) refl
 
 -- ---- what was taken from a reader
 

@@ -5,10 +5,10 @@ use Rattle.tt_values.specs.Tables.{Tables}
 use Rattle.tt_db.specs.State.{State}
 use Rattle.std.specs.Option.{option_map}
 use Rattle.tt_db.specs.State.{after}
-use Rattle.tt_db.specs.Limits.{largest}
+use Rattle.tt_db.specs.Limits.{max_limits}
 use Rattle.tt_db.specs.Database.{Database, state_of}
 use Rattle.tt_workload.specs.declared.document.Document.{Document}
-use Rattle.tt_workload.specs.Report.{table_line, table_lines, call_lines, end_line, history_of, alone}
+use Rattle.tt_workload.specs.Report.{table_line, table_lines, call_lines, end_line, history_of, report_of}
 
 drop-at : {X : Type 0} → (xs : List X) (i : ℕ) (x : X) → slice_get xs i ≡ Some x → drop i xs ≡ x ∷ drop (suc i) xs
 drop-at [] i x h = cc
@@ -38,15 +38,15 @@ table_lines-named S tables i name out all new there h pushed = by (slice_get tab
 
 -- the pieces of a report, one after another
 pub report-pieces : (document : Document) (new db : Database) (none calls tables all : List ℕ)
-    → new ≡ record { catalog = document.catalog; limits = largest; history = [] }
+    → new ≡ record { catalog = document.catalog; limits = max_limits; history = [] }
     → none ≡ []
     → db ≡ record new { history = history_of document.calls }
     → calls ≡ none ++ call_lines 1 [] document.calls
     → tables ≡ calls ++ table_lines (state_of db) 0 db.catalog
     → all ≡ tables ++ end_line (state_of db)
-    → all ≡ alone document
+    → all ≡ report_of document
 report-pieces document new db none calls tables all made empty moved called tabled ended =
-    let is : db ≡ record { catalog = document.catalog; limits = largest; history = history_of document.calls } =
+    let is : db ≡ record { catalog = document.catalog; limits = max_limits; history = history_of document.calls } =
     moved ∙ ap (λ (d : Database). record d { history = history_of document.calls }) made in
     let lines = call_lines 1 [] document.calls in
     let last = after (history_of document.calls) in

@@ -19,8 +19,8 @@ use Rattle.tt_workload.specs.declared.fault.DocFault.{DocFault}
 use Rattle.tt_workload.specs.Reading.{◌>>=◌, refuse, with_path, item_path}
 use Rattle.tt_workload.specs.Json.{member, optional, read_member, within, count, count_within, each, array, array_of, object}
 use Rattle.tt_workload.specs.Members.{is_one_of, no_members_but}
-use Rattle.tt_workload.specs.Grammar.{most_workers, most_calls, table_named, value, condition, change, catalog, checked, insert, update, delete, select, has, ask, call, at_most, calls, members_of_document}
-use Rattle.tt_workload.specs.Sound.{ask_fault, IsCall, AreTaken, IsSound}
+use Rattle.tt_workload.specs.Grammar.{max_workers, max_calls, table_named, value, condition, change, catalog, checked_statement, insert, update, delete, select, has, ask, call, at_most, calls, members_of_document}
+use Rattle.tt_workload.specs.Sound.{ask_fault, IsValidCall, AreAccepted, IsValidDocument}
 
 ok_same : {T : Type 0} {x y : T} → ◌≡◌ {A = Result T DocFault} (Ok x) (Ok y) → x ≡ y
 ok_same e = cc
@@ -90,7 +90,7 @@ member-within name least most v n e =
     count_within-ok least most spelled.value n spelled.is
 
 -- a statement that is checked has no fault
-checked-ok : {S : Type 0} (s t : S) (fault : Option CheckError) → checked s fault ≡ Ok t → (s ≡ t) × (fault ≡ None)
+checked-ok : {S : Type 0} (s t : S) (fault : Option CheckError) → checked_statement s fault ≡ Ok t → (s ≡ t) × (fault ≡ None)
 checked-ok s t None e = (ok_same e, refl)
 checked-ok s t (Some fault) e = cc
 
@@ -133,7 +133,7 @@ select-ok tables v a e =
     let at = step (optional (codes "at") count v) _ a equals.rest in
     let known = step (no_members_but (is_one_of (codes "at" ∷ codes "select" ∷ codes "where" ∷ codes "worker" ∷ [])) v) _ a at.rest in
     let statement : Select = record { table = table.value; equals = equals.value } in
-    let taken = step (checked statement (select_fault tables statement)) _ a known.rest in
+    let taken = step (checked_statement statement (select_fault tables statement)) _ a known.rest in
     let done = checked-ok statement taken.value (select_fault tables statement) taken.is in
     let none : select_fault tables taken.value ≡ None = subst (λ s. select_fault tables s ≡ None) done.0 done.1 in
     subst (λ b. ask_fault tables b ≡ None) (ok_same taken.rest) none
@@ -161,14 +161,14 @@ ask-ok : (tables : Tables) (v : Data) (a : Ask) → ask tables v ≡ Ok a → as
 unfolding ask
 ask-ok tables v a e = asked tables v (has (codes "insert") v) (has (codes "update") v) (has (codes "delete") v) (has (codes "select") v) a _ e
 
-call-ok : (tables : Tables) (workers : ℕ) (v : Data) (c : Call) → call tables workers v ≡ Ok c → IsCall tables workers c
+call-ok : (tables : Tables) (workers : ℕ) (v : Data) (c : Call) → call tables workers v ≡ Ok c → IsValidCall tables workers c
 unfolding call
 call-ok tables workers v c e =
     let members = step (object v) _ c e in
     let worker = step (member (codes "worker") (count_within 1 workers) v) _ c members.rest in
     let asks = step (ask tables v) _ c worker.rest in
     let bounds = member-within (codes "worker") 1 workers v worker.value worker.is in
-    subst (IsCall tables workers) (ok_same asks.rest) (record { from_one = bounds.from; to_last = bounds.to; is_taken = ask-ok tables v asks.value asks.is })
+    subst (IsValidCall tables workers) (ok_same asks.rest) (record { from_one = bounds.from; to_last = bounds.to; is_taken = ask-ok tables v asks.value asks.is })
 
 at_most-ok : (b : Bool) (cause : List ℕ) → cond b (refuse {T = Unit {0}} cause) (Ok tt) ≡ Ok tt → b ≡ false
 at_most-ok true cause e = cc
@@ -182,44 +182,44 @@ length-each decode i (d ∷ ds) xs e =
     ap length (sym (ok_same rest.rest)) ∙ ap suc (length-each decode (suc i) ds rest.value rest.is)
 
 record AreCalls (tables : Tables) (workers : ℕ) (cs : List Call) : Type 0 where
-  few : length cs ≤ most_calls
-  each_is : AllByRecursion (IsCall tables workers) cs
+  few : length cs ≤ max_calls
+  each_is : AllByRecursion (IsValidCall tables workers) cs
 
 calls-ok : (tables : Tables) (workers : ℕ) (v : Data) (cs : List Call) → calls tables workers v ≡ Ok cs → AreCalls tables workers cs
 calls-ok tables workers v cs e =
     let items = step (array v) _ cs e in
-    let limit = step (at_most most_calls items.value) _ cs items.rest in
+    let limit = step (at_most max_calls items.value) _ cs items.rest in
     let same_length = length-each (call tables workers) 0 items.value cs limit.rest in
-    let few = ltb-false most_calls (length items.value) (at_most-ok _ _ limit.is) in
+    let few = ltb-false max_calls (length items.value) (at_most-ok _ _ limit.is) in
     record {
-      few = subst (λ n. n ≤ most_calls) (sym same_length) few;
-      each_is = each-ok (IsCall tables workers) (call tables workers) (call-ok tables workers) 0 items.value cs limit.rest;
+      few = subst (λ n. n ≤ max_calls) (sym same_length) few;
+      each_is = each-ok (IsValidCall tables workers) (call tables workers) (call-ok tables workers) 0 items.value cs limit.rest;
     }
 
 -- each document that's read is sound
-pub sound-members_of_document : (v : Data) (d : Document) → members_of_document v ≡ Ok d → IsSound d
+pub sound-members_of_document : (v : Data) (d : Document) → members_of_document v ≡ Ok d → IsValidDocument d
 unfolding members_of_document
 sound-members_of_document v d e =
     let members = step (object v) _ d e in
     let version = step (member (codes "version") (count_within 1 1) v) _ d members.rest in
     let tables = step (member (codes "tables") catalog v) _ d version.rest in
-    let workers = step (member (codes "workers") (count_within 1 most_workers) v) _ d tables.rest in
+    let workers = step (member (codes "workers") (count_within 1 max_workers) v) _ d tables.rest in
     let cs = step (member (codes "calls") (calls tables.value workers.value) v) _ d workers.rest in
     let known = step (no_members_but (is_one_of (codes "calls" ∷ codes "tables" ∷ codes "version" ∷ codes "workers" ∷ [])) v) _ d cs.rest in
-    let bounds = member-within (codes "workers") 1 most_workers v workers.value workers.is in
+    let bounds = member-within (codes "workers") 1 max_workers v workers.value workers.is in
     let spelled = member-ok (codes "calls") (calls tables.value workers.value) v cs.value cs.is in
     let read = calls-ok tables.value workers.value spelled.value cs.value spelled.is in
-    subst IsSound (ok_same known.rest) (record {
+    subst IsValidDocument (ok_same known.rest) (record {
       some_worker = bounds.from;
       few_workers = bounds.to;
       few_calls = read.few;
-      sound_calls = All-from_recursion (IsCall tables.value workers.value) cs.value read.each_is;
+      sound_calls = All-from_recursion (IsValidCall tables.value workers.value) cs.value read.each_is;
     })
 
-each_is_taken : (tables : Tables) (workers : ℕ) (cs : List Call) → AllByRecursion (IsCall tables workers) cs → AreTaken tables cs
+each_is_taken : (tables : Tables) (workers : ℕ) (cs : List Call) → AllByRecursion (IsValidCall tables workers) cs → AreAccepted tables cs
 each_is_taken tables workers [] h = tt
 each_is_taken tables workers (call ∷ cs) h = (h.0.is_taken, each_is_taken tables workers cs h.1)
 
 -- the statement of each call of a sound document is taken
-pub are_taken : (d : Document) → IsSound d → AreTaken d.catalog d.calls
-are_taken d sound = each_is_taken d.catalog d.workers d.calls (recursion_from_All (IsCall d.catalog d.workers) d.calls sound.sound_calls)
+pub are_taken : (d : Document) → IsValidDocument d → AreAccepted d.catalog d.calls
+are_taken d sound = each_is_taken d.catalog d.workers d.calls (recursion_from_All (IsValidCall d.catalog d.workers) d.calls sound.sound_calls)

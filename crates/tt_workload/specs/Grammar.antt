@@ -28,16 +28,16 @@ use Rattle.tt_workload.specs.declared.changes.Verb.{Verb}
 use Rattle.tt_workload.specs.declared.changes.Verb.TheVariants as verbs
 use Rattle.tt_workload.specs.declared.fault.DocFault.{DocFault}
 use Rattle.tt_workload.specs.Reading.{◌>>=◌, refuse, with_path, item_path, document_path}
-use Rattle.tt_workload.specs.Json.{found_or, typed, object, text, int, flag, array, count, count_within, member, optional, take_all, each, array_of}
+use Rattle.tt_workload.specs.Json.{or_refuse, or_wrong_type, object, text, int, flag, array, count, count_within, member, optional, take_all, each, array_of}
 use Rattle.tt_workload.specs.Members.{is_one_of, no_members_but}
 use Rattle.tt_workload.specs.Causes.{cause_of_catalog, cause_of_check}
 
 -- the most workers of a document, and the most calls
-abbrev pub most_workers : ℕ
-most_workers = 15
+abbrev pub max_workers : ℕ
+max_workers = 15
 
-abbrev pub most_calls : ℕ
-most_calls = 100000
+abbrev pub max_calls : ℕ
+max_calls = 100000
 
 -- the object as a whole has no fault, or else this one
 abbrev pub judge : {E : Type 0} → (E → List ℕ) → Option E → Result ⊤ DocFault
@@ -52,7 +52,7 @@ kind_named name = if bytes_eq name (codes "int") then Some kinds.Int else (if by
 abbrev pub kind : Data → Result Kind DocFault
 kind v = do
   name ← text v
-  found_or (codes "out of range") (kind_named name)
+  or_refuse (codes "out of range") (kind_named name)
 
 -- a column: its name, its kind, and whether it's a partition column, which it isn't where that is left out
 unfoldable pub column : Data → Result Column DocFault
@@ -93,13 +93,13 @@ text_or_int None None = None
 
 -- a value of a row or a condition
 abbrev pub value : Data → Result Value DocFault
-value v = typed (text_or_int (as_str v) (option_and_then as_i64 (as_number v)))
+value v = or_wrong_type (text_or_int (as_str v) (option_and_then as_i64 (as_number v)))
 
 -- a table of the catalogue, by its name: its position
 abbrev pub table_named : Tables → Data → Result ℕ DocFault
 table_named tables v = do
   name ← text v
-  found_or (codes "no such table") (table_position tables name)
+  or_refuse (codes "no such table") (table_position tables name)
 
 -- the position of a table's column with a name
 abbrev pub column_with : Tables → ℕ → List ℕ → Option ℕ
@@ -109,7 +109,7 @@ column_with tables table name = option_and_then (λ columns. column_position col
 abbrev pub column_named : Tables → ℕ → Data → Result ℕ DocFault
 column_named tables table v = do
   name ← text v
-  found_or (codes "no such column") (column_with tables table name)
+  or_refuse (codes "no such column") (column_with tables table name)
 
 -- the first and the second of two items
 abbrev pub two : List Data → Option (Data × Data)
@@ -122,7 +122,7 @@ two (d ∷ e ∷ f ∷ ds) = None
 abbrev pub pair : Data → Result (Data × Data) DocFault
 pair v = do
   ds ← array v
-  typed (two ds)
+  or_wrong_type (two ds)
 
 -- a condition on a table: a column and a value
 unfoldable pub condition : Tables → ℕ → Data → Result Equal DocFault
@@ -144,7 +144,7 @@ three (d ∷ e ∷ f ∷ g ∷ ds) = None
 abbrev pub triple : Data → Result (Data × Data × Data) DocFault
 triple v = do
   ds ← array v
-  typed (three ds)
+  or_wrong_type (three ds)
 
 -- what a change does, by the text that names it
 abbrev pub verb_named : List ℕ → Option Verb
@@ -154,7 +154,7 @@ verb_named name = if bytes_eq name (codes "set") then Some verbs.Set else (if by
 abbrev pub verb : Data → Result Verb DocFault
 verb v = do
   name ← text v
-  found_or (codes "out of range") (verb_named name)
+  or_refuse (codes "out of range") (verb_named name)
 
 -- a change of a column: the value that it's set to, or the Int that's added to it
 abbrev pub change_of : Verb → ℕ → Data → Result Change DocFault
@@ -174,8 +174,8 @@ change tables table v = do
   with_path (item_path 2) (change_of verb column items.2)
 
 -- a statement that can be carried out, or why it can't
-abbrev pub checked : {S : Type 0} → S → Option CheckError → Result S DocFault
-checked statement fault = do
+abbrev pub checked_statement : {S : Type 0} → S → Option CheckError → Result S DocFault
+checked_statement statement fault = do
   _ ← judge cause_of_check fault
   Ok statement
 
@@ -186,7 +186,7 @@ insert tables v = do
   values ← member (codes "row") (array_of value) v
   _ ← no_members_but (is_one_of (codes "insert" ∷ codes "row" ∷ codes "worker" ∷ [])) v
   let statement : Write = Insert table (record { values = values })
-  checked statement (write_fault tables statement)
+  checked_statement statement (write_fault tables statement)
 
 -- an update: the table, the changes, and the conditions
 unfoldable pub update : Tables → Data → Result Write DocFault
@@ -196,7 +196,7 @@ update tables v = do
   equals ← member (codes "where") (array_of (condition tables table)) v
   _ ← no_members_but (is_one_of (codes "change" ∷ codes "update" ∷ codes "where" ∷ codes "worker" ∷ [])) v
   let statement : Write = Update table changes equals
-  checked statement (write_fault tables statement)
+  checked_statement statement (write_fault tables statement)
 
 -- a delete: the table, and the conditions
 unfoldable pub delete : Tables → Data → Result Write DocFault
@@ -205,7 +205,7 @@ delete tables v = do
   equals ← member (codes "where") (array_of (condition tables table)) v
   _ ← no_members_but (is_one_of (codes "delete" ∷ codes "where" ∷ codes "worker" ∷ [])) v
   let statement : Write = Delete table equals
-  checked statement (write_fault tables statement)
+  checked_statement statement (write_fault tables statement)
 
 -- a select: the table, the conditions, and the time, which is left out where the rows are wanted as they are now
 unfoldable pub select : Tables → Data → Result Ask DocFault
@@ -215,7 +215,7 @@ select tables v = do
   at ← optional (codes "at") count v
   _ ← no_members_but (is_one_of (codes "at" ∷ codes "select" ∷ codes "where" ∷ codes "worker" ∷ [])) v
   let statement : Select = record { table = table; equals = equals }
-  select ← checked statement (select_fault tables statement)
+  select ← checked_statement statement (select_fault tables statement)
   Ok (asks.Read select at)
 
 -- whether an object has a member
@@ -247,7 +247,7 @@ at_most limit ds = if nat_lt limit (length ds) then refuse (codes "out of range"
 abbrev pub calls : Tables → ℕ → Data → Result (List Call) DocFault
 calls tables workers v = do
   ds ← array v
-  _ ← at_most most_calls ds
+  _ ← at_most max_calls ds
   each (call tables workers) 0 ds
 
 -- a document: its version, its tables, how many workers there are, and their calls
@@ -256,7 +256,7 @@ members_of_document v = do
   _ ← object v
   _ ← member (codes "version") (count_within 1 1) v
   tables ← member (codes "tables") catalog v
-  workers ← member (codes "workers") (count_within 1 most_workers) v
+  workers ← member (codes "workers") (count_within 1 max_workers) v
   calls ← member (codes "calls") (calls tables workers) v
   _ ← no_members_but (is_one_of (codes "calls" ∷ codes "tables" ∷ codes "version" ∷ codes "workers" ∷ [])) v
   Ok (record { catalog = tables; workers = workers; calls = calls })

@@ -6,33 +6,33 @@ use Rattle.tt_workload.specs.declared.fault.DocFault.{DocFault}
 use Rattle.tt_workload.specs.Reading.{◌>>=◌, refuse, with_path, member_path, item_path}
 
 -- what is found, or else a fault of the value
-abbrev pub found_or : {T : Type 0} → List ℕ → Option T → Result T DocFault
-found_or cause None = refuse cause
-found_or cause (Some x) = Ok x
+abbrev pub or_refuse : {T : Type 0} → List ℕ → Option T → Result T DocFault
+or_refuse cause None = refuse cause
+or_refuse cause (Some x) = Ok x
 
 -- what a value is, where it's of the wanted type
-abbrev pub typed : {T : Type 0} → Option T → Result T DocFault
-typed = found_or (codes "wrong type")
+abbrev pub or_wrong_type : {T : Type 0} → Option T → Result T DocFault
+or_wrong_type = or_refuse (codes "wrong type")
 
 -- the value is an object
 abbrev pub object : Data → Result ⊤ DocFault
-object v = typed (option_map (λ _. tt) (as_object v))
+object v = or_wrong_type (option_map (λ _. tt) (as_object v))
 
 -- the text that a value is
 abbrev pub text : Data → Result (List ℕ) DocFault
-text v = typed (as_str v)
+text v = or_wrong_type (as_str v)
 
 -- true or false
 abbrev pub flag : Data → Result Bool DocFault
-flag v = typed (as_bool v)
+flag v = or_wrong_type (as_bool v)
 
 -- the Int that a value is: a number without a fraction that fits 64 bits with a sign
 abbrev pub int : Data → Result ℤ DocFault
-int v = typed (option_and_then as_i64 (as_number v))
+int v = or_wrong_type (option_and_then as_i64 (as_number v))
 
 -- the count that a value is: a number that isn't below zero and fits 64 bits
 abbrev pub count : Data → Result ℕ DocFault
-count v = typed (option_and_then as_u64 (as_number v))
+count v = or_wrong_type (option_and_then as_u64 (as_number v))
 
 -- items, as a list
 abbrev pub list_of : Items → List Data
@@ -41,7 +41,7 @@ list_of (item d ds) = d ∷ list_of ds
 
 -- the items of the array that a value is
 abbrev pub array : Data → Result (List Data) DocFault
-array v = typed (option_map list_of (as_array v))
+array v = or_wrong_type (option_map list_of (as_array v))
 
 -- a number within bounds
 abbrev pub within : ℕ → ℕ → ℕ → Result ℕ DocFault

@@ -19,14 +19,14 @@ abbrev pub refuse : {T : Type 0} → List ℕ → Result T DocFault
 refuse cause = Err (fault_here cause)
 
 -- a fault, seen from further out: its path is made from the one that it had
-abbrev pub moved : (List ℕ → List ℕ) → DocFault → DocFault
-moved path_of (At path cause) = At (path_of path) cause
-moved path_of Memory = Memory
+abbrev pub fault_at : (List ℕ → List ℕ) → DocFault → DocFault
+fault_at path_of (At path cause) = At (path_of path) cause
+fault_at path_of Memory = Memory
 
 -- what is read, its fault seen from further out
 abbrev pub with_path : {T : Type 0} → (List ℕ → List ℕ) → Result T DocFault → Result T DocFault
 with_path path_of (Ok x) = Ok x
-with_path path_of (Err fault) = Err (moved path_of fault)
+with_path path_of (Err fault) = Err (fault_at path_of fault)
 
 -- paths: of a member, of an item, and of the whole document
 abbrev pub member_path : List ℕ → List ℕ → List ℕ
@@ -44,16 +44,16 @@ IsFault Memory fault = Unit {0}
 IsFault (At path cause) fault = fault ≡ At path cause
 
 -- reading gives the fault that a function's error tells; want of memory leaves it open
-abbrev pub Fails : {T : Type 0} → DocFault → Result T DocFault → Type 0
-Fails Memory reading = Unit {0}
-Fails (At path cause) reading = reading ≡ Err (At path cause)
+abbrev pub FailsWith : {T : Type 0} → DocFault → Result T DocFault → Type 0
+FailsWith Memory reading = Unit {0}
+FailsWith (At path cause) reading = reading ≡ Err (At path cause)
 
 -- reading gives what a function answers
 abbrev pub Gives : {T : Type 0} → Result T DocFault → Result T DocFault → Type 0
 Gives (Ok x) reading = reading ≡ Ok x
-Gives (Err fault) reading = Fails fault reading
+Gives (Err fault) reading = FailsWith fault reading
 
 -- the same of what is seen through a view
-abbrev pub GivesSeen : {S T : Type 0} → (S → T) → Result S DocFault → Result T DocFault → Type 0
-GivesSeen view (Ok x) reading = reading ≡ Ok (view x)
-GivesSeen view (Err fault) reading = Fails fault reading
+abbrev pub GivesViewed : {S T : Type 0} → (S → T) → Result S DocFault → Result T DocFault → Type 0
+GivesViewed view (Ok x) reading = reading ≡ Ok (view x)
+GivesViewed view (Err fault) reading = FailsWith fault reading

@@ -10,7 +10,7 @@ use Rattle.tt_db.specs.declared.event.Event.TheVariants as events
 use Rattle.tt_db.specs.declared.event.Entry.{Entry}
 use Rattle.tt_db.specs.declared.outcome.Outcome.{Outcome}
 use Rattle.tt_db.specs.declared.outcome.Outcome.TheVariants.{Written}
-use Rattle.tt_db.specs.State.{State, after, told, now_of, current_at}
+use Rattle.tt_db.specs.State.{State, after, outcome_of, now_of, current_at}
 use Rattle.tt_db.specs.Database.{Database, state_of}
 use Rattle.tt_workload.specs.declared.document.Document.{Document}
 use Rattle.tt_workload.specs.declared.document.Call.{Call}
@@ -37,7 +37,7 @@ read_text S q (Some time) = if nat_lt (now_of S) time then later_text (now_of S)
 
 -- the end of a call's line, in a state: what a write is told, or what a select is answered
 abbrev pub ask_text : State → Ask → List ℕ
-ask_text S (asks.Write w) = outcome_text (told S (events.Write w))
+ask_text S (asks.Write w) = outcome_text (outcome_of S (events.Write w))
 ask_text S (asks.Read q at) = read_text S q at
 
 -- the line of a call, in the state that stands when its turn comes
@@ -76,8 +76,8 @@ abbrev pub end_line : State → List ℕ
 end_line S = codes "end generation " ++ (decimal S.generation ++ (codes " time " ++ (decimal (now_of S) ++ codes "\n")))
 
 -- the report of a document that runs alone: a line for each call, for each table, and the last one
-abbrev pub alone : Document → List ℕ
-alone document =
+abbrev pub report_of : Document → List ℕ
+report_of document =
     let last = after (history_of document.calls) in
     call_lines 1 [] document.calls ++ (table_lines last 0 document.catalog ++ end_line last)
 

@@ -1,7 +1,7 @@
 //! Reading of the changes of an update.
 ghost use Rattle.std.specs.Prelude.{◌≡◌};
 ghost use Rattle.serde_json.specs.View.{view};
-ghost use Rattle.tt_workload.specs.Reading.{GivesSeen};
+ghost use Rattle.tt_workload.specs.Reading.{GivesViewed};
 ghost use Rattle.tt_workload.specs.Grammar.{triple, verb_named, verb, change_of, change};
 
 use crate::decoder::{Decoder, IntDecoder, OUT_OF_RANGE, WRONG_TYPE, array, item, text};
@@ -46,7 +46,7 @@ impl Decoder for ChangeDecoder<'_> {
 
 /// The items of an array of three.
 fn triple(alloc: Global, value: &Value) -> Result<(&Value, &Value, &Value), DocFault>
-    ensures { GivesSeen (λ t. (view t.0.now, view t.1.now, view t.2.now)) result (triple (view value.now)) }
+    ensures { GivesViewed (λ t. (view t.0.now, view t.1.now, view t.2.now)) result (triple (view value.now)) }
 {
     let items = array(alloc, value)?;
     if items.len() != 3 {

@@ -3,7 +3,7 @@ ghost use Rattle.std.specs.Prelude.{◌≡◌, ◌++◌, Result, map, codes};
 ghost use Rattle.serde_json.specs.Data.{Data};
 ghost use Rattle.serde_json.specs.View.{view};
 ghost use Rattle.tt_workload.specs.declared.fault.DocFault.{DocFault};
-ghost use Rattle.tt_workload.specs.Reading.{Gives, GivesSeen, IsFault, fault_here, with_path, member_path, item_path};
+ghost use Rattle.tt_workload.specs.Reading.{Gives, GivesViewed, IsFault, fault_here, with_path, member_path, item_path};
 ghost use Rattle.tt_workload.specs.Json.{object, text, int, flag, count, count_within, array, member, optional};
 
 use crate::fault::DocFault;
@@ -38,7 +38,7 @@ pub(crate) fn object(alloc: Global, value: &Value) -> Result<(), DocFault>
 
 /// The text that the value is.
 pub(crate) fn text(alloc: Global, value: &Value) -> Result<&str, DocFault>
-    ensures { GivesSeen (λ s. s.now) result (text (view value.now)) }
+    ensures { GivesViewed (λ s. s.now) result (text (view value.now)) }
 {
     match value.as_str() {
         Some(text) => Ok(text),
@@ -58,7 +58,7 @@ pub(crate) fn count(alloc: Global, value: &Value) -> Result<u64, DocFault>
 
 /// The items of the array that the value is.
 pub(crate) fn array(alloc: Global, value: &Value) -> Result<&[Value], DocFault>
-    ensures { GivesSeen (λ items. map view items.now) result (array (view value.now)) }
+    ensures { GivesViewed (λ items. map view items.now) result (array (view value.now)) }
 {
     match value.as_array() {
         Some(items) => Ok(items.as_slice()),

@@ -21,16 +21,16 @@ pub struct Document {
 impl Document {
     ghost use Rattle.std.specs.Prelude.{◌≡◌, Ok, IfOk, IfErr};
     ghost use Rattle.serde_json.specs.View.{view};
-    ghost use Rattle.tt_workload.specs.Reading.{Fails};
+    ghost use Rattle.tt_workload.specs.Reading.{FailsWith};
     ghost use Rattle.tt_workload.specs.Grammar.{document_of};
-    ghost use Rattle.tt_workload.specs.Sound.{IsSound};
+    ghost use Rattle.tt_workload.specs.Sound.{IsValidDocument};
 
     /// The document that a JSON value spells, or its first fault. Want of memory can come before
     /// the fault is found.
     pub fn from_value(alloc: Global, value: &Value) -> Result<Document, DocFault>
         ensures spelled { IfOk result (λ document. document_of (view value.now) ≡ Ok document) }
-        ensures sound { IfOk result IsSound }
-        ensures fault { IfErr result (λ fault. Fails fault (document_of (view value.now))) }
+        ensures sound { IfOk result IsValidDocument }
+        ensures fault { IfErr result (λ fault. FailsWith fault (document_of (view value.now))) }
     {
         match from_members(alloc, value) {
             Ok(document) => Ok(document),

@@ -3,9 +3,9 @@ ghost use Rattle.std.specs.Prelude.{◌≡◌, ◌+◌, ◌-◌, ◌<◌, ◌≤
 ghost use Rattle.std.specs.IoError.{error_kind};
 ghost use Rattle.std.specs.Io.{ReadsAtMost, WritesAtMost};
 ghost use Rattle.std.specs.Io.KnownBytes.{Keeps, Appends, Consumes, IsAtEnd};
-ghost use Rattle.tt_workload.specs.Ends.{most_read, document_read, TakesAtMost, AppendsFront, IsSpelled, IsFaultOf, IsOfReading, IsOfReader};
-ghost use Rattle.tt_workload.specs.Sound.{IsSound};
-ghost use Rattle.tt_workload.specs.Reading.{Fails, IsFault, fault_here, moved, document_path};
+ghost use Rattle.tt_workload.specs.Ends.{max_bytes_read, document_of_bytes, TakesAtMost, AppendsFront, IsSpelled, IsFaultOf, IsOfReading, IsOfReader};
+ghost use Rattle.tt_workload.specs.Sound.{IsValidDocument};
+ghost use Rattle.tt_workload.specs.Reading.{FailsWith, IsFault, fault_here, fault_at, document_path};
 
 use crate::document::Document;
 use crate::fault::DocFault;
@@ -30,13 +30,13 @@ const NOT_JSON: &str = "not JSON";
 /// Reads a document from a reader, to its end. Of a longer one only the first 16,777,217 bytes
 /// are taken, and it's refused. An interrupted read is tried again, 1,000 times at most.
 pub fn read_document<R: Read>(alloc: Global, reader: &mut R) -> Result<Document, RunFault>
-    ensures ok { IfOk result (λ d. IfSome (R.remaining reader.old) (λ xs. document_read (take most_read xs) ≡ Ok d)) }
-    ensures fault { IfErr result (λ e. IfSome (R.remaining reader.old) (λ xs. IsFaultOf e (document_read (take most_read xs)))) }
-    ensures most { TakesAtMost most_read (R.remaining reader.old) (R.remaining reader.new) }
+    ensures ok { IfOk result (λ d. IfSome (R.remaining reader.old) (λ xs. document_of_bytes (take max_bytes_read xs) ≡ Ok d)) }
+    ensures fault { IfErr result (λ e. IfSome (R.remaining reader.old) (λ xs. IsFaultOf e (document_of_bytes (take max_bytes_read xs)))) }
+    ensures most { TakesAtMost max_bytes_read (R.remaining reader.old) (R.remaining reader.new) }
 
     // Of a reader whose bytes aren't known too.
     ensures spelled { IfOk result IsSpelled }
-    ensures sound { IfOk result IsSound }
+    ensures sound { IfOk result IsValidDocument }
     ensures kind { IfErr result IsOfReading }
 {
     let bytes = read_bytes(alloc, reader)?;
@@ -47,9 +47,9 @@ pub fn read_document<R: Read>(alloc: Global, reader: &mut R) -> Result<Document,
 /// The document that the bytes spell.
 #[tactic(auto, using(crate::proofs::EndsLemmas::spelled))]
 fn document_from(alloc: Global, bytes: &[u8]) -> Result<Document, DocFault>
-    ensures spelled { IfOk result (λ d. document_read bytes.now ≡ Ok d) }
-    ensures sound { IfOk result IsSound }
-    ensures fault { IfErr result (λ fault. Fails fault (document_read bytes.now)) }
+    ensures spelled { IfOk result (λ d. document_of_bytes bytes.now ≡ Ok d) }
+    ensures sound { IfOk result IsValidDocument }
+    ensures fault { IfErr result (λ fault. FailsWith fault (document_of_bytes bytes.now)) }
 {
     if bytes.len() > MOST_BYTES {
         return Err(refused(alloc, TOO_LONG));
@@ -63,16 +63,16 @@ fn document_from(alloc: Global, bytes: &[u8]) -> Result<Document, DocFault>
 
 /// The fault of a whole document, with this cause.
 fn refused(alloc: Global, cause: &str) -> DocFault
-    ensures { IsFault result (moved document_path (fault_here cause.now)) }
+    ensures { IsFault result (fault_at document_path (fault_here cause.now)) }
 {
     DocFault::here(alloc, cause).in_document(alloc)
 }
 
 /// What the reader has left, or the first bytes of it, one more than a document may have.
 fn read_bytes<R: Read>(alloc: Global, reader: &mut R) -> Result<Vec<u8>, RunFault>
-    ensures ok { IfOk result (λ bytes. IfSome (R.remaining reader.old) (λ xs. bytes.items ≡ take most_read xs)) }
+    ensures ok { IfOk result (λ bytes. IfSome (R.remaining reader.old) (λ xs. bytes.items ≡ take max_bytes_read xs)) }
     ensures fault { IfErr result IsOfReader }
-    ensures most { TakesAtMost most_read (R.remaining reader.old) (R.remaining reader.new) }
+    ensures most { TakesAtMost max_bytes_read (R.remaining reader.old) (R.remaining reader.new) }
 {
     let mut buffer = zeros(alloc, PIECE)?;
     read_pieces(alloc, reader, &mut buffer)
@@ -91,9 +91,9 @@ fn read_pieces<R: Read>(
     buffer: &mut [u8],
 ) -> Result<Vec<u8>, RunFault>
     requires { 0 < length buffer.old }
-    ensures ok { IfOk result (λ bytes. IfSome (R.remaining reader.old) (λ xs. bytes.items ≡ take most_read xs)) }
+    ensures ok { IfOk result (λ bytes. IfSome (R.remaining reader.old) (λ xs. bytes.items ≡ take max_bytes_read xs)) }
     ensures fault { IfErr result IsOfReader }
-    ensures most { TakesAtMost most_read (R.remaining reader.old) (R.remaining reader.new) }
+    ensures most { TakesAtMost max_bytes_read (R.remaining reader.old) (R.remaining reader.new) }
 {
     let mut bytes = Vec::new(alloc);
     let mut retries = MOST_RETRIES;
@@ -113,15 +113,15 @@ fn read_piece<R: Read>(
     buffer: &mut [u8],
     retries: &mut u32,
 ) -> Result<usize, RunFault>
-    requires few { length bytes.old.items < most_read }
+    requires few { length bytes.old.items < max_bytes_read }
     requires room { 0 < length buffer.old }
     ensures ok { IfOk result (λ n. bytes.new.items ≡ bytes.old.items ++ take n buffer.new) }
     ensures taken { IfOk result (λ n. Consumes (R.remaining reader.old) (R.remaining reader.new) (take n buffer.new)) }
-    ensures within { IfOk result (λ n. length bytes.new.items ≤ most_read) }
+    ensures within { IfOk result (λ n. length bytes.new.items ≤ max_bytes_read) }
     ensures longer { IfOk result (λ n. length bytes.new.items ≡ length bytes.old.items + n) }
     ensures end { IfOk result (λ n. n ≡ 0 → IsAtEnd (R.remaining reader.new)) }
     ensures fault { IfErr result IsOfReader }
-    ensures most { OnErr result (TakesAtMost (most_read - length bytes.old.items) (R.remaining reader.old) (R.remaining reader.new)) }
+    ensures most { OnErr result (TakesAtMost (max_bytes_read - length bytes.old.items) (R.remaining reader.old) (R.remaining reader.new)) }
 {
     let room = buffer.len().min(MOST_READ - bytes.len());
     let count = read_front(reader, buffer, room, retries)?;

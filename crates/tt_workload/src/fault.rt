@@ -35,7 +35,7 @@ impl<T: Drop> From<AllocFailed<T>> for DocFault {
 }
 
 impl DocFault {
-    ghost use Rattle.tt_workload.specs.Reading.{IsFault, fault_here, moved, member_path, item_path, document_path};
+    ghost use Rattle.tt_workload.specs.Reading.{IsFault, fault_here, fault_at, member_path, item_path, document_path};
 
     /// A fault of the value that is read, itself.
     pub(crate) fn here(alloc: Global, cause: &str) -> DocFault
@@ -59,7 +59,7 @@ impl DocFault {
 
     /// The fault of a member's value, as one of the object.
     pub(crate) fn in_member(self, alloc: Global, name: &str) -> DocFault
-        ensures { IsFault result (moved (member_path name.now) self) }
+        ensures { IsFault result (fault_at (member_path name.now) self) }
     {
         let DocFault::At { path, cause } = self else {
             return DocFault::Memory;
@@ -70,7 +70,7 @@ impl DocFault {
 
     /// The fault of an item, as one of the array.
     pub(crate) fn in_item(self, alloc: Global, index: usize) -> DocFault
-        ensures { IsFault result (moved (item_path index) self) }
+        ensures { IsFault result (fault_at (item_path index) self) }
     {
         let DocFault::At { path, cause } = self else {
             return DocFault::Memory;
@@ -81,7 +81,7 @@ impl DocFault {
 
     /// The fault of the whole value, as one of the document.
     pub(crate) fn in_document(self, alloc: Global) -> DocFault
-        ensures { IsFault result (moved document_path self) }
+        ensures { IsFault result (fault_at document_path self) }
     {
         let DocFault::At { path, cause } = self else {
             return DocFault::Memory;

@@ -1,7 +1,7 @@
 //! Workloads of a small time-travel database: the document that tells one, and its texts.
 #![tactic(auto)]
 
-mod alone;
+mod report;
 mod calls;
 mod causes;
 mod changes;

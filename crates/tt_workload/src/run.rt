@@ -1,11 +1,11 @@
 //! Runs of a workload, from the document that is read to the report that is written.
 ghost use Rattle.std.specs.Prelude.{◌≢◌, IfErr, IfSome, OnOk, take};
 ghost use Rattle.std.specs.Io.KnownBytes.{Keeps};
-ghost use Rattle.tt_workload.specs.Ends.{most_read, TakesAtMost};
+ghost use Rattle.tt_workload.specs.Ends.{max_bytes_read, TakesAtMost};
 ghost use Rattle.tt_workload.specs.Options.{AreWithin};
 ghost use Rattle.tt_workload.specs.Run.{WritesReport, EndsEarly, IsFaultOfRun};
 
-use crate::alone::report_of;
+use crate::report::report_of;
 use crate::ends::{read_document, write_text};
 use crate::options::Options;
 use crate::run_fault::RunFault;
@@ -21,11 +21,11 @@ pub fn run_alone<R: Read, W: Write>(
     _options: &Options,
 ) -> Result<(), RunFault>
     requires options { AreWithin _options.now }
-    ensures ok { OnOk result (IfSome (R.remaining reader.old) (λ xs. WritesReport (take most_read xs) (W.contents writer.old) (W.contents writer.new))) }
-    ensures err { IfErr result (λ e. IfSome (R.remaining reader.old) (λ xs. EndsEarly e (take most_read xs) (W.contents writer.old) (W.contents writer.new))) }
+    ensures ok { OnOk result (IfSome (R.remaining reader.old) (λ xs. WritesReport (take max_bytes_read xs) (W.contents writer.old) (W.contents writer.new))) }
+    ensures err { IfErr result (λ e. IfSome (R.remaining reader.old) (λ xs. EndsEarly e (take max_bytes_read xs) (W.contents writer.old) (W.contents writer.new))) }
     ensures kind { IfErr result IsFaultOfRun }
     ensures quiet { IfErr result (λ e. e ≢ RunFault.Write → Keeps (W.contents writer.old) (W.contents writer.new)) }
-    ensures most { TakesAtMost most_read (R.remaining reader.old) (R.remaining reader.new) }
+    ensures most { TakesAtMost max_bytes_read (R.remaining reader.old) (R.remaining reader.new) }
 {
     let document = read_document(alloc, reader)?;
     let report = report_of(alloc, &document)?;

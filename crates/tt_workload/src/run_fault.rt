@@ -70,9 +70,9 @@ fn store_fault(text: Result<String, AllocError>) -> RunFault {
 }
 
 impl From<DocFault> for RunFault {
-    ghost use Rattle.tt_workload.specs.Ends.{run_fault};
+    ghost use Rattle.tt_workload.specs.Ends.{run_fault_of};
 
-    ghost from_gives = { λ fault e. e ≡ run_fault fault };
+    ghost from_gives = { λ fault e. e ≡ run_fault_of fault };
 
     fn from(fault: DocFault) -> RunFault {
         match fault {

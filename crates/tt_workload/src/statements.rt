@@ -3,9 +3,9 @@ ghost use Rattle.std.specs.Prelude.{◌≡◌, codes};
 ghost use Rattle.std.specs.Option.{option_copied, option_map};
 ghost use Rattle.serde_json.specs.View.{view};
 ghost use Rattle.tt_values.specs.Check.{write_fault, select_fault};
-ghost use Rattle.tt_workload.specs.Reading.{Gives, GivesSeen};
+ghost use Rattle.tt_workload.specs.Reading.{Gives, GivesViewed};
 ghost use Rattle.tt_workload.specs.Json.{member, array_of};
-ghost use Rattle.tt_workload.specs.Grammar.{value, table_named, column_with, column_named, pair, condition, checked, insert, update, delete, select};
+ghost use Rattle.tt_workload.specs.Grammar.{value, table_named, column_with, column_named, pair, condition, checked_statement, insert, update, delete, select};
 
 use crate::causes::cause_of_check;
 use crate::changes::ChangeDecoder;
@@ -98,7 +98,7 @@ fn conditions(
 }
 
 fn checked_write(alloc: Global, catalog: &Catalog, write: Write) -> Result<Write, DocFault>
-    ensures { Gives result (checked write (write_fault catalog.now write)) }
+    ensures { Gives result (checked_statement write (write_fault catalog.now write)) }
 {
     match check(catalog, &write) {
         Ok(()) => Ok(write),
@@ -107,7 +107,7 @@ fn checked_write(alloc: Global, catalog: &Catalog, write: Write) -> Result<Write
 }
 
 fn checked_select(alloc: Global, catalog: &Catalog, select: Select) -> Result<Select, DocFault>
-    ensures { Gives result (checked select (select_fault catalog.now select)) }
+    ensures { Gives result (checked_statement select (select_fault catalog.now select)) }
 {
     match check_select(catalog, &select) {
         Ok(()) => Ok(select),
@@ -190,7 +190,7 @@ impl Decoder for ConditionDecoder<'_> {
 
 /// The items of an array of two.
 fn pair(alloc: Global, value: &Value) -> Result<(&Value, &Value), DocFault>
-    ensures { GivesSeen (λ p. (view p.0.now, view p.1.now)) result (pair (view value.now)) }
+    ensures { GivesViewed (λ p. (view p.0.now, view p.1.now)) result (pair (view value.now)) }
 {
     let items = array(alloc, value)?;
     if items.len() != 2 {

@@ -89,7 +89,7 @@ fn statements_answer(rt: HostRuntime) -> Result<(), Fail> {
 
 #[test]
 fn laws_answer() {
-    laws::content_tells_the_last_row_write();
+    laws::a_content_shows_the_last_row_write();
     laws::rows_stand_by_rising_key();
     laws::slots_follow_one_another();
     laws::later_slots_change_no_earlier_row_write();

@@ -1,4 +1,4 @@
-use Rattle.tt_values.proofs.RowWritesLemmas.{past_stays}
+use Rattle.tt_values.proofs.LawProofs.{past_stays}
 use Rattle.tt_values.proofs.laws.later_slots_change_no_earlier_content.Goals as goal
 
 pub returns : goal.returns

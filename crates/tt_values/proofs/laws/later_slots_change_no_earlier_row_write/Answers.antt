@@ -1,4 +1,4 @@
-use Rattle.tt_values.proofs.RowWritesLemmas.{later_slots_change_nothing}
+use Rattle.tt_values.proofs.LawProofs.{later_slots_change_nothing}
 use Rattle.tt_values.proofs.laws.later_slots_change_no_earlier_row_write.Goals as goal
 
 pub returns : goal.returns

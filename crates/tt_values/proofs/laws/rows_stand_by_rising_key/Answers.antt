@@ -1,4 +1,4 @@
-use Rattle.tt_values.proofs.ContentLemmas.{rows_rise}
+use Rattle.tt_values.proofs.LawProofs.{rows_rise}
 use Rattle.tt_values.proofs.laws.rows_stand_by_rising_key.Goals as goal
 
 pub returns : goal.returns

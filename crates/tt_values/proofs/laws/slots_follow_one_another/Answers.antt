@@ -1,4 +1,4 @@
-use Rattle.tt_values.proofs.RowWritesLemmas.{slots_follow}
+use Rattle.tt_values.proofs.LawProofs.{slots_follow}
 use Rattle.tt_values.proofs.laws.slots_follow_one_another.Goals as goal
 
 pub returns : goal.returns

@@ -1,4 +1,4 @@
-use Rattle.tt_values.proofs.RowWritesLemmas.{next_content}
+use Rattle.tt_values.proofs.LawProofs.{next_content}
 use Rattle.tt_values.proofs.laws.the_next_content_has_the_slot.Goals as goal
 
 pub returns : goal.returns

@@ -3,7 +3,7 @@ use Rattle.std.proofs.Common.{◌≡◌, ◌+◌, suc, length, None, sym, ap, su
 use Rattle.tt_values.specs.Effect.{table_of}
 use Rattle.tt_db.specs.declared.event.Event.TheVariants as events
 use Rattle.tt_db.specs.State.{after, refusal, now_of, current_at}
-use Rattle.tt_db.specs.Rows.{Follow, writes_of}
+use Rattle.tt_db.specs.Rows.{AddsRowWrites, as_row_writes}
 use Rattle.tt_db.specs.Database.{Database, state_of}
 use Rattle.tt_db.proofs.RowsLemmas.{effect_is}
 use Rattle.tt_db.proofs.FewRowsLemmas.{effect_fits}
@@ -28,8 +28,8 @@ invariant_of-db c =
     let table = c.table-table.ensures in
     let made = effect_is kept.rows S c.args.write c.table-table.result c.now-now.result c.table.result.now c.in_ok-made.made.items c.self.invariant.rows_kept c.table.ensures table now c.in_ok-made.ensures in
     let next : c.now-now.result + 1 ≡ suc (now_of S) = omega (arith, now) in
-    let follow = subst (Follow kept.rows c.in_ok-rows.rows) (λ i. writes_of (next i) (table i) (made i)) c.in_ok-rows.ensures in
-    let told = c.in_ok-copy-2.ensures ∙ c.reply_to-reply.ensures (current_at S (now_of S) (table_of c.args.write)) (c.deref.ensures.value ∙ made) in
+    let follow = subst (AddsRowWrites kept.rows c.in_ok-rows.rows) (λ i. as_row_writes (next i) (table i) (made i)) c.in_ok-rows.ensures in
+    let told = c.in_ok-clone.ensures.cases ∙ c.reply_to-reply.ensures (current_at S (now_of S) (table_of c.args.write)) (c.deref.ensures.value ∙ made) in
     rw (c.in_ok-catalog.ensures, c.in_ok-journal.ensures, c.in_ok-slots.ensures)
     (keeps_written kept.catalog.value kept.limits kept.journal.items kept.slots.items kept.generation kept.rows c.in_ok-rows.rows c.args.worker c.args.write
     c.self.invariant none _ c.in_ok-copy.ensures _ told follow)

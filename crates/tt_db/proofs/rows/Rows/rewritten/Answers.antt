@@ -1,7 +1,7 @@
 -- What is made so far is followed, and then the next.
 use Rattle.std.proofs.Common.{w64, SFits, rules, ◌∷◌, [], subst}
 use Rattle.std.proofs.lemmas.Int.{to_z-of_z}
-use Rattle.tt_db.specs.Rows.{Follow, writes_of}
+use Rattle.tt_db.specs.Rows.{AddsRowWrites, as_row_writes}
 use Rattle.tt_db.proofs.RowsLemmas.{follow_next}
 use Rattle.tt_db.proofs.rows.Rows.rewritten.Goals as goal
 
@@ -10,5 +10,5 @@ loop-key-preserved c =
     let before = c.loop-key.rows in
     let after = c.in_ok-rows-2.rows in
     let fits : SFits w64 c.in-Some.key = search rules in
-    let follow = subst (λ k. Follow before after (writes_of c.args.time c.args.table ((k, c.in-Some.row) ∷ []))) (to_z-of_z w64 c.in-Some.key fits) c.in_ok-rows-2.ensures in
+    let follow = subst (λ k. AddsRowWrites before after (as_row_writes c.args.time c.args.table ((k, c.in-Some.row) ∷ []))) (to_z-of_z w64 c.in-Some.key fits) c.in_ok-rows-2.ensures in
     follow_next c.args.self.now before after c.args.time c.args.table c.loop-key.yielded (c.in-Some.key, c.in-Some.row) c.loop-key.invariant follow

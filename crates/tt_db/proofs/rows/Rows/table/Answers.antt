@@ -1,20 +1,20 @@
 -- What the map finds at a position is kept of the table there, and the empty table elsewhere.
 use Rattle.std.proofs.Common.{sym, ap, ◌∙◌}
 use Rattle.std.specs.Option.{option_copied, unwrap_or}
-use Rattle.tt_versions.specs.Sides.{nothing_kept}
-use Rattle.tt_db.specs.Rows.{kept_at}
+use Rattle.tt_versions.specs.Sides.{no_lineages}
+use Rattle.tt_db.specs.Rows.{versions_at}
 use Rattle.tt_db.proofs.rows.Rows.table.Goals as goal
 
 pub returns-in-Some : goal.returns-in-Some
 returns-in-Some c =
     c.table.ensures
-    ∙ ap (λ o. unwrap_or (option_copied o) nothing_kept) (sym c.in-Some.is)
-    ∙ ap (λ o. unwrap_or o nothing_kept) c.get.ensures.value
-    ∙ ap (λ t. kept_at t c.args.table) c.self.view_is
+    ∙ ap (λ o. unwrap_or (option_copied o) no_lineages) (sym c.in-Some.is)
+    ∙ ap (λ o. unwrap_or o no_lineages) c.get.ensures.value
+    ∙ ap (λ t. versions_at t c.args.table) c.self.view_is
 
 pub returns-in-None : goal.returns-in-None
 returns-in-None c =
     c.self.invariant
-    ∙ ap (λ o. unwrap_or (option_copied o) nothing_kept) (sym c.in-None.is)
-    ∙ ap (λ o. unwrap_or o nothing_kept) c.get.ensures.value
-    ∙ ap (λ t. kept_at t c.args.table) c.self.view_is
+    ∙ ap (λ o. unwrap_or (option_copied o) no_lineages) (sym c.in-None.is)
+    ∙ ap (λ o. unwrap_or o no_lineages) c.get.ensures.value
+    ∙ ap (λ t. versions_at t c.args.table) c.self.view_is

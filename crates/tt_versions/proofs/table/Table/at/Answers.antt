@@ -3,8 +3,8 @@ use Rattle.std.proofs.Common.{w64, int_cmp, ap, sym, ◌∙◌}
 use Rattle.std.proofs.lemmas.Int.{to_z-of_z}
 use Rattle.std.specs.Option.{unwrap_or, option_copied}
 use Rattle.std.specs.FinMap.Entries as sorted
-use Rattle.tt_versions.specs.Versions.{shown}
-use Rattle.tt_versions.specs.Lineage.{unwritten, history_on}
+use Rattle.tt_versions.specs.Versions.{visible_row}
+use Rattle.tt_versions.specs.Lineage.{unwritten, chain_on}
 use Rattle.tt_versions.specs.Sides.{side_of}
 use Rattle.tt_versions.proofs.SidesLemmas.{shown-unwritten}
 use Rattle.tt_versions.proofs.table.Table.at.Goals as goal
@@ -13,10 +13,10 @@ pub returns-in_err-lineage : goal.returns-in_err-lineage
 unfolding side_of
 returns-in_err-lineage c =
     let found = c.in_err-lineage.ensures ∙ ap (λ k. sorted.find int_cmp k c.self.inside.lineages) (to_z-of_z w64 c.args.key c.ranges.key) ∙ ap (sorted.find int_cmp c.args.key) c.self.view_is in
-    ap option_copied c.from_residual.ensures ∙ sym (shown-unwritten c.args.time c.args.side) ∙ ap (λ o. shown c.args.time (history_on c.args.side (unwrap_or o unwritten))) found
+    ap option_copied c.from_residual.ensures ∙ sym (shown-unwritten c.args.time c.args.side) ∙ ap (λ o. visible_row c.args.time (chain_on c.args.side (unwrap_or o unwritten))) found
 
 pub returns : goal.returns
 unfolding side_of
 returns c =
     let found = c.in_ok-lineage.ensures ∙ ap (λ k. sorted.find int_cmp k c.self.inside.lineages) (to_z-of_z w64 c.args.key c.ranges.key) ∙ ap (sorted.find int_cmp c.args.key) c.self.view_is in
-    c.at.ensures ∙ ap (λ o. shown c.args.time (history_on c.args.side (unwrap_or o unwritten))) found
+    c.at.ensures ∙ ap (λ o. visible_row c.args.time (chain_on c.args.side (unwrap_or o unwritten))) found

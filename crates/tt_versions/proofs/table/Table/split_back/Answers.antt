@@ -6,7 +6,7 @@ use Rattle.tt_versions.specs.declared.side.Side.TheVariants.{Current, Next}
 use Rattle.tt_versions.specs.Lineage.{split_back}
 use Rattle.tt_versions.specs.Sides.{lineage_at, side_of, is_split}
 use Rattle.tt_versions.proofs.SidesLemmas.{current_of_split_back, next_rolled_back, split_of_split_back}
-use Rattle.tt_versions.proofs.ToldLemmas.{drops_row_writes}
+use Rattle.tt_versions.proofs.RowsByWritesLemmas.{drops_row_writes}
 use Rattle.tt_versions.proofs.table.Table.split_back.Goals as goal
 
 put_back : (c : goal.In_ok-table) → c.in_ok-table.table ≡ sorted.put int_cmp c.args.key (split_back c.args.time (lineage_at c.args.self.now c.args.key)) c.args.self.now

@@ -1,5 +1,0 @@
-use Rattle.tt_db.proofs.RepairLemmas.{dirty_rows_lie_in_dirty_partitions}
-use Rattle.tt_db.proofs.laws.dirty_rows_lie_in_dirty_partitions.Goals as goal
-
-pub returns : goal.returns
-returns c = dirty_rows_lie_in_dirty_partitions

@@ -1,5 +1,0 @@
-use Rattle.tt_db.proofs.RepairLater.{later_slots_change_no_repair}
-use Rattle.tt_db.proofs.laws.later_slots_change_no_repair.Goals as goal
-
-pub returns : goal.returns
-returns c = later_slots_change_no_repair

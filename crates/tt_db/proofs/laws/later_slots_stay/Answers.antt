@@ -1,5 +1,0 @@
-use Rattle.tt_db.proofs.RepairEdits.{later_slots_stay}
-use Rattle.tt_db.proofs.laws.later_slots_stay.Goals as goal
-
-pub returns : goal.returns
-returns c = later_slots_stay

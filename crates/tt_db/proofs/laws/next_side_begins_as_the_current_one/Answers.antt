@@ -1,5 +1,0 @@
-use Rattle.tt_db.proofs.NextSideLemmas.{next_side_begins}
-use Rattle.tt_db.proofs.laws.next_side_begins_as_the_current_one.Goals as goal
-
-pub returns : goal.returns
-returns c = next_side_begins

@@ -1,5 +1,0 @@
-use Rattle.tt_db.proofs.RepairLemmas.{none_is_missed}
-use Rattle.tt_db.proofs.laws.no_affected_slot_is_missed.Goals as goal
-
-pub returns : goal.returns
-returns c = none_is_missed

@@ -1,5 +1,0 @@
-use Rattle.tt_db.proofs.NextSideLemmas.{undue_slots_leave_it}
-use Rattle.tt_db.proofs.laws.undue_slots_leave_the_next_side.Goals as goal
-
-pub returns : goal.returns
-returns c = undue_slots_leave_it

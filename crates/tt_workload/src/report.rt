@@ -1,0 +1,263 @@
+//! The report of a document that runs alone.
+ghost use Rattle.std.specs.Prelude.{◌≡◌, ◌+◌, ◌<◌, ◌≤◌, ◌++◌, [], length, OnOk, IfOk, IfErr, None, Some, codes};
+ghost use Rattle.std.specs.Fmt.{decimal};
+ghost use Rattle.tt_values.specs.Check.{write_fault, select_fault};
+ghost use Rattle.tt_db.specs.Limits.{max_limits};
+ghost use Rattle.tt_db.specs.Database.{Database, state_of};
+ghost use Rattle.tt_workload.specs.Printing.{reply_text};
+ghost use Rattle.tt_workload.specs.Report.{outcome_text, answer_text, later_text, read_text, ask_text, call_line, entries_of_ask, entries_of, call_lines, table_line, table_lines, end_line, history_of, report_of, HasRoom};
+ghost use Rattle.tt_workload.specs.Sound.{ask_fault, AreAccepted, IsValidDocument};
+
+use crate::document::{Ask, Call, Document};
+use crate::printing::{push_decimal, push_labelled, push_reply};
+use crate::run_fault::RunFault;
+use std::alloc::{AllocError, Global};
+use tt_db::{Db, Entry, Event, Limits, Outcome, ReadError};
+use tt_values::{Items, Reply, Select, Write};
+
+/// Pushes the end of a write's line.
+fn push_outcome(out: &mut Vec<u8>, outcome: &Outcome) -> Result<(), AllocError>
+    ensures { OnOk result (out.new.items ≡ out.old.items ++ outcome_text outcome.now) }
+{
+    let Outcome::Written { slot, reply } = outcome;
+    out.extend_from_slice(b" slot ")?;
+    push_decimal(out, *slot)?;
+    out.push(b' ')?;
+    push_reply(out, reply)?;
+    out.push(b'\n')?;
+    Ok(())
+}
+
+/// Pushes the beginning of a call's line.
+fn push_caller(out: &mut Vec<u8>, number: u64, worker: u32) -> Result<(), AllocError>
+    ensures { OnOk result (out.new.items ≡ out.old.items ++ (codes "call " ++ (decimal number ++ (codes " worker " ++ decimal worker)))) }
+{
+    out.extend_from_slice(b"call ")?;
+    push_decimal(out, number)?;
+    out.extend_from_slice(b" worker ")?;
+    push_decimal(out, u64::from(worker))?;
+    Ok(())
+}
+
+/// Has the database take a write in, and pushes the end of its line.
+fn push_write(
+    alloc: Global,
+    out: &mut Vec<u8>,
+    db: &mut Db,
+    worker: u32,
+    write: &Write,
+) -> Result<(), RunFault>
+    requires sound { write_fault db.old.catalog write.now ≡ None }
+    requires room { HasRoom db.old }
+    ensures text { OnOk result (out.new.items ≡ out.old.items ++ ask_text (state_of db.old) (Ask.Write write.now)) }
+    ensures state { OnOk result (db.new ≡ record db.old { history = db.old.history ++ entries_of_ask worker (Ask.Write write.now) }) }
+    ensures err { IfErr result (λ e. e ≡ RunFault.Memory) }
+{
+    let write = write.copy()?;
+    let entry = Entry {
+        worker,
+        event: Event::Write(write),
+    };
+    match db.apply(entry) {
+        Ok((next, outcome)) => {
+            *db = next;
+            push_outcome(out, &outcome)?;
+            Ok(())
+        }
+        Err(error) => Err(RunFault::of_event(alloc, error)),
+    }
+}
+
+/// Asks the database, and pushes the end of a select's line.
+fn push_read(
+    alloc: Global,
+    out: &mut Vec<u8>,
+    db: &Db,
+    select: &Select,
+    at: Option<u64>,
+) -> Result<(), RunFault>
+    requires sound { select_fault db.now.catalog select.now ≡ None }
+    ensures text { OnOk result (out.new.items ≡ out.old.items ++ read_text (state_of db.now) select.now at) }
+    ensures err { IfErr result (λ e. e ≡ RunFault.Memory) }
+{
+    match at {
+        None => push_current(alloc, out, db, select),
+        Some(time) => push_past(alloc, out, db, select, time),
+    }
+}
+
+/// Asks for rows as they are now.
+fn push_current(alloc: Global, out: &mut Vec<u8>, db: &Db, select: &Select) -> Result<(), RunFault>
+    requires sound { select_fault db.now.catalog select.now ≡ None }
+    ensures text { OnOk result (out.new.items ≡ out.old.items ++ read_text (state_of db.now) select.now None) }
+    ensures err { IfErr result (λ e. e ≡ RunFault.Memory) }
+{
+    let reply = match db.select(select) {
+        Ok(reply) => reply,
+        Err(error) => return Err(RunFault::of_read(alloc, error)),
+    };
+    push_answer(out, db.now(), &reply)?;
+    Ok(())
+}
+
+/// Asks for rows as they were at a time, which may still be to come.
+fn push_past(
+    alloc: Global,
+    out: &mut Vec<u8>,
+    db: &Db,
+    select: &Select,
+    time: u64,
+) -> Result<(), RunFault>
+    requires sound { select_fault db.now.catalog select.now ≡ None }
+    ensures text { OnOk result (out.new.items ≡ out.old.items ++ read_text (state_of db.now) select.now (Some time)) }
+    ensures err { IfErr result (λ e. e ≡ RunFault.Memory) }
+{
+    match db.select_at(select, time) {
+        Ok(reply) => push_answer(out, time, &reply)?,
+        Err(error) => match error {
+            ReadError::Later { now } => push_later(out, now)?,
+            error => return Err(RunFault::of_read(alloc, error)),
+        },
+    }
+    Ok(())
+}
+
+fn push_later(out: &mut Vec<u8>, now: u64) -> Result<(), AllocError>
+    ensures { OnOk result (out.new.items ≡ out.old.items ++ later_text now) }
+{
+    push_labelled(out, b" refused later than ", now)?;
+    out.push(b'\n')?;
+    Ok(())
+}
+
+fn push_answer(out: &mut Vec<u8>, time: u64, reply: &Reply) -> Result<(), AllocError>
+    ensures { OnOk result (out.new.items ≡ out.old.items ++ answer_text time reply.now) }
+{
+    out.extend_from_slice(b" time ")?;
+    push_decimal(out, time)?;
+    out.push(b' ')?;
+    push_reply(out, reply)?;
+    out.push(b'\n')?;
+    Ok(())
+}
+
+/// Makes a call, and pushes its line.
+fn push_call(
+    alloc: Global,
+    out: &mut Vec<u8>,
+    db: &mut Db,
+    number: u64,
+    call: &Call,
+) -> Result<(), RunFault>
+    requires taken { ask_fault db.old.catalog call.now.ask ≡ None }
+    requires room { HasRoom db.old }
+    ensures line { OnOk result (out.new.items ≡ out.old.items ++ call_line number (state_of db.old) call.now) }
+    ensures state { OnOk result (db.new ≡ record db.old { history = db.old.history ++ entries_of call.now }) }
+    ensures err { IfErr result (λ e. e ≡ RunFault.Memory) }
+{
+    push_caller(out, number, call.worker)?;
+    match &call.ask {
+        Ask::Write(write) => push_write(alloc, out, db, call.worker, write),
+        Ask::Read { select, at } => push_read(alloc, out, db, select, *at),
+    }
+}
+
+/// Makes the calls of a document, in order, and pushes their lines.
+fn push_calls(alloc: Global, out: &mut Vec<u8>, db: &mut Db, calls: &[Call]) -> Result<(), RunFault>
+    requires fresh { db.old.history ≡ [] }
+    requires limits { db.old.limits ≡ max_limits }
+    requires taken { AreAccepted db.old.catalog calls.now }
+    requires few { length calls.now ≤ 100000 }
+    ensures lines { OnOk result (out.new.items ≡ out.old.items ++ call_lines 1 [] calls.now) }
+    ensures state { OnOk result (db.new ≡ record db.old { history = history_of calls.now }) }
+    ensures err { IfErr result (λ e. e ≡ RunFault.Memory) }
+{
+    for (i, call) in calls.iter().enumerate() {
+        push_call(alloc, out, db, i as u64 + 1, call)?;
+    }
+    Ok(())
+}
+
+/// Pushes the line of a table.
+fn push_table(
+    alloc: Global,
+    out: &mut Vec<u8>,
+    db: &Db,
+    table: u16,
+    name: &str,
+) -> Result<(), RunFault>
+    requires sound { select_fault db.now.catalog (record { table = table; equals = [] }) ≡ None }
+    ensures text { OnOk result (out.new.items ≡ out.old.items ++ table_line (state_of db.now) table name.now) }
+    ensures err { IfErr result (λ e. e ≡ RunFault.Memory) }
+{
+    let all = Select {
+        table,
+        equals: Items::new(Vec::new(alloc)),
+    };
+    let reply = match db.select(&all) {
+        Ok(reply) => reply,
+        Err(error) => return Err(RunFault::of_read(alloc, error)),
+    };
+    push_named(out, name, &reply)?;
+    Ok(())
+}
+
+fn push_named(out: &mut Vec<u8>, name: &str, reply: &Reply) -> Result<(), AllocError>
+    ensures { OnOk result (out.new.items ≡ out.old.items ++ (codes "table " ++ (name.now ++ (codes " " ++ (reply_text reply.now ++ codes "\n"))))) }
+{
+    out.extend_from_slice(b"table ")?;
+    out.extend_from_slice(name.as_bytes())?;
+    out.push(b' ')?;
+    push_reply(out, reply)?;
+    out.push(b'\n')?;
+    Ok(())
+}
+
+/// Pushes the lines of all tables.
+fn push_tables(alloc: Global, out: &mut Vec<u8>, db: &Db) -> Result<(), RunFault>
+    ensures text { OnOk result (out.new.items ≡ out.old.items ++ table_lines (state_of db.now) 0 db.now.catalog) }
+    ensures err { IfErr result (λ e. e ≡ RunFault.Memory) }
+{
+    let catalog = db.catalog();
+    for table in 0..catalog.len() as u16 {
+        let Some(name) = catalog.name(table) else {
+            unreachable!()
+        };
+        push_table(alloc, out, db, table, name)?;
+    }
+    Ok(())
+}
+
+/// Pushes the last line.
+fn push_end(out: &mut Vec<u8>, db: &Db) -> Result<(), AllocError>
+    ensures { OnOk result (out.new.items ≡ out.old.items ++ end_line (state_of db.now)) }
+{
+    let generation = db.generation();
+    let time = db.now();
+    push_last(out, generation, time)?;
+    Ok(())
+}
+
+fn push_last(out: &mut Vec<u8>, generation: u64, time: u64) -> Result<(), AllocError>
+    ensures { OnOk result (out.new.items ≡ out.old.items ++ (codes "end generation " ++ (decimal generation ++ (codes " time " ++ (decimal time ++ codes "\n"))))) }
+{
+    push_labelled(out, b"end generation ", generation)?;
+    push_labelled(out, b" time ", time)?;
+    out.push(b'\n')?;
+    Ok(())
+}
+
+/// The report of a document that runs alone.
+pub(crate) fn report_of(alloc: Global, document: &Document) -> Result<Vec<u8>, RunFault>
+    requires { IsValidDocument document.now }
+    ensures ok { IfOk result (λ text. text.items ≡ report_of document.now) }
+    ensures err { IfErr result (λ e. e ≡ RunFault.Memory) }
+{
+    let catalog = document.catalog.share()?;
+    let mut db = Db::new(alloc, catalog, Limits::usual());
+    let mut out = Vec::new(alloc);
+    push_calls(alloc, &mut out, &mut db, document.calls.as_slice())?;
+    push_tables(alloc, &mut out, &db)?;
+    push_end(&mut out, &db)?;
+    Ok(out)
+}
