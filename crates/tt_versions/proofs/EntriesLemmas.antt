@@ -1,5 +1,6 @@
 -- A map's entries, as a list by rising key.
 use Rattle.std.proofs.Common.{◌≡◌, ℤ, Bool, true, false, cond, ◌&&◌, List, [], ◌∷◌, IsTrue, None, Some, Less, Equal, Greater, refl, ap, ◌∙◌}
+use Rattle.std.proofs.lemmas.Int.{to_z-of_z}
 use Rattle.std.specs.declared.cmp.Ordering.{Ordering}
 use Rattle.std.specs.Ordering.{int_cmp, is_lt, is_eq, match_ordering}
 use Rattle.std.specs.Map.{keys_of}
@@ -47,8 +48,11 @@ not_tied Less h = refl
 not_tied Equal h = cc
 not_tied Greater h = cc
 
--- a key below all of a list isn't found in it
+-- a key below all of a list isn't in it
 pub find-below : {X : Type 0} (k : ℤ) (es : List (ℤ × X)) → sorted.below_all int_cmp k es ≡ true → sorted.find int_cmp k es ≡ None
 find-below k [] h = refl
 find-below k (e ∷ es) h =
     ap (λ b. cond b (Some e.1) (sorted.find int_cmp k es)) (not_tied (int_cmp k e.0) (first _ _ h)) ∙ find-below k es (second _ _ h)
+
+-- what iteration and insertion rest on
+pub ruleset entries = (to_z-of_z, is_sorted-keys, insert_entry-put)

@@ -3,4 +3,5 @@ pub mod VersionsLemmas
 pub mod SidesLemmas
 pub mod RowsByWritesLemmas
 pub mod RowsAtLemmas
-pub mod SettledLemmas
+pub mod UnsplitLemmas
+pub mod LawProofs

@@ -14,14 +14,14 @@ use Rattle.tt_versions.specs.Lineage.{unwritten, chain_on}
 use Rattle.tt_versions.specs.Sides.{LineagesByKey, RowsOverTime, lineage_at, side_of, ListsRows}
 use Rattle.tt_versions.specs.RowsByWrites.{ListsContent}
 use Rattle.tt_versions.proofs.EntriesLemmas.{both, first, second, find-below}
-use Rattle.tt_versions.proofs.SidesLemmas.{same_key, shown-unwritten}
+use Rattle.tt_versions.proofs.SidesLemmas.{same_key, visible_row-unwritten}
 
 -- a row in front of others, where there is one
 abbrev pub with_first : ℤ → Option Row → RowsByKey → RowsByKey
 with_first key None rows = rows
 with_first key (Some row) rows = (key, row) ∷ rows
 
--- the rows that a side shows at a time
+-- the rows of a side at a time, entry by entry
 abbrev pub rows_of : ℕ → Side → LineagesByKey → RowsByKey
 rows_of time side [] = []
 rows_of time side (e ∷ es) = with_first e.0 (visible_row time (chain_on side e.1)) (rows_of time side es)
@@ -34,9 +34,9 @@ with_first-same : (key : ℤ) (o : Option Row) (rows : RowsByKey) (q : ℤ) → 
 with_first-same key None rows q e none = none
 with_first-same key (Some row) rows q e none = ap (λ b. cond b (Some row) (row_at rows q)) e
 
--- the rows have at each key what the side has
+-- at each key the list has the row of the side
 finds : (t : LineagesByKey) (time : ℕ) (side : Side) → sorted.is_sorted int_cmp t ≡ true → (q : ℤ) → row_at (rows_of time side t) q ≡ visible_row time (chain_on side (lineage_at t q))
-finds [] time side h q = sym (shown-unwritten time side)
+finds [] time side h q = sym (visible_row-unwritten time side)
 finds (e ∷ es) time side h q = by (int_eq q e.0) refl (finds es time side (second _ _ h) q)
   where
     rows : RowsByKey
@@ -49,7 +49,7 @@ finds (e ∷ es) time side h q = by (int_eq q e.0) refl (finds es time side (sec
         → row_at (with_first e.0 o rows) q ≡ visible_row time (chain_on side (unwrap_or (cond b (Some e.1) (sorted.find int_cmp q es)) unwritten))
     by true is rest =
         let missing = ap (λ k. sorted.find int_cmp k es) (same_key q e.0 is) ∙ find-below e.0 es (first _ _ h) in
-        with_first-same e.0 o rows q is (rest ∙ ap (λ l. visible_row time (chain_on side (unwrap_or l unwritten))) missing ∙ shown-unwritten time side)
+        with_first-same e.0 o rows q is (rest ∙ ap (λ l. visible_row time (chain_on side (unwrap_or l unwritten))) missing ∙ visible_row-unwritten time side)
     by false is rest = with_first-other e.0 o rows q is ∙ rest
 
 below_all-rows_of : (k : ℤ) (t : LineagesByKey) (time : ℕ) (side : Side) → sorted.below_all int_cmp k t ≡ true → sorted.below_all int_cmp k (rows_of time side t) ≡ true
@@ -69,12 +69,13 @@ is_sorted-rows_of (e ∷ es) time side h = by (visible_row time (chain_on side e
     by None rest = rest
     by (Some row) rest = both _ _ (below_all-rows_of e.0 es time side (first _ _ h)) rest
 
-pub lists_rows : (t : LineagesByKey) (time : ℕ) (side : Side) → IsTrue (sorted.is_sorted int_cmp t) → ListsRows (rows_of time side t) (λ key. side_of t side key time)
+pub lists_rows : (es : RowsByKey) (t : LineagesByKey) (time : ℕ) (side : Side) → IsTrue (sorted.is_sorted int_cmp t) → es ≡ rows_of time side t → ListsRows es (side_of t side) time
 unfolding side_of
-lists_rows t time side h = record { sorted = is_sorted-rows_of t time side h; finds = finds t time side h }
+lists_rows es t time side h is =
+    record { sorted = ap (sorted.is_sorted int_cmp) is ∙ is_sorted-rows_of t time side h; finds = λ q. ap (λ rows. row_at rows q) is ∙ finds t time side h q }
 
--- rows by rising key that a side has are those of the content that it is told by
-pub lists_content : (es : RowsByKey) (rows : RowsOverTime) (time : ℕ) → ListsRows es (λ key. rows key time) → ListsContent es rows time
-lists_content es rows time l table ws told =
+-- where a side has the rows that row writes leave, its rows by rising key are the content of the table
+pub lists_content : (es : RowsByKey) (rows : RowsOverTime) (time : ℕ) → ListsRows es rows time → ListsContent es rows time
+lists_content es rows time l table ws follows =
     sorted.same_entries int_cmp int_cmp_total int_cmp-IsAntisymmetric es (content_at ws time table) (subst T (sym l.sorted) tt) (subst T (sym (rows_rise ws time table)) tt)
-    (λ q. l.finds q ∙ (λ i. told i q time))
+    (λ q. l.finds q ∙ (λ i. follows i q time))

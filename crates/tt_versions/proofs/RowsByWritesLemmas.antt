@@ -1,4 +1,4 @@
--- What one more row write, or a rollback, does to what a list of row writes tells.
+-- What one more row write, or a rollback, does to the rows that a list of row writes leaves.
 use Rattle.std.proofs.Common.{◌≡◌, ℕ, zero, suc, ◌<◌, ◌≤◌, ℤ, Bool, true, false, cond, not, ◌&&◌, nat_le, ◌==◌, List, [], ◌∷◌, ◌++◌, filter, fold, Option, None, if◌then◌else◌, refl, sym, ap, ◌∙◌, arith, append-nil}
 use Rattle.std.proofs.lemmas.Bool.Decides.{nat_tests}
 use Rattle.std.proofs.lemmas.List.Elements.{filter-append}
@@ -15,9 +15,9 @@ use Rattle.tt_versions.proofs.SidesLemmas.{same_key}
 itself : (n : ℕ) → (n == n) ≡ true
 itself n = grind (arith, nat_tests)
 
--- one more row write is told from its time on
-pub told_by-append : (table : ℕ) (ws : List RowWrite) (key : ℤ) (row : Option Row) (time : ℕ) → written_from key row time (rows_by table ws) ≡ rows_by table (ws ++ record { time = time; table = table; key = key; row = row } ∷ [])
-told_by-append table ws key row time = λ i q u. (by q u (nat_le time u) ∙ sym (ap (λ vs. row_at (fold with_row_write empty_content vs table) q) (filter-append (λ v. nat_le v.time u) ws (w ∷ [])))) i
+-- one more row write counts from its time on
+pub rows_by-append : (table : ℕ) (ws : List RowWrite) (key : ℤ) (row : Option Row) (time : ℕ) → written_from key row time (rows_by table ws) ≡ rows_by table (ws ++ record { time = time; table = table; key = key; row = row } ∷ [])
+rows_by-append table ws key row time = λ i q u. (by q u (nat_le time u) ∙ sym (ap (λ vs. row_at (fold with_row_write empty_content vs table) q) (filter-append (λ v. nat_le v.time u) ws (w ∷ [])))) i
   where
     w : RowWrite
     w = record { time = time; table = table; key = key; row = row }
@@ -76,41 +76,41 @@ apart : (q key : ℤ) → int_eq q key ≡ false → (k : ℤ) → int_eq key k 
 apart q key e k same = ap (int_eq q) (sym (same_key key k same)) ∙ e
 
 -- from the time of a rollback on, the key has what it had just before
-pub told_by-rolled_back : (table : ℕ) (ws : List RowWrite) (key : ℤ) (time : ℕ) → rolled_back_from key time (rows_by table ws) ≡ rows_by table (without_row_writes table key time ws)
-told_by-rolled_back table ws key time = λ i q u. (by q u (int_eq q key) refl (nat_le time u) refl ∙ sym (back q u time)) i
+pub rows_by-without_row_writes : (table : ℕ) (ws : List RowWrite) (key : ℤ) (time : ℕ) → rolled_back_from key time (rows_by table ws) ≡ rows_by table (without_row_writes table key time ws)
+rows_by-without_row_writes table ws key time = λ i q u. (by q u (int_eq q key) refl (nat_le time u) refl ∙ sym (back q u time)) i
   where
     is_for : ℤ → RowWrite → Bool
     is_for q w = (table == w.table) && int_eq q w.key
 
-    kept : ℕ → RowWrite → Bool
-    kept t w = not (is_for key w && nat_le t w.time)
+    stays : ℕ → RowWrite → Bool
+    stays t w = not (is_for key w && nat_le t w.time)
 
-    told : (q : ℤ) (u : ℕ) → rows_by table ws q u ≡ last_row_written_or None (filter (λ w. nat_le w.time u && is_for q w) ws)
-    told q u = last_row_write_counts (up_to u ws) empty_content table q ∙ ap (last_row_written_or None) (filter-twice (is_for q) (λ w. nat_le w.time u) ws)
+    last_of : (q : ℤ) (u : ℕ) → rows_by table ws q u ≡ last_row_written_or None (filter (λ w. nat_le w.time u && is_for q w) ws)
+    last_of q u = last_row_write_counts (up_to u ws) empty_content table q ∙ ap (last_row_written_or None) (filter-twice (is_for q) (λ w. nat_le w.time u) ws)
 
-    back : (q : ℤ) (u t : ℕ) → rows_by table (without_row_writes table key t ws) q u ≡ last_row_written_or None (filter (λ w. kept t w && (nat_le w.time u && is_for q w)) ws)
+    back : (q : ℤ) (u t : ℕ) → rows_by table (without_row_writes table key t ws) q u ≡ last_row_written_or None (filter (λ w. stays t w && (nat_le w.time u && is_for q w)) ws)
     back q u t =
-        last_row_write_counts (up_to u (filter (kept t) ws)) empty_content table q
-        ∙ ap (last_row_written_or None) (filter-twice (is_for q) (λ w. nat_le w.time u) (filter (kept t) ws) ∙ filter-twice (λ w. nat_le w.time u && is_for q w) (kept t) ws)
+        last_row_write_counts (up_to u (filter (stays t) ws)) empty_content table q
+        ∙ ap (last_row_written_or None) (filter-twice (is_for q) (λ w. nat_le w.time u) (filter (stays t) ws) ∙ filter-twice (λ w. nat_le w.time u && is_for q w) (stays t) ws)
 
-    later : (u t : ℕ) → t ≤ u → just_before t (rows_by table ws key) ≡ last_row_written_or None (filter (λ w. kept t w && (nat_le w.time u && is_for key w)) ws)
-    later u zero h = sym (ap (last_row_written_or None) (filter-none (λ w. kept zero w && (nat_le w.time u && is_for key w)) (λ w. from_zero (is_for key w) w.time u) ws))
-    later u (suc n) h = told key n ∙ ap (λ p. last_row_written_or None (filter p ws)) (λ i w. sym (from_later (is_for key w) n w.time u (omega arith)) i)
+    later : (u t : ℕ) → t ≤ u → just_before t (rows_by table ws key) ≡ last_row_written_or None (filter (λ w. stays t w && (nat_le w.time u && is_for key w)) ws)
+    later u zero h = sym (ap (last_row_written_or None) (filter-none (λ w. stays zero w && (nat_le w.time u && is_for key w)) (λ w. from_zero (is_for key w) w.time u) ws))
+    later u (suc n) h = last_of key n ∙ ap (λ p. last_row_written_or None (filter p ws)) (λ i w. sym (from_later (is_for key w) n w.time u (omega arith)) i)
 
     by : (q : ℤ) (u : ℕ) (b : Bool) → int_eq q key ≡ b → (c : Bool) → nat_le time u ≡ c
-        → (if b && c then just_before time (rows_by table ws key) else rows_by table ws q u) ≡ last_row_written_or None (filter (λ w. kept time w && (nat_le w.time u && is_for q w)) ws)
-    by q u true e true f = later u time (late time u f) ∙ ap (λ k. last_row_written_or None (filter (λ w. kept time w && (nat_le w.time u && is_for k w)) ws)) (sym (same_key q key e))
+        → (if b && c then just_before time (rows_by table ws key) else rows_by table ws q u) ≡ last_row_written_or None (filter (λ w. stays time w && (nat_le w.time u && is_for q w)) ws)
+    by q u true e true f = later u time (late time u f) ∙ ap (λ k. last_row_written_or None (filter (λ w. stays time w && (nat_le w.time u && is_for k w)) ws)) (sym (same_key q key e))
     by q u true e false f =
-        told q u
+        last_of q u
         ∙ ap (λ k. last_row_written_or None (filter (λ w. nat_le w.time u && is_for k w) ws)) (same_key q key e)
         ∙ ap (λ p. last_row_written_or None (filter p ws)) (λ i w. sym (from_earlier (is_for key w) time w.time u (early time u f)) i)
-        ∙ ap (λ k. last_row_written_or None (filter (λ w. kept time w && (nat_le w.time u && is_for k w)) ws)) (sym (same_key q key e))
-    by q u false e c f = told q u ∙ ap (λ p. last_row_written_or None (filter p ws)) (λ i w. sym (elsewhere (table == w.table) (int_eq key w.key) (int_eq q w.key) time w.time u (apart q key e w.key)) i)
+        ∙ ap (λ k. last_row_written_or None (filter (λ w. stays time w && (nat_le w.time u && is_for k w)) ws)) (sym (same_key q key e))
+    by q u false e c f = last_of q u ∙ ap (λ p. last_row_written_or None (filter p ws)) (λ i w. sym (elsewhere (table == w.table) (int_eq key w.key) (int_eq q w.key) time w.time u (apart q key e w.key)) i)
 
 -- a side on which a row was written follows its list of row writes
 pub adds_row_write : (before after : RowsOverTime) (key : ℤ) (row : Option Row) (time : ℕ) → after ≡ written_from key row time before → AddsRowWrite before after key row time
-adds_row_write before after key row time is table ws told = is ∙ ap (written_from key row time) told ∙ told_by-append table ws key row time
+adds_row_write before after key row time is table ws follows = is ∙ ap (written_from key row time) follows ∙ rows_by-append table ws key row time
 
 -- and so does one on which a row was rolled back
 pub drops_row_writes : (before after : RowsOverTime) (key : ℤ) (time : ℕ) → after ≡ rolled_back_from key time before → DropsRowWrites before after key time
-drops_row_writes before after key time is table ws told = is ∙ ap (rolled_back_from key time) told ∙ told_by-rolled_back table ws key time
+drops_row_writes before after key time is table ws follows = is ∙ ap (rolled_back_from key time) follows ∙ rows_by-without_row_writes table ws key time

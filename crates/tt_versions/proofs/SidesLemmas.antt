@@ -1,5 +1,6 @@
 -- What a change of one row does to the sides of a table.
-use Rattle.std.proofs.Common.{◌≡◌, ℕ, ℤ, Bool, true, false, cond, ◌&&◌, ◌||◌, nat_le, List, [], Option, None, Some, is_some, if◌then◌else◌, Less, Greater, Equal, refl, sym, ap, ◌∙◌}
+use Rattle.std.proofs.Common.{◌≡◌, ℕ, ℤ, Bool, true, false, cond, ◌&&◌, ◌||◌, nat_le, List, Option, None, Some, is_some, if◌then◌else◌, Less, Greater, Equal, refl, sym, ap, ◌∙◌}
+use Rattle.std.proofs.lemmas.Int.{to_z-of_z}
 use Rattle.std.specs.declared.cmp.Ordering.{Ordering}
 use Rattle.std.specs.Option.{unwrap_or}
 use Rattle.std.specs.Ordering.{int_cmp, int_eq, is_eq}
@@ -13,9 +14,9 @@ use Rattle.tt_versions.specs.declared.version.Version.{Version}
 use Rattle.tt_versions.specs.declared.lineage.Lineage.{Lineage}
 use Rattle.tt_versions.specs.Versions.{visible_row}
 use Rattle.tt_versions.specs.Versions as versions
-use Rattle.tt_versions.specs.Lineage.{unwritten, chain_on, with_current_write, split_back, with_next_write}
-use Rattle.tt_versions.specs.Sides.{LineagesByKey, lineage_at, side_of, is_split, no_rows, none_split, written_from, just_before, rolled_back_from, with_key}
-use Rattle.tt_versions.proofs.VersionsLemmas.{shown-written, shown-rolled_back}
+use Rattle.tt_versions.specs.Lineage.{unwritten, chain_on, with_write_on, split_back}
+use Rattle.tt_versions.specs.Sides.{LineagesByKey, lineage_at, side_of, current_of, next_of, is_split, written_from, just_before, rolled_back_from, with_key}
+use Rattle.tt_versions.proofs.VersionsLemmas.{visible_row-with_write, visible_row-without_writes_from}
 
 tied : (o : Ordering) → is_eq o ≡ true → o ≡ Equal
 tied Less e = cc
@@ -26,7 +27,7 @@ tied Greater e = cc
 pub same_key : (q key : ℤ) → int_eq q key ≡ true → q ≡ key
 same_key q key e = int_cmp-IsAntisymmetric q key (tied (int_cmp q key) e)
 
--- one key gets a lineage, and the others keep theirs
+-- one key gets a lineage, and the others stay
 pub lineage_at-put : (t : LineagesByKey) (key : ℤ) (l : Lineage) (q : ℤ) → lineage_at (sorted.put int_cmp key l t) q ≡ cond (int_eq q key) l (lineage_at t q)
 lineage_at-put t key l q = ap (λ o. unwrap_or o unwritten) (sorted.find-put int_cmp int_cmp_total q key l t) ∙ by (int_eq q key)
   where
@@ -34,69 +35,59 @@ lineage_at-put t key l q = ap (λ o. unwrap_or o unwritten) (sorted.find-put int
     by true = refl
     by false = refl
 
--- a row that was never written shows nothing
-pub shown-unwritten : (time : ℕ) (side : Side) → visible_row time (chain_on side unwritten) ≡ None
-shown-unwritten time Current = refl
-shown-unwritten time Next = refl
-
--- a table without entries has no rows, and none split
-pub side_of-new : (side : Side) → side_of [] side ≡ no_rows
-unfolding side_of
-side_of-new Current = refl
-side_of-new Next = refl
-
-pub is_split-new : is_split [] ≡ none_split
-unfolding is_split
-is_split-new = refl
+-- a row that was never written is there at no time
+pub visible_row-unwritten : (time : ℕ) (side : Side) → visible_row time (chain_on side unwritten) ≡ None
+visible_row-unwritten time Current = refl
+visible_row-unwritten time Next = refl
 
 -- a side on which a row is written
-pub side_written : (t : LineagesByKey) (side : Side) (key : ℤ) (row : Option Row) (time : ℕ) (l : Lineage)
+pub side_of-put_written : (t : LineagesByKey) (side : Side) (key : ℤ) (row : Option Row) (time : ℕ) (l : Lineage)
     → ((u : ℕ) → visible_row u (chain_on side l) ≡ (if nat_le time u then row else visible_row u (chain_on side (lineage_at t key))))
     → side_of (sorted.put int_cmp key l t) side ≡ written_from key row time (side_of t side)
 unfolding side_of
-side_written t side key row time l shows = λ i q u. (ap (λ x. visible_row u (chain_on side x)) (lineage_at-put t key l q) ∙ by q u (int_eq q key) refl) i
+side_of-put_written t side key row time l shows = λ i q u. (ap (λ x. visible_row u (chain_on side x)) (lineage_at-put t key l q) ∙ by q u (int_eq q key) refl) i
   where
     by : (q : ℤ) (u : ℕ) (b : Bool) → int_eq q key ≡ b
         → visible_row u (chain_on side (cond b l (lineage_at t q))) ≡ (if b && nat_le time u then row else visible_row u (chain_on side (lineage_at t q)))
     by q u true e = shows u ∙ ap (λ k. if nat_le time u then row else visible_row u (chain_on side (lineage_at t k))) (sym (same_key q key e))
     by q u false e = refl
 
--- a side on which a row keeps its history
-pub side_stays : (t : LineagesByKey) (side : Side) (key : ℤ) (l : Lineage) → chain_on side l ≡ chain_on side (lineage_at t key) → side_of (sorted.put int_cmp key l t) side ≡ side_of t side
+-- a side on which the chain of a row stays
+pub side_of-put_same : (t : LineagesByKey) (side : Side) (key : ℤ) (l : Lineage) → chain_on side l ≡ chain_on side (lineage_at t key) → side_of (sorted.put int_cmp key l t) side ≡ side_of t side
 unfolding side_of
-side_stays t side key l same = λ i q u. (ap (λ x. visible_row u (chain_on side x)) (lineage_at-put t key l q) ∙ by q u (int_eq q key) refl) i
+side_of-put_same t side key l same = λ i q u. (ap (λ x. visible_row u (chain_on side x)) (lineage_at-put t key l q) ∙ by q u (int_eq q key) refl) i
   where
     by : (q : ℤ) (u : ℕ) (b : Bool) → int_eq q key ≡ b → visible_row u (chain_on side (cond b l (lineage_at t q))) ≡ visible_row u (chain_on side (lineage_at t q))
     by q u true e = ap (visible_row u) same ∙ ap (λ k. visible_row u (chain_on side (lineage_at t k))) (sym (same_key q key e))
     by q u false e = refl
 
--- the split keys, where a row stays split or stays whole
-pub split_stays : (t : LineagesByKey) (key : ℤ) (l : Lineage) → is_some l.next ≡ is_split t key → is_split (sorted.put int_cmp key l t) ≡ is_split t
+-- the split keys, where a row is split as before
+pub is_split-put_same : (t : LineagesByKey) (key : ℤ) (l : Lineage) → is_some l.next ≡ is_split t key → is_split (sorted.put int_cmp key l t) ≡ is_split t
 unfolding is_split
-split_stays t key l same = λ i q. (ap (λ x. is_some x.next) (lineage_at-put t key l q) ∙ by q (int_eq q key) refl) i
+is_split-put_same t key l same = λ i q. (ap (λ x. is_some x.next) (lineage_at-put t key l q) ∙ by q (int_eq q key) refl) i
   where
     by : (q : ℤ) (b : Bool) → int_eq q key ≡ b → is_some (cond b l (lineage_at t q)).next ≡ is_some (lineage_at t q).next
     by q true e = same ∙ ap (λ k. is_some (lineage_at t k).next) (sym (same_key q key e))
     by q false e = refl
 
--- and where it is split
-pub split_grows : (t : LineagesByKey) (key : ℤ) (l : Lineage) → is_some l.next ≡ true → is_split (sorted.put int_cmp key l t) ≡ with_key key (is_split t)
+-- and where it gets split
+pub is_split-put_split : (t : LineagesByKey) (key : ℤ) (l : Lineage) → is_some l.next ≡ true → is_split (sorted.put int_cmp key l t) ≡ with_key key (is_split t)
 unfolding is_split
-split_grows t key l split = λ i q. (ap (λ x. is_some x.next) (lineage_at-put t key l q) ∙ by q (int_eq q key)) i
+is_split-put_split t key l split = λ i q. (ap (λ x. is_some x.next) (lineage_at-put t key l q) ∙ by q (int_eq q key)) i
   where
     by : (q : ℤ) (b : Bool) → is_some (cond b l (lineage_at t q)).next ≡ (b || is_some (lineage_at t q).next)
     by q true = split
     by q false = refl
 
 -- a current write: the current side
-pub current_written : (t : LineagesByKey) (key : ℤ) (row : Option Row) (time : ℕ) → side_of (sorted.put int_cmp key (with_current_write row time (lineage_at t key)) t) Current ≡ written_from key row time (side_of t Current)
-current_written t key row time = side_written t Current key row time (with_current_write row time (lineage_at t key)) (λ u. shown-written row time u (lineage_at t key).current)
+pub current_of-write : (t : LineagesByKey) (key : ℤ) (row : Option Row) (time : ℕ) → side_of (sorted.put int_cmp key (with_write_on Current row time (lineage_at t key)) t) Current ≡ written_from key row time (current_of t)
+current_of-write t key row time = side_of-put_written t Current key row time (with_write_on Current row time (lineage_at t key)) (λ u. visible_row-with_write row time u (lineage_at t key).current)
 
 -- and the next side, which it changes where the row isn't split
-pub next_of_written : (t : LineagesByKey) (key : ℤ) (row : Option Row) (time : ℕ)
-    → side_of (sorted.put int_cmp key (with_current_write row time (lineage_at t key)) t) Next ≡ (if is_split t key then side_of t Next else written_from key row time (side_of t Next))
+pub next_of-write : (t : LineagesByKey) (key : ℤ) (row : Option Row) (time : ℕ)
+    → side_of (sorted.put int_cmp key (with_write_on Current row time (lineage_at t key)) t) Next ≡ (if is_split t key then side_of t Next else written_from key row time (next_of t))
 unfolding is_split
-next_of_written t key row time = by (lineage_at t key).next refl
+next_of-write t key row time = by (lineage_at t key).next refl
   where
     l : Lineage
     l = lineage_at t key
@@ -105,42 +96,48 @@ next_of_written t key row time = by (lineage_at t key).next refl
     new = versions.with_write row time l.current
 
     by : (n : Option (List Version)) → l.next ≡ n
-        → side_of (sorted.put int_cmp key (with_current_write row time l) t) Next ≡ (if is_some n then side_of t Next else written_from key row time (side_of t Next))
-    by (Some n) e = side_stays t Next key (with_current_write row time l) (ap (λ m. unwrap_or m new) e ∙ sym (ap (λ m. unwrap_or m l.current) e))
+        → side_of (sorted.put int_cmp key (with_write_on Current row time l) t) Next ≡ (if is_some n then side_of t Next else written_from key row time (next_of t))
+    by (Some n) e = side_of-put_same t Next key (with_write_on Current row time l) (ap (λ m. unwrap_or m new) e ∙ sym (ap (λ m. unwrap_or m l.current) e))
     by None e =
-        side_written t Next key row time (with_current_write row time l)
-        (λ u. ap (λ m. visible_row u (unwrap_or m new)) e ∙ shown-written row time u l.current ∙ ap (λ m. if nat_le time u then row else visible_row u (unwrap_or m l.current)) (sym e))
+        side_of-put_written t Next key row time (with_write_on Current row time l)
+        (λ u. ap (λ m. visible_row u (unwrap_or m new)) e ∙ visible_row-with_write row time u l.current ∙ ap (λ m. if nat_le time u then row else visible_row u (unwrap_or m l.current)) (sym e))
 
-pub split_of_written : (t : LineagesByKey) (key : ℤ) (row : Option Row) (time : ℕ) → is_split (sorted.put int_cmp key (with_current_write row time (lineage_at t key)) t) ≡ is_split t
-split_of_written t key row time = split_stays t key (with_current_write row time (lineage_at t key)) (unfold is_split in refl)
+pub is_split-write : (t : LineagesByKey) (key : ℤ) (row : Option Row) (time : ℕ) → is_split (sorted.put int_cmp key (with_write_on Current row time (lineage_at t key)) t) ≡ is_split t
+is_split-write t key row time = is_split-put_same t key (with_write_on Current row time (lineage_at t key)) (unfold is_split in refl)
 
 -- a row is split and rolled back
-pub current_of_split_back : (t : LineagesByKey) (key : ℤ) (time : ℕ) → side_of (sorted.put int_cmp key (split_back time (lineage_at t key)) t) Current ≡ side_of t Current
-current_of_split_back t key time = side_stays t Current key (split_back time (lineage_at t key)) refl
+pub current_of-split_back : (t : LineagesByKey) (key : ℤ) (time : ℕ) → side_of (sorted.put int_cmp key (split_back time (lineage_at t key)) t) Current ≡ side_of t Current
+current_of-split_back t key time = side_of-put_same t Current key (split_back time (lineage_at t key)) refl
 
-pub next_rolled_back : (t : LineagesByKey) (key : ℤ) (time : ℕ) → side_of (sorted.put int_cmp key (split_back time (lineage_at t key)) t) Next ≡ rolled_back_from key time (side_of t Next)
+pub next_of-split_back : (t : LineagesByKey) (key : ℤ) (time : ℕ) → side_of (sorted.put int_cmp key (split_back time (lineage_at t key)) t) Next ≡ rolled_back_from key time (next_of t)
 unfolding side_of
-next_rolled_back t key time =
-    side_written t Next key (just_before time (side_of t Next key)) time (split_back time (lineage_at t key)) (λ u. shown-rolled_back time u (chain_on Next (lineage_at t key)))
+next_of-split_back t key time =
+    side_of-put_written t Next key (just_before time (next_of t key)) time (split_back time (lineage_at t key)) (λ u. visible_row-without_writes_from time u (chain_on Next (lineage_at t key)))
 
-pub split_of_split_back : (t : LineagesByKey) (key : ℤ) (time : ℕ) → is_split (sorted.put int_cmp key (split_back time (lineage_at t key)) t) ≡ with_key key (is_split t)
-split_of_split_back t key time = split_grows t key (split_back time (lineage_at t key)) refl
+pub is_split-split_back : (t : LineagesByKey) (key : ℤ) (time : ℕ) → is_split (sorted.put int_cmp key (split_back time (lineage_at t key)) t) ≡ with_key key (is_split t)
+is_split-split_back t key time = is_split-put_split t key (split_back time (lineage_at t key)) refl
 
 -- a write on the next side of a split row
-pub current_of_next_written : (t : LineagesByKey) (key : ℤ) (row : Option Row) (time : ℕ) → side_of (sorted.put int_cmp key (with_next_write row time (lineage_at t key)) t) Current ≡ side_of t Current
-current_of_next_written t key row time = side_stays t Current key (with_next_write row time (lineage_at t key)) refl
+pub current_of-next_write : (t : LineagesByKey) (key : ℤ) (row : Option Row) (time : ℕ) → side_of (sorted.put int_cmp key (with_write_on Next row time (lineage_at t key)) t) Current ≡ side_of t Current
+current_of-next_write t key row time = side_of-put_same t Current key (with_write_on Next row time (lineage_at t key)) refl
 
-pub next_of_next_written : (t : LineagesByKey) (key : ℤ) (row : Option Row) (time : ℕ) → side_of (sorted.put int_cmp key (with_next_write row time (lineage_at t key)) t) Next ≡ written_from key row time (side_of t Next)
-next_of_next_written t key row time = side_written t Next key row time (with_next_write row time (lineage_at t key)) (λ u. shown-written row time u (chain_on Next (lineage_at t key)))
+pub next_of-next_write : (t : LineagesByKey) (key : ℤ) (row : Option Row) (time : ℕ) → side_of (sorted.put int_cmp key (with_write_on Next row time (lineage_at t key)) t) Next ≡ written_from key row time (next_of t)
+next_of-next_write t key row time = side_of-put_written t Next key row time (with_write_on Next row time (lineage_at t key)) (λ u. visible_row-with_write row time u (chain_on Next (lineage_at t key)))
 
-pub split_of_next_written : (t : LineagesByKey) (key : ℤ) (row : Option Row) (time : ℕ) → is_split t key ≡ true → is_split (sorted.put int_cmp key (with_next_write row time (lineage_at t key)) t) ≡ is_split t
-split_of_next_written t key row time split = split_stays t key (with_next_write row time (lineage_at t key)) (sym split)
+pub is_split-next_write : (t : LineagesByKey) (key : ℤ) (row : Option Row) (time : ℕ) → is_split t key ≡ true → is_split (sorted.put int_cmp key (with_write_on Next row time (lineage_at t key)) t) ≡ is_split t
+is_split-next_write t key row time split = is_split-put_same t key (with_write_on Next row time (lineage_at t key)) (sym split)
 
--- a row that isn't split shows the same on both sides
-pub shared : (t : LineagesByKey) (key : ℤ) → is_split t key ≡ false → side_of t Next key ≡ side_of t Current key
+-- a row that isn't split is the same on both sides
+pub next_of-whole : (t : LineagesByKey) (key : ℤ) → is_split t key ≡ false → next_of t key ≡ current_of t key
 unfolding is_split side_of
-shared t key whole = λ i u. by (lineage_at t key).next whole u i
+next_of-whole t key whole = λ i u. by (lineage_at t key).next whole u i
   where
     by : (n : Option (List Version)) → is_some n ≡ false → (u : ℕ) → visible_row u (unwrap_or n (lineage_at t key).current) ≡ visible_row u (lineage_at t key).current
     by None e u = refl
     by (Some n) e u = cc
+
+-- what reading one row rests on
+pub ruleset reads = (to_z-of_z, visible_row-unwritten, next_of-whole)
+
+-- what writing one row rests on
+pub ruleset writes = (to_z-of_z, current_of-write, next_of-write, is_split-write, current_of-next_write, next_of-next_write, is_split-next_write, current_of-split_back, next_of-split_back, is_split-split_back)

@@ -2,3 +2,4 @@ pub mod Versions
 pub mod Lineage
 pub mod Sides
 pub mod RowsByWrites
+pub mod Laws

@@ -1,11 +1,11 @@
--- What a list of row writes tells of one table, and how a side follows the list.
+-- The rows of one table that a list of row writes leaves, and how a side follows the list.
 use Rattle.std.specs.Prelude.{◌≡◌, ℕ, ℤ, not, ◌&&◌, nat_le, ◌==◌, List, [], ◌∷◌, ◌++◌, filter, Option}
 use Rattle.std.specs.Ordering.{int_eq}
 use Rattle.tt_values.specs.declared.row.Row.{Row}
 use Rattle.tt_values.specs.Content.{RowsByKey, RowWrite, content_at, row_at}
 use Rattle.tt_versions.specs.Sides.{RowsOverTime}
 
--- the rows of a table in time, as the contents of a list of row writes have them
+-- the rows of a table over time, as the contents after a list of row writes have them
 abbrev pub rows_by : ℕ → List RowWrite → RowsOverTime
 rows_by table ws key time = row_at (content_at ws time table) key
 
@@ -13,16 +13,16 @@ rows_by table ws key time = row_at (content_at ws time table) key
 abbrev pub without_row_writes : ℕ → ℤ → ℕ → List RowWrite → List RowWrite
 without_row_writes table key time ws = filter (λ w. not ((table == w.table) && int_eq key w.key && nat_le time w.time)) ws
 
--- where a side was as a list of row writes tells, it is now as the list with one more tells
+-- where a side had the rows that a list of row writes leaves, it now has those that the list with one more leaves
 abbrev pub AddsRowWrite : RowsOverTime → RowsOverTime → ℤ → Option Row → ℕ → Type 0
 AddsRowWrite before after key row time = (table : ℕ) (ws : List RowWrite)
     → before ≡ rows_by table ws → after ≡ rows_by table (ws ++ record { time = time; table = table; key = key; row = row } ∷ [])
 
--- where a side was as a list of row writes tells, it is now as the rolled back list tells
+-- where a side had the rows that a list of row writes leaves, it now has those that the list leaves without the ones of a key from a time on
 abbrev pub DropsRowWrites : RowsOverTime → RowsOverTime → ℤ → ℕ → Type 0
 DropsRowWrites before after key time = (table : ℕ) (ws : List RowWrite)
     → before ≡ rows_by table ws → after ≡ rows_by table (without_row_writes table key time ws)
 
--- where a side is as a list of row writes tells, a list of rows is the content of the table at a time
+-- where a side has the rows that a list of row writes leaves, a list of rows is the content of the table at a time
 abbrev pub ListsContent : RowsByKey → RowsOverTime → ℕ → Type 0
 ListsContent es rows time = (table : ℕ) (ws : List RowWrite) → rows ≡ rows_by table ws → es ≡ content_at ws time table

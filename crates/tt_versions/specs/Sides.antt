@@ -1,20 +1,22 @@
 -- The two sides of a table: for each key and time, the row.
-use Rattle.std.specs.Prelude.{◌≡◌, ℕ, zero, suc, ℤ, Bool, false, ◌&&◌, ◌||◌, nat_le, List, [], IsTrue, Option, None, is_some, if◌then◌else◌}
+use Rattle.std.specs.Prelude.{◌≡◌, ℕ, zero, suc, ℤ, Bool, false, ◌&&◌, ◌||◌, nat_le, List, [], IsTrue, Option, None, is_some, map, if◌then◌else◌}
+use Rattle.std.specs.Borrow.{Bor}
 use Rattle.std.specs.Option.{unwrap_or}
 use Rattle.std.specs.Ordering.{int_cmp, int_eq}
 use Rattle.std.specs.FinMap.Entries as sorted
 use Rattle.tt_values.specs.declared.row.Row.{Row}
 use Rattle.tt_values.specs.Content.{RowsByKey, row_at}
 use Rattle.tt_versions.specs.declared.side.Side.{Side}
+use Rattle.tt_versions.specs.declared.side.Side.TheVariants.{Current, Next}
 use Rattle.tt_versions.specs.declared.lineage.Lineage.{Lineage}
 use Rattle.tt_versions.specs.Versions.{visible_row}
-use Rattle.tt_versions.specs.Lineage.{unwritten, chain_on}
+use Rattle.tt_versions.specs.Lineage.{unwritten, chain_on, unsplit}
 
--- what a table keeps, by rising key
+-- the lineages of a table, by rising key
 abbrev pub LineagesByKey : Type 0
 LineagesByKey = List (ℤ × Lineage)
 
--- nothing, as a table without rows keeps
+-- those of a table that was never written
 abbrev pub no_lineages : LineagesByKey
 no_lineages = []
 
@@ -22,7 +24,7 @@ no_lineages = []
 abbrev pub RowsOverTime : Type 0
 RowsOverTime = ℤ → ℕ → Option Row
 
--- what is kept of the row with a key
+-- the lineage of the row with a key
 abbrev pub lineage_at : LineagesByKey → ℤ → Lineage
 lineage_at t key = unwrap_or (sorted.find int_cmp key t) unwritten
 
@@ -30,9 +32,20 @@ lineage_at t key = unwrap_or (sorted.find int_cmp key t) unwritten
 unfoldable pub side_of : LineagesByKey → Side → RowsOverTime
 side_of t side key time = visible_row time (chain_on side (lineage_at t key))
 
+-- the current side of a table, and the next one
+abbrev pub current_of : LineagesByKey → RowsOverTime
+current_of t = side_of t Current
+
+abbrev pub next_of : LineagesByKey → RowsOverTime
+next_of t = side_of t Next
+
 -- whether the row with a key is split: it has a next side of its own
 unfoldable pub is_split : LineagesByKey → ℤ → Bool
 is_split t key = is_some (lineage_at t key).next
+
+-- each row is unsplit: both its sides share the chain that a side shows
+pub record UnsplitsRows (side : Side) (before after : LineagesByKey) : Type 0 where
+  pub each : (key : ℤ) → lineage_at after key ≡ unsplit side (lineage_at before key)
 
 -- no key has a row at any time
 abbrev pub no_rows : RowsOverTime
@@ -59,7 +72,11 @@ none_split key = false
 abbrev pub with_key : ℤ → (ℤ → Bool) → ℤ → Bool
 with_key key keys q = int_eq q key || keys q
 
--- a list has the row of each key, by rising key
-pub record ListsRows (es : RowsByKey) (rows : ℤ → Option Row) : Type 0 where
+-- the rows of a list of keys with references to rows
+abbrev pub rows_behind : List (ℤ × Bor Row) → RowsByKey
+rows_behind es = map (λ e. (e.0, e.1.now)) es
+
+-- a list has the row of each key at a time, by rising key
+pub record ListsRows (es : RowsByKey) (rows : RowsOverTime) (time : ℕ) : Type 0 where
   pub sorted : IsTrue (sorted.is_sorted int_cmp es)
-  pub finds : (key : ℤ) → row_at es key ≡ rows key
+  pub finds : (key : ℤ) → row_at es key ≡ rows key time

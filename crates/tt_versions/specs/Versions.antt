@@ -1,4 +1,4 @@
--- Versions of a row, and what they show at a time.
+-- Versions of a row, and the row at a time.
 use Rattle.std.specs.Prelude.{ℕ, Bool, true, false, ◌&&◌, nat_le, nat_lt, List, [], ◌∷◌, ◌++◌, map, filter, Option, None, Some, if◌then◌else◌}
 use Rattle.tt_values.specs.declared.row.Row.{Row}
 use Rattle.tt_versions.specs.declared.version.Version.{Version}
@@ -17,7 +17,7 @@ is_before time (Some end) = nat_lt end time
 abbrev pub is_visible : ℕ → Version → Bool
 is_visible time v = nat_le v.start time && is_after time v.end
 
--- the row that versions show at a time: that of the first that is visible then
+-- the row at a time: that of the first version that is visible then
 abbrev pub visible_row : ℕ → List Version → Option Row
 visible_row time [] = None
 visible_row time (v ∷ vs) = if is_visible time v then Some v.row else visible_row time vs
@@ -34,7 +34,7 @@ ended_by time v = if is_after time v.end then record v { end = Some time } else 
 abbrev pub reopened_from : ℕ → Version → Version
 reopened_from time v = if is_before time v.end then v else record v { end = None }
 
--- the version that a write of a row at a time makes. A write of none makes none
+-- the version that a write of a row at a time starts. A write of none starts none
 abbrev pub version_of : Option Row → ℕ → List Version
 version_of None time = []
 version_of (Some row) time = record { row = row; start = time; end = None } ∷ []

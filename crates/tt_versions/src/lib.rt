@@ -1,7 +1,9 @@
-//! Tables whose rows keep their versions, with two sides: the current one, and the next one, which
-//! can be rolled back and rewritten row by row while the current one stays.
+//! Tables with multi-version rows (MVCC) and point-in-time reads: each row has a chain of versions,
+//! so that it can be read as of any time. A table has two sides: the current one, and the next one,
+//! which is rolled back and rewritten row by row while the current one stays.
 #![tactic(auto)]
 
+pub mod laws;
 mod lineage;
 mod lineages;
 mod side;

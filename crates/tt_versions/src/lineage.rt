@@ -1,13 +1,13 @@
 ghost use Rattle.std.specs.Prelude.{◌≡◌, None, is_some, IfOk};
 ghost use Rattle.std.specs.Option.{option_copied};
 
-use crate::version_chain::VersionChain;
 use crate::side::Side;
+use crate::version_chain::VersionChain;
 use std::alloc::{AllocError, Global};
 use tt_values::Row;
 
-/// What is kept of one row. Where a version lies tells the generations that it belongs to: a row
-/// that isn't split has one chain, which both sides share.
+/// The versions of one row. A row that isn't split has one chain, which both sides share. The
+/// chain that a version stands in says which generation it belongs to.
 #[derive(Debug, Drop)]
 pub(crate) struct Lineage {
     current: VersionChain,
@@ -17,7 +17,7 @@ pub(crate) struct Lineage {
 
 impl Lineage {
     ghost use Rattle.tt_versions.specs.Versions.{visible_row};
-    ghost use Rattle.tt_versions.specs.Lineage.{unwritten, chain_on, with_current_write, split_back, with_next_write, switched_lineage, aborted_lineage};
+    ghost use Rattle.tt_versions.specs.Lineage.{unwritten, chain_on, with_write_on, split_back, unsplit};
 
     /// A row that was never written.
     pub(crate) fn new(alloc: Global) -> Lineage
@@ -61,15 +61,33 @@ impl Lineage {
         }
     }
 
-    /// The row, or none, is written at the time in the current generation.
-    pub(crate) fn with_current_write(self, row: Option<Row>, time: u64) -> Result<Lineage, AllocError>
-        ensures { IfOk result (λ l. l ≡ with_current_write row time self) }
+    /// The row, or none, is written at the time on that side: on the current one in the chain that
+    /// both sides share where the row isn't split, on the next one in a chain of its own.
+    pub(crate) fn with_write(
+        self,
+        side: Side,
+        row: Option<Row>,
+        time: u64,
+    ) -> Result<Lineage, AllocError>
+        ensures { IfOk result (λ l. l ≡ with_write_on side row time self) }
     {
-        let current = self.current.with_write(row, time)?;
-        Ok(Lineage {
-            current,
-            next: self.next,
-        })
+        match side {
+            Side::Current => {
+                let current = self.current.with_write(row, time)?;
+                Ok(Lineage {
+                    current,
+                    next: self.next,
+                })
+            }
+            Side::Next => {
+                let (current, next) = self.both_chains()?;
+                let next = next.with_write(row, time)?;
+                Ok(Lineage {
+                    current,
+                    next: Some(next),
+                })
+            }
+        }
     }
 
     /// The row gets a next side of its own, rolled back to before the time.
@@ -78,18 +96,6 @@ impl Lineage {
     {
         let (current, next) = self.both_chains()?;
         let next = next.without_writes_from(time);
-        Ok(Lineage {
-            current,
-            next: Some(next),
-        })
-    }
-
-    /// The row, or none, is written at the time on its own next side.
-    pub(crate) fn with_next_write(self, row: Option<Row>, time: u64) -> Result<Lineage, AllocError>
-        ensures { IfOk result (λ l. l ≡ with_next_write row time self) }
-    {
-        let (current, next) = self.both_chains()?;
-        let next = next.with_write(row, time)?;
         Ok(Lineage {
             current,
             next: Some(next),
@@ -111,22 +117,11 @@ impl Lineage {
         }
     }
 
-    /// Both sides share what the next one has.
-    pub(crate) fn switched(&self) -> Result<Lineage, AllocError>
-        ensures { IfOk result (λ l. l ≡ switched_lineage self.now) }
+    /// Both sides share the chain that this one shows.
+    pub(crate) fn unsplit(&self, side: Side) -> Result<Lineage, AllocError>
+        ensures { IfOk result (λ l. l ≡ unsplit side self.now) }
     {
-        let current = self.next_chain().clone()?;
-        Ok(Lineage {
-            current,
-            next: None,
-        })
-    }
-
-    /// Both sides share what the current one has.
-    pub(crate) fn aborted(&self) -> Result<Lineage, AllocError>
-        ensures { IfOk result (λ l. l ≡ aborted_lineage self.now) }
-    {
-        let current = self.current.clone()?;
+        let current = self.chain(side).clone()?;
         Ok(Lineage {
             current,
             next: None,

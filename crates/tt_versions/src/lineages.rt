@@ -4,13 +4,14 @@ ghost use Rattle.std.specs.Ordering.{int_cmp};
 ghost use Rattle.std.specs.FinMap.Entries as sorted;
 
 use crate::lineage::Lineage;
+use crate::side::Side;
 use std::alloc::{AllocError, Global};
 use std::collections::BTreeMap;
 use std::collections::btree_map::Iter;
 use std::marker::Model;
 
-/// A map from the keys of rows to what is kept of them. It is copied whole; contracts see its
-/// entries by rising key.
+/// A map from the keys of rows to their lineages. It is copied whole; contracts see its entries by
+/// rising key.
 #[derive(Debug, Drop)]
 pub(crate) struct Lineages {
     entries: BTreeMap<i64, Lineage>,
@@ -26,6 +27,8 @@ impl Model for Lineages {
 }
 
 impl Lineages {
+    ghost use Rattle.tt_versions.specs.Sides.{UnsplitsRows};
+
     pub(crate) fn new(alloc: Global) -> Lineages
         ensures { result ≡ [] }
     {
@@ -41,6 +44,7 @@ impl Lineages {
     }
 
     /// The entries, by rising key.
+    #[tactic(auto, using(crate::proofs::EntriesLemmas::entries))]
     pub(crate) fn iter(&self) -> Iter<'_, i64, Lineage>
         ensures all { result ≡ self.now }
         ensures sorted { IsTrue (sorted.is_sorted int_cmp self.now) }
@@ -48,20 +52,37 @@ impl Lineages {
         self.entries.iter()
     }
 
-    /// The same map, in memory of its own.
-    pub(crate) fn copy(&self) -> Result<Lineages, AllocError>
-        ensures { IfOk result (λ copy. copy ≡ self.now) }
-    {
-        let entries = self.entries.clone()?;
-        Ok(Lineages { entries })
-    }
-
     /// The map with that lineage at the key. This one stays as it is.
+    #[tactic(auto, using(crate::proofs::EntriesLemmas::entries))]
     pub(crate) fn with(&self, key: i64, lineage: Lineage) -> Result<Lineages, AllocError>
         ensures { IfOk result (λ m. m ≡ sorted.put int_cmp key lineage self.now) }
     {
-        let mut with = self.copy()?;
-        with.entries.insert(key, lineage)?;
-        Ok(with)
+        let mut lineages = self.clone()?;
+        lineages.entries.insert(key, lineage)?;
+        Ok(lineages)
+    }
+
+    /// The map with each lineage unsplit: both sides show what this one shows. This map stays as it
+    /// is.
+    #[tactic(auto, using(crate::proofs::UnsplitLemmas::unsplits_rows))]
+    pub(crate) fn unsplit(&self, side: Side) -> Result<Lineages, AllocError>
+        ensures { IfOk result (UnsplitsRows side self.now) }
+    {
+        let mut lineages = self.clone()?;
+        for (key, lineage) in self.iter() {
+            if lineage.is_split() {
+                lineages = lineages.with(*key, lineage.unsplit(side)?)?;
+            }
+        }
+        Ok(lineages)
+    }
+}
+
+impl Clone for Lineages {
+    ghost is_clone = { λ source copy. copy ≡ source };
+
+    fn clone(&self) -> Result<Self, AllocError> {
+        let entries = self.entries.clone()?;
+        Ok(Lineages { entries })
     }
 }

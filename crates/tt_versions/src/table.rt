@@ -1,5 +1,5 @@
-ghost use Rattle.std.specs.Prelude.{◌≡◌, map, false, IsTrue, IfOk, if◌then◌else◌};
-ghost use Rattle.std.specs.Option.{option_copied};
+ghost use Rattle.std.specs.Prelude.{◌≡◌, false, IsTrue, IfOk, if◌then◌else◌};
+ghost use Rattle.std.specs.Option.{option_copied, unwrap_or};
 ghost use Rattle.std.specs.Ordering.{int_cmp};
 ghost use Rattle.std.specs.FinMap.Entries as sorted;
 
@@ -10,9 +10,9 @@ use std::alloc::{AllocError, Global};
 use std::marker::Model;
 use tt_values::Row;
 
-/// A table whose rows keep their versions, with a current and a next side. Contracts see what is
-/// kept for each key, and speak of it by `side_of` and `is_split`. A changing call answers a new
-/// table, and leaves this one as it is.
+/// A table of multi-version rows, with a current and a next side. Contracts see the lineages of its
+/// rows by key, and speak of them by `side_of` and `is_split`. A changing call answers a new table,
+/// and leaves this one as it is; its only error is that there is no memory.
 #[derive(Debug, Drop)]
 pub struct Table {
     alloc: Global,
@@ -28,10 +28,12 @@ impl Model for Table {
 }
 
 impl Table {
-    ghost use Rattle.tt_versions.specs.Sides.{no_lineages, lineage_at, side_of, is_split, written_from, rolled_back_from, no_rows, none_split, with_key, ListsRows};
+    ghost use Rattle.tt_versions.specs.Lineage.{unwritten, with_write_on};
+    ghost use Rattle.tt_versions.specs.Sides.{no_lineages, lineage_at, side_of, current_of, next_of, is_split, written_from, rolled_back_from, no_rows, none_split, with_key, rows_behind, ListsRows};
     ghost use Rattle.tt_versions.specs.RowsByWrites.{AddsRowWrite, DropsRowWrites, ListsContent};
 
     /// A table without rows. Takes no memory; what the other calls take comes from this allocator.
+    #[tactic(auto, using(crate::proofs::LawProofs::empty_table))]
     pub fn new(alloc: Global) -> Table
         ensures kept { result ≡ no_lineages }
         ensures empty { (side : Side) → side_of result side ≡ no_rows }
@@ -43,29 +45,34 @@ impl Table {
         }
     }
 
-    /// The row with the key, as it is at the time on that side. Takes no memory.
+    /// The row with the key as of the time, on that side. Takes no memory.
+    #[tactic(auto, using(crate::proofs::SidesLemmas::reads), unfolding(crate::specs::Sides::side_of))]
     pub fn at(&self, key: i64, time: u64, side: Side) -> Option<&Row>
         ensures { option_copied result ≡ side_of self.now side key time }
     {
-        let lineage = self.lineages.get(key)?;
+        let lineage = self.lineage_of(key)?;
         lineage.at(time, side)
     }
 
     /// Whether the row with the key has a next side of its own. Takes no memory.
+    #[tactic(auto, using(crate::proofs::SidesLemmas::reads), unfolding(crate::specs::Sides::is_split))]
     pub fn is_split(&self, key: i64) -> bool
         ensures split { result ≡ is_split self.now key }
-        ensures shared { result ≡ false → side_of self.now Side.Next key ≡ side_of self.now Side.Current key }
+        ensures shared { result ≡ false → next_of self.now key ≡ current_of self.now key }
     {
-        match self.lineages.get(key) {
+        match self.lineage_of(key) {
             Some(lineage) => lineage.is_split(),
             None => false,
         }
     }
 
-    /// The rows of that side at the time, each with its key, by rising key.
+    /// The rows of that side as of the time, each with its key, by rising key.
+    #[tactic(auto, using(crate::proofs::RowsAtLemmas::lists_rows))]
     pub fn rows_at(&self, time: u64, side: Side) -> Result<Vec<(i64, &Row)>, AllocError>
-        ensures lists { IfOk result (λ rows. ListsRows (map (λ e. (e.0, e.1.now)) rows.items) (λ key. side_of self.now side key time)) }
-        ensures content { IfOk result (λ rows. ListsContent (map (λ e. (e.0, e.1.now)) rows.items) (side_of self.now side) time) }
+        ensures lists { IfOk result (λ rows.
+            ListsRows (rows_behind rows.items) (side_of self.now side) time) }
+        ensures content { IfOk result (λ rows.
+            ListsContent (rows_behind rows.items) (side_of self.now side) time) }
     {
         let mut rows = Vec::new(self.alloc);
         for (key, lineage) in self.lineages.iter() {
@@ -76,94 +83,121 @@ impl Table {
         Ok(rows)
     }
 
-    /// The key has that row, or none, from the time on: on both sides, or on the current one alone
+    /// The key has that row, or none, from the time on: on both sides, or only on the current one
     /// where the row is split.
+    #[tactic(auto, using(crate::proofs::SidesLemmas::writes))]
     pub fn written(&self, key: i64, row: Option<Row>, time: u64) -> Result<Table, AllocError>
-        ensures current { IfOk result (λ t. side_of t Side.Current ≡ written_from key row time (side_of self.now Side.Current)) }
-        ensures next { IfOk result (λ t. side_of t Side.Next ≡ (if is_split self.now key then side_of self.now Side.Next else written_from key row time (side_of self.now Side.Next))) }
+        ensures current { IfOk result (λ t.
+            current_of t ≡ written_from key row time (current_of self.now)) }
+        ensures next { IfOk result (λ t. next_of t ≡ (if is_split self.now key
+            then next_of self.now else written_from key row time (next_of self.now))) }
         ensures split { IfOk result (λ t. is_split t ≡ is_split self.now) }
-        ensures current_adds { IfOk result (λ t. AddsRowWrite (side_of self.now Side.Current) (side_of t Side.Current) key row time) }
-        ensures next_adds { IfOk result (λ t. is_split self.now key ≡ false → AddsRowWrite (side_of self.now Side.Next) (side_of t Side.Next) key row time) }
+        ensures current_adds { IfOk result (λ t.
+            AddsRowWrite (current_of self.now) (current_of t) key row time) }
+        ensures next_adds { IfOk result (λ t. is_split self.now key ≡ false
+            → AddsRowWrite (next_of self.now) (next_of t) key row time) }
     {
-        let lineage = self.lineage(key)?.with_current_write(row, time)?;
-        let table = self.with(key, lineage)?;
+        let table = self.with_write(Side::Current, key, row, time)?;
         Ok(table)
     }
 
     /// The row is split, and its next side is rolled back: from the time on it is what it was just
     /// before. The current side stays.
+    #[tactic(auto, using(crate::proofs::SidesLemmas::writes))]
     pub fn split_back(&self, key: i64, time: u64) -> Result<Table, AllocError>
-        ensures current { IfOk result (λ t. side_of t Side.Current ≡ side_of self.now Side.Current) }
-        ensures next { IfOk result (λ t. side_of t Side.Next ≡ rolled_back_from key time (side_of self.now Side.Next)) }
+        ensures current { IfOk result (λ t. current_of t ≡ current_of self.now) }
+        ensures next { IfOk result (λ t. next_of t ≡ rolled_back_from key time (next_of self.now)) }
         ensures split { IfOk result (λ t. is_split t ≡ with_key key (is_split self.now)) }
-        ensures next_drops { IfOk result (λ t. DropsRowWrites (side_of self.now Side.Next) (side_of t Side.Next) key time) }
+        ensures next_drops { IfOk result (λ t.
+            DropsRowWrites (next_of self.now) (next_of t) key time) }
     {
-        let lineage = self.lineage(key)?.split_back(time)?;
-        let table = self.with(key, lineage)?;
+        let lineage = self.own_lineage(key)?.split_back(time)?;
+        let table = self.with_lineage(key, lineage)?;
         Ok(table)
     }
 
-    /// The key has that row, or none, from the time on, on the next side alone.
+    /// The key has that row, or none, from the time on, only on the next side.
+    #[tactic(auto, using(crate::proofs::SidesLemmas::writes))]
     pub fn next_written(&self, key: i64, row: Option<Row>, time: u64) -> Result<Table, AllocError>
         requires { IsTrue (is_split self.now key) }
-        ensures current { IfOk result (λ t. side_of t Side.Current ≡ side_of self.now Side.Current) }
-        ensures next { IfOk result (λ t. side_of t Side.Next ≡ written_from key row time (side_of self.now Side.Next)) }
+        ensures current { IfOk result (λ t. current_of t ≡ current_of self.now) }
+        ensures next { IfOk result (λ t. next_of t ≡ written_from key row time (next_of self.now)) }
         ensures split { IfOk result (λ t. is_split t ≡ is_split self.now) }
-        ensures next_adds { IfOk result (λ t. AddsRowWrite (side_of self.now Side.Next) (side_of t Side.Next) key row time) }
+        ensures next_adds { IfOk result (λ t.
+            AddsRowWrite (next_of self.now) (next_of t) key row time) }
     {
-        let lineage = self.lineage(key)?.with_next_write(row, time)?;
-        let table = self.with(key, lineage)?;
+        let table = self.with_write(Side::Next, key, row, time)?;
         Ok(table)
     }
 
     /// The next side becomes the current one, and no row is split.
     pub fn switched(&self) -> Result<Table, AllocError>
-        ensures current { IfOk result (λ t. side_of t Side.Current ≡ side_of self.now Side.Next) }
-        ensures next { IfOk result (λ t. side_of t Side.Next ≡ side_of self.now Side.Next) }
+        ensures current { IfOk result (λ t. current_of t ≡ next_of self.now) }
+        ensures next { IfOk result (λ t. next_of t ≡ next_of self.now) }
         ensures split { IfOk result (λ t. is_split t ≡ none_split) }
     {
-        let mut lineages = self.lineages.copy()?;
-        for (key, lineage) in self.lineages.iter() {
-            if lineage.is_split() {
-                lineages = lineages.with(*key, lineage.switched()?)?;
-            }
-        }
-        Ok(Table {
-            alloc: self.alloc,
-            lineages,
-        })
+        self.unsplit(Side::Next)
     }
 
     /// The next side is given up for the current one, and no row is split.
     pub fn aborted(&self) -> Result<Table, AllocError>
-        ensures current { IfOk result (λ t. side_of t Side.Current ≡ side_of self.now Side.Current) }
-        ensures next { IfOk result (λ t. side_of t Side.Next ≡ side_of self.now Side.Current) }
+        ensures current { IfOk result (λ t. current_of t ≡ current_of self.now) }
+        ensures next { IfOk result (λ t. next_of t ≡ current_of self.now) }
         ensures split { IfOk result (λ t. is_split t ≡ none_split) }
     {
-        let mut lineages = self.lineages.copy()?;
-        for (key, lineage) in self.lineages.iter() {
-            if lineage.is_split() {
-                lineages = lineages.with(*key, lineage.aborted()?)?;
-            }
-        }
+        self.unsplit(Side::Current)
+    }
+
+    /// The row, or none, is written at the time on that side.
+    fn with_write(
+        &self,
+        side: Side,
+        key: i64,
+        row: Option<Row>,
+        time: u64,
+    ) -> Result<Table, AllocError>
+        ensures { IfOk result (λ t.
+            let lineage = with_write_on side row time (lineage_at self.now key) in
+            t ≡ sorted.put int_cmp key lineage self.now) }
+    {
+        let lineage = self.own_lineage(key)?.with_write(side, row, time)?;
+        let table = self.with_lineage(key, lineage)?;
+        Ok(table)
+    }
+
+    /// Both sides show what this one shows, and no row is split.
+    #[tactic(auto, using(crate::proofs::UnsplitLemmas::unsplit_sides))]
+    fn unsplit(&self, side: Side) -> Result<Table, AllocError>
+        ensures current { IfOk result (λ t. current_of t ≡ side_of self.now side) }
+        ensures next { IfOk result (λ t. next_of t ≡ side_of self.now side) }
+        ensures split { IfOk result (λ t. is_split t ≡ none_split) }
+    {
+        let lineages = self.lineages.unsplit(side)?;
         Ok(Table {
             alloc: self.alloc,
             lineages,
         })
     }
 
-    /// What is kept of the row with the key, in memory of its own.
-    fn lineage(&self, key: i64) -> Result<Lineage, AllocError>
+    /// The lineage of the row with the key, if it was ever written.
+    fn lineage_of(&self, key: i64) -> Option<&Lineage>
+        ensures { unwrap_or (option_copied result) unwritten ≡ lineage_at self.now key }
+    {
+        self.lineages.get(key)
+    }
+
+    /// The lineage of the row with the key, in memory of its own.
+    fn own_lineage(&self, key: i64) -> Result<Lineage, AllocError>
         ensures { IfOk result (λ l. l ≡ lineage_at self.now key) }
     {
-        match self.lineages.get(key) {
+        match self.lineage_of(key) {
             Some(lineage) => lineage.clone(),
             None => Ok(Lineage::new(self.alloc)),
         }
     }
 
     /// The table with that lineage at the key.
-    fn with(&self, key: i64, lineage: Lineage) -> Result<Table, AllocError>
+    fn with_lineage(&self, key: i64, lineage: Lineage) -> Result<Table, AllocError>
         ensures { IfOk result (λ t. t ≡ sorted.put int_cmp key lineage self.now) }
     {
         let lineages = self.lineages.with(key, lineage)?;

@@ -6,9 +6,9 @@ use tt_values::Row;
 #[derive(Clone, Debug, Drop)]
 pub(crate) struct Version {
     pub(crate) row: Row,
-    /// The time of the write that made it.
+    /// The time of the write that started it.
     pub(crate) start: u64,
-    /// The time of the write that ended it; none while it lives.
+    /// The time of the write that ended it; none while the version lives.
     pub(crate) end: Option<u64>,
 }
 

@@ -7,7 +7,7 @@ use std::alloc::{AllocError, Global};
 use std::marker::Model;
 use tt_values::Row;
 
-/// The versions of one row, those that were written earlier first. Contracts see the list of them.
+/// The versions of one row, earlier ones first. Contracts see the list of them.
 #[derive(Debug, Drop)]
 pub(crate) struct VersionChain {
     versions: Vec<Version>,
@@ -19,7 +19,7 @@ impl Model for VersionChain {
 
     ghost Value = { List Version };
 
-    ghost view = { λ h. h.versions.items };
+    ghost view = { λ c. c.versions.items };
 }
 
 impl VersionChain {
@@ -47,7 +47,7 @@ impl VersionChain {
 
     /// The chain with that row, or none, from the time on.
     pub(crate) fn with_write(self, row: Option<Row>, time: u64) -> Result<VersionChain, AllocError>
-        ensures { IfOk result (λ h. h ≡ with_write row time self) }
+        ensures { IfOk result (λ c. c ≡ with_write row time self) }
     {
         let mut versions = self.versions;
         drop_started_from(&mut versions, time);
@@ -63,7 +63,7 @@ impl VersionChain {
         Ok(VersionChain { versions })
     }
 
-    /// The chain without what was written or ended at the time or later.
+    /// The chain without the versions that started, and the ends that came, at the time or later.
     pub(crate) fn without_writes_from(self, time: u64) -> VersionChain
         ensures { result ≡ without_writes_from time self }
     {

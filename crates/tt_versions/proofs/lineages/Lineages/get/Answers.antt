@@ -1,4 +1,4 @@
--- What the map finds at a key is what its entries have there.
+-- The map has at a key what its entries have there.
 use Rattle.std.proofs.Common.{w64, ap, ◌∙◌}
 use Rattle.std.proofs.lemmas.Int.{to_z-of_z}
 use Rattle.std.specs.Ordering.{int_cmp}

@@ -1,7 +1,8 @@
 -- the rows so far and those of what is left are all
-use Rattle.std.proofs.Common.{◌≡◌, ◌++◌, map}
+use Rattle.std.proofs.Common.{◌≡◌, ◌++◌}
+use Rattle.tt_versions.specs.Sides.{rows_behind}
 use Rattle.tt_versions.proofs.RowsAtLemmas.{rows_of}
 use Rattle.tt_versions.proofs.table.Table.rows_at.Given as goal
 
 abbrev pub invariant-loop-key : goal.invariant-loop-key
-invariant-loop-key l = map (λ e. (e.0, e.1.now)) l.rows.items ++ rows_of l.time l.fn.side l.key-iterator ≡ rows_of l.time l.fn.side l.self
+invariant-loop-key l = rows_behind l.rows.items ++ rows_of l.time l.fn.side l.key-iterator ≡ rows_of l.time l.fn.side l.self

@@ -1,30 +1,9 @@
--- The row's lineage is put back, split and rolled back.
-use Rattle.std.proofs.Common.{◌≡◌, w64, int_cmp, ap, ◌∙◌}
-use Rattle.std.proofs.lemmas.Int.{to_z-of_z}
-use Rattle.std.specs.FinMap.Entries as sorted
-use Rattle.tt_versions.specs.declared.side.Side.TheVariants.{Current, Next}
-use Rattle.tt_versions.specs.Lineage.{split_back}
-use Rattle.tt_versions.specs.Sides.{lineage_at, side_of, is_split}
-use Rattle.tt_versions.proofs.SidesLemmas.{current_of_split_back, next_rolled_back, split_of_split_back}
+-- Where a row is rolled back, its side follows the list of row writes without the later ones.
+use Rattle.std.proofs.Common.{arith}
+use Rattle.tt_versions.specs.Sides.{next_of}
+use Rattle.tt_versions.proofs.SidesLemmas.{writes}
 use Rattle.tt_versions.proofs.RowsByWritesLemmas.{drops_row_writes}
 use Rattle.tt_versions.proofs.table.Table.split_back.Goals as goal
 
-put_back : (c : goal.In_ok-table) → c.in_ok-table.table ≡ sorted.put int_cmp c.args.key (split_back c.args.time (lineage_at c.args.self.now c.args.key)) c.args.self.now
-put_back c =
-    let t = c.args.self.now in
-    let same = to_z-of_z w64 c.args.key c.ranges.key in
-    let lineage : c.in_ok-lineage-2.lineage ≡ split_back c.args.time (lineage_at t c.args.key) =
-    c.in_ok-lineage-2.ensures ∙ ap (split_back c.args.time) (c.in_ok-lineage.ensures ∙ ap (lineage_at t) same) in
-    c.in_ok-table.ensures ∙ (λ i. sorted.put int_cmp (same i) (lineage i) t)
-
-pub returns-clause-current : goal.returns-clause-current
-returns-clause-current c = ap (λ t. side_of t Current) (put_back c) ∙ current_of_split_back c.args.self.now c.args.key c.args.time
-
-pub returns-clause-next : goal.returns-clause-next
-returns-clause-next c = ap (λ t. side_of t Next) (put_back c) ∙ next_rolled_back c.args.self.now c.args.key c.args.time
-
-pub returns-clause-split : goal.returns-clause-split
-returns-clause-split c = ap is_split (put_back c) ∙ split_of_split_back c.args.self.now c.args.key c.args.time
-
 pub returns-clause-next_drops : goal.returns-clause-next_drops
-returns-clause-next_drops c = drops_row_writes _ _ c.args.key c.args.time (returns-clause-next c)
+returns-clause-next_drops c = drops_row_writes (next_of c.args.self.now) (next_of c.in_ok-table.table) c.args.key c.args.time (grind (arith, writes))

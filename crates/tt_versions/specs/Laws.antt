@@ -1,0 +1,12 @@
+-- What holds of tables, in the subject's own words.
+use Rattle.std.specs.Prelude.{◌≡◌}
+use Rattle.tt_versions.specs.declared.side.Side.{Side}
+use Rattle.tt_versions.specs.Sides.{no_lineages, side_of, is_split, no_rows, none_split}
+
+-- a table without lineages has no row on either side
+abbrev pub EmptyTableShowsNoRows : Type 0
+EmptyTableShowsNoRows = (side : Side) → side_of no_lineages side ≡ no_rows
+
+-- a table without lineages has no split row
+abbrev pub EmptyTableSplitsNothing : Type 0
+EmptyTableSplitsNothing = is_split no_lineages ≡ none_split

@@ -1,0 +1,13 @@
+//! Laws of the definitions that the contracts of this crate speak by. Each is the contract of a
+//! function without a body.
+ghost use Rattle.tt_versions.specs.Laws.{EmptyTableShowsNoRows, EmptyTableSplitsNothing};
+
+/// A table without lineages has no row on either side, at any time.
+pub fn an_empty_table_shows_no_rows()
+    ensures { EmptyTableShowsNoRows }
+{}
+
+/// A table without lineages has no split row.
+pub fn an_empty_table_splits_nothing()
+    ensures { EmptyTableSplitsNothing }
+{}
