@@ -1,5 +1,5 @@
--- The tables of a catalogue, as its map keeps them.
-use Rattle.std.proofs.Common.{◌≡◌, ℕ, ◌<◌, ◌≤◌, Bool, true, false, cond, not, ◌||◌, ◌&&◌, nat_le, nat_lt, List, [], ◌∷◌, ◌++◌, map, length, Some, None, is_some, slice_get, IsTrue, String, Global, refl, sym, ap, subst, ◌∙◌, arith, length-append}
+-- The tables of a catalog, and the entries of its map.
+use Rattle.std.proofs.Common.{◌≡◌, ℕ, ◌<◌, ◌≤◌, Bool, true, false, cond, ◌||◌, ◌&&◌, nat_le, nat_lt, List, [], ◌∷◌, ◌++◌, map, length, Some, None, is_some, slice_get, IsTrue, String, Global, refl, sym, ap, subst, ◌∙◌, arith, length-append}
 use Rattle.std.specs.List.{list_any, list_all, position}
 use Rattle.std.specs.Option.{option_map}
 use Rattle.std.proofs.lemmas.Option.{slice_get-map, slice_get_within, get_or_from_slice_get}
@@ -12,7 +12,7 @@ use Rattle.std.proofs.lemmas.Bool.Decides.{nat_tests}
 use Rattle.std.proofs.lemmas.Slice.Eq.{bytes_eq-Decides}
 use Rattle.indexmap.specs.IndexMap.{insert_entry}
 use Rattle.tt_values.proofs.Positions.{position-map}
-use Rattle.tt_values.proofs.FaultLemmas.{NoneHolds, none_holds}
+use Rattle.tt_values.proofs.FaultLemmas.{NoneHolds, none_holds, true_from_not}
 use Rattle.tt_values.specs.Limits.{max_tables, max_columns}
 use Rattle.tt_values.specs.declared.table.TableDef.{TableDef}
 use Rattle.tt_values.specs.Tables.{Tables, table_position, is_key_int, IsTable, IsCatalog, is_name, has_same_name, has_same_table}
@@ -22,17 +22,17 @@ use Rattle.tt_values.specs.Catalog.{table_tests, table_fault}
 abbrev pub tables_of : List (String Global × TableDef) → Tables
 tables_of es = map (λ t. (string_bytes t.0, t.1)) es
 
--- a table's position is that of its name among the map's keys
+-- a table has the same position as its name among the keys
 pub table_position-keys : (es : List (String Global × TableDef)) (name : List ℕ) → table_position (tables_of es) name ≡ position (λ k. bytes_eq name (string_bytes k)) (keys_of es)
 table_position-keys es name = position-map (λ t. bytes_eq name t.0) (λ t. (string_bytes t.0, t.1)) es ∙ sym (position-map (λ k. bytes_eq name (string_bytes k)) (λ e. e.0) es)
 
--- a name is a table's where the map has it as a key
+-- a name is a table's exactly if it is a key
 pub is_some-lookup : (es : List (String Global × TableDef)) (name : List ℕ) → is_some (lookup (λ k. bytes_eq name (string_bytes k)) es) ≡ list_any (λ t. bytes_eq name t.0) (tables_of es)
 is_some-lookup [] name = refl
 is_some-lookup (e ∷ es) name =
     elim (bytes_eq name (string_bytes e.0)) as (λ b. is_some (cond b (Some e.1) (lookup (λ k. bytes_eq name (string_bytes k)) es)) ≡ (b || list_any (λ t. bytes_eq name t.0) (tables_of es))) [ true ↦ refl | false ↦ is_some-lookup es name ]
 
--- a new key of the map is a table at the end
+-- an entry with a new key is a table at the end
 pub tables_of-insert : (es : List (String Global × TableDef)) (key : String Global) (def : TableDef) → list_any (λ t. bytes_eq (string_bytes key) t.0) (tables_of es) ≡ false → tables_of (insert_entry string_eq es key def) ≡ tables_of es ++ (string_bytes key, def) ∷ []
 tables_of-insert [] key def h = refl
 tables_of-insert (e ∷ es) key def h = by (string_eq key e.0) h (tables_of-insert es key def)
@@ -43,21 +43,17 @@ tables_of-insert (e ∷ es) key def h = by (string_eq key e.0) h (tables_of-inse
     by true g rest = cc
     by false g rest = ap (λ ts. (string_bytes e.0, e.1) ∷ ts) (rest g)
 
-is_true_from_not : (b : Bool) → not b ≡ false → IsTrue b
-is_true_from_not true e = refl
-is_true_from_not false e = cc
-
 -- neither number is past its bound
 both_within : (m n : ℕ) → (nat_le max_tables m || nat_lt max_columns n) ≡ false → (m < max_tables) × (n ≤ max_columns)
 both_within m n h = (grind (arith, nat_tests), grind (arith, nat_tests))
 
--- what a catalogue knows of a table that it doesn't refuse
+-- the tests that a table without a fault passes
 pub record IsAccepted (tables : Tables) (name : List ℕ) (def : TableDef) : Type 0 where
   pub is_new : list_any (λ t. bytes_eq name t.0) tables ≡ false
   pub key_is_int : IsTrue (is_key_int def.columns)
   pub has_room : length tables < max_tables
   pub few_columns : length def.columns ≤ max_columns
-  pub named : (is_name name && list_all (λ c. is_name c.name) def.columns) ≡ true
+  pub names_are_valid : (is_name name && list_all (λ c. is_name c.name) def.columns) ≡ true
   pub names_differ : has_same_name def.columns ≡ false
 
 pub accepted_without_fault : (tables : Tables) (name : List ℕ) (def : TableDef) → table_fault tables name def ≡ None → IsAccepted tables name def
@@ -65,10 +61,10 @@ accepted_without_fault tables name def h =
     let none = none_holds (table_tests tables name def) h in
     record {
       is_new = none.1.0;
-      key_is_int = is_true_from_not (is_key_int def.columns) none.1.1.1.0;
+      key_is_int = true_from_not (is_key_int def.columns) none.1.1.1.0;
       has_room = (room none).0;
       few_columns = (room none).1;
-      named = is_true_from_not (is_name name && list_all (λ c. is_name c.name) def.columns) none.0;
+      names_are_valid = true_from_not (is_name name && list_all (λ c. is_name c.name) def.columns) none.0;
       names_differ = none.1.1.1.1.0;
     }
   where
@@ -92,7 +88,7 @@ none_with name (u ∷ ts) t h e =
     let both = or_parts (bytes_eq name u.0) (list_any (λ v. bytes_eq name v.0) ts) h in
     (λ i. both.0 i || none_with name ts t both.1 e i)
 
--- a table under a new name leaves the names apart
+-- after a table with a new name is added, all names still differ
 names_differ-push : (ts : Tables) (t : List ℕ × TableDef) → has_same_table ts ≡ false → list_any (λ u. bytes_eq t.0 u.0) ts ≡ false → has_same_table (ts ++ t ∷ []) ≡ false
 names_differ-push [] t old new = refl
 names_differ-push (u ∷ ts) t old new =
@@ -100,14 +96,14 @@ names_differ-push (u ∷ ts) t old new =
     let other = or_parts (bytes_eq t.0 u.0) (list_any (λ v. bytes_eq t.0 v.0) ts) new in
     (λ i. none_with u.0 ts t apart.0 (differ_both_ways t.0 u.0 other.0) i || names_differ-push ts t apart.1 other.1 i)
 
--- a catalogue with a further table that it doesn't refuse is a catalogue
+-- a catalog is still one after a table without a fault is added
 pub catalog_with : (tables : Tables) (name : List ℕ) (def : TableDef) → IsCatalog tables → IsAccepted tables name def → IsCatalog (tables ++ (name, def) ∷ [])
 catalog_with tables name def old new =
     let table : IsTable def = record { key_is_int = new.key_is_int; few_columns = new.few_columns; columns_are_named = both_named.1; names_differ = new.names_differ } in
     record {
       few_tables = omega (arith, length-append tables ((name, def) ∷ []), new.has_room);
       sound = All-push (λ t. IsTable t.1) tables (name, def) old.sound table;
-      named = All-push (λ t. IsTrue (is_name t.0)) tables (name, def) old.named both_named.0;
+      tables_are_named = All-push (λ t. IsTrue (is_name t.0)) tables (name, def) old.tables_are_named both_named.0;
       names_differ = names_differ-push tables (name, def) old.names_differ new.is_new;
     }
   where
@@ -116,16 +112,16 @@ catalog_with tables name def old new =
     split false b h = cc
 
     both_named : IsTrue (is_name name) × IsTrue (list_all (λ c. is_name c.name) def.columns)
-    both_named = split _ _ new.named
+    both_named = split _ _ new.names_are_valid
 
--- what the map's tables are after the insert of a table that isn't refused
+-- the tables after the entry of a table without a fault is inserted
 pub tables_after : (es : List (String Global × TableDef)) (key : String Global) (def : TableDef) → table_fault (tables_of es) (string_bytes key) def ≡ None → tables_of (insert_entry string_eq es key def) ≡ tables_of es ++ (string_bytes key, def) ∷ []
 tables_after es key def h = tables_of-insert es key def (accepted_without_fault (tables_of es) (string_bytes key) def h).is_new
 
 pub catalog_after : (es : List (String Global × TableDef)) (key : String Global) (def : TableDef) → IsCatalog (tables_of es) → table_fault (tables_of es) (string_bytes key) def ≡ None → IsCatalog (tables_of (insert_entry string_eq es key def))
 catalog_after es key def old h = subst IsCatalog (sym (tables_after es key def h)) (catalog_with (tables_of es) (string_bytes key) def old (accepted_without_fault (tables_of es) (string_bytes key) def h))
 
--- each table of the map is one that a catalogue takes
+-- every table of a catalog is valid
 pub sound_at : (es : List (String Global × TableDef)) (i : ℕ) (key : String Global) (def : TableDef) → IsCatalog (tables_of es) → Some (key, def) ≡ slice_get es i → IsTable def
 sound_at es i key def catalog there =
     let table : List ℕ × TableDef = (string_bytes key, def) in

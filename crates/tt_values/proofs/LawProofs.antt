@@ -1,9 +1,8 @@
--- The proofs of this crate's laws. Other crates cite these lemmas of it, and no others.
-use Rattle.std.proofs.Common.{T, subst, sym}
-use Rattle.std.specs.Prelude.{◌≡◌, IsTrue, Option}
-use Rattle.tt_values.specs.Laws.{ShowsLastRowWrite, RowsRise, SlotsFollow, LaterSlotsChangeNothing, PastStays, LastContentStays, NextContent, OneKeyChanges, RowsStayByRisingKey, RowWriteChangesOneRow, LastRowWriteCounts, EarlierSlotsStay, AddedSlotIsNext, AddedSlotLeavesPast}
+-- The proofs of the laws, for proofs in other crates. All other lemmas are private to this crate.
+use Rattle.tt_values.specs.Laws.{ShowsLastRowWrite, RowsRise, SlotsFollow, LaterSlotsChangeNothing, PastStays, LastContentStays, NextContent, OneKeyChanges, RowsStayByRisingKey, RowWriteChangesOneRow, LastRowWriteCounts, EarlierSlotsStay, AddedSlotIsNext, AddedSlotLeavesPast, AcceptedInsertsHaveKeys, AcceptedUpdatesKeepKeys}
 use Rattle.tt_values.proofs.ContentLemmas as contents
 use Rattle.tt_values.proofs.RowWritesLemmas as slots
+use Rattle.tt_values.proofs.CheckLemmas as checks
 
 pub shows_last_row_write : ShowsLastRowWrite
 shows_last_row_write = contents.shows_last_row_write
@@ -27,22 +26,28 @@ pub next_content : NextContent
 next_content = slots.next_content
 
 pub one_key_changes : OneKeyChanges
-one_key_changes = contents.row_at-with_row_at
+one_key_changes = contents.one_key_changes
 
 pub rows_stay_by_rising_key : RowsStayByRisingKey
-rows_stay_by_rising_key rows key row sorted = contents.true_from_T _ (contents.is_sorted-with_row_at rows key row (subst T (sym sorted) tt))
+rows_stay_by_rising_key = contents.rows_stay_by_rising_key
 
 pub row_write_changes_one_row : RowWriteChangesOneRow
-row_write_changes_one_row = contents.row_at-with_row_write
+row_write_changes_one_row = contents.row_write_changes_one_row
 
 pub last_row_write_counts : LastRowWriteCounts
-last_row_write_counts = contents.row_at-fold
+last_row_write_counts = contents.last_row_write_counts
 
 pub earlier_slots_stay : EarlierSlotsStay
-earlier_slots_stay = slots.slot_after-append
+earlier_slots_stay = slots.earlier_slots_stay
 
 pub added_slot_is_next : AddedSlotIsNext
-added_slot_is_next = slots.slot_after-next
+added_slot_is_next = slots.added_slot_is_next
 
 pub added_slot_leaves_past : AddedSlotLeavesPast
-added_slot_leaves_past = slots.content_of-stays
+added_slot_leaves_past = slots.added_slot_leaves_past
+
+pub accepted_inserts_have_keys : AcceptedInsertsHaveKeys
+accepted_inserts_have_keys = checks.accepted_inserts_have_keys
+
+pub accepted_updates_keep_keys : AcceptedUpdatesKeepKeys
+accepted_updates_keep_keys = checks.accepted_updates_keep_keys

@@ -1,7 +1,8 @@
-pub mod Positions
-pub mod FaultLemmas
-pub mod CatalogLemmas
-pub mod ContentLemmas
-pub mod RowWritesLemmas
+mod Positions
+mod FaultLemmas
+mod CatalogLemmas
+mod ContentLemmas
+mod RowWritesLemmas
+mod CheckLemmas
 pub mod LawProofs
-mod WorkedRows
+pub mod worked_rows

@@ -1,14 +1,12 @@
--- The first position of an item in a list, seen through a function of its items.
+-- Positions in a list, and in a list of images of its items.
 use Rattle.std.proofs.Common.{◌≡◌, ◌+◌, Bool, cond, not, nat_lt, List, [], ◌∷◌, map, Some, None, refl, ap}
 use Rattle.std.proofs.lemmas.List.{length-map}
 use Rattle.std.specs.List.{prefix_len, position}
 
--- how many images at the front pass
 prefix_len-map : {X Y : Type 0} → (p : Y → Bool) (f : X → Y) (xs : List X) → prefix_len p (map f xs) ≡ prefix_len (λ x. p (f x)) xs
 prefix_len-map p f [] = refl
 prefix_len-map p f (x ∷ xs) = ap (λ n. cond (p (f x)) (1 + n) 0) (prefix_len-map p f xs)
 
--- the first image that passes
 pub position-map : {X Y : Type 0} → (p : Y → Bool) (f : X → Y) (xs : List X) → position p (map f xs) ≡ position (λ x. p (f x)) xs
 position-map p f xs =
     let same = prefix_len-map (λ y. not (p y)) f xs in

@@ -1,4 +1,4 @@
--- What slots add to the row writes of those before them.
+-- The laws of slots: their row writes, and the contents that these leave.
 use Rattle.std.proofs.Common.{sym, length-append, ◌≡◌, ℕ, zero, suc, ◌+◌, ◌<◌, ◌≤◌, Bool, true, false, cond, nat_le, List, [], ◌∷◌, ◌++◌, map, filter, length, ℤ, Option, None, Some, slice_get, refl, ap, ◌∙◌, arith, append-nil, zero-add, fold, ◌-◌}
 use Rattle.std.proofs.lemmas.List.Sums.{fold-append}
 use Rattle.std.proofs.lemmas.Bool.Decides.{nat_tests}
@@ -7,32 +7,30 @@ use Rattle.tt_values.specs.declared.row.Row.{Row}
 use Rattle.tt_values.specs.declared.statement.Write.{Write}
 use Rattle.tt_values.specs.Content.{Content, RowWrite, with_row_write, content_at, empty_content, up_to}
 use Rattle.tt_values.specs.Effect.{table_of, effect}
-use Rattle.tt_values.specs.RowWrites.{Slots, slot_after, slot_writes, row_writes, content_of}
-use Rattle.tt_values.specs.Laws.{SlotsFollow, LaterSlotsChangeNothing, PastStays, LastContentStays, NextContent}
+use Rattle.tt_values.specs.RowWrites.{Slots, slot_after, slot_writes, row_writes}
+use Rattle.tt_values.specs.Laws.{SlotsFollow, LaterSlotsChangeNothing, PastStays, LastContentStays, NextContent, EarlierSlotsStay, AddedSlotIsNext, AddedSlotLeavesPast}
 
-pub slice_get-append_left : {X : Type 0} → (xs ys : List X) (i : ℕ) → i < length xs → slice_get (xs ++ ys) i ≡ slice_get xs i
+slice_get-append_left : {X : Type 0} → (xs ys : List X) (i : ℕ) → i < length xs → slice_get (xs ++ ys) i ≡ slice_get xs i
 slice_get-append_left [] ys i h = absurd (omega arith)
 slice_get-append_left (x ∷ xs) ys zero h = refl
 slice_get-append_left (x ∷ xs) ys (suc i) h = slice_get-append_left xs ys i (omega arith)
 
-pub slice_get-append_at : {X : Type 0} → (xs ys : List X) → slice_get (xs ++ ys) (length xs) ≡ slice_get ys 0
+slice_get-append_at : {X : Type 0} → (xs ys : List X) → slice_get (xs ++ ys) (length xs) ≡ slice_get ys 0
 slice_get-append_at [] ys = refl
 slice_get-append_at (x ∷ xs) ys = slice_get-append_at xs ys
 
--- the first slots of a list are those of its beginning
-pub slot_after-append : (W V : Slots) (n : ℕ) → n < length W → slot_after (W ++ V) n ≡ slot_after W n
-slot_after-append W V n h = ap (λ s. unwrap_or s None) (slice_get-append_left W V n h)
+pub earlier_slots_stay : EarlierSlotsStay
+earlier_slots_stay W V n h = ap (λ s. unwrap_or s None) (slice_get-append_left W V n h)
 
--- the slot after all of W is the next one
-pub slot_after-next : (W : Slots) (s : Option Write) → slot_after (W ++ s ∷ []) (length W) ≡ s
-slot_after-next W s = ap (λ s. unwrap_or s None) (slice_get-append_at W (s ∷ []))
+pub added_slot_is_next : AddedSlotIsNext
+added_slot_is_next W s = ap (λ s. unwrap_or s None) (slice_get-append_at W (s ∷ []))
 
 pub later_slots_change_nothing : LaterSlotsChangeNothing
 unfolding row_writes
 later_slots_change_nothing W V zero h = refl
 later_slots_change_nothing W V (suc n) h =
     let same = later_slots_change_nothing W V n (omega arith) in
-    let slot = slot_after-append W V n (omega arith) in
+    let slot = earlier_slots_stay W V n (omega arith) in
     λ i. same i ++ slot_writes (suc n) (slot i) (content_at (same i) n)
 
 pub slots_follow : SlotsFollow
@@ -40,7 +38,7 @@ unfolding row_writes
 slots_follow W s =
     let n = length W in
     let same = later_slots_change_nothing W (s ∷ []) n (omega arith) in
-    (refl, λ i. same i ++ slot_writes (suc n) (slot_after-next W s i) (content_at (same i) n))
+    (refl, λ i. same i ++ slot_writes (suc n) (added_slot_is_next W s i) (content_at (same i) n))
 
 filter-append : {X : Type 0} → (p : X → Bool) (xs ys : List X) → filter p (xs ++ ys) ≡ filter p xs ++ filter p ys
 filter-append p [] ys = refl
@@ -50,26 +48,26 @@ filter-append p (x ∷ xs) ys =
       | false ↦ filter-append p xs ys
     ]
 
-late : (time later : ℕ) → time < later → nat_le later time ≡ false
-late time later h = grind (arith, nat_tests)
+nat_le-false : (time later : ℕ) → time < later → nat_le later time ≡ false
+nat_le-false time later h = grind (arith, nat_tests)
 
--- row writes at a later time aren't among those up to an earlier one
-up_to-late : (time later table : ℕ) → time < later → (es : List (ℤ × Option Row)) → up_to time (map (λ e. record { time = later; table = table; key = e.0; row = e.1 }) es) ≡ []
-up_to-late time later table h [] = refl
-up_to-late time later table h (e ∷ es) =
+-- row writes at a later time aren't among those up to an earlier time
+up_to-before_effect : (time later table : ℕ) → time < later → (es : List (ℤ × Option Row)) → up_to time (map (λ e. record { time = later; table = table; key = e.0; row = e.1 }) es) ≡ []
+up_to-before_effect time later table h [] = refl
+up_to-before_effect time later table h (e ∷ es) =
     let rest = map (λ d. record { time = later; table = table; key = d.0; row = d.1 }) es in
     let first : RowWrite = record { time = later; table = table; key = e.0; row = e.1 } in
-    ap (λ b. cond b (first ∷ up_to time rest) (up_to time rest)) (late time later h) ∙ up_to-late time later table h es
+    ap (λ b. cond b (first ∷ up_to time rest) (up_to time rest)) (nat_le-false time later h) ∙ up_to-before_effect time later table h es
 
-up_to-slot_writes : (time later : ℕ) → time < later → (s : Option Write) (X : Content) → up_to time (slot_writes later s X) ≡ []
-up_to-slot_writes time later h None X = refl
-up_to-slot_writes time later h (Some w) X = up_to-late time later (table_of w) h (effect w X)
+up_to-before_slot : (time later : ℕ) → time < later → (s : Option Write) (X : Content) → up_to time (slot_writes later s X) ≡ []
+up_to-before_slot time later h None X = refl
+up_to-before_slot time later h (Some w) X = up_to-before_effect time later (table_of w) h (effect w X)
 
 up_to-suc : (W : Slots) (n time : ℕ) → time ≤ n → up_to time (row_writes W (suc n)) ≡ up_to time (row_writes W n)
 unfolding row_writes
 up_to-suc W n time h =
     filter-append (λ w. nat_le w.time time) (row_writes W n) (slot_writes (suc n) (slot_after W n) (content_at (row_writes W n) n))
-    ∙ ap (λ ws. up_to time (row_writes W n) ++ ws) (up_to-slot_writes time (suc n) (omega arith) (slot_after W n) (content_at (row_writes W n) n))
+    ∙ ap (λ ws. up_to time (row_writes W n) ++ ws) (up_to-before_slot time (suc n) (omega arith) (slot_after W n) (content_at (row_writes W n) n))
     ∙ append-nil (up_to time (row_writes W n))
 
 up_to-more : (W : Slots) (n more time : ℕ) → time ≤ n → up_to time (row_writes W (more + n)) ≡ up_to time (row_writes W n)
@@ -80,32 +78,32 @@ up_to-more W n (suc more) time h =
 
 pub past_stays : PastStays
 past_stays W n m time early later =
-    let apart : m ≡ (m - n) + n = omega arith in
-    ap (λ k. content_at (row_writes W k) time) apart ∙ ap (fold with_row_write empty_content) (up_to-more W n (m - n) time early)
+    let sum : m ≡ (m - n) + n = omega arith in
+    ap (λ k. content_at (row_writes W k) time) sum ∙ ap (fold with_row_write empty_content) (up_to-more W n (m - n) time early)
 
-soon : (time later : ℕ) → later ≤ time → nat_le later time ≡ true
-soon time later h = grind (arith, nat_tests)
+nat_le-true : (time earlier : ℕ) → earlier ≤ time → nat_le earlier time ≡ true
+nat_le-true time earlier h = grind (arith, nat_tests)
 
--- row writes at a time are among those up to it and up to each later one
-up_to-soon : (time later table : ℕ) → later ≤ time → (es : List (ℤ × Option Row)) → let ws : List RowWrite = map (λ e. record { time = later; table = table; key = e.0; row = e.1 }) es in up_to time ws ≡ ws
-up_to-soon time later table h [] = refl
-up_to-soon time later table h (e ∷ es) =
-    let rest : List RowWrite = map (λ d. record { time = later; table = table; key = d.0; row = d.1 }) es in
-    let first : RowWrite = record { time = later; table = table; key = e.0; row = e.1 } in
-    ap (λ b. cond b (first ∷ up_to time rest) (up_to time rest)) (soon time later h) ∙ ap (λ r. first ∷ r) (up_to-soon time later table h es)
+-- row writes at an earlier time are among those up to a later time
+up_to-after_effect : (time earlier table : ℕ) → earlier ≤ time → (es : List (ℤ × Option Row)) → let ws : List RowWrite = map (λ e. record { time = earlier; table = table; key = e.0; row = e.1 }) es in up_to time ws ≡ ws
+up_to-after_effect time earlier table h [] = refl
+up_to-after_effect time earlier table h (e ∷ es) =
+    let rest : List RowWrite = map (λ d. record { time = earlier; table = table; key = d.0; row = d.1 }) es in
+    let first : RowWrite = record { time = earlier; table = table; key = e.0; row = e.1 } in
+    ap (λ b. cond b (first ∷ up_to time rest) (up_to time rest)) (nat_le-true time earlier h) ∙ ap (λ r. first ∷ r) (up_to-after_effect time earlier table h es)
 
-up_to-slot : (time later : ℕ) → later ≤ time → (s : Option Write) (X : Content) → up_to time (slot_writes later s X) ≡ slot_writes later s X
-up_to-slot time later h None X = refl
-up_to-slot time later h (Some w) X = up_to-soon time later (table_of w) h (effect w X)
+up_to-after_slot : (time earlier : ℕ) → earlier ≤ time → (s : Option Write) (X : Content) → up_to time (slot_writes earlier s X) ≡ slot_writes earlier s X
+up_to-after_slot time earlier h None X = refl
+up_to-after_slot time earlier h (Some w) X = up_to-after_effect time earlier (table_of w) h (effect w X)
 
--- all row writes of n slots are at times up to n
+-- the row writes of n slots are at times up to n
 up_to-all : (W : Slots) (n time : ℕ) → n ≤ time → up_to time (row_writes W n) ≡ row_writes W n
 unfolding row_writes
 up_to-all W zero time h = refl
 up_to-all W (suc n) time h =
-    let sw = slot_writes (suc n) (slot_after W n) (content_at (row_writes W n) n) in
-    filter-append (λ w. nat_le w.time time) (row_writes W n) sw
-    ∙ (λ i. up_to-all W n time (omega arith) i ++ up_to-slot time (suc n) h (slot_after W n) (content_at (row_writes W n) n) i)
+    let new_writes = slot_writes (suc n) (slot_after W n) (content_at (row_writes W n) n) in
+    filter-append (λ w. nat_le w.time time) (row_writes W n) new_writes
+    ∙ (λ i. up_to-all W n time (omega arith) i ++ up_to-after_slot time (suc n) h (slot_after W n) (content_at (row_writes W n) n) i)
 
 pub last_content_stays : LastContentStays
 last_content_stays W n time h = ap (fold with_row_write empty_content) (up_to-all W n time h ∙ sym (up_to-all W n n (omega arith)))
@@ -114,27 +112,15 @@ pub next_content : NextContent
 unfolding row_writes
 next_content W n =
     let X = content_at (row_writes W n) n in
-    let sw = slot_writes (suc n) (slot_after W n) X in
+    let new_writes = slot_writes (suc n) (slot_after W n) X in
     ap (fold with_row_write empty_content) (up_to-all W (suc n) (suc n) (omega arith))
-    ∙ fold-append with_row_write empty_content (row_writes W n) sw
-    ∙ ap (λ ws. fold with_row_write (fold with_row_write empty_content ws) sw) (sym (up_to-all W n n (omega arith)))
+    ∙ fold-append with_row_write empty_content (row_writes W n) new_writes
+    ∙ ap (λ ws. fold with_row_write (fold with_row_write empty_content ws) new_writes) (sym (up_to-all W n n (omega arith)))
 
--- one more slot leaves the content up to now as it was
-pub content_of-stays : (W : Slots) (s : Option Write) (time : ℕ) → time ≤ length W → content_of (W ++ s ∷ []) time ≡ content_of W time
-content_of-stays W s time h =
+pub added_slot_leaves_past : AddedSlotLeavesPast
+added_slot_leaves_past W s time h =
     let n = length W in
     let next : length (W ++ s ∷ []) ≡ suc n = omega (arith, length-append W (s ∷ [])) in
     ap (λ m. content_at (row_writes (W ++ s ∷ []) m) time) next
     ∙ past_stays (W ++ s ∷ []) n (suc n) time h (omega arith)
     ∙ ap (λ ws. content_at ws time) (later_slots_change_nothing W (s ∷ []) n (omega arith))
-
--- and from the next time on the content is that now with the slot's row writes
-pub content_of-next : (W : Slots) (s : Option Write) (time : ℕ) → suc (length W) ≤ time → let X = content_of W (length W) in content_of (W ++ s ∷ []) time ≡ fold with_row_write X (slot_writes (suc (length W)) s X)
-content_of-next W s time h =
-    let n = length W in
-    let next : length (W ++ s ∷ []) ≡ suc n = omega (arith, length-append W (s ∷ [])) in
-    let same = later_slots_change_nothing W (s ∷ []) n (omega arith) in
-    ap (λ m. content_at (row_writes (W ++ s ∷ []) m) time) next
-    ∙ last_content_stays (W ++ s ∷ []) (suc n) time h
-    ∙ next_content (W ++ s ∷ []) n
-    ∙ (λ i. fold with_row_write (content_at (same i) n) (slot_writes (suc n) (slot_after-next W s i) (content_at (same i) n)))

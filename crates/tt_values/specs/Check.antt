@@ -1,4 +1,4 @@
--- What a statement has to obey on a catalogue.
+-- The faults of statements.
 use Rattle.std.specs.Prelude.{Bool, false, not, ◌||◌, nat_lt, nat_le, ◌==◌, List, [], ◌∷◌, length, Option, None, Some, IsSome, slice_get}
 use Rattle.std.specs.List.{list_any, zip}
 use Rattle.tt_values.specs.Limits.{max_equals}
@@ -18,12 +18,12 @@ use Rattle.tt_values.specs.Row.{first_int}
 use Rattle.tt_values.specs.Change.{column_of}
 use Rattle.tt_values.specs.Tables.{Tables, columns_at, is_int}
 
--- whether a value is of another kind than the column, where there is one
+-- whether there is a column, and the value is of another kind
 abbrev pub is_wrong_kind : Option Column → Value → Bool
 is_wrong_kind None v = false
 is_wrong_kind (Some c) v = not (is_of_kind c.kind v)
 
--- what is looked for in a row, in order. Kinds are judged in the positions that row and table both have
+-- the tests of a row, in order. Kinds are tested at the positions that row and table both have
 abbrev pub row_tests : List Column → List Value → List (Bool × CheckError)
 row_tests columns vs =
     (list_any (λ p. not (is_of_kind p.0.kind p.1)) (zip columns vs), errors.WrongKind)
@@ -31,7 +31,7 @@ row_tests columns vs =
     ∷ (list_any is_long_text vs, errors.TextTooLong)
     ∷ []
 
--- whether an equality is on a column that isn't there
+-- whether an equality is on a column past the last
 abbrev pub has_no_column : List Column → List Equal → Bool
 has_no_column columns qs = list_any (λ q. nat_le (length columns) q.column) qs
 
@@ -47,7 +47,7 @@ has_long_text qs = list_any (λ q. is_long_text q.value) qs
 abbrev pub has_too_many : List Equal → Bool
 has_too_many qs = nat_lt max_equals (length qs)
 
--- what is looked for in the equalities of a statement, in order
+-- the tests of the equalities of a statement, in order
 abbrev pub equals_tests : List Column → List Equal → List (Bool × CheckError)
 equals_tests columns qs =
     (has_no_column columns qs, errors.NoColumn)
@@ -56,7 +56,7 @@ equals_tests columns qs =
     ∷ (has_too_many qs, errors.TooManyEquals)
     ∷ []
 
--- whether a change is of a column that isn't there
+-- whether a change is of a column past the last
 abbrev pub changes_no_column : List Column → List Change → Bool
 changes_no_column columns cs = list_any (λ c. nat_le (length columns) (column_of c)) cs
 
@@ -77,16 +77,16 @@ is_long_change (changes.Add column by) = false
 abbrev pub sets_long_text : List Change → Bool
 sets_long_text cs = list_any is_long_change cs
 
--- whether a change is of the first column, which holds the key
+-- whether a change is of the first column, which has the key
 abbrev pub changes_key : List Change → Bool
 changes_key cs = list_any (λ c. column_of c == 0) cs
 
--- whether two changes are of one column
+-- whether two changes are of the same column
 abbrev pub changes_twice : List Change → Bool
 changes_twice [] = false
 changes_twice (c ∷ cs) = list_any (λ d. column_of c == column_of d) cs || changes_twice cs
 
--- what is looked for in an update, in order, each time in its changes and its equalities
+-- the tests of an update, in order
 abbrev pub update_tests : List Column → List Change → List Equal → List (Bool × CheckError)
 update_tests columns cs qs =
     (changes_no_column columns cs || has_no_column columns qs, errors.NoColumn)
@@ -97,22 +97,22 @@ update_tests columns cs qs =
     ∷ (has_too_many qs, errors.TooManyEquals)
     ∷ []
 
--- the first fault of a statement on a table: that the table isn't there, or else what is found by its columns
+-- the first fault of a statement on a table with these columns, or on no table
 abbrev pub fault_on : Option (List Column) → (List Column → List (Bool × CheckError)) → Option CheckError
 fault_on None tests = Some errors.NoTable
 fault_on (Some columns) tests = first_fault (tests columns)
 
--- why a write can't be carried out, if it can't
+-- the first fault of a write
 abbrev pub write_fault : Tables → Write → Option CheckError
 write_fault tables (Insert table row) = fault_on (columns_at tables table) (λ columns. row_tests columns row.values)
 write_fault tables (Update table cs qs) = fault_on (columns_at tables table) (λ columns. update_tests columns cs qs)
 write_fault tables (Delete table qs) = fault_on (columns_at tables table) (λ columns. equals_tests columns qs)
 
--- why a select can't be answered, if it can't
+-- the first fault of a select
 abbrev pub select_fault : Tables → Select → Option CheckError
 select_fault tables s = fault_on (columns_at tables s.table) (λ columns. equals_tests columns s.equals)
 
--- the row that a write inserts, if it inserts one, has a key
+-- an insert is of a row with a key
 abbrev pub HasKey : Write → Type 0
 HasKey (Insert table row) = IsSome (first_int row.values)
 HasKey (Update table cs qs) = Unit {0}

@@ -1,37 +1,37 @@
--- What the tables contain at a time, as the row writes so far say it.
+-- The rows of all tables at a time, by the row writes so far.
 use Rattle.std.specs.Prelude.{ℕ, not, ◌&&◌, nat_le, ◌==◌, ℤ, List, [], ◌∷◌, fold, filter, Option, None, Some, if◌then◌else◌}
 use Rattle.std.specs.Ordering.{int_cmp, int_eq}
 use Rattle.std.specs.FinMap.Entries as sorted
 use Rattle.tt_values.specs.declared.row.Row.{Row}
 
--- the rows of a table, by rising key
+-- the rows of a table with their keys, in ascending order of keys
 abbrev pub RowsByKey : Type 0
 RowsByKey = List (ℤ × Row)
 
--- for each table, by its position, its rows
+-- the rows of each table, by its position
 abbrev pub Content : Type 0
 Content = ℕ → RowsByKey
 
 abbrev pub empty_content : Content
 empty_content table = []
 
--- the row with a key
+-- the row with this key
 abbrev pub row_at : RowsByKey → ℤ → Option Row
 row_at rows key = sorted.find int_cmp key rows
 
--- the rows once a key has that row, or none (the row is gone)
+-- the rows after the row of a key is set, or removed
 abbrev pub with_row_at : RowsByKey → ℤ → Option Row → RowsByKey
 with_row_at rows key None = sorted.where_key int_cmp (λ k. not (int_eq k key)) rows
 with_row_at rows key (Some row) = sorted.put int_cmp key row rows
 
--- a row write: at a time, the key of a table got this row, or lost it
+-- a row write: at this time the row of a key was set, or removed
 pub record RowWrite : Type 0 where
   pub time : ℕ
   pub table : ℕ
   pub key : ℤ
   pub row : Option Row
 
--- the content after one more row write
+-- the content after a further row write
 abbrev pub with_row_write : Content → RowWrite → Content
 with_row_write X w table = if table == w.table then with_row_at (X table) w.key w.row else X table
 
@@ -39,17 +39,17 @@ with_row_write X w table = if table == w.table then with_row_at (X table) w.key 
 abbrev pub up_to : ℕ → List RowWrite → List RowWrite
 up_to time ws = filter (λ w. nat_le w.time time) ws
 
--- the content at a time: that of the row writes up to it, one after another
+-- the content at a time: all row writes up to it, one after another
 abbrev pub content_at : List RowWrite → ℕ → Content
 content_at ws time = fold with_row_write empty_content (up_to time ws)
 
--- what the last row write of a list says, none where there is none
+-- the row of the last row write, none if there is no row write
 abbrev pub last_row_written : List RowWrite → Option Row
 last_row_written [] = None
 last_row_written (w ∷ []) = w.row
 last_row_written (w ∷ v ∷ ws) = last_row_written (v ∷ ws)
 
--- the same, and a row that was there before where the list is empty
+-- the row of the last row write, the row before if there is no row write
 abbrev pub last_row_written_or : Option Row → List RowWrite → Option Row
 last_row_written_or before [] = before
 last_row_written_or before (w ∷ ws) = last_row_written_or w.row ws

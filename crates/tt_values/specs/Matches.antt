@@ -1,4 +1,4 @@
--- When a row matches the equalities of a statement.
+-- Whether a row matches the equalities of a statement.
 use Rattle.std.specs.Prelude.{Bool, false, List, Option, None, Some, slice_get}
 use Rattle.std.specs.List.{list_all}
 use Rattle.tt_values.specs.declared.value.Value.{Value}
@@ -6,12 +6,12 @@ use Rattle.tt_values.specs.declared.row.Row.{Row}
 use Rattle.tt_values.specs.declared.statement.Equal.{Equal}
 use Rattle.tt_values.specs.Value.{is_same}
 
--- whether there is a value, and it is v
+-- whether there is a value, and it is the same as v
 abbrev pub is_value : Value → Option Value → Bool
 is_value v None = false
 is_value v (Some w) = is_same v w
 
--- whether the row has that column, and the value there is the one wanted
+-- whether an equality holds in a row. One past the end of the row does not
 abbrev pub holds : Equal → Row → Bool
 holds q r = is_value q.value (slice_get r.values q.column)
 

@@ -1,7 +1,6 @@
-ghost use Rattle.std.specs.Prelude.{◌≡◌, ◌==◌, [], ◌∷◌, ◌++◌, length, slice_get, ◌||◌, nat_le, nat_lt, None, IfSome, OnOk, OnErr, IfErr, ◌≤◌};
+ghost use Rattle.std.specs.Prelude.{◌≡◌, ◌==◌, [], ◌∷◌, ◌++◌, length, slice_get, None, IfSome, OnOk, OnErr, IfErr, ◌≤◌};
 ghost use Rattle.std.specs.List.{list_any};
 ghost use Rattle.std.specs.Str.{bytes_eq};
-ghost use Rattle.tt_values.specs.Limits.{max_tables, max_columns};
 ghost use Rattle.std.specs.Option.{option_copied, option_map};
 
 use crate::naming::{has_same_name, has_valid_names, is_key_int};
@@ -12,14 +11,14 @@ use std::alloc::{AllocError, Global};
 use std::marker::Model;
 use thiserror::Error;
 
-/// Why a catalogue refuses a table.
+/// Why a table can't be added to a catalog.
 #[derive(Clone, Copy, Debug, PartialEq, Eq, Error)]
 pub enum CatalogError {
-    /// A name of the table or of a column isn't 1 to 64 ASCII letters, digits or underscores.
+    /// The name of the table or of a column isn't 1 to 64 ASCII letters, digits and underscores.
     #[error("a name is not 1 to 64 ASCII letters, digits or underscores")]
     BadName,
-    /// The catalogue has a table of that name.
-    #[error("the catalogue has a table of that name")]
+    /// The catalog has a table of that name.
+    #[error("the catalog has a table of that name")]
     SameTable,
     /// The table has no columns.
     #[error("the table has no columns")]
@@ -27,18 +26,18 @@ pub enum CatalogError {
     /// The first column isn't of kind Int.
     #[error("the first column is not of kind Int")]
     KeyNotInt,
-    /// Two columns have one name.
-    #[error("two columns have one name")]
+    /// Two columns have the same name.
+    #[error("two columns have the same name")]
     SameColumn,
-    /// The catalogue has 64 tables, or the table more than 32 columns.
+    /// The catalog has 64 tables already, or the table has more than 32 columns.
     #[error("more than 64 tables, or more than 32 columns")]
     TooMany,
-    /// There was no memory left.
-    #[error("want of memory")]
+    /// Out of memory.
+    #[error("out of memory")]
     Memory,
 }
 
-/// The tables, in order of declaration. Contracts see the list of them, each with its name.
+/// The tables of a database, in order of declaration, with their names.
 #[derive(Debug, Drop)]
 pub struct Catalog {
     tables: IndexMap<String, TableDef>,
@@ -58,9 +57,9 @@ impl Model for Catalog {
 
 impl Catalog {
     ghost use Rattle.tt_values.specs.Tables.{Tables, table_position, IsTable, IsCatalog};
-    ghost use Rattle.tt_values.specs.Catalog.{table_fault, fault_of_error};
+    ghost use Rattle.tt_values.specs.Catalog.{table_fault, fault_of_error, has_no_room};
 
-    /// A catalogue without tables. Takes no memory; what `add` takes comes from this allocator.
+    /// A catalog without tables. Allocates nothing; `add` uses the allocator.
     pub fn new(alloc: Global) -> Self
         ensures { result ≡ [] }
     {
@@ -69,7 +68,7 @@ impl Catalog {
         }
     }
 
-    /// How many tables there are.
+    /// The number of tables.
     pub fn len(&self) -> usize
         ensures count { result ≡ length self.now }
         ensures sound { IsCatalog self.now }
@@ -83,7 +82,7 @@ impl Catalog {
         self.tables.is_empty()
     }
 
-    /// The position of the table with the name.
+    /// The position of the table with this name.
     pub fn find(&self, name: &str) -> Option<u16>
         ensures { result ≡ table_position self.now name.now }
     {
@@ -91,7 +90,7 @@ impl Catalog {
         Some(position as u16)
     }
 
-    /// The table at a position.
+    /// The table at a position, counted from 0.
     pub fn table(&self, table: u16) -> Option<&TableDef>
         ensures def { option_copied result ≡ option_map (λ t. t.1) (slice_get self.now table) }
         ensures sound { IfSome result (λ def. IsTable def.now) }
@@ -108,12 +107,12 @@ impl Catalog {
         Some(name.as_str())
     }
 
-    /// Puts a table at the end. The faults are looked for in the order in which `CatalogError` has
-    /// them, `Memory` last; after each the catalogue is as it was.
+    /// Adds a table at the end. Of several errors, the first in the order of `CatalogError` is
+    /// reported. The catalog is unchanged after any of them.
     pub fn add(&mut self, name: &str, def: TableDef) -> Result<(), CatalogError>
         ensures ok { OnOk result (self.new ≡ self.old ++ (name.now, def) ∷ []) }
-        ensures accepted { OnOk result (table_fault self.old name.now def ≡ None) }
-        ensures refused { IfErr result (λ e. table_fault self.old name.now def ≡ fault_of_error e) }
+        ensures no_fault { OnOk result (table_fault self.old name.now def ≡ None) }
+        ensures fault { IfErr result (λ e. table_fault self.old name.now def ≡ fault_of_error e) }
         ensures err { OnErr result (self.new ≡ self.old) }
     {
         if let Some(fault) = self.fault(name, &def) {
@@ -132,12 +131,12 @@ impl Catalog {
     }
 
     fn has_no_room(&self, def: &TableDef) -> bool
-        ensures { result ≡ (nat_le max_tables (length self.now) || nat_lt max_columns (length def.now.columns)) }
+        ensures { result ≡ has_no_room self.now def.now }
     {
         self.len() >= MAX_TABLES || def.columns.len() > MAX_COLUMNS
     }
 
-    /// Why the catalogue refuses a further table, memory aside.
+    /// The first fault of a table that is added.
     fn fault(&self, name: &str, def: &TableDef) -> Option<CatalogError>
         ensures { result ≡ table_fault self.now name.now def.now }
     {

@@ -7,22 +7,22 @@ use crate::statement::Change;
 use crate::value::Value;
 use std::alloc::{AllocError, Global};
 
-/// The row after the changes. Each is of a column of its own in an update that passes `check`; of
-/// several on one column the first counts, and one on a position outside the row does nothing.
+/// A new row: the old one with these changes. Of several changes of one column the first counts,
+/// and a change past the end of the row has no effect; `check` refuses updates with either.
 pub fn changed(alloc: Global, row: &Row, changes: &[Change]) -> Result<Row, AllocError>
     ensures { IfOk result (λ r. r ≡ changed row.now changes.now) }
 {
     let values = row.values.as_slice();
-    let mut list = Vec::new(alloc);
+    let mut new_values = Vec::new(alloc);
     for i in 0..values.len() {
-        list.push(changed_value(changes, i, &values[i])?)?;
+        new_values.push(changed_value(changes, i, &values[i])?)?;
     }
     Ok(Row {
-        values: Items::new(list),
+        values: Items::new(new_values),
     })
 }
 
-/// The value of a column after the change of it, where there is one.
+/// The value of a column after its change, or the old one if it has none.
 fn changed_value(changes: &[Change], column: usize, value: &Value) -> Result<Value, AllocError>
     ensures { IfOk result (λ v. v ≡ changed_value changes.now column value.now) }
 {
@@ -34,7 +34,7 @@ fn changed_value(changes: &[Change], column: usize, value: &Value) -> Result<Val
     value.copy()
 }
 
-/// The column that the change is of.
+/// The position of the column that the change is about.
 pub(crate) fn column_of(change: &Change) -> u16
     ensures { result ≡ column_of change.now }
 {
@@ -43,7 +43,6 @@ pub(crate) fn column_of(change: &Change) -> u16
     }
 }
 
-/// What the change makes of the value in its column.
 fn value_after(change: &Change, value: &Value) -> Result<Value, AllocError>
     ensures { IfOk result (λ v. v ≡ value_after change.now value.now) }
 {
@@ -53,12 +52,12 @@ fn value_after(change: &Change, value: &Value) -> Result<Value, AllocError>
     }
 }
 
-/// The sum of a number and another, held at the bounds of an `i64`. A text stays.
+/// The saturating sum. A text stays as it is.
 fn value_plus(value: &Value, by: i64) -> Result<Value, AllocError>
     ensures { IfOk result (λ v. v ≡ value_plus value.now by) }
 {
     match value {
-        Value::Int(number) => Ok(Value::Int(number.saturating_add(by))),
+        Value::Int(int) => Ok(Value::Int(int.saturating_add(by))),
         Value::Text(_) => value.copy(),
     }
 }

@@ -16,11 +16,11 @@ use crate::{MAX_EQUALS, MAX_TEXT_BYTES};
 use changes::{changes_key, changes_no_column, changes_twice, changes_wrong_kind, sets_long_text};
 use thiserror::Error;
 
-/// Why a statement can't be carried out on a catalogue. Each fault is looked for in the whole
-/// statement before the next.
+/// The fault of a statement. The whole statement is searched for one kind of fault before the
+/// next.
 #[derive(Clone, Copy, Debug, PartialEq, Eq, Error)]
 pub enum CheckError {
-    /// The catalogue has no such table.
+    /// The catalog has no such table.
     #[error("no such table")]
     NoTable,
     /// The table has no such column.
@@ -35,10 +35,10 @@ pub enum CheckError {
     /// A text has more than 1,024 bytes.
     #[error("text too long")]
     TextTooLong,
-    /// A change is of the first column, which holds the key.
+    /// A change is of the first column, which has the key.
     #[error("key set by an update")]
     SetsKey,
-    /// Two changes are of one column.
+    /// Two changes are of the same column.
     #[error("column changed twice")]
     SameColumnTwice,
     /// The statement has more than 32 equalities.
@@ -46,10 +46,10 @@ pub enum CheckError {
     TooManyEquals,
 }
 
-/// Whether a write can be carried out on the catalogue. Takes no memory.
+/// Whether a write can run on the tables of a catalog. Allocates nothing.
 pub fn check(catalog: &Catalog, write: &Write) -> Result<(), CheckError>
     ensures fault { ReportsFault result (write_fault catalog.now write.now) }
-    ensures keyed { OnOk result (HasKey write.now) }
+    ensures key { OnOk result (HasKey write.now) }
 {
     match write {
         Write::Insert { table, row } => {
@@ -81,7 +81,7 @@ pub fn check(catalog: &Catalog, write: &Write) -> Result<(), CheckError>
     }
 }
 
-/// Whether a select can be answered on the catalogue. Takes no memory.
+/// Whether a select can run on the tables of a catalog. Allocates nothing.
 pub fn check_select(catalog: &Catalog, select: &Select) -> Result<(), CheckError>
     ensures { ReportsFault result (select_fault catalog.now select.now) }
 {

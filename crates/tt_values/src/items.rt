@@ -4,7 +4,7 @@ ghost use Rattle.std.specs.Option.{option_copied};
 use std::alloc::AllocError;
 use std::marker::Model;
 
-/// A list that contracts compare by its items alone.
+/// A list. Contracts see its items, and not its capacity.
 #[derive(Debug, Drop)]
 pub struct Items<T> {
     items: Vec<T>,
@@ -22,7 +22,7 @@ impl<T> Model for Items<T> {
 }
 
 impl<T> Items<T> {
-    /// Takes no memory.
+    /// Allocates nothing.
     pub fn new(items: Vec<T>) -> Self
         ensures { result ≡ items.items }
     {
@@ -47,14 +47,14 @@ impl<T> Items<T> {
         self.items.as_slice()
     }
 
-    /// The item at a position, from 0.
-    pub fn get(&self, index: usize) -> Option<&T>
-        ensures { option_copied result ≡ slice_get self.now index }
+    /// The item at a position, counted from 0.
+    pub fn get(&self, position: usize) -> Option<&T>
+        ensures { option_copied result ≡ slice_get self.now position }
     {
-        item_at(self.items.as_slice(), index)
+        item_at(self.items.as_slice(), position)
     }
 
-    /// Gives the items back, and takes no memory.
+    /// Allocates nothing.
     pub fn into_vec(self) -> Vec<T>
         ensures { result.items ≡ self }
     {
@@ -85,9 +85,9 @@ impl<T: Clone> Clone for Items<T> {
     }
 }
 
-/// The item at a position, as `get` gives it, with the fact as an equation.
-pub(crate) fn item_at<T>(items: &[T], index: usize) -> Option<&T>
-    ensures { option_copied result ≡ slice_get items.now index }
+/// `items.get(position)`, with its contract as an equation.
+pub(crate) fn item_at<T>(items: &[T], position: usize) -> Option<&T>
+    ensures { option_copied result ≡ slice_get items.now position }
 {
-    items.get(index)
+    items.get(position)
 }

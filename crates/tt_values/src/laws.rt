@@ -1,74 +1,85 @@
-//! Laws of the definitions that the contracts of this crate and of those above it speak by. Each is
-//! the contract of a function without a body.
-ghost use Rattle.tt_values.specs.Laws.{ShowsLastRowWrite, RowsRise, SlotsFollow, LaterSlotsChangeNothing, PastStays, LastContentStays, NextContent, OneKeyChanges, RowsStayByRisingKey, RowWriteChangesOneRow, LastRowWriteCounts, EarlierSlotsStay, AddedSlotIsNext, AddedSlotLeavesPast};
+//! Laws of the definitions in this crate's contracts and in those of the crates above. Each law is
+//! the contract of a function with an empty body.
+ghost use Rattle.tt_values.specs.Laws.{ShowsLastRowWrite, RowsRise, SlotsFollow, LaterSlotsChangeNothing, PastStays, LastContentStays, NextContent, OneKeyChanges, RowsStayByRisingKey, RowWriteChangesOneRow, LastRowWriteCounts, EarlierSlotsStay, AddedSlotIsNext, AddedSlotLeavesPast, AcceptedInsertsHaveKeys, AcceptedUpdatesKeepKeys};
 
-/// A content at a time has, for each table and key, what the last row write for it up to that time
-/// says: no row where there is none, or where it says that the row is gone.
-pub fn a_content_shows_the_last_row_write()
+/// At each time, table and key the content has the row of the last row write so far, or no row if
+/// there is no row write or the last one is a delete.
+pub fn shows_last_row_write()
     ensures { ShowsLastRowWrite }
 {}
 
-/// The rows of a table stand by rising key, each key once.
-pub fn rows_stand_by_rising_key()
+/// The rows of a table are in strictly ascending order of their keys.
+pub fn rows_rise()
     ensures { RowsRise }
 {}
 
-/// One more slot adds its effect on the content that the slots before it left, at the next time.
-pub fn slots_follow_one_another()
+/// A further slot adds its row writes on the content before it, at the next time.
+pub fn slots_follow()
     ensures { SlotsFollow }
 {}
 
-/// The row writes of the first slots don't depend on later ones.
-pub fn later_slots_change_no_earlier_row_write()
+/// The row writes of the first slots don't depend on later slots.
+pub fn later_slots_change_nothing()
     ensures { LaterSlotsChangeNothing }
 {}
 
-/// Further slots leave the content at each earlier time as it was.
-pub fn later_slots_change_no_earlier_content()
+/// Further slots don't change the content at an earlier time.
+pub fn past_stays()
     ensures { PastStays }
 {}
 
-/// Past the last slot the content stays.
-pub fn the_last_content_stays()
+/// After the last slot the content stays the same.
+pub fn last_content_stays()
     ensures { LastContentStays }
 {}
 
-/// The content after one more slot is that before it with the slot's row writes.
-pub fn the_next_content_has_the_slot()
+/// The content after a slot is the one before it with the slot's row writes.
+pub fn next_content()
     ensures { NextContent }
 {}
 
-/// Among the rows of a table one key gets a row or loses it, and every other key keeps its row.
+/// Setting or removing the row of one key changes that key and no other.
 pub fn one_key_changes()
     ensures { OneKeyChanges }
 {}
 
-/// Rows by rising key stay so.
+/// Setting or removing a row leaves the rows in order.
 pub fn rows_stay_by_rising_key()
     ensures { RowsStayByRisingKey }
 {}
 
-/// One row write changes one key of one table.
-pub fn a_row_write_changes_one_row()
+/// A row write changes one key of one table.
+pub fn row_write_changes_one_row()
     ensures { RowWriteChangesOneRow }
 {}
 
-/// Row writes leave at a key what the last of them for it says, or else what was there.
-pub fn the_last_row_write_counts()
+/// After several row writes, a key has the row of the last one for it, or its old row if there is
+/// none.
+pub fn last_row_write_counts()
     ensures { LastRowWriteCounts }
 {}
 
-/// The slots of a list are also those of a longer list.
+/// A longer list of slots begins with the same slots.
 pub fn earlier_slots_stay()
     ensures { EarlierSlotsStay }
 {}
 
-/// A slot that is added is the next one.
-pub fn an_added_slot_is_next()
+/// A slot that is added to a list is the one after all others.
+pub fn added_slot_is_next()
     ensures { AddedSlotIsNext }
 {}
 
-/// One more slot leaves the contents up to now as they were.
-pub fn an_added_slot_leaves_the_past()
+/// A slot that is added doesn't change the contents up to now.
+pub fn added_slot_leaves_past()
     ensures { AddedSlotLeavesPast }
+{}
+
+/// An insert without a fault has a row with a key.
+pub fn accepted_inserts_have_keys()
+    ensures { AcceptedInsertsHaveKeys }
+{}
+
+/// An update without a fault leaves the key of every row as it is.
+pub fn accepted_updates_keep_keys()
+    ensures { AcceptedUpdatesKeepKeys }
 {}

@@ -1,4 +1,4 @@
-//! Values, rows, statements and the catalogue of a small time-travel database.
+//! Values, rows, statements and the catalog of a small time-travel database.
 #![tactic(auto)]
 
 mod catalog;
@@ -31,17 +31,17 @@ pub use table::{Column, TableDef};
 pub use text::Text;
 pub use value::{Kind, Value};
 
-/// The most tables that a catalogue has.
+/// The maximal number of tables in a catalog.
 pub const MAX_TABLES: usize = 64;
 
-/// The most columns that a table has.
+/// The maximal number of columns of a table.
 pub const MAX_COLUMNS: usize = 32;
 
-/// The most bytes that the name of a table or a column has.
+/// The maximal length of the name of a table or a column, in bytes.
 pub const MAX_NAME_BYTES: usize = 64;
 
-/// The most bytes that a text of a statement has.
+/// The maximal length of a text in a statement, in bytes.
 pub const MAX_TEXT_BYTES: usize = 1024;
 
-/// The most equalities that a statement has.
+/// The maximal number of equalities of a statement.
 pub const MAX_EQUALS: usize = 32;

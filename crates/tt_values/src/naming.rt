@@ -1,4 +1,4 @@
-//! What a table needs to stand in a catalogue.
+//! The tests of names and columns that a catalog does on a table.
 ghost use Rattle.std.specs.Prelude.{◌≡◌, ◌&&◌};
 ghost use Rattle.std.specs.List.{list_all, list_any};
 ghost use Rattle.std.specs.Str.{bytes_eq};
@@ -9,7 +9,7 @@ use crate::table::{Column, TableDef};
 use crate::text::Text;
 use crate::value::Kind;
 
-/// Whether a text is 1 to 64 ASCII letters, digits or underscores.
+/// Whether a text is 1 to 64 ASCII letters, digits and underscores.
 fn is_name(name: &str) -> bool
     ensures { result ≡ is_name name.now }
 {
@@ -32,7 +32,7 @@ fn is_name_byte(byte: u8) -> bool
     matches!(byte, b'a'..=b'z' | b'A'..=b'Z' | b'0'..=b'9' | b'_')
 }
 
-/// Whether the name and those of all columns are names.
+/// Whether the names of the table and all its columns are valid.
 pub(crate) fn has_valid_names(name: &str, def: &TableDef) -> bool
     ensures { result ≡ (is_name name.now && list_all (λ c. is_name c.name) def.now.columns) }
 {
@@ -45,7 +45,7 @@ fn has_valid_column_names(columns: &[Column]) -> bool
     columns.iter().all(|column| is_name(column.name.as_str()))
 }
 
-/// Whether the first column is there and holds the key.
+/// Whether there is a first column, of kind Int, for the key.
 pub(crate) fn is_key_int(columns: &[Column]) -> bool
     ensures { result ≡ is_key_int columns.now }
 {
@@ -64,7 +64,7 @@ fn is_int(kind: Kind) -> bool
     }
 }
 
-/// Whether two columns have one name.
+/// Whether two columns have the same name.
 pub(crate) fn has_same_name(columns: &[Column]) -> bool
     ensures { result ≡ has_same_name columns.now }
 {

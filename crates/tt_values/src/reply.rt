@@ -2,18 +2,18 @@ use crate::items::Items;
 use crate::row::Row;
 use std::alloc::AllocError;
 
-/// What a statement answers.
+/// The reply to a statement.
 #[derive(Debug, PartialEq, Drop)]
 pub enum Reply {
-    /// An insert added its row.
+    /// The insert added its row.
     Inserted,
-    /// An insert met a row with its key, and added nothing.
+    /// There was a row with the key of the insert, which added nothing.
     Duplicate,
-    /// An update changed this many rows.
+    /// The update matched this many rows.
     Updated(u32),
-    /// A delete took this many rows away.
+    /// The delete removed this many rows.
     Deleted(u32),
-    /// A select found these rows, by rising key.
+    /// The rows that match the select, in ascending order of their keys.
     Rows(Items<Row>),
 }
 

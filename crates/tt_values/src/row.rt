@@ -4,7 +4,7 @@ use crate::items::Items;
 use crate::value::Value;
 use std::alloc::AllocError;
 
-/// A row: a value for each column of its table. Its first value is its key.
+/// A row: a value for each column of its table. The first value is its key.
 #[derive(Clone, Debug, PartialEq, Drop)]
 pub struct Row {
     pub values: Items<Value>,
@@ -13,7 +13,7 @@ pub struct Row {
 impl Row {
     ghost use Rattle.tt_values.specs.Row.{first_int};
 
-    /// The number that names the row over all its versions.
+    /// The key, which identifies the row in its table.
     pub fn key(&self) -> i64
         requires { IsSome (first_int self.now.values) }
         ensures { first_int self.now.values ≡ Some result }
@@ -24,7 +24,7 @@ impl Row {
         }
     }
 
-    /// The same row, in memory of its own.
+    /// A deep copy.
     pub fn copy(&self) -> Result<Row, AllocError>
         ensures { IfOk result (λ copy. copy ≡ self.now) }
     {

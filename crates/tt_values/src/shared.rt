@@ -5,7 +5,7 @@ use std::alloc::{AllocError, Global};
 use std::marker::Model;
 use std::sync::Arc;
 
-/// A value with several owners, which contracts see as the value.
+/// A value that several owners share. Contracts see only the value.
 #[derive(Debug, Drop)]
 pub struct Shared<T> {
     owner: Arc<T>,
@@ -22,7 +22,7 @@ impl<T> Model for Shared<T> {
 }
 
 impl<T: Drop> Shared<T> {
-    /// The first owner of a value. Takes memory for it.
+    /// Moves a value to memory of its own, and is its first owner.
     pub fn new(alloc: Global, value: T) -> Result<Self, AllocError>
         ensures { IfOk result (λ shared. shared ≡ value) }
     {
@@ -30,42 +30,35 @@ impl<T: Drop> Shared<T> {
         Ok(Shared { owner })
     }
 
-    /// The value of an owner. Takes no memory.
+    /// Allocates nothing.
     pub fn from_arc(owner: Arc<T>) -> Self
         ensures { result ≡ arc_value owner }
     {
         Shared { owner }
     }
 
-    /// Gives the owner back, and takes no memory.
+    /// Allocates nothing.
     pub fn into_arc(self) -> Arc<T>
         ensures { arc_value result ≡ self }
     {
         self.owner
     }
 
-    /// The value that is shared.
     pub fn get(&self) -> &T
         ensures { result.now ≡ self.now }
     {
         &self.owner
     }
-
-    /// A further owner of the value.
-    pub fn share(&self) -> Result<Self, AllocError>
-        ensures { IfOk result (λ shared. shared ≡ self.now) }
-    {
-        let owner = Arc::try_clone(&self.owner)?;
-        Ok(Shared { owner })
-    }
 }
 
+/// A clone is a further owner of the same value.
 impl<T: Drop> Clone for Shared<T> {
     ghost use Rattle.std.specs.Prelude.{◌≡◌};
 
     ghost is_clone = { λ source copy. copy ≡ source };
 
     fn clone(&self) -> Result<Self, AllocError> {
-        self.share()
+        let owner = Arc::try_clone(&self.owner)?;
+        Ok(Shared { owner })
     }
 }

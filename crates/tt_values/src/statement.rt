@@ -1,3 +1,4 @@
+//! Statements. They name tables and columns by their positions, counted from 0.
 ghost use Rattle.std.specs.Prelude.{◌≡◌, IfOk};
 
 use crate::items::Items;
@@ -5,45 +6,45 @@ use crate::row::Row;
 use crate::value::Value;
 use std::alloc::AllocError;
 
-/// Asks that a column has a value. Columns go by position, from 0.
+/// The condition that a column has a value.
 #[derive(Clone, Debug, PartialEq, Drop)]
 pub struct Equal {
     pub column: u16,
     pub value: Value,
 }
 
-/// What an update makes of a column. Columns go by position, from 0.
+/// A change of one column by an update.
 #[derive(Clone, Debug, PartialEq, Drop)]
 pub enum Change {
-    /// The column gets the value.
+    /// Sets the column to the value.
     Set { column: u16, value: Value },
-    /// The column, an Int, grows by the number; the sum is held at the bounds of an `i64`.
+    /// Adds to the column, of kind Int. The sum saturates at the bounds of an `i64`.
     Add { column: u16, by: i64 },
 }
 
-/// A statement that changes a table. Tables go by position, from 0.
+/// A statement that writes to a table.
 #[derive(Clone, Debug, PartialEq, Drop)]
 pub enum Write {
-    /// Adds a whole row, unless a row with its key is there.
+    /// Adds a row, unless the table has one with its key.
     Insert {
         table: u16,
         row: Row,
     },
-    /// Changes the rows in which each equality holds. Each is written and counted, also where no
-    /// value changes.
+    /// Changes the rows that match all equalities. Each of them is written and counted, even if
+    /// no value of it changes.
     Update {
         table: u16,
         changes: Items<Change>,
         equals: Items<Equal>,
     },
-    /// Takes away the rows in which each equality holds.
+    /// Removes the rows that match all equalities.
     Delete {
         table: u16,
         equals: Items<Equal>,
     },
 }
 
-/// A statement that reads the rows in which each equality holds.
+/// A statement that reads the rows that match all equalities.
 #[derive(Clone, Debug, PartialEq, Drop)]
 pub struct Select {
     pub table: u16,
@@ -51,7 +52,7 @@ pub struct Select {
 }
 
 impl Equal {
-    /// The same equality, in memory of its own.
+    /// A deep copy.
     pub fn copy(&self) -> Result<Equal, AllocError>
         ensures { IfOk result (λ copy. copy ≡ self.now) }
     {
@@ -60,7 +61,7 @@ impl Equal {
 }
 
 impl Change {
-    /// The same change, in memory of its own.
+    /// A deep copy.
     pub fn copy(&self) -> Result<Change, AllocError>
         ensures { IfOk result (λ copy. copy ≡ self.now) }
     {
@@ -71,7 +72,7 @@ impl Change {
 impl Write {
     ghost use Rattle.tt_values.specs.Effect.{table_of};
 
-    /// The position of the table that the statement is on. Takes no memory.
+    /// The position of the table that the statement writes to. Allocates nothing.
     pub fn table(&self) -> u16
         ensures { result ≡ table_of self.now }
     {
@@ -82,7 +83,7 @@ impl Write {
         }
     }
 
-    /// The same statement, in memory of its own.
+    /// A deep copy.
     pub fn copy(&self) -> Result<Write, AllocError>
         ensures { IfOk result (λ copy. copy ≡ self.now) }
     {
@@ -91,7 +92,7 @@ impl Write {
 }
 
 impl Select {
-    /// The same statement, in memory of its own.
+    /// A deep copy.
     pub fn copy(&self) -> Result<Select, AllocError>
         ensures { IfOk result (λ copy. copy ≡ self.now) }
     {

@@ -10,8 +10,8 @@ use crate::value::Kind;
 pub struct Column {
     pub name: Text,
     pub kind: Kind,
-    /// Whether repair tells the column's values apart. Of the first column it makes no difference:
-    /// its values, the keys, are always told apart.
+    /// Whether this is a partition column: repair then tracks which of its values are dirty. It
+    /// always does for the first column.
     pub partition: bool,
 }
 
@@ -22,11 +22,12 @@ pub struct TableDef {
 }
 
 impl TableDef {
-    /// The position of the column with the name, the first where there are several.
-    /// None also where it's past 65,535, which no table of a catalogue has.
+    /// The position of the first column with this name. `None` too if it's past 65,535, which
+    /// doesn't happen in a table of a catalog.
     pub fn find(&self, name: &str) -> Option<u16>
         ensures position { result ≡ position_as_u16 (column_position self.now.columns name.now) }
-        ensures whole { length self.now.columns ≤ 2 ^ 16 → result ≡ column_position self.now.columns name.now }
+        ensures few_columns { length self.now.columns ≤ 2 ^ 16 →
+            result ≡ column_position self.now.columns name.now }
     {
         let position = position_of(self.columns.as_slice(), name)?;
         u16::try_from(position).ok()

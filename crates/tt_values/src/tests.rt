@@ -1,99 +1,52 @@
+ghost use Rattle.std.specs.Prelude.{IsSome};
+ghost use Rattle.tt_values.specs.Row.{first_int};
+
 mod calls;
-mod catalog;
-mod changing;
-mod copies;
-mod inserts;
-mod limits;
-mod lookups;
-mod matching;
-mod names;
-mod selects;
-mod statements;
-mod updates;
-mod writes;
+mod printed;
 
-use crate::{Catalog, Column, Items, Kind, Row, TableDef, Text, Value};
-use std::alloc::{AllocError, Global};
-use std::test::Fail;
+use crate::{Catalog, Column, Equal, Items, Kind, Row, TableDef, Text, Value};
+use std::alloc::Global;
+use std::process::Abort;
 
-/// A value as a case writes it down. `Long` is a text of that many bytes.
-#[derive(Clone, Copy, Debug)]
-enum Plain {
-    Number(i64),
-    Words(&'static str),
-    Long(usize),
+fn text(rt: &impl Abort, alloc: Global, words: &str) -> Text {
+    Text::new(String::from_str(alloc, words).expect(rt, "memory"))
 }
 
-/// The row (1, "ann", 10) of `acct`.
-const ANN: &[Plain] = &[Plain::Number(1), Plain::Words("ann"), Plain::Number(10)];
-
-fn text(alloc: Global, words: &str) -> Result<Text, AllocError> {
-    Ok(Text::new(String::from_str(alloc, words)?))
-}
-
-fn value(alloc: Global, plain: Plain) -> Result<Value, AllocError> {
-    match plain {
-        Plain::Number(number) => Ok(Value::Int(number)),
-        Plain::Words(words) => Ok(Value::Text(text(alloc, words)?)),
-        Plain::Long(bytes) => Ok(Value::Text(Text::new("a".repeat(alloc, bytes)?))),
-    }
-}
-
-fn row(alloc: Global, plains: &[Plain]) -> Result<Row, AllocError> {
-    let mut values = Vec::new(alloc);
-    for plain in plains {
-        values.push(value(alloc, *plain)?)?;
-    }
-    Ok(Row {
-        values: Items::new(values),
-    })
-}
-
-fn column(alloc: Global, name: &str, kind: Kind) -> Result<Column, AllocError> {
-    Ok(Column {
-        name: text(alloc, name)?,
+fn column(rt: &impl Abort, alloc: Global, name: &str, kind: Kind) -> Column {
+    Column {
+        name: text(rt, alloc, name),
         kind,
         partition: false,
-    })
-}
-
-fn table(alloc: Global, columns: &[(&str, Kind)]) -> Result<TableDef, AllocError> {
-    let mut list = Vec::new(alloc);
-    for (name, kind) in columns {
-        list.push(column(alloc, name, *kind)?)?;
     }
-    Ok(TableDef {
-        columns: Items::new(list),
-    })
 }
 
-/// A table of `count` Int columns, named c0, c1 and so on.
-fn wide(alloc: Global, count: u8) -> Result<TableDef, AllocError> {
-    let mut list = Vec::new(alloc);
-    for i in 0..count {
-        let name = format!(in alloc; "c{i}")?;
-        list.push(column(alloc, name.as_str(), Kind::Int)?)?;
+/// The columns id and owner.
+fn def(rt: &impl Abort, alloc: Global) -> TableDef {
+    let id = column(rt, alloc, "id", Kind::Int);
+    let owner = column(rt, alloc, "owner", Kind::Text);
+    TableDef {
+        columns: Items::new(vec![in alloc; id, owner].expect(rt, "memory")),
     }
-    Ok(TableDef {
-        columns: Items::new(list),
-    })
 }
 
-fn acct(alloc: Global) -> Result<TableDef, AllocError> {
-    let id = column(alloc, "id", Kind::Int)?;
-    let owner = Column {
-        partition: true,
-        ..column(alloc, "owner", Kind::Text)?
-    };
-    let bal = column(alloc, "bal", Kind::Int)?;
-    Ok(TableDef {
-        columns: Items::new(vec![in alloc; id, owner, bal]?),
-    })
-}
-
-/// A catalogue that holds `acct` alone.
-fn bank(alloc: Global) -> Result<Catalog, Fail> {
+fn catalog(rt: &impl Abort, alloc: Global) -> Catalog {
     let mut catalog = Catalog::new(alloc);
-    catalog.add("acct", acct(alloc)?)?;
-    Ok(catalog)
+    catalog.add("acct", def(rt, alloc)).expect(rt, "a table");
+    catalog
+}
+
+fn row(rt: &impl Abort, alloc: Global, id: i64, owner: &str) -> Row
+    ensures { IsSome (first_int result.values) }
+{
+    let owner = Value::Text(text(rt, alloc, owner));
+    Row {
+        values: Items::new(vec![in alloc; Value::Int(id), owner].expect(rt, "memory")),
+    }
+}
+
+fn owner_is(rt: &impl Abort, alloc: Global, owner: &str) -> Equal {
+    Equal {
+        column: 1,
+        value: Value::Text(text(rt, alloc, owner)),
+    }
 }

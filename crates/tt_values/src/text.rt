@@ -4,7 +4,7 @@ ghost use Rattle.std.specs.String.{string_bytes, string_len};
 use std::alloc::AllocError;
 use std::marker::Model;
 
-/// A text in UTF-8: a value of a row, or a name. Contracts see its bytes.
+/// A text in UTF-8, as a value of a row or a name. Contracts see its bytes.
 #[derive(Debug, Drop)]
 pub struct Text {
     text: String,
@@ -20,7 +20,7 @@ impl Model for Text {
 }
 
 impl Text {
-    /// Takes no memory.
+    /// Allocates nothing.
     pub fn new(text: String) -> Self
         ensures { result ≡ string_bytes text }
     {
@@ -33,7 +33,7 @@ impl Text {
         self.text.as_str()
     }
 
-    /// How many bytes the text has.
+    /// The length in bytes.
     pub fn len(&self) -> usize
         ensures { result ≡ length self.now }
     {
@@ -46,7 +46,7 @@ impl Text {
         self.text.is_empty()
     }
 
-    /// Gives the text back, and takes no memory.
+    /// Allocates nothing.
     pub fn into_string(self) -> String
         ensures { string_bytes result ≡ self }
     {

@@ -3,7 +3,7 @@ ghost use Rattle.std.specs.Prelude.{◌≡◌, IfOk};
 use crate::text::Text;
 use std::alloc::AllocError;
 
-/// What a column holds.
+/// The kind of values that a column has.
 #[derive(Clone, Copy, Debug, PartialEq, Eq)]
 pub enum Kind {
     Int,
@@ -29,18 +29,18 @@ impl Value {
         }
     }
 
-    /// Whether the two are of one kind, and the same number or text.
+    /// Whether both are of the same kind, and the same number or text.
     pub fn is_same(&self, other: &Value) -> bool
         ensures { result ≡ is_same self.now other.now }
     {
         match (self, other) {
-            (Value::Int(number), Value::Int(other)) => number == other,
+            (Value::Int(int), Value::Int(other)) => int == other,
             (Value::Text(text), Value::Text(other)) => text == other,
             (Value::Int(_), Value::Text(_)) | (Value::Text(_), Value::Int(_)) => false,
         }
     }
 
-    /// The same value, a text in memory of its own.
+    /// A deep copy.
     pub fn copy(&self) -> Result<Value, AllocError>
         ensures { IfOk result (λ copy. copy ≡ self.now) }
     {

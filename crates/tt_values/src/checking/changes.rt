@@ -1,4 +1,4 @@
-//! What is looked for in the changes of an update.
+//! The tests of the changes of an update.
 ghost use Rattle.std.specs.Prelude.{◌≡◌, ◌==◌, nat_le, length};
 ghost use Rattle.std.specs.List.{list_any};
 ghost use Rattle.std.specs.Option.{option_copied};
@@ -65,8 +65,8 @@ pub(super) fn changes_key(changes: &[Change]) -> bool
     changes.iter().any(|change| column_of(change) == 0)
 }
 
-/// Whether two changes are of one column. It's told early: no more columns than a table has come
-/// before the first that is met again.
+/// Whether two changes are of the same column. Where all columns are in the table, this looks at
+/// no more changes than the table has columns before it answers `true`.
 pub(super) fn changes_twice(changes: &[Change]) -> bool
     ensures { result ≡ changes_twice changes.now }
 {

@@ -1,99 +1,122 @@
-use super::Plain::{Number, Words};
-use super::statements::{insert, select};
-use super::{ANN, acct, row, value};
+//! Each public call once, with ample memory.
+use super::{catalog, def, owner_is, row, text};
 use crate::{
-    Catalog, Equal, Items, Kind, Reply, Row, Text, Value, check, check_select, laws, matches,
+    Catalog, CatalogError, Change, Items, Kind, Reply, Select, Shared, Value, Write, changed,
+    check, check_select, laws, matches,
 };
-use std::test::Fail;
+use std::sync::Arc;
 
 #[test]
-fn a_text_answers(rt: HostRuntime) -> Result<(), Fail> {
-    for (words, bytes) in [("", 0), ("a", 1), (" é ", 4)] {
-        let text = Text::new(String::from_str(rt.alloc(), words)?);
-        assert_eq!(rt; text.as_str(), words);
-        assert_eq!(rt; text.len(), bytes);
-        assert_eq!(rt; text.is_empty(), bytes == 0);
-        assert_eq!(rt; text.copy()?, text);
-        assert_eq!(rt; text.into_string().as_str(), words);
-    }
-    Ok(())
+fn texts(rt: HostRuntime) {
+    let alloc = rt.alloc();
+    let ann = text(&rt, alloc, "ann");
+    assert_eq!(rt; ann.len(), 3);
+    assert!(rt; !ann.is_empty());
+    assert!(rt; ann == ann.clone().expect(&rt, "memory"));
+    assert!(rt; ann != text(&rt, alloc, "Ann"));
+    assert_eq!(rt; ann.into_string().as_str(), "ann");
 }
 
 #[test]
-fn items_answer(rt: HostRuntime) -> Result<(), Fail> {
-    let items = Items::new(vec![in rt.alloc(); 7, 8]?);
+fn items_of_ints(rt: HostRuntime) {
+    let items = Items::new(vec![in rt.alloc(); 7, 8].expect(&rt, "memory"));
     assert_eq!(rt; items.len(), 2);
     assert!(rt; !items.is_empty());
     assert_eq!(rt; items.get(1).copied(), Some(8));
-    assert_eq!(rt; items.get(2).copied(), None);
+    assert!(rt; items == items.clone().expect(&rt, "memory"));
     assert_eq!(rt; items.as_slice(), [7, 8].as_slice());
     assert_eq!(rt; items.into_vec().as_slice(), [7, 8].as_slice());
-    Ok(())
 }
 
 #[test]
-fn values_and_rows_answer(rt: HostRuntime) -> Result<(), Fail> {
-    let alloc = rt.alloc();
-    let number = value(alloc, Number(-7))?;
-    let words = value(alloc, Words("ann"))?;
-    assert!(rt; number.is_of_kind(Kind::Int) && !number.is_of_kind(Kind::Text));
-    assert!(rt; words.is_of_kind(Kind::Text) && !words.is_of_kind(Kind::Int));
-    assert!(rt; number.is_same(&number.copy()?) && words.is_same(&words.copy()?));
-    assert!(rt; !number.is_same(&words) && !words.is_same(&number));
-    let row = Row {
-        values: Items::new(vec![in alloc; Value::Int(-7), words]?),
-    };
-    assert_eq!(rt; row.key(), -7);
-    assert_eq!(rt; row.copy()?, row);
-    Ok(())
+fn a_shared_int(rt: HostRuntime) {
+    let owner = Arc::new(rt.alloc(), 7).expect(&rt, "memory");
+    let shared = Shared::from_arc(owner);
+    let further = shared.clone().expect(&rt, "memory");
+    assert_eq!(rt; *shared.get(), *further.get());
+    let owner = Shared::new(rt.alloc(), 8).expect(&rt, "memory").into_arc();
+    assert_eq!(rt; *owner, 8);
 }
 
 #[test]
-fn a_catalogue_answers(rt: HostRuntime) -> Result<(), Fail> {
+fn values_and_rows(rt: HostRuntime) {
     let alloc = rt.alloc();
-    let mut catalog = Catalog::new(alloc);
-    assert!(rt; catalog.is_empty());
-    assert_eq!(rt; catalog.add("acct", acct(alloc)?), Ok(()));
-    assert!(rt; !catalog.is_empty());
+    let int = Value::Int(-7);
+    let ann = row(&rt, alloc, -7, "ann");
+    assert!(rt; int.is_of_kind(Kind::Int));
+    assert!(rt; int.is_same(&int.copy().expect(&rt, "memory")));
+    assert_eq!(rt; ann.key(), -7);
+    assert!(rt; ann == ann.copy().expect(&rt, "memory"));
+    assert!(rt; ann != row(&rt, alloc, -7, "eve"));
+}
+
+#[test]
+fn catalogs(rt: HostRuntime) {
+    let alloc = rt.alloc();
+    let mut catalog = catalog(&rt, alloc);
+    let same = catalog.add("acct", def(&rt, alloc));
+    assert_eq!(rt; same, Err(CatalogError::SameTable));
     assert_eq!(rt; catalog.len(), 1);
+    assert!(rt; !catalog.is_empty());
     assert_eq!(rt; catalog.find("acct"), Some(0));
     assert_eq!(rt; catalog.name(0), Some("acct"));
-    let def = catalog.table(0).ok_or("no table")?;
-    assert_eq!(rt; def.find("bal"), Some(2));
-    assert_eq!(rt; *def, acct(alloc)?);
-    assert_eq!(rt; check(&catalog, &insert(alloc, 0, ANN)?), Ok(()));
-    assert_eq!(rt;
-        check_select(&catalog, &select(alloc, 0, &[(1, Words("ann"))])?),
-        Ok(())
-    );
-    Ok(())
+    let acct = catalog.table(0).expect(&rt, "a table");
+    assert_eq!(rt; acct.find("owner"), Some(1));
 }
 
 #[test]
-fn statements_answer(rt: HostRuntime) -> Result<(), Fail> {
+fn changes(rt: HostRuntime) {
     let alloc = rt.alloc();
-    let equal = Equal {
+    let ann = row(&rt, alloc, 1, "ann");
+    let to_eve = Change::Set {
         column: 1,
-        value: value(alloc, Words("ann"))?,
+        value: Value::Text(text(&rt, alloc, "eve")),
     };
-    let row = row(alloc, ANN)?;
-    assert_eq!(rt; equal.copy()?, equal);
-    assert!(rt; matches(&[equal], &row));
-    let select = select(alloc, 0, &[(1, Words("ann"))])?;
-    assert_eq!(rt; select.copy()?, select);
-    let write = insert(alloc, 0, ANN)?;
-    assert_eq!(rt; write.copy()?, write);
-    assert_eq!(rt; Reply::Inserted.copy()?, Reply::Inserted);
-    Ok(())
+    let copy = to_eve.copy().expect(&rt, "memory");
+    let eves = changed(alloc, &ann, &[copy]).expect(&rt, "memory");
+    assert!(rt; eves == row(&rt, alloc, 1, "eve"));
+    assert!(rt; matches(&[owner_is(&rt, alloc, "eve")], &eves));
+    assert!(rt; !matches(&[owner_is(&rt, alloc, "ann")], &eves));
 }
 
 #[test]
-fn laws_answer() {
-    laws::a_content_shows_the_last_row_write();
-    laws::rows_stand_by_rising_key();
-    laws::slots_follow_one_another();
-    laws::later_slots_change_no_earlier_row_write();
-    laws::later_slots_change_no_earlier_content();
-    laws::the_last_content_stays();
-    laws::the_next_content_has_the_slot();
+fn statements(rt: HostRuntime) {
+    let alloc = rt.alloc();
+    let catalog = catalog(&rt, alloc);
+    let equal = owner_is(&rt, alloc, "ann").copy().expect(&rt, "memory");
+    let select = Select {
+        table: 0,
+        equals: Items::new(vec![in alloc; equal].expect(&rt, "memory")),
+    };
+    let insert = Write::Insert {
+        table: 0,
+        row: row(&rt, alloc, 1, "ann"),
+    };
+    let select = select.copy().expect(&rt, "memory");
+    let insert = insert.copy().expect(&rt, "memory");
+    assert_eq!(rt; insert.table(), 0);
+    assert_eq!(rt; check(&catalog, &insert), Ok(()));
+    assert_eq!(rt; check_select(&catalog, &select), Ok(()));
+    assert!(rt; check_select(&Catalog::new(alloc), &select).is_err());
+    assert_ne!(rt; Reply::Updated(1), Reply::Deleted(1));
+}
+
+#[test]
+fn all_laws() {
+    laws::shows_last_row_write();
+    laws::rows_rise();
+    laws::slots_follow();
+    laws::later_slots_change_nothing();
+    laws::past_stays();
+    laws::last_content_stays();
+    laws::next_content();
+    laws::one_key_changes();
+    laws::rows_stay_by_rising_key();
+    laws::row_write_changes_one_row();
+    laws::last_row_write_counts();
+    laws::earlier_slots_stay();
+    laws::added_slot_is_next();
+    laws::added_slot_leaves_past();
+    laws::accepted_inserts_have_keys();
+    laws::accepted_updates_keep_keys();
 }

@@ -1,4 +1,4 @@
--- no change so far is of the column
+-- no change so far is about this column
 use Rattle.std.proofs.Common.{◌≡◌, drop}
 use Rattle.tt_values.specs.Change.{changed_value}
 use Rattle.tt_values.proofs.changing.changed_value.Given as goal

@@ -1,4 +1,4 @@
--- no column before i has the name of a later one
+-- no column before i has the same name as a later one
 use Rattle.std.proofs.Common.{◌≡◌, drop}
 use Rattle.tt_values.specs.Tables.{has_same_name}
 use Rattle.tt_values.proofs.naming.has_same_name.Given as goal

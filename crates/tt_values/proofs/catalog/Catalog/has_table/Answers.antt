@@ -1,4 +1,4 @@
--- The map has the name as a key where a table has it.
+-- A name is a key of the map exactly if it is a table's.
 use Rattle.std.proofs.Common.{ap, ◌∙◌}
 use Rattle.std.specs.List.{list_any}
 use Rattle.std.specs.Str.{bytes_eq}

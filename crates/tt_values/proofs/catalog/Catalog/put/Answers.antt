@@ -1,4 +1,4 @@
--- The map's entries gain one at the end, and so do the tables that they show.
+-- A new entry of the map is a new table at the end.
 use Rattle.std.proofs.Common.{refl, ◌∙◌}
 use Rattle.tt_values.proofs.CatalogLemmas.{tables_after, catalog_after}
 use Rattle.tt_values.proofs.catalog.Catalog.put.Goals as goal

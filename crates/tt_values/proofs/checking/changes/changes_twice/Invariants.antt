@@ -1,4 +1,4 @@
--- no change before i is of the column of a later one
+-- no change before i is about the same column as a later one
 use Rattle.std.proofs.Common.{◌≡◌, drop}
 use Rattle.tt_values.specs.Check.{changes_twice}
 use Rattle.tt_values.proofs.checking.changes.changes_twice.Given as goal

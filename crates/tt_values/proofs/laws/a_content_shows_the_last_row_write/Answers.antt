@@ -1,5 +1,0 @@
-use Rattle.tt_values.proofs.LawProofs.{shows_last_row_write}
-use Rattle.tt_values.proofs.laws.a_content_shows_the_last_row_write.Goals as goal
-
-pub returns : goal.returns
-returns c = shows_last_row_write

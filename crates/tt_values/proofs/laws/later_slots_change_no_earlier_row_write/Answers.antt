@@ -1,5 +1,0 @@
-use Rattle.tt_values.proofs.LawProofs.{later_slots_change_nothing}
-use Rattle.tt_values.proofs.laws.later_slots_change_no_earlier_row_write.Goals as goal
-
-pub returns : goal.returns
-returns c = later_slots_change_nothing

@@ -1,5 +1,0 @@
-use Rattle.tt_values.proofs.LawProofs.{rows_rise}
-use Rattle.tt_values.proofs.laws.rows_stand_by_rising_key.Goals as goal
-
-pub returns : goal.returns
-returns c = rows_rise

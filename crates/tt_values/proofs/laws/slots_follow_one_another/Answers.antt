@@ -1,5 +1,0 @@
-use Rattle.tt_values.proofs.LawProofs.{slots_follow}
-use Rattle.tt_values.proofs.laws.slots_follow_one_another.Goals as goal
-
-pub returns : goal.returns
-returns c = slots_follow

@@ -1,0 +1,4 @@
+pub mod Accounts
+mod Writes
+mod Contents
+mod Checks
