@@ -1,4 +1,5 @@
 pub mod PartitionsLemmas
 pub mod SoundnessLemmas
-pub mod DirtyLemmas
-pub mod WorkedRows
+pub mod DirtySetLemmas
+pub mod LawProofs
+mod worked_rows

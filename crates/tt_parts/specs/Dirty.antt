@@ -1,23 +1,22 @@
--- What a repair has made dirty, and when a statement is clear of it.
+-- A set of dirty rows and partitions, and when a statement is clear of it.
 use Rattle.std.specs.Prelude.{◌≡◌, ℕ, ℤ, Bool, not, ◌&&◌, ◌==◌, List, [], ◌∷◌, ◌++◌, Option, None, Some}
 use Rattle.std.specs.List.{list_any}
 use Rattle.std.specs.Option.{unwrap_or}
 use Rattle.std.specs.Ordering.{int_eq}
-use Rattle.tt_values.specs.declared.value.Value.TheVariants as values
 use Rattle.tt_values.specs.declared.row.Row.{Row}
 use Rattle.tt_values.specs.declared.table.Column.{Column}
 use Rattle.tt_values.specs.Tables.{Tables, columns_at}
 use Rattle.tt_parts.specs.declared.partition.Partition.{Partition}
 use Rattle.tt_parts.specs.declared.partition.Reads.{Reads}
 use Rattle.tt_parts.specs.declared.partition.Reads.TheVariants.{All, Equated}
-use Rattle.tt_parts.specs.Partitions.{parts_of, is_same_partition}
+use Rattle.tt_parts.specs.Partitions.{parts_of, key_partition, is_partition_in}
 
 -- a set of dirty rows, each by its table and key, and of dirty partitions
 pub record DirtySet : Type 0 where
   pub rows : List (ℕ × ℤ)
   pub partitions : List Partition
 
--- the tables of a catalogue, and what is dirty in them
+-- the tables of a catalog, and what is dirty in them
 pub record DirtyTables : Type 0 where
   pub catalog : Tables
   pub dirty : DirtySet
@@ -30,9 +29,9 @@ nothing_dirty = record { rows = []; partitions = [] }
 abbrev pub is_row_in : List (ℕ × ℤ) → ℕ → ℤ → Bool
 is_row_in rows table key = list_any (λ r. (table == r.0) && int_eq key r.1) rows
 
--- whether a list of partitions has one
-abbrev pub is_partition_in : List Partition → Partition → Bool
-is_partition_in ps p = list_any (is_same_partition p) ps
+-- whether a list of rows has a row of a table
+abbrev pub is_table_in : List (ℕ × ℤ) → ℕ → Bool
+is_table_in rows table = list_any (λ r. table == r.0) rows
 
 -- whether the row with a key of a table is dirty
 abbrev pub has_row : DirtySet → ℕ → ℤ → Bool
@@ -40,7 +39,7 @@ has_row D = is_row_in D.rows
 
 -- whether a row of a table is dirty
 abbrev pub has_row_of : DirtySet → ℕ → Bool
-has_row_of D table = list_any (λ r. table == r.0) D.rows
+has_row_of D = is_table_in D.rows
 
 -- whether a partition is dirty
 abbrev pub has_partition : DirtySet → Partition → Bool
@@ -59,28 +58,36 @@ pub record SameMembers (D E : DirtySet) : Type 0 where
   pub rows : SameRows D.rows E.rows
   pub partitions : SamePartitions D.partitions E.partitions
 
--- the columns of a table of a catalogue
+-- the columns of a table of a catalog
 abbrev pub columns_in : Tables → ℕ → List Column
 columns_in tables table = unwrap_or (columns_at tables table) []
 
--- the partitions of a row, where there is one
+-- the partitions of a row, if there is one
 abbrev pub parts_if : ℕ → List Column → Option Row → List Partition
 parts_if table columns None = []
 parts_if table columns (Some row) = parts_of table columns row
 
--- a row gets dirty: with it its key's partition, and the partitions of its contents before and after
+-- the set after a row gets dirty, and with it the partitions of its key and of its contents before and after
 abbrev pub with_row : DirtySet → ℕ → List Column → ℤ → Option Row → Option Row → DirtySet
 with_row D table columns key before after = record {
   rows = (table, key) ∷ D.rows;
-  partitions = record { table = table; column = 0; value = values.Int key } ∷ parts_if table columns before ++ parts_if table columns after ++ D.partitions;
+  partitions = key_partition table key ∷ parts_if table columns before ++ parts_if table columns after ++ D.partitions;
 }
 
--- whether a statement on a table is clear, by the partitions that it equates: one of them isn't dirty, or, where it equates none, no row of the table is
+-- the same for a table of the catalog
+abbrev pub with_row_in : DirtyTables → ℕ → ℤ → Option Row → Option Row → DirtySet
+with_row_in d table key before after = with_row d.dirty table (columns_in d.catalog table) key before after
+
+-- whether a list of partitions has one that another list doesn't have
+abbrev pub has_other_partition : List Partition → List Partition → Bool
+has_other_partition ps qs = list_any (λ q. not (is_partition_in ps q)) qs
+
+-- whether a statement on a table is clear, by the partitions that it reads: one of them isn't dirty, or, if there is none, no row of the table is
 abbrev pub is_clear : DirtySet → ℕ → List Partition → Bool
 is_clear D table [] = not (has_row_of D table)
-is_clear D table (p ∷ ps) = list_any (λ q. not (has_partition D q)) (p ∷ ps)
+is_clear D table (p ∷ ps) = has_other_partition D.partitions (p ∷ ps)
 
--- whether a statement is clear, by what it is told to read
+-- whether a statement is clear, by its reads
 abbrev pub is_clear_of : DirtySet → Reads → Bool
 is_clear_of D (All table) = not (has_row_of D table)
-is_clear_of D (Equated ps) = list_any (λ p. not (has_partition D p)) ps
+is_clear_of D (Equated ps) = has_other_partition D.partitions ps

@@ -1,3 +1,4 @@
 pub mod Partitions
 pub mod Soundness
 pub mod Dirty
+pub mod Laws

@@ -1,24 +1,24 @@
-//! Lists of dirty rows and partitions, as sets: a member that is there already isn't added again.
-ghost use Rattle.std.specs.Prelude.{◌≡◌, ◌==◌, ◌≤◌, ◌^◌, not, ◌∷◌, ◌++◌, length, IfOk, OnOk};
-ghost use Rattle.std.specs.List.{list_any};
+//! Lists of dirty rows and partitions as sets: adding a member that is there already changes
+//! nothing.
+ghost use Rattle.std.specs.Prelude.{◌≡◌, ◌==◌, ◌≤◌, ◌^◌, not, ◌∷◌, ◌++◌, length, OnOk};
 ghost use Rattle.std.specs.Option.{option_copied};
-ghost use Rattle.tt_values.specs.declared.value.Value.TheVariants as values;
-ghost use Rattle.tt_parts.specs.Dirty.{is_row_in, is_partition_in, parts_if, SameRows, SamePartitions};
+ghost use Rattle.tt_parts.specs.Partitions.{key_partition, is_partition_in};
+ghost use Rattle.tt_parts.specs.Dirty.{is_row_in, is_table_in, has_other_partition, parts_if, SameRows, SamePartitions};
 
 use crate::partition::Partition;
 use crate::parts::parts_of;
 use std::alloc::AllocError;
 use tt_values::{Row, TableDef, Value};
 
-pub(crate) fn has_row(rows: &[(u16, i64)], table: u16, key: i64) -> bool
+pub(crate) fn is_row_in(rows: &[(u16, i64)], table: u16, key: i64) -> bool
     ensures { result ≡ is_row_in rows.now table key }
 {
     rows.iter().any(|row| table == row.0 && key == row.1)
 }
 
 /// Whether one of the rows is of the table.
-pub(crate) fn has_row_of(rows: &[(u16, i64)], table: u16) -> bool
-    ensures { result ≡ list_any (λ r. table == r.0) rows.now }
+pub(crate) fn is_table_in(rows: &[(u16, i64)], table: u16) -> bool
+    ensures { result ≡ is_table_in rows.now table }
 {
     rows.iter().any(|row| table == row.0)
 }
@@ -26,46 +26,40 @@ pub(crate) fn has_row_of(rows: &[(u16, i64)], table: u16) -> bool
 pub(crate) fn add_row(rows: &mut Vec<(u16, i64)>, table: u16, key: i64) -> Result<(), AllocError>
     ensures { OnOk result (SameRows rows.new.items ((table, key) ∷ rows.old.items)) }
 {
-    if !has_row(rows, table, key) {
+    if !is_row_in(rows, table, key) {
         rows.push((table, key))?;
     }
     Ok(())
 }
 
-fn has_partition(members: &[Partition], partition: &Partition) -> bool
+fn is_partition_in(members: &[Partition], partition: &Partition) -> bool
     ensures { result ≡ is_partition_in members.now partition.now }
 {
     members.iter().any(|member| partition.is_same(member))
 }
 
 /// Whether one of the partitions isn't a member.
-pub(crate) fn has_clean(members: &[Partition], partitions: &[Partition]) -> bool
-    ensures { result ≡ list_any (λ p. not (is_partition_in members.now p)) partitions.now }
+pub(crate) fn has_other_partition(members: &[Partition], partitions: &[Partition]) -> bool
+    ensures { result ≡ has_other_partition members.now partitions.now }
 {
     partitions
         .iter()
-        .any(|partition| !has_partition(members, partition))
+        .any(|partition| !is_partition_in(members, partition))
 }
 
 fn add_partition(members: &mut Vec<Partition>, partition: &Partition) -> Result<(), AllocError>
     ensures { OnOk result (SamePartitions members.new.items (partition.now ∷ members.old.items)) }
 {
-    if !has_partition(members, partition) {
+    if !is_partition_in(members, partition) {
         members.push(partition.clone()?)?;
     }
     Ok(())
 }
 
-/// The same partitions, in memory of their own.
-pub(crate) fn copy_of(members: &Vec<Partition>) -> Result<Vec<Partition>, AllocError>
-    ensures { IfOk result (λ copy. copy.items ≡ members.now.items) }
-{
-    members.clone()
-}
-
 /// Adds the partition of a key.
 pub(crate) fn add_key(members: &mut Vec<Partition>, table: u16, key: i64) -> Result<(), AllocError>
-    ensures { OnOk result (SamePartitions members.new.items (record { table = table; column = 0; value = values.Int key } ∷ members.old.items)) }
+    ensures { OnOk result (SamePartitions members.new.items
+        (key_partition table key ∷ members.old.items)) }
 {
     let partition = Partition {
         table,
@@ -75,7 +69,7 @@ pub(crate) fn add_key(members: &mut Vec<Partition>, table: u16, key: i64) -> Res
     add_partition(members, &partition)
 }
 
-/// Adds the partitions that a row lies in, where there is a row.
+/// Adds the partitions that a row lies in, if there is a row.
 pub(crate) fn add_parts(
     members: &mut Vec<Partition>,
     table: u16,
@@ -83,7 +77,8 @@ pub(crate) fn add_parts(
     row: Option<&Row>,
 ) -> Result<(), AllocError>
     requires { length def.now.columns ≤ 2 ^ 16 }
-    ensures { OnOk result (SamePartitions members.new.items (parts_if table def.now.columns (option_copied row.entry) ++ members.old.items)) }
+    ensures { OnOk result (SamePartitions members.new.items
+        (parts_if table def.now.columns (option_copied row.entry) ++ members.old.items)) }
 {
     let Some(row) = row else {
         return Ok(());

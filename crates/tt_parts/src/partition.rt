@@ -14,16 +14,17 @@ pub struct Partition {
 /// What a statement reads.
 #[derive(Debug, PartialEq, Drop)]
 pub enum Reads {
-    /// The whole table: the statement equates no partition.
+    /// The whole table: no equality of the statement is on a partition column.
     All { table: u16 },
-    /// Rows that lie in each of these partitions, in the order in which they are equated.
+    /// The rows that lie in each of these partitions: one for each equality on a partition column,
+    /// in the order of the equalities.
     Equated(Items<Partition>),
 }
 
 impl Partition {
     ghost use Rattle.tt_parts.specs.Partitions.{is_same_partition};
 
-    /// Whether the two are of one table and column, and of the same value.
+    /// Whether the two have the same table, column and value. Allocates nothing.
     pub fn is_same(&self, other: &Partition) -> bool
         ensures { result ≡ is_same_partition self.now other.now }
     {

@@ -6,7 +6,8 @@ use crate::partition::Partition;
 use std::alloc::{AllocError, Global};
 use tt_values::{Column, Items, Row, TableDef, Value};
 
-/// The partitions that a row of the table lies in, in the order of the columns.
+/// The partitions that a row of the table lies in: one for each partition column, in the order of
+/// the columns. The first column, which holds the key, is a partition column.
 pub fn parts_of(
     alloc: Global,
     table: u16,
@@ -24,8 +25,8 @@ pub fn parts_of(
     Ok(Items::new(parts))
 }
 
-/// Puts the partition of the value in a column at the end of a list, where the column tells
-/// partitions apart and there is a value.
+/// Pushes the partition of the value in a column, if there is a value and the column is a partition
+/// column.
 fn push_part(
     parts: &mut Vec<Partition>,
     table: u16,
@@ -33,7 +34,8 @@ fn push_part(
     column: &Column,
     value: Option<&Value>,
 ) -> Result<(), AllocError>
-    ensures { OnOk result (parts.new.items ≡ parts.old.items ++ part_at table position column.now (option_copied value.entry)) }
+    ensures { OnOk result (parts.new.items ≡
+        parts.old.items ++ part_at table position column.now (option_copied value.entry)) }
 {
     let Some(value) = value else {
         return Ok(());
@@ -48,7 +50,7 @@ fn push_part(
     Ok(())
 }
 
-/// Whether the column at a position tells partitions apart.
+/// Whether the column at a position is a partition column.
 pub(crate) fn is_partition_column(position: u16, column: &Column) -> bool
     ensures { result ≡ is_partition_column position column.now }
 {

@@ -1,10 +1,8 @@
-ghost use Rattle.std.specs.Prelude.{◌<◌, length, IfOk};
+ghost use Rattle.std.specs.Prelude.{◌≡◌, ◌<◌, length, IfOk};
 ghost use Rattle.tt_values.specs.Check.{HasKey};
 
-mod calls;
 mod dirty;
-mod parts;
-mod reads;
+mod parts_and_reads;
 
 use crate::{Dirty, Partition, Reads};
 use std::alloc::{AllocError, Global};
@@ -46,28 +44,25 @@ fn row(alloc: Global, plains: &[Plain]) -> Result<Row, AllocError> {
     })
 }
 
-fn partition(alloc: Global, plain: PlainPartition) -> Result<Partition, AllocError> {
-    let (table, column, plain) = plain;
-    Ok(Partition {
-        table,
-        column,
-        value: value(alloc, plain)?,
-    })
-}
-
 fn partitions(alloc: Global, plains: &[PlainPartition]) -> Result<Items<Partition>, AllocError> {
     let mut partitions = Vec::new(alloc);
-    for plain in plains {
-        partitions.push(partition(alloc, *plain)?)?;
+    for (table, column, plain) in plains {
+        partitions.push(Partition {
+            table: *table,
+            column: *column,
+            value: value(alloc, *plain)?,
+        })?;
     }
     Ok(Items::new(partitions))
 }
 
-fn equated(alloc: Global, plains: &[PlainPartition]) -> Result<Reads, AllocError> {
+fn partition_reads(alloc: Global, plains: &[PlainPartition]) -> Result<Reads, AllocError> {
     Ok(Reads::Equated(partitions(alloc, plains)?))
 }
 
-fn equals(alloc: Global, pairs: &[(u16, Plain)]) -> Result<Items<Equal>, AllocError> {
+fn delete(alloc: Global, table: u16, pairs: &[(u16, Plain)]) -> Result<Write, AllocError>
+    ensures { IfOk result (λ write. HasKey write) }
+{
     let mut equals = Vec::new(alloc);
     for (column, plain) in pairs {
         equals.push(Equal {
@@ -75,15 +70,9 @@ fn equals(alloc: Global, pairs: &[(u16, Plain)]) -> Result<Items<Equal>, AllocEr
             value: value(alloc, *plain)?,
         })?;
     }
-    Ok(Items::new(equals))
-}
-
-fn delete(alloc: Global, table: u16, pairs: &[(u16, Plain)]) -> Result<Write, AllocError>
-    ensures { IfOk result (λ write. HasKey write) }
-{
     Ok(Write::Delete {
         table,
-        equals: equals(alloc, pairs)?,
+        equals: Items::new(equals),
     })
 }
 
@@ -101,6 +90,7 @@ fn insert(alloc: Global, key: i64) -> Result<Write, AllocError>
     })
 }
 
+/// Columns, each with its kind and whether it is declared as a partition column.
 fn table(alloc: Global, columns: &[(&str, Kind, bool)]) -> Result<TableDef, AllocError> {
     let mut list = Vec::new(alloc);
     for (name, kind, partition) in columns {
@@ -115,7 +105,7 @@ fn table(alloc: Global, columns: &[(&str, Kind, bool)]) -> Result<TableDef, Allo
     })
 }
 
-/// Accounts: only the owner is declared a partition column.
+/// Accounts: the owner is declared as a partition column.
 fn acct(alloc: Global) -> Result<TableDef, AllocError> {
     table(
         alloc,
@@ -127,7 +117,7 @@ fn acct(alloc: Global) -> Result<TableDef, AllocError> {
     )
 }
 
-/// Parcels: the key is declared a partition column too, and so are a text and a number.
+/// Parcels: the key, a text and a number are declared as partition columns.
 fn parcel(alloc: Global) -> Result<TableDef, AllocError> {
     table(
         alloc,
@@ -140,20 +130,12 @@ fn parcel(alloc: Global) -> Result<TableDef, AllocError> {
     )
 }
 
-/// A catalogue with `acct` at 0 and `parcel` at 1.
-fn bank(alloc: Global) -> Result<Catalog, Fail>
-    ensures { IfOk result (λ catalog. 1 < length catalog) }
+/// A set without members, for a catalog with `acct` at 0 and `parcel` at 1.
+fn nothing_dirty(alloc: Global) -> Result<Dirty, Fail>
+    ensures { IfOk result (λ dirty. length dirty.catalog ≡ 2) }
 {
     let mut catalog = Catalog::new(alloc);
     catalog.add("acct", acct(alloc)?)?;
     catalog.add("parcel", parcel(alloc)?)?;
-    Ok(catalog)
-}
-
-/// A set without members, for that catalogue.
-fn nothing_dirty(alloc: Global) -> Result<Dirty, Fail>
-    ensures { IfOk result (λ dirty. 1 < length dirty.catalog) }
-{
-    let catalog = Arc::new(alloc, bank(alloc)?)?;
-    Ok(Dirty::new(alloc, catalog))
+    Ok(Dirty::new(alloc, Arc::new(alloc, catalog)?))
 }

@@ -1,11 +1,11 @@
-pub mod RowLists
-pub mod Soundness
-pub mod RepairMarks
-pub mod RepairEffects
-pub mod RepairTracking
-pub mod RepairEdits
-pub mod RepairLemmas
-pub mod RepairSteps
-pub mod RepairLater
+pub mod RowListsLemmas
+pub mod EditsLemmas
+pub mod DirtyLemmas
+pub mod EffectsLemmas
+pub mod TrackingLemmas
+pub mod DueLemmas
+pub mod StepsLemmas
+pub mod LaterSlotsLemmas
 pub mod NextSideLemmas
-mod RepairWorkedRows
+pub mod LawProofs
+mod worked_rows

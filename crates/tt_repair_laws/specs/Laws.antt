@@ -1,4 +1,4 @@
--- What holds of a repair, of all lists of slots and of edits.
+-- What holds of all repairs: of all tables, slots and edits.
 use Rattle.std.specs.Prelude.{◌≡◌, ℕ, suc, ◌<◌, ◌≤◌, ℤ, true, false, List, ◌++◌, length, None, Some, IsTrue}
 use Rattle.std.specs.List.{list_all}
 use Rattle.tt_values.specs.declared.row.Row.{Row}
@@ -8,19 +8,20 @@ use Rattle.tt_values.specs.RowWrites.{Slots, slot_after, slot_writes, slot_reply
 use Rattle.tt_parts.specs.Partitions.{parts_of}
 use Rattle.tt_parts.specs.Dirty.{columns_in, has_row, has_partition}
 use Rattle.tt_repair_laws.specs.declared.edit.Edit.{Edit}
-use Rattle.tt_repair_laws.specs.Repair.{edit_of, edited_slots, content_after, is_due, dirty_after, rerun_count}
+use Rattle.tt_repair_laws.specs.Edits.{edit_of, edited_slots}
+use Rattle.tt_repair_laws.specs.Due.{content_after, is_due, dirty_after, rerun_count}
 
--- slot n + 1 is the same in two lists of slots, writes the same rows on what the slots before it leave in each, and answers the same there
+-- slot n + 1 is the same in two lists of slots, and in each has the same row writes and the same reply after the slots before it
 pub record IsSameSlot (W V : Slots) (n : ℕ) : Type 0 where
   pub slot : slot_after V n ≡ slot_after W n
   pub writes : slot_writes (suc n) (slot_after V n) (content_after V n) ≡ slot_writes (suc n) (slot_after W n) (content_after W n)
   pub reply : slot_reply (slot_after V n) (content_after V n) ≡ slot_reply (slot_after W n) (content_after W n)
 
--- no affected slot is missed: one that isn't due does and answers the same among the edited slots
-abbrev pub NoneIsMissed : Type 0
-NoneIsMissed = (tables : Tables) (W : Slots) (E : List Edit) (n : ℕ) → is_due tables W E n ≡ false → IsSameSlot W (edited_slots W E) n
+-- a slot that isn't due is the same among the edited slots, with the same row writes and the same reply
+abbrev pub NoAffectedSlotIsMissed : Type 0
+NoAffectedSlotIsMissed = (tables : Tables) (W : Slots) (E : List Edit) (n : ℕ) → is_due tables W E n ≡ false → IsSameSlot W (edited_slots W E) n
 
--- a row that isn't dirty after the first n slots is the same at each time up to n
+-- a row that isn't dirty after the first n slots is the same at each time up to n, by the slots and by the edited slots
 abbrev pub CleanRowsAgree : Type 0
 CleanRowsAgree = (tables : Tables) (W : Slots) (E : List Edit) (n time table : ℕ) (key : ℤ) → time ≤ n → has_row (dirty_after tables W E n) table key ≡ false →
     row_at (content_at (row_writes (edited_slots W E) n) time table) key ≡ row_at (content_at (row_writes W n) time table) key
@@ -30,7 +31,7 @@ abbrev pub DirtyRowsLieInDirtyPartitions : Type 0
 DirtyRowsLieInDirtyPartitions = (tables : Tables) (W : Slots) (E : List Edit) (n table : ℕ) (key : ℤ) (row : Row) → let D = dirty_after tables W E n in
     has_row D table key ≡ true → row_at (content_after (edited_slots W E) n table) key ≡ Some row → IsTrue (list_all (has_partition D) (parts_of table (columns_in tables table) row))
 
--- what's due, what's dirty and the edited slots, up to slot n, are the same for two lists of slots
+-- up to slot n, two lists of slots have the same edited slots, due slots and dirty set
 pub record IsSameRepair (tables : Tables) (W V : Slots) (E : List Edit) (n : ℕ) : Type 0 where
   pub dirty : dirty_after tables V E n ≡ dirty_after tables W E n
   pub due : (i : ℕ) → i < n → is_due tables V E i ≡ is_due tables W E i
@@ -38,14 +39,14 @@ pub record IsSameRepair (tables : Tables) (W V : Slots) (E : List Edit) (n : ℕ
   pub slots : (i : ℕ) → i < n → slot_after (edited_slots V E) i ≡ slot_after (edited_slots W E) i
   pub writes : row_writes (edited_slots V E) n ≡ row_writes (edited_slots W E) n
 
--- slots that are added while a repair is under way change nothing of what it did
+-- slots that are added during a repair change nothing of the repair so far
 abbrev pub LaterSlotsChangeNoRepair : Type 0
 LaterSlotsChangeNoRepair = (tables : Tables) (W X : Slots) (E : List Edit) (n : ℕ) → n ≤ length W → IsSameRepair tables W (W ++ X) E n
 
--- a slot without an edit stays as it is
+-- a slot without an edit stays the same
 abbrev pub UneditedSlotsStay : Type 0
 UneditedSlotsStay = (W : Slots) (E : List Edit) (n : ℕ) → edit_of E (suc n) ≡ None → slot_after (edited_slots W E) n ≡ slot_after W n
 
--- slots that are added, and that no edit names, stay behind the edited ones
+-- slots that are added, and have no edit, stay the same, behind the edited slots
 abbrev pub LaterSlotsStay : Type 0
 LaterSlotsStay = (W X : Slots) (E : List Edit) → ((t : ℕ) → length W < t → edit_of E t ≡ None) → edited_slots (W ++ X) E ≡ edited_slots W E ++ X

@@ -1,3 +1,4 @@
-pub mod Repair
+pub mod Edits
+pub mod Due
 pub mod Laws
 pub mod NextSide

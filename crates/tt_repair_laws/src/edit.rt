@@ -1,10 +1,10 @@
 use tt_values::Write;
 
-/// An edit of a slot, which it names by its number, from 1 on.
+/// An edit of a slot. Slots go by number, from 1.
 #[derive(Clone, Debug, PartialEq, Drop)]
 pub enum Edit {
     /// The slot writes nothing.
     Cancel(u64),
-    /// The slot has another write.
+    /// The slot has this write in place of its own.
     Replace(u64, Write),
 }

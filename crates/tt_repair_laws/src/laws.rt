@@ -1,16 +1,16 @@
-//! Laws of repairs, which the contracts of this crate speak by. Each is the contract of a function
-//! without a body.
-ghost use Rattle.tt_repair_laws.specs.Laws.{NoneIsMissed, CleanRowsAgree, DirtyRowsLieInDirtyPartitions, LaterSlotsChangeNoRepair, UneditedSlotsStay, LaterSlotsStay};
-ghost use Rattle.tt_repair_laws.specs.NextSide.{NextSideBegins, NextSideShowsEditedSlots, UndueSlotsLeaveIt, DueSlotsChangeReexecutedRows, LaterSlotsLeaveDirtyRows, NextSideEnds};
+//! Laws of repairs, for the proofs of the crate above. Each is the contract of a function without a
+//! body.
+ghost use Rattle.tt_repair_laws.specs.Laws.{NoAffectedSlotIsMissed, CleanRowsAgree, DirtyRowsLieInDirtyPartitions, LaterSlotsChangeNoRepair, UneditedSlotsStay, LaterSlotsStay};
+ghost use Rattle.tt_repair_laws.specs.NextSide.{NextSideBeginsAsCurrent, NextSideShowsEditedSlots, UndueSlotsLeaveNextSide, DueSlotsChangeReexecutedRows, LaterSlotsLeaveDirtyRows, NextSideEndsAsEditedSlots};
 
-/// No affected slot is missed: a slot that isn't due is the same among the edited slots, and has the
-/// same effect and the same reply there.
+/// A slot that isn't due is the same among the edited slots, with the same row writes and the same
+/// reply.
 pub fn no_affected_slot_is_missed()
-    ensures { NoneIsMissed }
+    ensures { NoAffectedSlotIsMissed }
 {}
 
-/// A row that isn't dirty after the first n slots is the same at each time up to n, in the edited
-/// slots as in the old ones.
+/// A row that isn't dirty after the first n slots is the same at each time up to n, by the slots
+/// and by the edited slots.
 pub fn clean_rows_agree()
     ensures { CleanRowsAgree }
 {}
@@ -20,50 +20,49 @@ pub fn dirty_rows_lie_in_dirty_partitions()
     ensures { DirtyRowsLieInDirtyPartitions }
 {}
 
-/// Slots that are added while a repair is under way change nothing of what it did.
+/// Slots that are added during a repair change nothing of the repair so far.
 pub fn later_slots_change_no_repair()
     ensures { LaterSlotsChangeNoRepair }
 {}
 
-/// A slot without an edit stays as it is.
+/// A slot without an edit stays the same.
 pub fn unedited_slots_stay()
     ensures { UneditedSlotsStay }
 {}
 
-/// Slots that are added, and that no edit names, stay behind the edited ones.
+/// Slots that are added, and have no edit, stay the same, behind the edited slots.
 pub fn later_slots_stay()
     ensures { LaterSlotsStay }
 {}
 
-/// At first the next side of each table is the current one.
+/// At first the next side of each table is the current side.
 pub fn next_side_begins_as_the_current_one()
-    ensures { NextSideBegins }
+    ensures { NextSideBeginsAsCurrent }
 {}
 
-/// Once n slots are done, the next side tells what the first n edited slots leave, at each time up
-/// to n.
-pub fn next_side_tells_the_edited_slots()
+/// After n slots the next side shows the first n edited slots, at each time up to n.
+pub fn next_side_shows_the_edited_slots()
     ensures { NextSideShowsEditedSlots }
 {}
 
 /// A slot that isn't due leaves the next side as it is.
 pub fn undue_slots_leave_the_next_side()
-    ensures { UndueSlotsLeaveIt }
+    ensures { UndueSlotsLeaveNextSide }
 {}
 
-/// A slot that's due changes the rows that are done again, and those alone: from its time on each
-/// is what the edited slots leave of it.
-pub fn due_slots_change_the_rows_done_again()
+/// A slot that is due changes only the re-executed rows of the next side: from its time on, each is
+/// as the edited slots leave it.
+pub fn due_slots_change_the_reexecuted_rows()
     ensures { DueSlotsChangeReexecutedRows }
 {}
 
-/// A slot that is added while a repair is under way leaves the dirty rows of the next side as they
-/// are; any other row is what it is on the current side.
+/// A slot that is added during a repair leaves the dirty rows of the next side as they are; any
+/// other row is as on the current side.
 pub fn later_slots_leave_dirty_rows()
     ensures { LaterSlotsLeaveDirtyRows }
 {}
 
-/// Once all slots are done, the next side tells at each time what the edited slots leave.
+/// After all slots the next side shows the edited slots, at each time.
 pub fn next_side_ends_as_the_edited_slots()
-    ensures { NextSideEnds }
+    ensures { NextSideEndsAsEditedSlots }
 {}

@@ -1,6 +1,6 @@
-//! What a repair makes of a list of slots, and which slots it has to re-execute: definitions and
-//! their laws. A repair cancels or replaces slots; the laws say that re-executing those that are due
-//! is enough.
+//! Slots with the edits of a repair, and the slots that a repair has to re-execute: definitions and
+//! their laws. A repair cancels slots or replaces their writes; by the laws it is enough to
+//! re-execute the slots that are due.
 #![tactic(auto)]
 
 mod edit;

@@ -1,4 +1,4 @@
-use Rattle.tt_repair_laws.proofs.RepairLemmas.{dirty_rows_lie_in_dirty_partitions}
+use Rattle.tt_repair_laws.proofs.LawProofs.{dirty_rows_lie_in_dirty_partitions}
 use Rattle.tt_repair_laws.proofs.laws.dirty_rows_lie_in_dirty_partitions.Goals as goal
 
 pub returns : goal.returns

@@ -1,4 +1,4 @@
-use Rattle.tt_repair_laws.proofs.RepairEdits.{later_slots_stay}
+use Rattle.tt_repair_laws.proofs.LawProofs.{later_slots_stay}
 use Rattle.tt_repair_laws.proofs.laws.later_slots_stay.Goals as goal
 
 pub returns : goal.returns

@@ -1,5 +1,5 @@
-use Rattle.tt_repair_laws.proofs.NextSideLemmas.{next_side_ends}
+use Rattle.tt_repair_laws.proofs.LawProofs.{next_side_ends_as_edited_slots}
 use Rattle.tt_repair_laws.proofs.laws.next_side_ends_as_the_edited_slots.Goals as goal
 
 pub returns : goal.returns
-returns c = next_side_ends
+returns c = next_side_ends_as_edited_slots

@@ -1,4 +1,4 @@
-use Rattle.tt_repair_laws.proofs.RepairEdits.{unedited_slots_stay}
+use Rattle.tt_repair_laws.proofs.LawProofs.{unedited_slots_stay}
 use Rattle.tt_repair_laws.proofs.laws.unedited_slots_stay.Goals as goal
 
 pub returns : goal.returns

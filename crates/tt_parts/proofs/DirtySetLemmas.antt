@@ -1,0 +1,69 @@
+-- Dirty sets by their members.
+use Rattle.std.proofs.Common.{◌≡◌, ℕ, ℤ, Bool, true, false, not, ◌||◌, ◌&&◌, ◌==◌, List, [], ◌∷◌, ◌++◌, refl, sym, ap, ◌∙◌, arith}
+use Rattle.std.specs.List.{list_any}
+use Rattle.std.specs.Ordering.{int_eq}
+use Rattle.std.proofs.lemmas.Bool.Decides.{Decides-int_eq}
+use Rattle.std.proofs.lemmas.List.Folds.{list_any-append}
+use Rattle.tt_parts.specs.declared.partition.Partition.{Partition}
+use Rattle.tt_parts.specs.declared.partition.Reads.TheVariants.{All, Equated}
+use Rattle.tt_parts.specs.Partitions.{key_partition, is_same_partition}
+use Rattle.tt_parts.specs.Dirty.{is_row_in, is_table_in, has_row_of, SameRows, SamePartitions, parts_if}
+use Rattle.tt_parts.specs.Laws.{SameMembersWithRow, ClearDependsOnMembers, ReadsDecideClear}
+
+-- a partition and two lists that are put before a list, one after another
+pub SamePartitions-three : (k : Partition) (bs cs ds one two three : List Partition) → SamePartitions one (k ∷ ds) → SamePartitions two (bs ++ one) → SamePartitions three (cs ++ two) → SamePartitions three (k ∷ bs ++ cs ++ ds)
+SamePartitions-three k bs cs ds one two three h i j p =
+    let same = is_same_partition p in
+    grind (arith, list_any-append same cs two, list_any-append same bs one, list_any-append same (bs ++ cs) ds, list_any-append same bs cs, h p, i p, j p)
+
+pub same_members_with_row : SameMembersWithRow
+same_members_with_row D E table columns key before after h = record {
+  rows = λ t k. ap (λ b. ((t == table) && int_eq k key) || b) (h.rows t k);
+  partitions = λ p. ap (λ b. is_same_partition p (key_partition table key) || b) (rest p);
+}
+  where
+    parts : List Partition
+    parts = parts_if table columns before ++ parts_if table columns after
+
+    rest : SamePartitions (parts ++ D.partitions) (parts ++ E.partitions)
+    rest p =
+        let same = is_same_partition p in
+        list_any-append same parts D.partitions ∙ ap (λ b. list_any same parts || b) (h.partitions p) ∙ sym (list_any-append same parts E.partitions)
+
+-- a row of a list is of its table
+is_table_in-row : (rs : List (ℕ × ℤ)) (table : ℕ) (key : ℤ) → is_row_in rs table key ≡ true → is_table_in rs table ≡ true
+is_table_in-row [] table key h = h
+is_table_in-row (r ∷ rs) table key h = by (table == r.0) (int_eq key r.1) h (is_table_in-row rs table key)
+  where
+    by : (a b : Bool) → ((a && b) || is_row_in rs table key) ≡ true → (is_row_in rs table key ≡ true → is_table_in rs table ≡ true) → (a || is_table_in rs table) ≡ true
+    by true b g rest = refl
+    by false b g rest = rest g
+
+-- a list with a row of a table has a row with some key of it
+row_of_table : (rs : List (ℕ × ℤ)) (table : ℕ) → is_table_in rs table ≡ true → (key : ℤ) × (is_row_in rs table key ≡ true)
+row_of_table [] table h = cc
+row_of_table (r ∷ rs) table h = by (table == r.0) refl h (row_of_table rs table)
+  where
+    by : (a : Bool) → (table == r.0) ≡ a → (a || is_table_in rs table) ≡ true → (is_table_in rs table ≡ true → (key : ℤ) × (is_row_in rs table key ≡ true)) → (key : ℤ) × (is_row_in (r ∷ rs) table key ≡ true)
+    by true e g rest = (r.1, (λ j. (e j && (Decides-int_eq r.1 r.1).1 refl j) || is_row_in rs table r.1))
+    by false e g rest = ((rest g).0, (λ j. (e j && int_eq (rest g).0 r.1) || (rest g).1 j))
+
+-- two tests agree where each holds with the other
+agree : (a b : Bool) → (a ≡ true → b ≡ true) → (b ≡ true → a ≡ true) → a ≡ b
+agree true b h g = sym (h refl)
+agree false true h g = g refl
+agree false false h g = refl
+
+-- lists with the same rows have rows of the same tables
+same_tables : (rs ss : List (ℕ × ℤ)) (table : ℕ) → SameRows rs ss → is_table_in rs table ≡ true → is_table_in ss table ≡ true
+same_tables rs ss table h e =
+    let w = row_of_table rs table e in
+    is_table_in-row ss table w.0 (sym (h table w.0) ∙ w.1)
+
+pub clear_depends_on_members : ClearDependsOnMembers
+clear_depends_on_members D E (All table) h = ap not (agree (has_row_of D table) (has_row_of E table) (same_tables D.rows E.rows table h.rows) (same_tables E.rows D.rows table (λ t k. sym (h.rows t k))))
+clear_depends_on_members D E (Equated ps) h = λ j. list_any (λ p. not (h.partitions p j)) ps
+
+pub reads_decide_clear : ReadsDecideClear
+reads_decide_clear D table [] = refl
+reads_decide_clear D table (p ∷ ps) = refl

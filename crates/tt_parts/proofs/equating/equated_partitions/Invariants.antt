@@ -1,7 +1,0 @@
--- the partitions so far and those of the equalities that are left are all
-use Rattle.std.proofs.Common.{◌≡◌, ◌++◌, drop}
-use Rattle.tt_parts.specs.Partitions.{equated_partitions}
-use Rattle.tt_parts.proofs.equating.equated_partitions.Given as goal
-
-abbrev pub invariant-loop-equal : goal.invariant-loop-equal
-invariant-loop-equal l = l.partitions.items ++ equated_partitions l.table l.columns (drop l.equal-index l.equals) ≡ equated_partitions l.table l.columns l.equals

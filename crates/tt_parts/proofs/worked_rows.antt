@@ -1,0 +1,2 @@
+mod Partitions
+mod DirtySets

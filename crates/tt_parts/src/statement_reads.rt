@@ -1,0 +1,89 @@
+ghost use Rattle.std.specs.Prelude.{◌≡◌, IfOk};
+ghost use Rattle.tt_values.specs.Check.{HasKey};
+ghost use Rattle.tt_parts.specs.Partitions.{is_partition_position, equated_partitions, partitions_read, reads_or_all, reads_of};
+ghost use Rattle.tt_parts.specs.Soundness.{CoversMatches};
+
+use crate::partition::{Partition, Reads};
+use crate::parts::is_partition_column;
+use std::alloc::{AllocError, Global};
+use tt_values::{Column, Equal, Items, TableDef, Value, Write};
+
+/// What a write on the table reads: the partitions of its equalities on partition columns, for an
+/// insert the partition of its key, or else the whole table. On a table that has a first column,
+/// each row that the write matches lies in what it reads; an insert matches a row with its key.
+#[tactic(auto, using(crate::proofs::SoundnessLemmas::is_sound))]
+pub fn reads_of(alloc: Global, def: &TableDef, write: &Write) -> Result<Reads, AllocError>
+    requires { HasKey write.now }
+    ensures value { IfOk result (λ reads. reads ≡ reads_of def.now.columns write.now) }
+    ensures sound { IfOk result (λ reads. CoversMatches def.now.columns write.now reads) }
+{
+    let partitions = partitions_read(alloc, def, write)?;
+    Ok(reads_or_all(write.table(), partitions))
+}
+
+/// The partitions of the equalities of a write, or of the key that it inserts.
+fn partitions_read(
+    alloc: Global,
+    def: &TableDef,
+    write: &Write,
+) -> Result<Vec<Partition>, AllocError>
+    requires { HasKey write.now }
+    ensures { IfOk result (λ ps. ps.items ≡ partitions_read def.now.columns write.now) }
+{
+    match write {
+        Write::Insert { table, row } => {
+            let key = Partition {
+                table: *table,
+                column: 0,
+                value: Value::Int(row.key()),
+            };
+            Ok(vec![in alloc; key]?)
+        }
+        Write::Update { table, equals, .. } | Write::Delete { table, equals } => {
+            equated_partitions(alloc, *table, def, equals.as_slice())
+        }
+    }
+}
+
+fn reads_or_all(table: u16, partitions: Vec<Partition>) -> Reads
+    ensures { result ≡ reads_or_all table partitions.items }
+{
+    if partitions.is_empty() {
+        Reads::All { table }
+    } else {
+        Reads::Equated(Items::new(partitions))
+    }
+}
+
+/// The partitions of equalities on partition columns, in their order.
+fn equated_partitions(
+    alloc: Global,
+    table: u16,
+    def: &TableDef,
+    equals: &[Equal],
+) -> Result<Vec<Partition>, AllocError>
+    ensures { IfOk result (λ ps. ps.items ≡ equated_partitions table def.now.columns equals.now) }
+{
+    let columns = def.columns.as_slice();
+    let mut partitions = Vec::new(alloc);
+    for equal in equals {
+        if is_partition_position(columns, equal.column) {
+            partitions.push(Partition {
+                table,
+                column: equal.column,
+                value: equal.value.copy()?,
+            })?;
+        }
+    }
+    Ok(partitions)
+}
+
+/// Whether there is a column at the position, and it is a partition column.
+fn is_partition_position(columns: &[Column], position: u16) -> bool
+    ensures { result ≡ is_partition_position columns.now position }
+{
+    match columns.get(usize::from(position)) {
+        Some(column) => is_partition_column(position, column),
+        None => false,
+    }
+}

@@ -1,0 +1,5 @@
+use Rattle.tt_repair_laws.proofs.LawProofs.{next_side_shows_edited_slots}
+use Rattle.tt_repair_laws.proofs.laws.next_side_shows_the_edited_slots.Goals as goal
+
+pub returns : goal.returns
+returns c = next_side_shows_edited_slots

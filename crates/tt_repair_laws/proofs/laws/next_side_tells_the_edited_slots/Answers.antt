@@ -1,5 +1,0 @@
-use Rattle.tt_repair_laws.proofs.NextSideLemmas.{next_side_tells_edited_slots}
-use Rattle.tt_repair_laws.proofs.laws.next_side_tells_the_edited_slots.Goals as goal
-
-pub returns : goal.returns
-returns c = next_side_tells_edited_slots

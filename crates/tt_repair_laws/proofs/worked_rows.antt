@@ -1,0 +1,3 @@
+mod Repairs
+mod DueSlots
+mod NextSides

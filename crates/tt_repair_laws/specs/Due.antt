@@ -1,0 +1,100 @@
+-- The slots that a repair re-executes, and what is dirty after each slot.
+use Rattle.std.specs.Prelude.{ℕ, zero, suc, ℤ, Bool, false, not, ◌&&◌, ◌||◌, ◌==◌, List, [], ◌∷◌, ◌++◌, map, fold, Option, None, Some, is_some, if◌then◌else◌}
+use Rattle.std.specs.List.{list_any}
+use Rattle.tt_values.specs.declared.value.Value.{Value}
+use Rattle.tt_values.specs.declared.value.Value.TheVariants as values
+use Rattle.tt_values.specs.declared.statement.Equal.{Equal}
+use Rattle.tt_values.specs.declared.statement.Write.{Write}
+use Rattle.tt_values.specs.declared.statement.Write.TheVariants.{Insert, Update, Delete}
+use Rattle.tt_values.specs.Row.{key_of}
+use Rattle.tt_values.specs.Tables.{Tables}
+use Rattle.tt_values.specs.Content.{Content, content_at, row_at}
+use Rattle.tt_values.specs.Effect.{matching_rows, table_of, effect}
+use Rattle.tt_values.specs.RowWrites.{Slots, slot_after, row_writes}
+use Rattle.tt_parts.specs.Partitions.{partitions_read}
+use Rattle.tt_parts.specs.Dirty.{DirtySet, nothing_dirty, columns_in, has_row, with_row, is_clear}
+use Rattle.tt_repair_laws.specs.declared.edit.Edit.{Edit}
+use Rattle.tt_repair_laws.specs.Edits.{edit_of, edited_slots}
+
+-- the content after the first n slots
+abbrev pub content_after : Slots → ℕ → Content
+content_after W n = content_at (row_writes W n) n
+
+-- the rows that a write writes on a content, each by its table and key
+abbrev pub rows_written : Write → Content → List (ℕ × ℤ)
+rows_written w X = map (λ e. (table_of w, e.0)) (effect w X)
+
+-- the rows that a write matches in a content. An insert matches the row of its key, whether it is there or not
+abbrev pub rows_matched : Write → Content → List (ℕ × ℤ)
+rows_matched (Insert table row) X = (table, key_of row) ∷ []
+rows_matched (Update table changes equals) X = map (λ e. (table, e.0)) (matching_rows equals (X table))
+rows_matched (Delete table equals) X = map (λ e. (table, e.0)) (matching_rows equals (X table))
+
+-- whether a value is the key of a dirty row of a table
+abbrev pub is_dirty_key : DirtySet → ℕ → Value → Bool
+is_dirty_key D table (values.Int key) = has_row D table key
+is_dirty_key D table (values.Text t) = false
+
+-- whether an equality is on the first column, with the key of a dirty row
+abbrev pub has_dirty_key : DirtySet → ℕ → Equal → Bool
+has_dirty_key D table q = (q.column == 0) && is_dirty_key D table q.value
+
+-- whether a write names a dirty row by its key: it inserts that key, or has an equality with it
+abbrev pub names_dirty_row : DirtySet → Write → Bool
+names_dirty_row D (Insert table row) = has_row D table (key_of row)
+names_dirty_row D (Update table changes equals) = list_any (has_dirty_key D table) equals
+names_dirty_row D (Delete table equals) = list_any (has_dirty_key D table) equals
+
+-- whether what is dirty may affect a write: the write writes a dirty row, names one, or isn't clear
+abbrev pub is_affected : Tables → DirtySet → Write → Content → Bool
+is_affected tables D w X =
+    list_any (λ r. has_row D r.0 r.1) (rows_written w X)
+    || names_dirty_row D w
+    || not (is_clear D (table_of w) (partitions_read (columns_in tables (table_of w)) w))
+
+-- the same for slots. A cancelled slot writes and matches nothing, and isn't affected
+abbrev pub slot_rows_written : Option Write → Content → List (ℕ × ℤ)
+slot_rows_written None X = []
+slot_rows_written (Some w) X = rows_written w X
+
+abbrev pub slot_rows_matched : Option Write → Content → List (ℕ × ℤ)
+slot_rows_matched None X = []
+slot_rows_matched (Some w) X = rows_matched w X
+
+abbrev pub is_slot_affected : Tables → DirtySet → Option Write → Content → Bool
+is_slot_affected tables D None X = false
+is_slot_affected tables D (Some w) X = is_affected tables D w X
+
+-- the set after a row gets dirty that is in one content before, and in another one after
+abbrev pub with_row_of : Tables → Content → Content → DirtySet → ℕ × ℤ → DirtySet
+with_row_of tables before after D r = with_row D r.0 (columns_in tables r.0) r.1 (row_at (before r.0) r.1) (row_at (after r.0) r.1)
+
+-- whether slot n + 1 is due, by what is dirty before it: it has an edit, or may be affected
+abbrev pub is_due_by : Tables → Slots → List Edit → ℕ → DirtySet → Bool
+is_due_by tables W E n D = is_some (edit_of E (suc n)) || is_slot_affected tables D (slot_after W n) (content_after W n)
+
+-- the rows that get dirty where slot n + 1 is re-executed: those that it wrote, and those that its edited write matches after the first n edited slots
+abbrev pub rows_reexecuted : Slots → List Edit → ℕ → List (ℕ × ℤ)
+rows_reexecuted W E n =
+    slot_rows_written (slot_after W n) (content_after W n)
+    ++ slot_rows_matched (slot_after (edited_slots W E) n) (content_after (edited_slots W E) n)
+
+-- what is dirty after slot n + 1, by what is dirty before it: if the slot is due, the re-executed rows too
+abbrev pub dirty_after_slot : Tables → Slots → List Edit → ℕ → DirtySet → DirtySet
+dirty_after_slot tables W E n D =
+    if is_due_by tables W E n D then fold (with_row_of tables (content_after (edited_slots W E) n) (content_after (edited_slots W E) (suc n))) D (rows_reexecuted W E n)
+    else D
+
+-- what is dirty after the first n slots
+unfoldable pub dirty_after : Tables → Slots → List Edit → ℕ → DirtySet
+dirty_after tables W E zero = nothing_dirty
+dirty_after tables W E (suc n) = dirty_after_slot tables W E n (dirty_after tables W E n)
+
+-- whether slot n + 1 is due: a repair re-executes it
+abbrev pub is_due : Tables → Slots → List Edit → ℕ → Bool
+is_due tables W E n = is_due_by tables W E n (dirty_after tables W E n)
+
+-- how many of the first n slots are due
+unfoldable pub rerun_count : Tables → Slots → List Edit → ℕ → ℕ
+rerun_count tables W E zero = 0
+rerun_count tables W E (suc n) = if is_due tables W E n then suc (rerun_count tables W E n) else rerun_count tables W E n
