@@ -1,5 +1,8 @@
 pub mod ListLemmas
 pub mod RowsLemmas
 pub mod FewRowsLemmas
-pub mod HistoryLemmas
-mod WorkedRows
+pub mod SlotListLemmas
+pub mod DatabaseLemmas
+pub mod KeyLemmas
+pub mod LawProofs
+mod worked_rows

@@ -1,16 +1,26 @@
--- A database as contracts see it, and what it keeps.
-use Rattle.std.specs.Prelude.{◌≡◌, ℕ, ◌<◌, ◌≤◌, List, length, Some, slice_get}
-use Rattle.tt_values.specs.Tables.{Tables}
-use Rattle.tt_values.specs.RowWrites.{row_writes}
+-- A database as contracts see it: what it refuses, what it answers and what it becomes.
+use Rattle.std.specs.Prelude.{◌≡◌, ℕ, zero, suc, ◌≤◌, List, [], ◌∷◌, ◌++◌, length, slice_get, Option, None, Result}
+use Rattle.tt_values.specs.declared.statement.Select.{Select}
+use Rattle.tt_values.specs.declared.statement.Write.{Write}
+use Rattle.tt_values.specs.declared.reply.Reply.{Reply}
+use Rattle.tt_values.specs.Tables.{Tables, IsCatalog}
+use Rattle.tt_values.specs.Effect.{answer_of}
+use Rattle.tt_values.specs.RowWrites.{Slots}
+use Rattle.tt_versions.specs.Sides.{RowsOverTime}
 use Rattle.tt_db.specs.declared.limits.Limits.{Limits}
+use Rattle.tt_db.specs.declared.event.Event.{Event}
+use Rattle.tt_db.specs.declared.event.Event.TheVariants as events
 use Rattle.tt_db.specs.declared.event.Entry.{Entry}
+use Rattle.tt_db.specs.declared.outcome.Outcome.{Outcome}
 use Rattle.tt_db.specs.declared.outcome.Slot.{Slot}
+use Rattle.tt_db.specs.declared.errors.DbError.{DbError}
+use Rattle.tt_db.specs.declared.errors.ReadError.{ReadError}
 use Rattle.tt_db.specs.Limits.{Fits}
-use Rattle.tt_db.specs.State.{State, after, now_of, current_at, IsLegal}
-use Rattle.tt_db.specs.Told.{slot_with_reply}
-use Rattle.tt_db.specs.Rows.{TablesByPosition, TablesAgree}
+use Rattle.tt_db.specs.State.{State, after, now_of, current_at, refusal, outcome_of, IsLegal}
+use Rattle.tt_db.specs.SlotList.{slot_at, rows_of_table}
+use Rattle.tt_db.specs.RightAnswers.{right_select, right_select_at}
 
--- a database: the tables and the limits that it was made with, and its history
+-- a database: its tables, its limits and its history
 pub record Database : Type 0 where
   pub catalog : Tables
   pub limits : Limits
@@ -20,18 +30,61 @@ pub record Database : Type 0 where
 abbrev pub state_of : Database → State
 state_of db = after db.history
 
--- the slots kept are those of a state, each with what it answered
-pub record SlotsAgree (S : State) (slots : List Slot) : Type 0 where
-  pub count : length slots ≡ now_of S
-  pub told : (n : ℕ) → n < now_of S → slice_get slots n ≡ Some (slot_with_reply S n)
+-- the slots of the current generation
+abbrev pub slots_of : Database → Slots
+slots_of db = (state_of db).slots
 
--- what is kept is what the definitions say of the history
-pub record IsConsistent (tables : Tables) (limits : Limits) (history : List Entry) (slots : List Slot) (generation : ℕ) (rows : TablesByPosition) : Type 0 where
+-- the current time
+abbrev pub time_of : Database → ℕ
+time_of db = now_of (state_of db)
+
+-- the database with one more entry
+abbrev pub with_entry : Database → Entry → Database
+with_entry db entry = record db { history = db.history ++ entry ∷ [] }
+
+-- the entry of a worker's write
+abbrev pub write_entry : ℕ → Write → Entry
+write_entry worker write = record { worker = worker; event = events.Write write }
+
+-- why the database refuses an event, if it does
+abbrev pub refusal_of : Database → Event → Option DbError
+refusal_of db event = refusal db.catalog db.limits (state_of db) event
+
+-- the outcome of an event that isn't refused
+abbrev pub outcome_for : Database → Event → Outcome
+outcome_for db event = outcome_of (state_of db) event
+
+-- the right answer to a select now
+abbrev pub right_answer : Database → Select → Result Reply ReadError
+right_answer db select = right_select db.catalog (current_at (state_of db) (time_of db)) select
+
+-- the right answer to a select at a time
+abbrev pub right_answer_at : Database → Select → ℕ → Result Reply ReadError
+right_answer_at db select time = right_select_at db.catalog (state_of db) select time
+
+-- what a select answers at a time
+abbrev pub answer_for : Database → Select → ℕ → Reply
+answer_for db select time = answer_of select (current_at (state_of db) time)
+
+-- the slot of a number, counted from 1, with its reply
+abbrev pub slot_of : Database → ℕ → Option Slot
+slot_of db number = slot_at (slots_of db) number
+
+-- for each key and time, the current row of a table
+abbrev pub current_rows_of : Database → ℕ → RowsOverTime
+current_rows_of db table = rows_of_table (slots_of db) table
+
+-- the item of a number, counted from 1
+abbrev pub nth_item : {X : Type 0} → List X → ℕ → Option X
+nth_item items zero = None
+nth_item items (suc n) = slice_get items n
+
+-- a history is legal, and slots and generation are those that it leads to
+pub record IsConsistent (tables : Tables) (limits : Limits) (history : List Entry) (W : Slots) (number : ℕ) : Type 0 where
+  pub catalog : IsCatalog tables
   pub fits : Fits limits
   pub legal : IsLegal tables limits history
   pub events : (after history).events ≡ length history
   pub few_slots : now_of (after history) ≤ limits.slots
-  pub slots_kept : SlotsAgree (after history) slots
-  pub generation_kept : generation ≡ (after history).generation
-  pub rows_kept : TablesAgree rows (row_writes (after history).slots (now_of (after history)))
-  pub few_rows : (table : ℕ) → length (current_at (after history) (now_of (after history)) table) ≤ now_of (after history)
+  pub slots : W ≡ (after history).slots
+  pub generation : number ≡ (after history).generation

@@ -1,6 +1,10 @@
 pub mod Limits
 pub mod State
-pub mod Told
+pub mod Errors
 pub mod Rows
+pub mod Effect
+pub mod SlotList
+pub mod RightAnswers
 pub mod Database
 pub mod Run
+pub mod Laws

@@ -1,4 +1,4 @@
--- How much a database may take in.
+-- How large a history may become.
 use Rattle.std.specs.Prelude.{◌≤◌}
 use Rattle.tt_db.specs.declared.limits.Limits.{Limits}
 

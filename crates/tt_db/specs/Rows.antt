@@ -1,14 +1,12 @@
--- The tables that a database keeps, and how they follow a list of row writes.
+-- The tables of a database, and how they follow a list of row writes.
 use Rattle.std.specs.Prelude.{◌≡◌, ℕ, ℤ, List, ◌++◌, map, Option}
 use Rattle.std.specs.Option.{unwrap_or}
 use Rattle.std.specs.Ordering.{nat_cmp}
 use Rattle.std.specs.FinMap.Entries as sorted
 use Rattle.tt_values.specs.declared.row.Row.{Row}
-use Rattle.tt_values.specs.declared.statement.Write.{Write}
-use Rattle.tt_values.specs.Content.{RowWrite, content_at}
-use Rattle.tt_values.specs.Effect.{table_of, effect}
+use Rattle.tt_values.specs.Content.{RowWrite}
 use Rattle.tt_versions.specs.declared.side.Side.TheVariants.{Current}
-use Rattle.tt_versions.specs.Sides.{LineagesByKey, no_lineages, RowsOverTime, side_of, is_split, none_split}
+use Rattle.tt_versions.specs.Sides.{LineagesByKey, no_lineages, side_of, is_split, none_split}
 use Rattle.tt_versions.specs.RowsByWrites.{rows_by}
 
 -- the tables that were written, by rising position
@@ -19,19 +17,19 @@ TablesByPosition = List (ℕ × LineagesByKey)
 abbrev pub versions_at : TablesByPosition → ℕ → LineagesByKey
 versions_at tables table = unwrap_or (sorted.find nat_cmp table tables) no_lineages
 
--- on its current side each table is what row writes tell of it, and no row is split
+-- on its current side each table has the rows of a list of row writes, and no row is split
 pub record TablesAgree (tables : TablesByPosition) (ws : List RowWrite) : Type 0 where
   pub current : (table : ℕ) → side_of (versions_at tables table) Current ≡ rows_by table ws
   pub whole : (table : ℕ) → is_split (versions_at tables table) ≡ none_split
 
--- where tables are what row writes tell, others are what these and further ones tell
+-- tables that have the rows of row writes before, have those of these and further ones after
 abbrev pub AddsRowWrites : TablesByPosition → TablesByPosition → List RowWrite → Type 0
 AddsRowWrites before after further = (ws : List RowWrite) → TablesAgree before ws → TablesAgree after (ws ++ further)
 
--- rows of a table by key, as row writes at a time
+-- the effect of a write on a table, as row writes at a time
 abbrev pub as_row_writes : ℕ → ℕ → List (ℤ × Option Row) → List RowWrite
-as_row_writes time table made = map (λ e. record { time = time; table = table; key = e.0; row = e.1 }) made
+as_row_writes time table effect = map (λ e. record { time = time; table = table; key = e.0; row = e.1 }) effect
 
--- what a write makes at a time of a table that row writes tell
-abbrev pub IsEffect : List (ℤ × Option Row) → Write → RowsOverTime → ℕ → Type 0
-IsEffect made w rows time = (ws : List RowWrite) → rows ≡ rows_by (table_of w) ws → made ≡ effect w (content_at ws time)
+-- tables get the effect of a write on a table at a time
+abbrev pub AddsEffect : TablesByPosition → TablesByPosition → ℕ → ℕ → List (ℤ × Option Row) → Type 0
+AddsEffect before after time table effect = AddsRowWrites before after (as_row_writes time table effect)

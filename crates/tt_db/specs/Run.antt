@@ -6,10 +6,10 @@ use Rattle.tt_db.specs.declared.event.Entry.{Entry}
 use Rattle.tt_db.specs.declared.outcome.Outcome.{Outcome}
 use Rattle.tt_db.specs.declared.errors.DbError.{DbError}
 use Rattle.tt_db.specs.State.{after, refusal, outcome_of}
-use Rattle.tt_db.specs.Told.{refusal_of_error}
+use Rattle.tt_db.specs.Errors.{refusal_of_error}
 
--- given entries from a history on, the answers are those of the sequential table at each point: an accepted entry joins the history
--- and is answered by what the table tells; another is answered by the table's refusal, or by want of memory where there is none
+-- entries are applied in order after a history, and each is answered as by the sequential table at its point. An accepted
+-- entry joins the history; for one that is not, the history stays, and the answer is its refusal, or out of memory if it has none
 abbrev pub IsRun : Tables → Limits → List Entry → List Entry → List (Result Outcome DbError) → List Entry → Type 0
 IsRun tables limits before [] [] last = last ≡ before
 IsRun tables limits before (e ∷ entries) (Ok outcome ∷ answers) last =

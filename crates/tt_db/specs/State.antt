@@ -1,4 +1,4 @@
--- The sequential table: its states, what it refuses, how an event moves it and what it tells.
+-- The sequential table: its states, its refusals, its next states and its outcomes.
 use Rattle.std.specs.Prelude.{◌≡◌, ℕ, ◌+◌, ◌==◌, List, [], ◌∷◌, ◌++◌, length, fold, Option, None, Some, if◌then◌else◌}
 use Rattle.std.specs.Option.{option_map}
 use Rattle.tt_values.specs.Tables.{Tables}
@@ -15,11 +15,11 @@ use Rattle.tt_db.specs.declared.outcome.Outcome.TheVariants.{Written}
 use Rattle.tt_db.specs.declared.errors.DbError.{DbError}
 use Rattle.tt_db.specs.declared.errors.DbError.TheVariants as errors
 
--- what the table is busy with
+-- what is under way
 pub data Phase : Type 0 where
   Idle : Phase
 
--- the slots of the current generation, its number, how many events were accepted, and what the table is busy with
+-- the slots of the current generation, its number, how many events were accepted, and what is under way
 pub record State : Type 0 where
   pub slots : Slots
   pub generation : ℕ
@@ -38,7 +38,7 @@ now_of S = length S.slots
 abbrev pub current_at : State → ℕ → Content
 current_at S time = content_of S.slots time
 
--- the first of some refusals that is there
+-- the first refusal of a list
 abbrev pub first_refusal : List (Option DbError) → Option DbError
 first_refusal [] = None
 first_refusal (None ∷ refusals) = first_refusal refusals
@@ -64,7 +64,7 @@ HasKeys (events.Write w) = HasKey w
 abbrev pub next_state : State → Event → State
 next_state S (events.Write w) = record S { slots = S.slots ++ Some w ∷ []; events = S.events + 1 }
 
--- what the table tells of an event that isn't refused
+-- the outcome of an event that isn't refused
 abbrev pub outcome_of : State → Event → Outcome
 outcome_of S (events.Write w) = Written (now_of S + 1) (reply_of w (current_at S (now_of S)))
 
@@ -72,7 +72,7 @@ outcome_of S (events.Write w) = Written (now_of S + 1) (reply_of w (current_at S
 abbrev pub after : List Entry → State
 after history = fold (λ S e. next_state S e.event) start history
 
--- each event of a history, from a state on, isn't refused at its point
+-- no event of a history is refused at its point, from a state on
 abbrev pub IsLegalFrom : Tables → Limits → State → List Entry → Type 0
 IsLegalFrom tables limits S [] = Unit {0}
 IsLegalFrom tables limits S (e ∷ history) = (refusal tables limits S e.event ≡ None) × IsLegalFrom tables limits (next_state S e.event) history

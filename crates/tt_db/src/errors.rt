@@ -1,30 +1,31 @@
 use thiserror::Error;
 use tt_values::CheckError;
 
-/// Why an event is refused. Each refusal is looked for over the whole event before the next.
+/// Why an event isn't accepted. The first that applies, in this order, is the answer; the database
+/// stays as it was.
 #[derive(Clone, Copy, Debug, PartialEq, Eq, Error)]
 pub enum DbError {
-    /// The write can't be carried out on the catalogue.
+    /// The write has a fault: it can't be executed on the catalog.
     #[error("{0}")]
     Statement(CheckError),
-    /// The history has as many slots, or as many entries, as the limit allows.
+    /// The history has as many slots as the limit allows, or as many entries.
     #[error("full at {limit}")]
     Full { limit: u64 },
-    /// There was no memory left.
-    #[error("want of memory")]
+    /// Out of memory.
+    #[error("out of memory")]
     Memory,
 }
 
 /// Why a read isn't answered.
 #[derive(Clone, Copy, Debug, PartialEq, Eq, Error)]
 pub enum ReadError {
-    /// The select can't be answered on the catalogue.
+    /// The select has a fault: it can't be answered on the catalog.
     #[error("{0}")]
     Statement(CheckError),
-    /// The time asked for is still to come; `now` is the current time.
+    /// The time is later than `now`, the current time.
     #[error("later than {now}")]
     Later { now: u64 },
-    /// There was no memory left.
-    #[error("want of memory")]
+    /// Out of memory.
+    #[error("out of memory")]
     Memory,
 }

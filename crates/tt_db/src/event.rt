@@ -1,14 +1,14 @@
 use std::alloc::AllocError;
 use tt_values::Write;
 
-/// What a history is made of.
+/// What a history consists of.
 #[derive(Debug, PartialEq, Drop)]
 pub enum Event {
     /// A write of the current generation.
     Write(Write),
 }
 
-/// An event with the number of the worker who made it.
+/// An event with the number of the worker that asked for it.
 #[derive(Debug, PartialEq, Drop)]
 pub struct Entry {
     pub worker: u32,

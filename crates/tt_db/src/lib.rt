@@ -1,29 +1,31 @@
-//! A database that is a legal history: each outcome and each refusal is that of one sequential
-//! table at that point of the history.
+//! A database in one thread. Its history is always legal: every outcome, reply and refusal is the
+//! one that a sequential table gives at that point of the history.
 #![tactic(auto)]
 
-mod db;
+mod database;
 mod effect;
 mod errors;
 mod event;
+pub mod laws;
 mod limits;
 mod outcome;
 mod rows;
+mod slot_list;
 #[cfg(test)]
 mod tests;
 
-pub use db::Db;
-pub use tt_repair_laws::Edit;
+pub use database::Db;
 pub use errors::{DbError, ReadError};
 pub use event::{Entry, Event};
 pub use limits::Limits;
 pub use outcome::{Outcome, Slot};
+pub use tt_repair_laws::Edit;
 
-/// The most slots that limits allow.
-pub const MOST_SLOTS: u64 = 1_000_000;
+/// The largest limit of slots.
+pub const MAX_SLOTS: u64 = 1_000_000;
 
-/// The most entries that limits allow.
-pub const MOST_EVENTS: u64 = 4_000_000;
+/// The largest limit of entries.
+pub const MAX_EVENTS: u64 = 4_000_000;
 
-/// The most edits of one repair that limits allow.
-pub const MOST_EDITS: u32 = 10_000;
+/// The largest limit of edits in one repair.
+pub const MAX_EDITS: u32 = 10_000;

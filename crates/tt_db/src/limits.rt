@@ -1,29 +1,30 @@
 ghost use Rattle.std.specs.Prelude.{◌≡◌, ◌≤◌, ◌↔◌, IsTrue};
 
-use crate::{MOST_EDITS, MOST_EVENTS, MOST_SLOTS};
+use crate::{MAX_EDITS, MAX_EVENTS, MAX_SLOTS};
 
-/// How much a database takes in. It's fixed when the database is made.
+/// How large a history may become. Fixed when the database is created.
 #[derive(Clone, Copy, Debug, PartialEq, Eq)]
 pub struct Limits {
-    /// The most slots, so the most accepted writes.
+    /// How many slots there may be, so how many accepted writes.
     pub slots: u64,
-    /// The most entries of the history.
+    /// How many entries the history may have.
     pub events: u64,
-    /// The most edits of one repair.
+    /// How many edits one repair may have.
     pub edits: u32,
 }
 
 impl Limits {
     ghost use Rattle.tt_db.specs.Limits.{max_limits, Fits};
 
-    /// The usual limits, which are also the largest: 1,000,000 slots, 4,000,000 entries, 10,000 edits.
+    /// The usual limits, which are also the largest: 1,000,000 slots, 4,000,000 entries and 10,000
+    /// edits.
     pub const fn usual() -> Limits
         ensures { result ≡ max_limits }
     {
         Limits {
-            slots: MOST_SLOTS,
-            events: MOST_EVENTS,
-            edits: MOST_EDITS,
+            slots: MAX_SLOTS,
+            events: MAX_EVENTS,
+            edits: MAX_EDITS,
         }
     }
 
@@ -31,6 +32,6 @@ impl Limits {
     pub fn fits(&self) -> bool
         ensures { IsTrue result ↔ Fits self.now }
     {
-        self.slots <= MOST_SLOTS && self.events <= MOST_EVENTS && self.edits <= MOST_EDITS
+        self.slots <= MAX_SLOTS && self.events <= MAX_EVENTS && self.edits <= MAX_EDITS
     }
 }

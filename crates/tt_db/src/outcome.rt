@@ -1,14 +1,14 @@
 use std::alloc::AllocError;
 use tt_values::{Reply, Write};
 
-/// What an accepted event answers.
+/// The outcome of an accepted event.
 #[derive(Clone, Debug, PartialEq, Drop)]
 pub enum Outcome {
-    /// A write took the slot of this number, counted from 1, and answered so.
+    /// A write took the slot of this number, counted from 1, and this is its reply.
     Written { slot: u64, reply: Reply },
 }
 
-/// A slot of the current generation: a write and what it answered. Both are None where the slot was
+/// A slot of the current generation: a write and its reply. Both are None where the slot was
 /// cancelled.
 #[derive(Debug, PartialEq, Drop)]
 pub struct Slot {

@@ -6,54 +6,15 @@ ghost use Rattle.std.specs.FinMap.Entries as sorted;
 use std::alloc::{AllocError, Global};
 use std::collections::BTreeMap;
 use std::marker::Model;
-use std::sync::Arc;
-use tt_values::Row;
+use tt_values::{Row, Shared};
 use tt_versions::Table;
 
-/// A table that several databases share.
-#[derive(Drop)]
-struct SharedTable {
-    table: Arc<Table>,
-}
-
-impl Model for SharedTable {
-    ghost use Rattle.tt_versions.specs.Sides.{LineagesByKey};
-
-    ghost Value = { LineagesByKey };
-
-    ghost view = { λ s. s.table.value };
-}
-
-impl SharedTable {
-    fn new(alloc: Global, table: Table) -> Result<SharedTable, AllocError>
-        ensures { IfOk result (λ s. s ≡ table) }
-    {
-        let table = Arc::new(alloc, table)?;
-        Ok(SharedTable { table })
-    }
-
-    fn table(&self) -> &Table
-        ensures { result.now ≡ self.now }
-    {
-        &self.table
-    }
-}
-
-impl Clone for SharedTable {
-    ghost is_clone = { λ source copy. copy ≡ source };
-
-    fn clone(&self) -> Result<Self, AllocError> {
-        let table = Arc::try_clone(&self.table)?;
-        Ok(SharedTable { table })
-    }
-}
-
-/// The rows of all tables, in time. A changing call answers new ones, which share each table but
-/// the changed one, and leaves these as they are.
+/// The rows of all tables with their versions. A changing call answers new ones, which share each
+/// table but the changed one, and leaves these as they are.
 #[derive(Drop)]
 pub(crate) struct Rows {
     alloc: Global,
-    tables: BTreeMap<u16, SharedTable>,
+    tables: BTreeMap<u16, Shared<Table>>,
     /// Stands for each table that was never written.
     empty: Table,
 }
@@ -71,7 +32,7 @@ impl Model for Rows {
 }
 
 impl Rows {
-    ghost use Rattle.tt_db.specs.Rows.{versions_at, AddsRowWrites, as_row_writes};
+    ghost use Rattle.tt_db.specs.Rows.{versions_at, AddsEffect};
 
     /// No rows. Takes no memory.
     pub(crate) fn new(alloc: Global) -> Rows
@@ -89,49 +50,59 @@ impl Rows {
         ensures { result.now ≡ versions_at self.now table }
     {
         match self.tables.get(&table) {
-            Some(shared) => shared.table(),
+            Some(shared) => shared.get(),
             None => &self.empty,
         }
     }
 
     /// The rows once these keys of a table have those rows, or none, from the time on.
-    pub(crate) fn rewritten(
+    pub(crate) fn with_row_writes(
         &self,
         table: u16,
-        made: Vec<(i64, Option<Row>)>,
+        effect: Vec<(i64, Option<Row>)>,
         time: u64,
     ) -> Result<Rows, AllocError>
-        ensures { IfOk result (λ r. AddsRowWrites self.now r (as_row_writes time table made.items)) }
+        ensures { IfOk result (λ r. AddsEffect self.now r time table effect.items) }
     {
-        let mut rows = self.copy()?;
-        for (key, row) in made {
-            rows = rows.written(table, key, row, time)?;
+        let mut rows = self.clone()?;
+        for (key, row) in effect {
+            rows = rows.with_row_write(table, key, row, time)?;
         }
         Ok(rows)
     }
 
-    fn written(&self, table: u16, key: i64, row: Option<Row>, time: u64) -> Result<Rows, AllocError>
-        ensures { IfOk result (λ r. AddsRowWrites self.now r (as_row_writes time table ((key, row) ∷ []))) }
+    fn with_row_write(
+        &self,
+        table: u16,
+        key: i64,
+        row: Option<Row>,
+        time: u64,
+    ) -> Result<Rows, AllocError>
+        ensures { IfOk result (λ r. AddsEffect self.now r time table ((key, row) ∷ [])) }
     {
-        let written = self.table(table).written(key, row, time)?;
-        let rows = self.with(table, written)?;
+        let next = self.table(table).written(key, row, time)?;
+        let rows = self.with_table(table, next)?;
         Ok(rows)
     }
 
     /// The rows with that table at a position.
-    fn with(&self, position: u16, table: Table) -> Result<Rows, AllocError>
+    fn with_table(&self, position: u16, table: Table) -> Result<Rows, AllocError>
         ensures { IfOk result (λ r. r ≡ sorted.put nat_cmp position table self.now) }
     {
-        let shared = SharedTable::new(self.alloc, table)?;
-        let mut rows = self.copy()?;
+        let shared = Shared::new(self.alloc, table)?;
+        let mut rows = self.clone()?;
         rows.tables.insert(position, shared)?;
         Ok(rows)
     }
+}
+
+impl Clone for Rows {
+    ghost use Rattle.std.specs.Prelude.{◌≡◌};
+
+    ghost is_clone = { λ source copy. copy ≡ source };
 
     /// The same rows, sharing each table.
-    fn copy(&self) -> Result<Rows, AllocError>
-        ensures { IfOk result (λ r. r ≡ self.now) }
-    {
+    fn clone(&self) -> Result<Self, AllocError> {
         let tables = self.tables.clone()?;
         Ok(Rows {
             alloc: self.alloc,

@@ -1,18 +1,18 @@
-//! What runs of the program on documents don't show: the calls of a database one by one, the
-//! databases before a call, limits and refusals.
+//! What no clause says: that ample memory is enough for each call, that earlier databases stay
+//! usable, and limits at small numbers.
 mod calls;
 mod history;
 mod limits;
 mod runs;
 mod versions;
 
-use crate::{Db, Entry, Event, Limits, MOST_EDITS, Outcome};
+use crate::{Db, Entry, Event, Limits, MAX_EDITS, Outcome};
 use std::alloc::Global;
 use std::process::Abort;
 use std::sync::Arc;
 use tt_values::{Catalog, Column, Items, Kind, Reply, Row, Select, TableDef, Text, Value, Write};
 
-/// An account as a case writes it down: its id, its owner and its balance.
+/// An account: its id, its owner and its balance.
 type Account = (i64, &'static str, i64);
 
 const ANN: Account = (1, "ann", 10);
@@ -49,7 +49,7 @@ fn accounts_table(rt: &impl Abort, alloc: Global) -> TableDef {
     }
 }
 
-/// A catalogue with tables of these names, each with the columns of `acct`.
+/// A catalog with tables of these names, each with the columns of `acct`.
 fn bank(rt: &impl Abort, alloc: Global, names: &[&str]) -> Arc<Catalog> {
     let mut catalog = Catalog::new(alloc);
     for name in names {
@@ -59,17 +59,17 @@ fn bank(rt: &impl Abort, alloc: Global, names: &[&str]) -> Arc<Catalog> {
     Arc::new(alloc, catalog).expect(rt, "memory")
 }
 
-/// A new database of `acct` alone, with the usual limits.
+/// A new database with the table `acct` and the usual limits.
 fn new_db(rt: &impl Abort, alloc: Global) -> Db {
     Db::new(alloc, bank(rt, alloc, &["acct"]), Limits::usual())
 }
 
-/// A new database of `acct` alone that takes in so many slots and entries.
+/// A new database with the table `acct` and these limits of slots and entries.
 fn small_db(rt: &impl Abort, alloc: Global, slots: u64, events: u64) -> Db {
     let limits = Limits {
         slots,
         events,
-        edits: MOST_EDITS,
+        edits: MAX_EDITS,
     };
     assert!(rt; limits.fits());
     Db::new(alloc, bank(rt, alloc, &["acct"]), limits)
@@ -106,7 +106,7 @@ fn bad_entry(rt: &impl Abort, alloc: Global) -> Entry {
     }
 }
 
-/// The database after an entry that is answered so.
+/// The database after an entry with this reply.
 fn after(rt: &impl Abort, db: &Db, entry: Entry, reply: Reply) -> Db {
     let slot = db.now().saturating_add(1);
     let (next, outcome) = db.apply(entry).expect(rt, "an accepted entry");
@@ -130,8 +130,8 @@ fn rows(rt: &impl Abort, alloc: Global, accounts: &[Account]) -> Reply {
     Reply::Rows(Items::new(rows))
 }
 
-/// These are the accounts now, in this order.
+/// Asserts that these are the accounts now, in this order.
 fn has(rt: &impl Abort, alloc: Global, db: &Db, accounts: &[Account]) {
-    let found = db.select(&select_all(alloc, ACCT)).expect(rt, "a reply");
-    assert_eq!(rt; found, rows(rt, alloc, accounts));
+    let reply = db.select(&select_all(alloc, ACCT)).expect(rt, "a reply");
+    assert_eq!(rt; reply, rows(rt, alloc, accounts));
 }

@@ -1,5 +1,5 @@
 use super::{ANN, Account, BOB, SAME_KEY, bad_entry, entry, has, small_db};
-use crate::{DbError, Entry, MOST_EVENTS, Outcome};
+use crate::{DbError, Entry, MAX_EVENTS, Outcome};
 use std::alloc::Global;
 use std::process::Abort;
 use tt_values::{CheckError, Reply};
@@ -22,7 +22,7 @@ fn written(slot: u64, reply: Reply) -> Result<Outcome, DbError> {
     Ok(Outcome::Written { slot, reply })
 }
 
-/// What those entries are answered where there are three slots.
+/// The answers to those entries where the limit is three slots.
 fn mixed_answers(rt: &impl Abort, alloc: Global) -> Vec<Result<Outcome, DbError>> {
     let answers = [
         written(1, Reply::Inserted),
@@ -37,7 +37,7 @@ fn mixed_answers(rt: &impl Abort, alloc: Global) -> Vec<Result<Outcome, DbError>
 #[test]
 fn a_run_answers_each_entry(rt: HostRuntime) {
     let alloc = rt.alloc();
-    let mut db = small_db(&rt, alloc, 3, MOST_EVENTS);
+    let mut db = small_db(&rt, alloc, 3, MAX_EVENTS);
     let answers = db
         .apply_all(mixed_entries(&rt, alloc).as_slice())
         .expect(&rt, "memory");
@@ -46,8 +46,8 @@ fn a_run_answers_each_entry(rt: HostRuntime) {
     assert_eq!(rt; db.events(), 3);
     has(&rt, alloc, &db, &[ANN, BOB]);
     for (place, worker) in [(1, 1), (2, 3), (3, 4)] {
-        let kept = db.entry(place).expect(&rt, "an entry");
-        assert_eq!(rt; kept.worker, worker, "at {place}");
+        let entry = db.entry(place).expect(&rt, "an entry");
+        assert_eq!(rt; entry.worker, worker, "at {place}");
     }
     assert!(rt; db.entry(4).is_none());
     let answers = db.apply_all(&[]).expect(&rt, "memory");

@@ -13,10 +13,10 @@ fn accounts(rt: &impl Abort, alloc: Global) -> Db {
 }
 
 #[test]
-fn each_table_tells_its_versions(rt: HostRuntime) {
+fn each_table_has_its_versions(rt: HostRuntime) {
     let alloc = rt.alloc();
     let db = accounts(&rt, alloc);
-    let kept = db.versions(ACCT).expect(&rt, "a table");
+    let versions = db.versions(ACCT).expect(&rt, "a table");
     let bob = row(&rt, alloc, BOB);
     for side in [Side::Current, Side::Next] {
         let wants: [(u64, Option<&Row>); 4] = [
@@ -26,10 +26,10 @@ fn each_table_tells_its_versions(rt: HostRuntime) {
             (9, Some(&bob)),
         ];
         for (time, want) in wants {
-            assert_eq!(rt; kept.at(2, time, side), want, "at {time}");
+            assert_eq!(rt; versions.at(2, time, side), want, "at {time}");
         }
     }
-    assert!(rt; !kept.is_split(1) && !kept.is_split(2));
+    assert!(rt; !versions.is_split(1) && !versions.is_split(2));
     let loans = db.versions(LOAN).expect(&rt, "a table");
     let rows = loans.rows_at(2, Side::Current).expect(&rt, "memory");
     assert_eq!(rt; rows.len(), 0);

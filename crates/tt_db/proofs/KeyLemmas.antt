@@ -1,0 +1,246 @@
+-- Rows and the keys that they are stored under.
+use Rattle.std.proofs.Common.{◌≡◌, ℕ, zero, suc, ◌≤◌, ℤ, pos, Bool, true, false, cond, not, ◌&&◌, ◌==◌, nat_le, List, [], ◌∷◌, ◌++◌, map, filter, length, fold, Option, None, Some, IsSome, is_some, Less, Equal, Greater, if◌then◌else◌, refl, sym, ap, subst, ◌∙◌, arith}
+use Rattle.std.proofs.lemmas.Bool.Decides.{nat_tests}
+use Rattle.std.proofs.lemmas.List.Elements.{All-from_recursion}
+use Rattle.std.specs.declared.cmp.Ordering.{Ordering}
+use Rattle.std.specs.Ordering.{int_cmp, int_eq, is_eq, is_lt}
+use Rattle.std.specs.List.{AllByRecursion}
+use Rattle.std.specs.List.Sorted.{IsStrictlySortedBy}
+use Rattle.std.specs.Option.{option_map, unwrap_or}
+use Rattle.std.specs.FinMap.{int_cmp-IsAntisymmetric}
+use Rattle.std.specs.FinMap.Entries as sorted
+use Rattle.std.specs.FinMap.Entries.{by_order}
+use Rattle.tt_values.specs.declared.row.Row.{Row}
+use Rattle.tt_values.specs.declared.statement.Change.{Change}
+use Rattle.tt_values.specs.declared.statement.Select.{Select}
+use Rattle.tt_values.specs.declared.statement.Write.{Write}
+use Rattle.tt_values.specs.declared.statement.Write.TheVariants.{Insert, Update, Delete}
+use Rattle.tt_values.specs.declared.checking.CheckError.{CheckError}
+use Rattle.tt_values.specs.Row.{first_int, key_of}
+use Rattle.tt_values.specs.Tables.{Tables, IsCatalog}
+use Rattle.tt_values.specs.Check.{write_fault}
+use Rattle.tt_values.specs.Change.{changed}
+use Rattle.tt_values.specs.Matches.{matches}
+use Rattle.tt_values.specs.Content.{RowsByKey, Content, row_at, with_row_at, with_row_write, content_at}
+use Rattle.tt_values.specs.Effect.{table_of, matching_rows, effect_on, effect, answer_of}
+use Rattle.tt_values.specs.RowWrites.{Slots, row_writes, slot_writes, slot_after, content_of}
+use Rattle.tt_values.proofs.LawProofs.{rows_rise, next_content, past_stays, last_content_stays, accepted_inserts_have_keys, accepted_updates_keep_keys}
+use Rattle.tt_db.specs.declared.limits.Limits.{Limits}
+use Rattle.tt_db.specs.declared.event.Event.{Event}
+use Rattle.tt_db.specs.declared.event.Event.TheVariants as events
+use Rattle.tt_db.specs.declared.event.Entry.{Entry}
+use Rattle.tt_db.specs.declared.errors.DbError.{DbError}
+use Rattle.tt_db.specs.declared.errors.DbError.TheVariants as errors
+use Rattle.tt_db.specs.State.{State, start, after, now_of, current_at, next_state, refusal, first_refusal, full_at, IsLegal, IsLegalFrom}
+use Rattle.tt_db.specs.RightAnswers.{RowsHaveRisingKeys}
+
+both_true-left : (a b : Bool) → (a && b) ≡ true → a ≡ true
+both_true-left true b h = refl
+both_true-left false b h = h
+
+both_true-right : (a b : Bool) → (a && b) ≡ true → b ≡ true
+both_true-right true b h = h
+both_true-right false b h = cc
+
+is_lt-Less : (o : Ordering) → is_lt o ≡ true → o ≡ Less
+is_lt-Less Less h = refl
+is_lt-Less Equal h = cc
+is_lt-Less Greater h = cc
+
+has_no_fault : (fault : Option CheckError) (a b : Option DbError) → first_refusal (option_map errors.Statement fault ∷ a ∷ b ∷ []) ≡ None → fault ≡ None
+has_no_fault None a b h = refl
+has_no_fault (Some e) a b h = cc
+
+-- each row has the key that it is stored under
+abbrev pub AllKeyed : RowsByKey → Type 0
+AllKeyed [] = Unit {0}
+AllKeyed (e ∷ es) = (first_int e.1.values ≡ Some e.0) × AllKeyed es
+
+-- where a row is, it has that key
+abbrev IsKeyed : ℤ → Option Row → Type 0
+IsKeyed key None = Unit {0}
+IsKeyed key (Some row) = first_int row.values ≡ Some key
+
+abbrev AllPairsKeyed : List (ℤ × Option Row) → Type 0
+AllPairsKeyed [] = Unit {0}
+AllPairsKeyed (e ∷ es) = IsKeyed e.0 e.1 × AllPairsKeyed es
+
+AllKeyed-put : (es : RowsByKey) (key : ℤ) (row : Row) → AllKeyed es → first_int row.values ≡ Some key → AllKeyed (sorted.put int_cmp key row es)
+AllKeyed-put [] key row h k = (k, tt)
+AllKeyed-put (e ∷ es) key row h k = by (int_cmp key e.0) refl (AllKeyed-put es key row h.1 k)
+  where
+    by : (o : Ordering) → int_cmp key e.0 ≡ o → AllKeyed (sorted.put int_cmp key row es) → AllKeyed (by_order o ((key, row) ∷ e ∷ es) ((e.0, row) ∷ es) (e ∷ sorted.put int_cmp key row es))
+    by Less p rest = (k, h)
+    by Equal p rest = (k ∙ ap Some (int_cmp-IsAntisymmetric key e.0 p), h.1)
+    by Greater p rest = (h.0, rest)
+
+pub AllKeyed-filter : (p : ℤ × Row → Bool) (es : RowsByKey) → AllKeyed es → AllKeyed (filter p es)
+AllKeyed-filter p [] h = tt
+AllKeyed-filter p (e ∷ es) h = by (p e) (AllKeyed-filter p es h.1)
+  where
+    by : (b : Bool) → AllKeyed (filter p es) → AllKeyed (cond b (e ∷ filter p es) (filter p es))
+    by true rest = (h.0, rest)
+    by false rest = rest
+
+AllKeyed-with_row_at : (rows : RowsByKey) (key : ℤ) (row : Option Row) → AllKeyed rows → IsKeyed key row → AllKeyed (with_row_at rows key row)
+AllKeyed-with_row_at rows key None h k = AllKeyed-filter (λ e. not (int_eq e.0 key)) rows h
+AllKeyed-with_row_at rows key (Some row) h k = AllKeyed-put rows key row h k
+
+-- the row at a key has that key
+pub AllKeyed-row_at : (es : RowsByKey) (key : ℤ) (row : Row) → AllKeyed es → row_at es key ≡ Some row → first_int row.values ≡ Some key
+AllKeyed-row_at [] key row h e = cc
+AllKeyed-row_at (x ∷ es) key row h e = by (int_cmp key x.0) refl (AllKeyed-row_at es key row h.1) e
+  where
+    by : (o : Ordering) → int_cmp key x.0 ≡ o → (row_at es key ≡ Some row → first_int row.values ≡ Some key) → cond (is_eq o) (Some x.1) (row_at es key) ≡ Some row → first_int row.values ≡ Some key
+    by Less p rest f = rest f
+    by Equal p rest f =
+        let same : x.1 ≡ row = cc in
+        let at : key ≡ x.0 = int_cmp-IsAntisymmetric key x.0 p in
+        ap (λ r. first_int r.values) (sym same) ∙ h.0 ∙ ap Some (sym at)
+    by Greater p rest f = rest f
+
+-- each table of a content has its rows under their keys
+abbrev pub IsKeyedContent : Content → Type 0
+IsKeyedContent X = (table : ℕ) → AllKeyed (X table)
+
+pub IsKeyedContent-fold : (pairs : List (ℤ × Option Row)) (time table : ℕ) (X : Content) → IsKeyedContent X → AllPairsKeyed pairs
+    → IsKeyedContent (fold with_row_write X (map (λ e. record { time = time; table = table; key = e.0; row = e.1 }) pairs))
+IsKeyedContent-fold [] time table X h k = h
+IsKeyedContent-fold (e ∷ es) time table X h k =
+    IsKeyedContent-fold es time table (with_row_write X (record { time = time; table = table; key = e.0; row = e.1 })) (λ t. by t (t == table)) k.1
+  where
+    by : (t : ℕ) (b : Bool) → AllKeyed (if b then with_row_at (X t) e.0 e.1 else X t)
+    by t true = AllKeyed-with_row_at (X t) e.0 e.1 (h t) k.0
+    by t false = h t
+
+key_of-first_int : (row : Row) → IsSome (first_int row.values) → first_int row.values ≡ Some (key_of row)
+key_of-first_int row h = by (first_int row.values) h
+  where
+    by : (o : Option ℤ) → IsSome o → o ≡ Some (unwrap_or o (pos 0))
+    by None e = cc
+    by (Some n) e = refl
+
+AllPairsKeyed-update : (changes : List Change) → ((row : Row) → first_int (changed row changes).values ≡ first_int row.values)
+    → (es : RowsByKey) → AllKeyed es → AllPairsKeyed (map (λ e. (e.0, Some (changed e.1 changes))) es)
+AllPairsKeyed-update changes same [] h = tt
+AllPairsKeyed-update changes same (e ∷ es) h = (same e.1 ∙ h.0, AllPairsKeyed-update changes same es h.1)
+
+AllPairsKeyed-delete : (es : RowsByKey) → AllPairsKeyed (map (λ e. (e.0, None)) es)
+AllPairsKeyed-delete [] = tt
+AllPairsKeyed-delete (e ∷ es) = (tt, AllPairsKeyed-delete es)
+
+-- a write without a fault writes rows with their keys
+AllPairsKeyed-effect_on : (tables : Tables) (w : Write) (rows : RowsByKey) → IsCatalog tables → write_fault tables w ≡ None → AllKeyed rows → AllPairsKeyed (effect_on w rows)
+AllPairsKeyed-effect_on tables (Insert table row) rows catalog none h = by (is_some (row_at rows (key_of row)))
+  where
+    by : (b : Bool) → AllPairsKeyed (if b then [] else (key_of row, Some row) ∷ [])
+    by true = tt
+    by false = (key_of-first_int row (accepted_inserts_have_keys tables table row catalog none), tt)
+AllPairsKeyed-effect_on tables (Update table changes equals) rows catalog none h =
+    AllPairsKeyed-update changes (λ row. accepted_updates_keep_keys tables table changes equals row none) (matching_rows equals rows)
+    (AllKeyed-filter (λ e. matches equals e.1) rows h)
+AllPairsKeyed-effect_on tables (Delete table equals) rows catalog none h = AllPairsKeyed-delete (matching_rows equals rows)
+
+-- a slot's write, where it has one, has no fault
+abbrev IsAccepted : Tables → Option Write → Type 0
+IsAccepted tables None = Unit {0}
+IsAccepted tables (Some w) = write_fault tables w ≡ None
+
+abbrev AllAccepted : Tables → Slots → Type 0
+AllAccepted tables [] = Unit {0}
+AllAccepted tables (s ∷ W) = IsAccepted tables s × AllAccepted tables W
+
+AllAccepted-push : (tables : Tables) (W : Slots) (s : Option Write) → AllAccepted tables W → IsAccepted tables s → AllAccepted tables (W ++ s ∷ [])
+AllAccepted-push tables [] s h a = (a, tt)
+AllAccepted-push tables (x ∷ W) s h a = (h.0, AllAccepted-push tables W s h.1 a)
+
+slot_after-AllAccepted : (tables : Tables) (W : Slots) (n : ℕ) → AllAccepted tables W → IsAccepted tables (slot_after W n)
+slot_after-AllAccepted tables [] n h = tt
+slot_after-AllAccepted tables (s ∷ W) zero h = h.0
+slot_after-AllAccepted tables (s ∷ W) (suc n) h = slot_after-AllAccepted tables W n h.1
+
+-- the writes of a legal history have no faults
+AllAccepted-legal : (tables : Tables) (limits : Limits) (S : State) (history : List Entry) → IsLegalFrom tables limits S history → AllAccepted tables S.slots
+    → AllAccepted tables (fold (λ T e. next_state T e.event) S history).slots
+AllAccepted-legal tables limits S [] legal h = h
+AllAccepted-legal tables limits S (e ∷ history) legal h =
+    AllAccepted-legal tables limits (next_state S e.event) history legal.1 (of_event e.event legal.0)
+  where
+    of_event : (event : Event) → refusal tables limits S event ≡ None → AllAccepted tables (next_state S event).slots
+    of_event (events.Write w) accepted =
+        AllAccepted-push tables S.slots (Some w) h (has_no_fault (write_fault tables w) (full_at (now_of S) limits.slots) (full_at S.events limits.events) accepted)
+
+IsKeyedContent-slot : (tables : Tables) (s : Option Write) (time : ℕ) (X : Content) → IsCatalog tables → IsAccepted tables s → IsKeyedContent X
+    → IsKeyedContent (fold with_row_write X (slot_writes time s X))
+IsKeyedContent-slot tables None time X catalog a h = h
+IsKeyedContent-slot tables (Some w) time X catalog a h =
+    IsKeyedContent-fold (effect w X) time (table_of w) X h (AllPairsKeyed-effect_on tables w (X (table_of w)) catalog a (h (table_of w)))
+
+IsKeyedContent-slots : (tables : Tables) (W : Slots) (n : ℕ) → IsCatalog tables → AllAccepted tables W → IsKeyedContent (content_at (row_writes W n) n)
+unfolding row_writes
+IsKeyedContent-slots tables W zero catalog h = λ t. tt
+IsKeyedContent-slots tables W (suc n) catalog h =
+    let X = content_at (row_writes W n) n in
+    subst IsKeyedContent (sym (next_content W n))
+    (IsKeyedContent-slot tables (slot_after W n) (suc n) X catalog (slot_after-AllAccepted tables W n h) (IsKeyedContent-slots tables W n catalog h))
+
+-- at every time
+IsKeyedContent-content_of : (tables : Tables) (W : Slots) (time : ℕ) → IsCatalog tables → AllAccepted tables W → IsKeyedContent (content_of W time)
+IsKeyedContent-content_of tables W time catalog h = by (nat_le time (length W)) refl
+  where
+    by : (b : Bool) → nat_le time (length W) ≡ b → IsKeyedContent (content_of W time)
+    by true e =
+        let past : time ≤ length W = grind (arith, nat_tests) in
+        subst IsKeyedContent (sym (past_stays W time (length W) time (omega arith) past)) (IsKeyedContent-slots tables W time catalog h)
+    by false e =
+        let later : length W ≤ time = grind (arith, nat_tests) in
+        subst IsKeyedContent (sym (last_content_stays W (length W) time later)) (IsKeyedContent-slots tables W (length W) catalog h)
+
+pub IsKeyedContent-legal : (tables : Tables) (limits : Limits) (history : List Entry) (time : ℕ) → IsCatalog tables → IsLegal tables limits history → IsKeyedContent (current_at (after history) time)
+IsKeyedContent-legal tables limits history time catalog legal =
+    IsKeyedContent-content_of tables (after history).slots time catalog (AllAccepted-legal tables limits start history legal tt)
+
+-- the rows of a list that match have rising keys, where the list is by rising key
+all_above : (p : ℤ × Row → Bool) (key : ℤ) (es : RowsByKey) → sorted.below_all int_cmp key es ≡ true → AllKeyed es
+    → AllByRecursion (λ k. int_cmp key k ≡ Less) (map key_of (map (λ e. e.1) (filter p es)))
+all_above p key [] below h = tt
+all_above p key (e ∷ es) below h = by (p e) (all_above p key es (both_true-right _ _ below) h.1)
+  where
+    first : int_cmp key (key_of e.1) ≡ Less
+    first = ap (λ o. int_cmp key (unwrap_or o (pos 0))) h.0 ∙ is_lt-Less (int_cmp key e.0) (both_true-left _ _ below)
+
+    by : (b : Bool) → AllByRecursion (λ k. int_cmp key k ≡ Less) (map key_of (map (λ e. e.1) (filter p es)))
+        → AllByRecursion (λ k. int_cmp key k ≡ Less) (map key_of (map (λ e. e.1) (cond b (e ∷ filter p es) (filter p es))))
+    by true rest = (first, rest)
+    by false rest = rest
+
+keys_rise : (p : ℤ × Row → Bool) (es : RowsByKey) → sorted.is_sorted int_cmp es ≡ true → AllKeyed es
+    → IsStrictlySortedBy int_cmp (map key_of (map (λ e. e.1) (filter p es)))
+unfolding IsStrictlySortedBy
+keys_rise p [] rise h = tt
+keys_rise p (e ∷ es) rise h = by (p e) (keys_rise p es (both_true-right _ _ rise) h.1)
+  where
+    above : AllByRecursion (λ k. int_cmp (key_of e.1) k ≡ Less) (map key_of (map (λ x. x.1) (filter p es)))
+    above = subst (λ k. AllByRecursion (λ l. int_cmp k l ≡ Less) (map key_of (map (λ x. x.1) (filter p es)))) (sym (ap (λ o. unwrap_or o (pos 0)) h.0))
+        (all_above p e.0 es (both_true-left _ _ rise) h.1)
+
+    by : (b : Bool) → IsStrictlySortedBy int_cmp (map key_of (map (λ x. x.1) (filter p es)))
+        → IsStrictlySortedBy int_cmp (map key_of (map (λ x. x.1) (cond b (e ∷ filter p es) (filter p es))))
+    by true rest = (above, rest)
+    by false rest = rest
+
+have_keys : (es : RowsByKey) → AllKeyed es → AllByRecursion (λ r. IsSome (first_int r.values)) (map (λ e. e.1) es)
+have_keys [] h = tt
+have_keys (e ∷ es) h = (subst IsSome (sym h.0) refl, have_keys es h.1)
+
+pub RowsHaveRisingKeys-answer_of : (tables : Tables) (limits : Limits) (history : List Entry) (q : Select) (time : ℕ)
+    → IsCatalog tables → IsLegal tables limits history → RowsHaveRisingKeys (answer_of q (current_at (after history) time))
+RowsHaveRisingKeys-answer_of tables limits history q time catalog legal =
+    let W = (after history).slots in
+    let rows = content_of W time q.table in
+    let h = IsKeyedContent-legal tables limits history time catalog legal q.table in
+    let p : ℤ × Row → Bool = λ e. matches q.equals e.1 in
+    record {
+      keyed = All-from_recursion (λ r. IsSome (first_int r.values)) (map (λ e. e.1) (filter p rows)) (have_keys (filter p rows) (AllKeyed-filter p rows h));
+      rising = keys_rise p rows (rows_rise (row_writes W (length W)) time q.table) h;
+    }

@@ -1,6 +1,0 @@
--- the rows follow what is made so far
-use Rattle.tt_db.specs.Rows.{AddsRowWrites, as_row_writes}
-use Rattle.tt_db.proofs.rows.Rows.rewritten.Given as goal
-
-abbrev pub invariant-loop-key : goal.invariant-loop-key
-invariant-loop-key l = AddsRowWrites l.fn.self l.rows (as_row_writes l.time l.table l.yielded)

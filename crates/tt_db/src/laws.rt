@@ -1,0 +1,8 @@
+//! Laws of the definitions that the contracts of this crate speak by. Each is the contract of a
+//! function with an empty body.
+ghost use Rattle.tt_db.specs.Laws.{RowsHaveTheirKeys};
+
+/// Each row of a legal history begins with an Int, and that is the key that it is stored under.
+pub fn rows_have_their_keys()
+    ensures { RowsHaveTheirKeys }
+{}
