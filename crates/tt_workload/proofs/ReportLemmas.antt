@@ -7,8 +7,12 @@ use Rattle.std.specs.Option.{option_map}
 use Rattle.tt_db.specs.State.{after}
 use Rattle.tt_db.specs.Limits.{max_limits}
 use Rattle.tt_db.specs.Database.{Database, state_of}
-use Rattle.tt_workload.specs.declared.document.Document.{Document}
-use Rattle.tt_workload.specs.Report.{table_line, table_lines, call_lines, end_line, history_of, report_of}
+use Rattle.tt_document.specs.declared.document.Document.{Document}
+use Rattle.tt_document.specs.declared.document.Call.{Call}
+use Rattle.tt_document.specs.Document.{IsValidCall, IsValidDocument}
+use Rattle.std.specs.List.{AllByRecursion}
+use Rattle.std.proofs.lemmas.List.Elements.{recursion_from_All}
+use Rattle.tt_workload.specs.Report.{AreAccepted, table_line, table_lines, call_lines, end_line, history_of, report_of}
 
 drop-at : {X : Type 0} → (xs : List X) (i : ℕ) (x : X) → slice_get xs i ≡ Some x → drop i xs ≡ x ∷ drop (suc i) xs
 drop-at [] i x h = cc
@@ -28,13 +32,13 @@ table_lines-next S tables i t out all there h =
 -- the same, where the table is known by its name
 pub table_lines-named : (S : State) (tables : Tables) (i : ℕ) (name out all new : List ℕ) → Some name ≡ option_map (λ t. t.0) (slice_get tables i)
     → out ++ table_lines S i (drop i tables) ≡ all → new ≡ out ++ table_line S i name → new ++ table_lines S (i + 1) (drop (i + 1) tables) ≡ all
-table_lines-named S tables i name out all new there h pushed = by (slice_get tables i) refl there
+table_lines-named S tables i name out all new there h text = by (slice_get tables i) refl there
   where
     by : (o : Option (List ℕ × TableDef)) → slice_get tables i ≡ o → Some name ≡ option_map (λ t. t.0) o → new ++ table_lines S (i + 1) (drop (i + 1) tables) ≡ all
     by None e g = cc
     by (Some t) e g =
         let same : name ≡ t.0 = cc in
-        ap (λ ls. ls ++ table_lines S (i + 1) (drop (i + 1) tables)) (pushed ∙ ap (λ n. out ++ table_line S i n) same) ∙ table_lines-next S tables i t out all e h
+        ap (λ ls. ls ++ table_lines S (i + 1) (drop (i + 1) tables)) (text ∙ ap (λ n. out ++ table_line S i n) same) ∙ table_lines-next S tables i t out all e h
 
 -- the pieces of a report, one after another
 pub report-pieces : (document : Document) (new db : Database) (none calls tables all : List ℕ)
@@ -45,22 +49,30 @@ pub report-pieces : (document : Document) (new db : Database) (none calls tables
     → tables ≡ calls ++ table_lines (state_of db) 0 db.catalog
     → all ≡ tables ++ end_line (state_of db)
     → all ≡ report_of document
-report-pieces document new db none calls tables all made empty moved called tabled ended =
+report-pieces document new db none calls tables all is_new empty state called tabled ended =
     let is : db ≡ record { catalog = document.catalog; limits = max_limits; history = history_of document.calls } =
-    moved ∙ ap (λ (d : Database). record d { history = history_of document.calls }) made in
+    state ∙ ap (λ (d : Database). record d { history = history_of document.calls }) is_new in
     let lines = call_lines 1 [] document.calls in
     let last = after (history_of document.calls) in
     ended ∙ ap (λ ts. ts ++ end_line (state_of db)) (tabled ∙ ap (λ cs. cs ++ table_lines (state_of db) 0 db.catalog) (called ∙ ap (λ n. n ++ lines) empty))
     ∙ ap (λ (d : Database). (lines ++ table_lines (state_of d) 0 d.catalog) ++ end_line (state_of d)) is
     ∙ append_assoc lines (table_lines last 0 document.catalog) (end_line last)
 
--- a labelled number and an end, pushed one after another
+-- a labelled number and an end, one after another
 pub labelled-once : (old first all label number end : List ℕ) → first ≡ old ++ (label ++ number) → all ≡ first ++ end → all ≡ old ++ (label ++ (number ++ end))
 labelled-once old first all label number end p q = q ∙ ap (λ f. f ++ end) p ∙ simp append_assoc
 
--- two labelled numbers and an end, pushed one after another
+-- two labelled numbers and an end, one after another
 pub labelled-twice : (old first second all label_1 number_1 label_2 number_2 end : List ℕ)
     → first ≡ old ++ (label_1 ++ number_1) → second ≡ first ++ (label_2 ++ number_2) → all ≡ second ++ end
     → all ≡ old ++ (label_1 ++ (number_1 ++ (label_2 ++ (number_2 ++ end))))
 labelled-twice old first second all label_1 number_1 label_2 number_2 end p q r =
     r ∙ ap (λ s. s ++ end) (q ∙ ap (λ f. f ++ (label_2 ++ number_2)) p) ∙ simp append_assoc
+
+AreAccepted-valid_calls : (tables : Tables) (workers : ℕ) (cs : List Call) → AllByRecursion (IsValidCall tables workers) cs → AreAccepted tables cs
+AreAccepted-valid_calls tables workers [] h = tt
+AreAccepted-valid_calls tables workers (call ∷ cs) h = (h.0.is_accepted, AreAccepted-valid_calls tables workers cs h.1)
+
+-- the tables of a valid document accept the statement of each call
+pub AreAccepted-valid : (d : Document) → IsValidDocument d → AreAccepted d.catalog d.calls
+AreAccepted-valid d valid = AreAccepted-valid_calls d.catalog d.workers d.calls (recursion_from_All (IsValidCall d.catalog d.workers) d.calls valid.valid_calls)

@@ -1,19 +1,19 @@
 -- A run that ends while its report is written.
-use Rattle.std.proofs.Common.{◌≡◌, List, ℕ, Option, Some, None, Result, Ok, Err, IfErr, IfSome, take, sym, subst}
-use Rattle.tt_workload.specs.declared.document.Document.{Document}
+use Rattle.std.proofs.Common.{◌≡◌, List, ℕ, Option, Some, None, Result, Ok, Err, IfErr, IfSome, sym, subst}
+use Rattle.tt_document.specs.declared.document.Document.{Document}
 use Rattle.tt_workload.specs.declared.run_fault.RunFault.{RunFault}
 use Rattle.tt_workload.specs.declared.run_fault.RunFault.TheVariants as faults
 use Rattle.tt_workload.specs.Report.{report_of}
-use Rattle.tt_workload.specs.Ends.{AppendsFront, max_bytes_read, document_of_bytes}
+use Rattle.tt_workload.specs.Ends.{AppendsFront, ReadsDocument}
 use Rattle.tt_workload.specs.Run.{EndsEarly, WritesFront}
 
 -- a front part of the report was written
 pub ends_in_writing : {T : Type 0} (r : Result T RunFault) (left old new : Option (List ℕ)) (text : List ℕ) (document : Document)
     → IfErr r (λ e. e ≡ faults.Write) → AppendsFront old new text → text ≡ report_of document
-    → IfSome left (λ xs. document_of_bytes (take max_bytes_read xs) ≡ Ok document)
-    → IfErr r (λ e. IfSome left (λ xs. EndsEarly e (take max_bytes_read xs) old new))
-ends_in_writing (Ok x) left old new text document failed front is spelled = tt
-ends_in_writing (Err e) None old new text document failed front is spelled = tt
-ends_in_writing (Err e) (Some xs) old new text document failed front is spelled =
-    let early : WritesFront (take max_bytes_read xs) old new = record { document = document; spelled = spelled; written = subst (AppendsFront old new) is front } in
-    subst (λ f. EndsEarly f (take max_bytes_read xs) old new) (sym failed) early
+    → IfSome left (λ xs. ReadsDocument xs document)
+    → IfErr r (λ e. IfSome left (λ xs. EndsEarly e xs old new))
+ends_in_writing (Ok x) left old new text document failed front is read = tt
+ends_in_writing (Err e) None old new text document failed front is read = tt
+ends_in_writing (Err e) (Some xs) old new text document failed front is read =
+    let early : WritesFront xs old new = record { document = document; is_read = read; written = subst (AppendsFront old new) is front } in
+    subst (λ f. EndsEarly f xs old new) (sym failed) early

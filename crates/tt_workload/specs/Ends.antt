@@ -1,24 +1,27 @@
--- The two ends of a run: the document that bytes spell, and what is taken from a reader or given to a writer.
+-- The two ends of a run: the document that bytes spell, the bytes that a reader gives, and those that a writer gets.
 use Rattle.std.specs.Prelude.{◌≡◌, ◌⊎◌, ℕ, ◌≤◌, nat_lt, if◌then◌else◌, List, length, take, Option, None, Result, Ok, Err, codes, ⊤}
 use Rattle.std.specs.Str.{is_utf8}
 use Rattle.std.specs.Io.KnownBytes.{Consumes, Appends}
 use Rattle.serde_json.specs.Data.{Data}
 use Rattle.serde_json.specs.Read.{read}
-use Rattle.tt_workload.specs.declared.document.Document.{Document}
-use Rattle.tt_workload.specs.declared.fault.DocFault.{DocFault}
-use Rattle.tt_workload.specs.declared.fault.DocFault.TheVariants as doc
+use Rattle.tt_document.specs.declared.document.Document.{Document}
+use Rattle.tt_document.specs.declared.fault.DocFault.{DocFault}
+use Rattle.tt_document.specs.declared.fault.DocFault.TheVariants as doc
+use Rattle.tt_document.specs.Fault.{◌>>=◌, refuse, or_refuse, with_path, document_path}
+use Rattle.tt_document.specs.Reading.{members_of_document}
 use Rattle.tt_workload.specs.declared.run_fault.RunFault.{RunFault}
 use Rattle.tt_workload.specs.declared.run_fault.RunFault.TheVariants as run
-use Rattle.tt_workload.specs.Reading.{◌>>=◌, refuse, with_path, document_path}
-use Rattle.tt_workload.specs.Json.{or_refuse}
-use Rattle.tt_workload.specs.Grammar.{members_of_document}
 
--- the most bytes of a document, and the most that are taken from a reader to see whether there are more
+-- the largest length of a document, and the largest number of bytes that are read: one more, which shows a longer document
 abbrev pub max_document_bytes : ℕ
 max_document_bytes = 16777216
 
 abbrev pub max_bytes_read : ℕ
 max_bytes_read = 16777217
+
+-- the bytes that are read, of those that a reader has left
+abbrev pub bytes_read : List ℕ → List ℕ
+bytes_read remaining = take max_bytes_read remaining
 
 -- a document is short enough
 abbrev pub within_length : List ℕ → Result ⊤ DocFault
@@ -35,28 +38,23 @@ document_of_bytes bytes = with_path document_path (do
   v ← or_refuse (codes "not JSON") (json_of bytes)
   members_of_document v)
 
--- why a run isn't done, where no document is read; want of memory is no fault of the document
-abbrev pub run_fault_of : DocFault → RunFault
-run_fault_of (doc.At path cause) = run.Document (doc.At path cause)
-run_fault_of doc.Memory = run.Memory
-
 -- known bytes lose at most n at their front
-pub record TakesAtMost (n : ℕ) (old new : Option (List ℕ)) : Type 0 where
+pub record ConsumesAtMost (n : ℕ) (old new : Option (List ℕ)) : Type 0 where
   pub bytes : List ℕ
-  pub taken : Consumes old new bytes
-  pub few : length bytes ≤ n
+  pub consumed : Consumes old new bytes
+  pub short : length bytes ≤ n
 
 -- known bytes grow by a front part of the text
 pub record AppendsFront (old new : Option (List ℕ)) (text : List ℕ) : Type 0 where
   pub count : ℕ
   pub appended : Appends old new (take count text)
 
--- a fault of a document is the one that reading gives, and never want of memory
+-- a fault of a document is the one that reading gives, and never that memory ran out
 abbrev pub Refuses : DocFault → Result Document DocFault → Type 0
 Refuses (doc.At path cause) reading = reading ≡ Err (doc.At path cause)
 Refuses doc.Memory reading = ⊥
 
--- reading can end in this fault; a reader's failure and want of memory leave open what reading gives
+-- reading can end in this fault; where the reader failed or memory ran out, the result of reading is open
 abbrev pub IsFaultOf : RunFault → Result Document DocFault → Type 0
 IsFaultOf run.Read reading = Unit {0}
 IsFaultOf (run.Document fault) reading = Refuses fault reading
@@ -64,13 +62,22 @@ IsFaultOf (run.Store text) reading = ⊥
 IsFaultOf run.Write reading = ⊥
 IsFaultOf run.Memory reading = Unit {0}
 
--- some bytes spell the document; reading some bytes can end in the fault
-abbrev pub IsSpelled : Document → Type 0
-IsSpelled document = (bytes : List ℕ) × (document_of_bytes bytes ≡ Ok document)
+-- the remaining bytes of a reader give this document
+abbrev pub ReadsDocument : List ℕ → Document → Type 0
+ReadsDocument remaining document = document_of_bytes (bytes_read remaining) ≡ Ok document
 
-abbrev pub IsOfReading : RunFault → Type 0
-IsOfReading e = (bytes : List ℕ) × IsFaultOf e (document_of_bytes bytes)
+-- reading the remaining bytes of a reader can end in this fault
+abbrev pub EndsReading : List ℕ → RunFault → Type 0
+EndsReading remaining fault = IsFaultOf fault (document_of_bytes (bytes_read remaining))
 
--- the reader failed, or there was no memory left
-abbrev pub IsOfReader : RunFault → Type 0
-IsOfReader e = (e ≡ run.Read) ⊎ (e ≡ run.Memory)
+-- some bytes spell the document
+abbrev pub HasText : Document → Type 0
+HasText document = (bytes : List ℕ) × (document_of_bytes bytes ≡ Ok document)
+
+-- reading some bytes can end in the fault
+abbrev pub IsReadingFault : RunFault → Type 0
+IsReadingFault fault = (bytes : List ℕ) × IsFaultOf fault (document_of_bytes bytes)
+
+-- the reader failed, or memory ran out
+abbrev pub IsReaderFault : RunFault → Type 0
+IsReaderFault fault = (fault ≡ run.Read) ⊎ (fault ≡ run.Memory)

@@ -1,12 +1,6 @@
-pub mod Reading
-pub mod Json
-pub mod Members
-pub mod Causes
-pub mod Grammar
-pub mod Sound
-pub mod Quoting
-pub mod Printing
-pub mod Report
+pub mod RunFault
 pub mod Ends
 pub mod Options
+pub mod Printing
+pub mod Report
 pub mod Run

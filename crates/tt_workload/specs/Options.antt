@@ -2,7 +2,7 @@
 use Rattle.std.specs.Prelude.{◌≤◌}
 use Rattle.tt_workload.specs.declared.options.Options.{Options}
 
--- what holds where nothing else is asked for
+-- the options where none is given
 abbrev pub usual : Options
 usual = record { batch = 16; rounds = 8 }
 

@@ -1,4 +1,4 @@
--- Printed texts, in bytes.
+-- Values, rows and replies as they are printed, in bytes.
 use Rattle.std.specs.Prelude.{ℕ, List, [], ◌∷◌, ◌++◌, length, codes}
 use Rattle.std.specs.List.{flat_map}
 use Rattle.std.specs.Fmt.{decimal, signed_decimal}
@@ -7,7 +7,7 @@ use Rattle.tt_values.specs.declared.value.Value.TheVariants as values
 use Rattle.tt_values.specs.declared.row.Row.{Row}
 use Rattle.tt_values.specs.declared.reply.Reply.{Reply}
 use Rattle.tt_values.specs.declared.reply.Reply.TheVariants as replies
-use Rattle.tt_workload.specs.Quoting.{quoted}
+use Rattle.tt_document.specs.Quoting.{quoted}
 
 -- an Int by its digits, a Text in quotes
 abbrev pub value_text : Value → List ℕ

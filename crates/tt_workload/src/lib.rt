@@ -1,37 +1,19 @@
-//! Workloads of a small time-travel database: the document that tells one, and its texts.
+//! Runs of the workloads of a small time-travel database: a document is read, its calls are run,
+//! and their report is written.
 #![tactic(auto)]
 
-mod report;
-mod calls;
-mod causes;
-mod changes;
-mod decoder;
-mod document;
 mod ends;
-mod fault;
-mod members;
 mod options;
 mod printing;
-mod quoting;
-mod reading;
+mod report;
 mod run;
 mod run_fault;
-mod statements;
-mod tables;
-mod taker;
 
-pub use document::{Ask, Call, Document, SharedCatalog};
 pub use ends::{read_document, write_text};
-pub use fault::DocFault;
 pub use options::Options;
 pub use run::run_alone;
 pub use run_fault::RunFault;
-
-/// The most workers that a document has.
-pub const MAX_WORKERS: u32 = 15;
-
-/// The most calls that a document has.
-pub const MAX_CALLS: usize = 100_000;
+pub use tt_document::{Ask, Call, DocFault, Document};
 
 #[cfg(test)]
 mod tests;

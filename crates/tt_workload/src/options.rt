@@ -3,16 +3,17 @@ ghost use Rattle.std.specs.Prelude.{◌≡◌};
 /// How a run repairs.
 #[derive(Clone, Copy, Debug, PartialEq, Eq)]
 pub struct Options {
-    /// The most steps of a repair that are taken at once, 1 to 10,000.
+    /// The largest number of steps of a repair that are done at once, 1 to 10,000.
     pub batch: u32,
-    /// The most rounds of catching up before a repair is finished, 0 to 1,000.
+    /// The largest number of rounds of catching up before a repair is finished, 0 to 1,000.
     pub rounds: u32,
 }
 
 impl Options {
-    ghost use Rattle.tt_workload.specs.Options.{usual};
+    ghost use Rattle.std.specs.Prelude.{◌↔◌, IsTrue};
+    ghost use Rattle.tt_workload.specs.Options.{usual, AreWithin};
 
-    /// What holds where nothing else is asked for: batch 16, rounds 8.
+    /// The options where none is given: batch 16, rounds 8.
     pub const fn usual() -> Options
         ensures { result ≡ usual }
     {
@@ -20,5 +21,12 @@ impl Options {
             batch: 16,
             rounds: 8,
         }
+    }
+
+    /// Whether both are within their ranges.
+    pub fn fits(&self) -> bool
+        ensures { IsTrue result ↔ AreWithin self.now }
+    {
+        1 <= self.batch && self.batch <= 10_000 && self.rounds <= 1_000
     }
 }

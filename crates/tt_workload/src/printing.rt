@@ -1,12 +1,13 @@
-//! Values, rows and replies as they are printed. After an error a front part of a text is there.
+//! Values, rows and replies as they are printed. After an error a front part of a text stands in
+//! `out`.
 ghost use Rattle.std.specs.Prelude.{◌≡◌, ◌++◌, OnOk};
 ghost use Rattle.std.specs.Fmt.{decimal, signed_decimal};
 ghost use Rattle.std.specs.List.{flat_map};
 ghost use Rattle.tt_workload.specs.Printing.{value_text, further_value, values_text, row_text, spaced_row, reply_text};
 
-use crate::quoting::push_quoted;
 use std::alloc::AllocError;
 use std::io::Write;
+use tt_document::push_quoted;
 use tt_values::{Reply, Row, Value};
 
 /// Pushes a number in decimal digits.

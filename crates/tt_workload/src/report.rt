@@ -1,18 +1,17 @@
-//! The report of a document that runs alone.
+//! The report of a document whose calls run one after another.
 ghost use Rattle.std.specs.Prelude.{◌≡◌, ◌+◌, ◌<◌, ◌≤◌, ◌++◌, [], length, OnOk, IfOk, IfErr, None, Some, codes};
 ghost use Rattle.std.specs.Fmt.{decimal};
 ghost use Rattle.tt_values.specs.Check.{write_fault, select_fault};
 ghost use Rattle.tt_db.specs.Limits.{max_limits};
 ghost use Rattle.tt_db.specs.Database.{Database, state_of};
-ghost use Rattle.tt_workload.specs.Printing.{reply_text};
-ghost use Rattle.tt_workload.specs.Report.{outcome_text, answer_text, later_text, read_text, ask_text, call_line, entries_of_ask, entries_of, call_lines, table_line, table_lines, end_line, history_of, report_of, HasRoom};
-ghost use Rattle.tt_workload.specs.Sound.{ask_fault, AreAccepted, IsValidDocument};
+ghost use Rattle.tt_document.specs.Document.{ask_fault, IsValidDocument};
+ghost use Rattle.tt_workload.specs.Report.{outcome_text, answer_text, later_text, read_text, ask_text, caller_text, call_line, entries_of_ask, entries_of, call_lines, all_rows, table_text, table_line, table_lines, end_text, end_line, history_of, report_of, with_entries, HasRoom, AreAccepted};
 
-use crate::document::{Ask, Call, Document};
 use crate::printing::{push_decimal, push_labelled, push_reply};
 use crate::run_fault::RunFault;
 use std::alloc::{AllocError, Global};
 use tt_db::{Db, Entry, Event, Limits, Outcome, ReadError};
+use tt_document::{Ask, Call, Document};
 use tt_values::{Items, Reply, Select, Write};
 
 /// Pushes the end of a write's line.
@@ -30,7 +29,7 @@ fn push_outcome(out: &mut Vec<u8>, outcome: &Outcome) -> Result<(), AllocError>
 
 /// Pushes the beginning of a call's line.
 fn push_caller(out: &mut Vec<u8>, number: u64, worker: u32) -> Result<(), AllocError>
-    ensures { OnOk result (out.new.items ≡ out.old.items ++ (codes "call " ++ (decimal number ++ (codes " worker " ++ decimal worker)))) }
+    ensures { OnOk result (out.new.items ≡ out.old.items ++ caller_text number worker) }
 {
     out.extend_from_slice(b"call ")?;
     push_decimal(out, number)?;
@@ -39,7 +38,7 @@ fn push_caller(out: &mut Vec<u8>, number: u64, worker: u32) -> Result<(), AllocE
     Ok(())
 }
 
-/// Has the database take a write in, and pushes the end of its line.
+/// Applies a write to the database, and pushes the end of its line.
 fn push_write(
     alloc: Global,
     out: &mut Vec<u8>,
@@ -47,10 +46,12 @@ fn push_write(
     worker: u32,
     write: &Write,
 ) -> Result<(), RunFault>
-    requires sound { write_fault db.old.catalog write.now ≡ None }
+    requires accepted { write_fault db.old.catalog write.now ≡ None }
     requires room { HasRoom db.old }
-    ensures text { OnOk result (out.new.items ≡ out.old.items ++ ask_text (state_of db.old) (Ask.Write write.now)) }
-    ensures state { OnOk result (db.new ≡ record db.old { history = db.old.history ++ entries_of_ask worker (Ask.Write write.now) }) }
+    ensures text { OnOk result (out.new.items
+        ≡ out.old.items ++ ask_text (state_of db.old) (Ask.Write write.now)) }
+    ensures state { OnOk result (db.new
+        ≡ with_entries db.old (entries_of_ask worker (Ask.Write write.now))) }
     ensures err { IfErr result (λ e. e ≡ RunFault.Memory) }
 {
     let write = write.copy()?;
@@ -68,7 +69,7 @@ fn push_write(
     }
 }
 
-/// Asks the database, and pushes the end of a select's line.
+/// Reads the database, and pushes the end of a select's line.
 fn push_read(
     alloc: Global,
     out: &mut Vec<u8>,
@@ -76,8 +77,9 @@ fn push_read(
     select: &Select,
     at: Option<u64>,
 ) -> Result<(), RunFault>
-    requires sound { select_fault db.now.catalog select.now ≡ None }
-    ensures text { OnOk result (out.new.items ≡ out.old.items ++ read_text (state_of db.now) select.now at) }
+    requires accepted { select_fault db.now.catalog select.now ≡ None }
+    ensures text { OnOk result (out.new.items
+        ≡ out.old.items ++ read_text (state_of db.now) select.now at) }
     ensures err { IfErr result (λ e. e ≡ RunFault.Memory) }
 {
     match at {
@@ -86,10 +88,11 @@ fn push_read(
     }
 }
 
-/// Asks for rows as they are now.
+/// Reads rows as they are now.
 fn push_current(alloc: Global, out: &mut Vec<u8>, db: &Db, select: &Select) -> Result<(), RunFault>
-    requires sound { select_fault db.now.catalog select.now ≡ None }
-    ensures text { OnOk result (out.new.items ≡ out.old.items ++ read_text (state_of db.now) select.now None) }
+    requires accepted { select_fault db.now.catalog select.now ≡ None }
+    ensures text { OnOk result (out.new.items
+        ≡ out.old.items ++ read_text (state_of db.now) select.now None) }
     ensures err { IfErr result (λ e. e ≡ RunFault.Memory) }
 {
     let reply = match db.select(select) {
@@ -100,7 +103,7 @@ fn push_current(alloc: Global, out: &mut Vec<u8>, db: &Db, select: &Select) -> R
     Ok(())
 }
 
-/// Asks for rows as they were at a time, which may still be to come.
+/// Reads rows as they were at a time, which may still be to come.
 fn push_past(
     alloc: Global,
     out: &mut Vec<u8>,
@@ -108,8 +111,9 @@ fn push_past(
     select: &Select,
     time: u64,
 ) -> Result<(), RunFault>
-    requires sound { select_fault db.now.catalog select.now ≡ None }
-    ensures text { OnOk result (out.new.items ≡ out.old.items ++ read_text (state_of db.now) select.now (Some time)) }
+    requires accepted { select_fault db.now.catalog select.now ≡ None }
+    ensures text { OnOk result (out.new.items
+        ≡ out.old.items ++ read_text (state_of db.now) select.now (Some time)) }
     ensures err { IfErr result (λ e. e ≡ RunFault.Memory) }
 {
     match db.select_at(select, time) {
@@ -149,10 +153,11 @@ fn push_call(
     number: u64,
     call: &Call,
 ) -> Result<(), RunFault>
-    requires taken { ask_fault db.old.catalog call.now.ask ≡ None }
+    requires accepted { ask_fault db.old.catalog call.now.ask ≡ None }
     requires room { HasRoom db.old }
-    ensures line { OnOk result (out.new.items ≡ out.old.items ++ call_line number (state_of db.old) call.now) }
-    ensures state { OnOk result (db.new ≡ record db.old { history = db.old.history ++ entries_of call.now }) }
+    ensures line { OnOk result (out.new.items
+        ≡ out.old.items ++ call_line number (state_of db.old) call.now) }
+    ensures state { OnOk result (db.new ≡ with_entries db.old (entries_of call.now)) }
     ensures err { IfErr result (λ e. e ≡ RunFault.Memory) }
 {
     push_caller(out, number, call.worker)?;
@@ -164,9 +169,9 @@ fn push_call(
 
 /// Makes the calls of a document, in order, and pushes their lines.
 fn push_calls(alloc: Global, out: &mut Vec<u8>, db: &mut Db, calls: &[Call]) -> Result<(), RunFault>
-    requires fresh { db.old.history ≡ [] }
+    requires empty { db.old.history ≡ [] }
     requires limits { db.old.limits ≡ max_limits }
-    requires taken { AreAccepted db.old.catalog calls.now }
+    requires accepted { AreAccepted db.old.catalog calls.now }
     requires few { length calls.now ≤ 100000 }
     ensures lines { OnOk result (out.new.items ≡ out.old.items ++ call_lines 1 [] calls.now) }
     ensures state { OnOk result (db.new ≡ record db.old { history = history_of calls.now }) }
@@ -186,8 +191,9 @@ fn push_table(
     table: u16,
     name: &str,
 ) -> Result<(), RunFault>
-    requires sound { select_fault db.now.catalog (record { table = table; equals = [] }) ≡ None }
-    ensures text { OnOk result (out.new.items ≡ out.old.items ++ table_line (state_of db.now) table name.now) }
+    requires accepted { select_fault db.now.catalog (all_rows table) ≡ None }
+    ensures text { OnOk result (out.new.items
+        ≡ out.old.items ++ table_line (state_of db.now) table name.now) }
     ensures err { IfErr result (λ e. e ≡ RunFault.Memory) }
 {
     let all = Select {
@@ -203,7 +209,7 @@ fn push_table(
 }
 
 fn push_named(out: &mut Vec<u8>, name: &str, reply: &Reply) -> Result<(), AllocError>
-    ensures { OnOk result (out.new.items ≡ out.old.items ++ (codes "table " ++ (name.now ++ (codes " " ++ (reply_text reply.now ++ codes "\n"))))) }
+    ensures { OnOk result (out.new.items ≡ out.old.items ++ table_text name.now reply.now) }
 {
     out.extend_from_slice(b"table ")?;
     out.extend_from_slice(name.as_bytes())?;
@@ -215,7 +221,8 @@ fn push_named(out: &mut Vec<u8>, name: &str, reply: &Reply) -> Result<(), AllocE
 
 /// Pushes the lines of all tables.
 fn push_tables(alloc: Global, out: &mut Vec<u8>, db: &Db) -> Result<(), RunFault>
-    ensures text { OnOk result (out.new.items ≡ out.old.items ++ table_lines (state_of db.now) 0 db.now.catalog) }
+    ensures text { OnOk result (out.new.items
+        ≡ out.old.items ++ table_lines (state_of db.now) 0 db.now.catalog) }
     ensures err { IfErr result (λ e. e ≡ RunFault.Memory) }
 {
     let catalog = db.catalog();
@@ -239,7 +246,7 @@ fn push_end(out: &mut Vec<u8>, db: &Db) -> Result<(), AllocError>
 }
 
 fn push_last(out: &mut Vec<u8>, generation: u64, time: u64) -> Result<(), AllocError>
-    ensures { OnOk result (out.new.items ≡ out.old.items ++ (codes "end generation " ++ (decimal generation ++ (codes " time " ++ (decimal time ++ codes "\n"))))) }
+    ensures { OnOk result (out.new.items ≡ out.old.items ++ end_text generation time) }
 {
     push_labelled(out, b"end generation ", generation)?;
     push_labelled(out, b" time ", time)?;
@@ -247,14 +254,14 @@ fn push_last(out: &mut Vec<u8>, generation: u64, time: u64) -> Result<(), AllocE
     Ok(())
 }
 
-/// The report of a document that runs alone.
+/// The report of a document whose calls run one after another.
 pub(crate) fn report_of(alloc: Global, document: &Document) -> Result<Vec<u8>, RunFault>
     requires { IsValidDocument document.now }
     ensures ok { IfOk result (λ text. text.items ≡ report_of document.now) }
     ensures err { IfErr result (λ e. e ≡ RunFault.Memory) }
 {
-    let catalog = document.catalog.share()?;
-    let mut db = Db::new(alloc, catalog, Limits::usual());
+    let catalog = document.catalog.clone()?;
+    let mut db = Db::new(alloc, catalog.into_arc(), Limits::usual());
     let mut out = Vec::new(alloc);
     push_calls(alloc, &mut out, &mut db, document.calls.as_slice())?;
     push_tables(alloc, &mut out, &db)?;

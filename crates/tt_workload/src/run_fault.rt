@@ -1,22 +1,22 @@
 ghost use Rattle.std.specs.Prelude.{◌≡◌};
 
-use crate::fault::DocFault;
 use std::alloc::{AllocError, AllocFailed, Global};
 use tt_db::{DbError, ReadError};
+use tt_document::DocFault;
 use tt_values::Text;
 
-/// Why a run of a workload isn't done.
+/// Why a run of a workload failed.
 #[derive(Debug, PartialEq, Drop)]
 pub enum RunFault {
     /// The reader failed, or was interrupted too often.
     Read,
-    /// What was read isn't a document. The fault is never want of memory.
+    /// The document is faulty. The fault is never `DocFault::Memory`.
     Document(DocFault),
-    /// The store refused what a document may ask of it. The text says what.
+    /// The store refused a call that a document may make. The text says why.
     Store(Text),
     /// The writer failed, took no byte, or was interrupted too often.
     Write,
-    /// There was no memory left.
+    /// Memory ran out.
     Memory,
 }
 
@@ -70,7 +70,7 @@ fn store_fault(text: Result<String, AllocError>) -> RunFault {
 }
 
 impl From<DocFault> for RunFault {
-    ghost use Rattle.tt_workload.specs.Ends.{run_fault_of};
+    ghost use Rattle.tt_workload.specs.RunFault.{run_fault_of};
 
     ghost from_gives = { λ fault e. e ≡ run_fault_of fault };
 

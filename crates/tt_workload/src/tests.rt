@@ -1,6 +1,5 @@
-//! What runs of the program on documents don't show: the values that a document spells, and
-//! readers and writers that are slow, interrupted or broken.
-mod documents;
+//! What runs of the program don't show: readers and writers that are slow, interrupted or broken.
+mod devices;
 mod ends;
 mod runs;
 

@@ -1,4 +1,4 @@
-use super::ends::{Faltering, slow_sink, slow_source};
+use super::devices::{Sink, Source};
 use super::{EMPTY, STORED};
 use crate::{Options, RunFault, run_alone};
 
@@ -9,38 +9,34 @@ const REPORT: &str =
 
 #[test]
 fn one_byte_at_a_time(rt: HostRuntime) {
-    let mut reader = slow_source(STORED.as_bytes(), usize::MAX);
-    let mut writer = slow_sink(rt.alloc(), usize::MAX);
-    let outcome = run_alone(rt.alloc(), &mut reader, &mut writer, &Options::usual());
+    let options = Options::usual();
+    assert!(rt; options.fits());
+    assert!(rt;
+        !Options {
+            batch: 0,
+            rounds: 0
+        }
+        .fits()
+    );
+    let mut reader = Source::slow(STORED.as_bytes(), usize::MAX);
+    let mut writer = Sink::new(rt.alloc(), 1, usize::MAX);
+    let outcome = run_alone(rt.alloc(), &mut reader, &mut writer, &options);
     assert!(rt; outcome.is_ok());
     assert!(rt; writer.written.as_slice() == REPORT.as_bytes());
+    assert_eq!(rt; writer.flushed, REPORT.len());
 }
 
 #[test]
 fn devices_that_fail(rt: HostRuntime) {
     let options = Options::usual();
-    for reads in 0..=EMPTY.len() {
-        let mut reader = slow_source(EMPTY.as_bytes(), reads);
-        let mut writer = slow_sink(rt.alloc(), usize::MAX);
-        let outcome = run_alone(rt.alloc(), &mut reader, &mut writer, &options);
-        assert!(rt; outcome == Err(RunFault::Read));
-        assert!(rt; writer.written.is_empty());
-    }
-    for writes in 0..10 {
-        let mut reader = EMPTY.as_bytes();
-        let mut writer = slow_sink(rt.alloc(), writes);
-        let outcome = run_alone(rt.alloc(), &mut reader, &mut writer, &options);
-        assert!(rt; outcome == Err(RunFault::Write));
-        assert!(rt; writer.written.as_slice() == &END.as_bytes()[..writes]);
-    }
-}
-
-#[test]
-fn interrupted_devices(rt: HostRuntime) {
-    let options = Options::usual();
-    let mut reader = Faltering::new(slow_source(EMPTY.as_bytes(), usize::MAX), 40);
-    let mut writer = Faltering::new(slow_sink(rt.alloc(), usize::MAX), 20);
+    let mut reader = Source::slow(EMPTY.as_bytes(), 20);
+    let mut writer = Sink::new(rt.alloc(), 1, usize::MAX);
     let outcome = run_alone(rt.alloc(), &mut reader, &mut writer, &options);
-    assert!(rt; outcome.is_ok());
-    assert!(rt; writer.inner.written.as_slice() == END.as_bytes());
+    assert!(rt; outcome == Err(RunFault::Read));
+    assert!(rt; writer.written.is_empty());
+    let mut reader = EMPTY.as_bytes();
+    let mut writer = Sink::new(rt.alloc(), 1, 10);
+    let outcome = run_alone(rt.alloc(), &mut reader, &mut writer, &options);
+    assert!(rt; outcome == Err(RunFault::Write));
+    assert!(rt; writer.written.as_slice() == &END.as_bytes()[..10]);
 }

@@ -6,11 +6,11 @@ use Rattle.tt_workload.proofs.ends.write_text.Goals as goal
 
 pub loop-written-preserved : goal.loop-written-preserved
 loop-written-preserved g c =
-    let done = c.loop-written.written in
+    let written = c.loop-written.written in
     let count = c.in_ok-written.field-0 in
     let text = c.args.text.now in
     let before = c.loop-written.invariant in
     let fits = c.in_ok-written.ensures.bound in
-    let most = length-take (length text - done) (drop done text) in
-    let joined = ap (λ l. take done text ++ l) (take-take count (length text - done) (drop done text) (omega arith)) ∙ sym (take-add done count text) in
+    let length_rest = length-take (length text - written) (drop written text) in
+    let joined = ap (λ l. take written text ++ l) (take-take count (length text - written) (drop written text) (omega arith)) ∙ sym (take-add written count text) in
     (omega arith, subst (Appends _ _) joined (Appends-trans _ _ _ _ _ before.1 c.in_ok-written.ensures.ok))

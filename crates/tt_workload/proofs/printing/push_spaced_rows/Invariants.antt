@@ -1,4 +1,4 @@
--- what was pushed and what is left make the whole
+-- the text so far and that of the items that are left are the whole
 use Rattle.std.proofs.Common.{◌≡◌, ◌++◌, drop}
 use Rattle.std.specs.List.{flat_map}
 use Rattle.tt_workload.specs.Printing.{spaced_row}

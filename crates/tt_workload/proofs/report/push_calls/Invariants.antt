@@ -1,9 +1,8 @@
--- what was made and what is left make the whole, and there is room for what is left
+-- the lines so far and those of the calls that are left are all, and there is room for the calls that are left
 use Rattle.std.proofs.Common.{◌≡◌, ◌≤◌, ◌+◌, ◌++◌, [], drop}
 use Rattle.tt_db.specs.Limits.{max_limits}
 use Rattle.tt_db.specs.State.{after, now_of}
-use Rattle.tt_workload.specs.Report.{call_lines, history_of}
-use Rattle.tt_workload.specs.Sound.{AreAccepted}
+use Rattle.tt_workload.specs.Report.{call_lines, history_of, AreAccepted}
 use Rattle.tt_workload.proofs.report.push_calls.Given as goal
 
 abbrev pub invariant-loop-i : goal.invariant-loop-i
@@ -14,5 +13,5 @@ invariant-loop-i l = record {
   limits : l.db.limits ≡ max_limits;
   slots : now_of (after l.db.history) ≤ l.i;
   events : (after l.db.history).events ≤ l.i;
-  taken : AreAccepted l.db.catalog (drop l.i l.calls);
+  accepted : AreAccepted l.db.catalog (drop l.i l.calls);
 }

@@ -1,0 +1,4 @@
+pub mod DecoderLemmas
+pub mod DocumentLemmas
+pub mod MembersLemmas
+pub mod QuotingLemmas

@@ -1,0 +1,13 @@
+pub mod Fault
+pub mod Decoder
+pub mod Taker
+pub mod Quoting
+pub mod Members
+pub mod Causes
+pub mod Tables
+pub mod Conditions
+pub mod Changes
+pub mod Statements
+pub mod Calls
+pub mod Reading
+pub mod Document

@@ -1,0 +1,26 @@
+-- A whole document. The members of an object are judged in the order in which they are named here, each one wholly before the
+-- next; then an unknown member, the least by its bytes; then the object as a whole. Statements and tables are judged likewise.
+use Rattle.std.specs.Prelude.{ℕ, [], ◌∷◌, Result, Ok, codes}
+use Rattle.serde_json.specs.Data.{Data}
+use Rattle.tt_document.specs.declared.document.Document.{Document}
+use Rattle.tt_document.specs.declared.fault.DocFault.{DocFault}
+use Rattle.tt_document.specs.Fault.{◌>>=◌}
+use Rattle.tt_document.specs.Decoder.{object, count_within, member}
+use Rattle.tt_document.specs.Members.{is_one_of, no_members_but}
+use Rattle.tt_document.specs.Tables.{catalog}
+use Rattle.tt_document.specs.Calls.{calls}
+
+-- the largest number of workers
+abbrev pub max_workers : ℕ
+max_workers = 15
+
+-- a document: its version, its tables, how many workers there are, and their calls
+unfoldable pub members_of_document : Data → Result Document DocFault
+members_of_document v = do
+  _ ← object v
+  _ ← member (codes "version") (count_within 1 1) v
+  tables ← member (codes "tables") catalog v
+  workers ← member (codes "workers") (count_within 1 max_workers) v
+  calls ← member (codes "calls") (calls tables workers) v
+  _ ← no_members_but (is_one_of (codes "calls" ∷ codes "tables" ∷ codes "version" ∷ codes "workers" ∷ [])) v
+  Ok (record { catalog = tables; workers = workers; calls = calls })

@@ -1,0 +1,69 @@
+-- Statements: each member of the object in order, then an unknown member, then the check of the statement as a whole.
+use Rattle.std.specs.Prelude.{ℕ, List, [], ◌∷◌, Option, Result, Ok, codes}
+use Rattle.serde_json.specs.Data.{Data}
+use Rattle.tt_values.specs.declared.statement.Equal.{Equal}
+use Rattle.tt_values.specs.declared.statement.Select.{Select}
+use Rattle.tt_values.specs.declared.statement.Write.{Write}
+use Rattle.tt_values.specs.declared.statement.Write.TheVariants.{Insert, Update, Delete}
+use Rattle.tt_values.specs.declared.checking.CheckError.{CheckError}
+use Rattle.tt_values.specs.Tables.{Tables}
+use Rattle.tt_values.specs.Check.{write_fault, select_fault}
+use Rattle.tt_document.specs.declared.document.Ask.{Ask}
+use Rattle.tt_document.specs.declared.document.Ask.TheVariants as asks
+use Rattle.tt_document.specs.declared.fault.DocFault.{DocFault}
+use Rattle.tt_document.specs.Fault.{◌>>=◌}
+use Rattle.tt_document.specs.Decoder.{count, member, optional}
+use Rattle.tt_document.specs.Taker.{array_of}
+use Rattle.tt_document.specs.Members.{is_one_of, no_members_but}
+use Rattle.tt_document.specs.Causes.{judge, cause_of_check}
+use Rattle.tt_document.specs.Conditions.{value, table_named, condition}
+use Rattle.tt_document.specs.Changes.{change}
+
+-- a statement that can be carried out, or why it can't
+abbrev pub checked_statement : {S : Type 0} → S → Option CheckError → Result S DocFault
+checked_statement statement fault = do
+  _ ← judge cause_of_check fault
+  Ok statement
+
+-- the conditions of a statement on a table
+abbrev pub conditions : Tables → ℕ → Data → Result (List Equal) DocFault
+conditions tables table v = member (codes "where") (array_of (condition tables table)) v
+
+-- an insert: the table, and the values of its row
+unfoldable pub insert : Tables → Data → Result Write DocFault
+insert tables v = do
+  table ← member (codes "insert") (table_named tables) v
+  values ← member (codes "row") (array_of value) v
+  _ ← no_members_but (is_one_of (codes "insert" ∷ codes "row" ∷ codes "worker" ∷ [])) v
+  let statement : Write = Insert table (record { values = values })
+  checked_statement statement (write_fault tables statement)
+
+-- an update: the table, the changes, and the conditions
+unfoldable pub update : Tables → Data → Result Write DocFault
+update tables v = do
+  table ← member (codes "update") (table_named tables) v
+  changes ← member (codes "change") (array_of (change tables table)) v
+  equals ← conditions tables table v
+  _ ← no_members_but (is_one_of (codes "change" ∷ codes "update" ∷ codes "where" ∷ codes "worker" ∷ [])) v
+  let statement : Write = Update table changes equals
+  checked_statement statement (write_fault tables statement)
+
+-- a delete: the table, and the conditions
+unfoldable pub delete : Tables → Data → Result Write DocFault
+delete tables v = do
+  table ← member (codes "delete") (table_named tables) v
+  equals ← conditions tables table v
+  _ ← no_members_but (is_one_of (codes "delete" ∷ codes "where" ∷ codes "worker" ∷ [])) v
+  let statement : Write = Delete table equals
+  checked_statement statement (write_fault tables statement)
+
+-- a select: the table, the conditions, and the time, which is left out where the rows are wanted as they are now
+unfoldable pub select : Tables → Data → Result Ask DocFault
+select tables v = do
+  table ← member (codes "select") (table_named tables) v
+  equals ← conditions tables table v
+  at ← optional (codes "at") count v
+  _ ← no_members_but (is_one_of (codes "at" ∷ codes "select" ∷ codes "where" ∷ codes "worker" ∷ [])) v
+  let statement : Select = record { table = table; equals = equals }
+  select ← checked_statement statement (select_fault tables statement)
+  Ok (asks.Read select at)

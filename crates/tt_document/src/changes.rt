@@ -1,0 +1,111 @@
+//! Reading of the changes of an update.
+ghost use Rattle.std.specs.Prelude.{◌≡◌};
+ghost use Rattle.serde_json.specs.View.{view};
+ghost use Rattle.tt_document.specs.Fault.{GivesViewed};
+ghost use Rattle.tt_document.specs.Changes.{triple, verb_named, verb, change_of, change};
+
+use crate::conditions::{ColumnNameDecoder, ValueDecoder};
+use crate::decoder::{Decoder, IntDecoder, OUT_OF_RANGE, WRONG_TYPE, array, item, text};
+use crate::fault::DocFault;
+use serde_json::Value;
+use std::alloc::Global;
+use tt_values::{Catalog, Change};
+
+/// What a change does to its column.
+#[derive(Clone, Copy)]
+pub(crate) enum Verb {
+    Set,
+    Add,
+}
+
+/// A change of a table: what it does, its column, and what with.
+#[derive(Drop)]
+pub(crate) struct ChangeDecoder<'a> {
+    pub(crate) catalog: &'a Catalog,
+    pub(crate) table: u16,
+}
+
+impl Decoder for ChangeDecoder<'_> {
+    type Output = Change;
+
+    ghost meaning = { λ r. change r.catalog.now r.table };
+
+    #[tactic(auto, unfolding(crate::specs::Changes::change))]
+    fn decode(&self, alloc: Global, value: &Value) -> Result<Change, DocFault> {
+        let (first, second, third) = triple(alloc, value)?;
+        let verb = item(alloc, 0, first, &VerbDecoder)?;
+        let column = ColumnNameDecoder {
+            catalog: self.catalog,
+            table: self.table,
+        };
+        let column = item(alloc, 1, second, &column)?;
+        let change = item(alloc, 2, third, &OperandDecoder { verb, column })?;
+        Ok(change)
+    }
+}
+
+/// The items of an array of three.
+fn triple(alloc: Global, value: &Value) -> Result<(&Value, &Value, &Value), DocFault>
+    ensures { GivesViewed (λ t. (view t.0.now, view t.1.now, view t.2.now)) result
+        (triple (view value.now)) }
+{
+    let items = array(alloc, value)?;
+    if items.len() != 3 {
+        return Err(DocFault::here(alloc, WRONG_TYPE));
+    }
+    Ok((&items[0], &items[1], &items[2]))
+}
+
+#[derive(Drop)]
+struct VerbDecoder;
+
+impl Decoder for VerbDecoder {
+    type Output = Verb;
+
+    ghost meaning = { λ _. verb };
+
+    fn decode(&self, alloc: Global, value: &Value) -> Result<Verb, DocFault> {
+        let name = text(alloc, value)?;
+        match verb_named(name) {
+            Some(verb) => Ok(verb),
+            None => Err(DocFault::here(alloc, OUT_OF_RANGE)),
+        }
+    }
+}
+
+fn verb_named(name: &str) -> Option<Verb>
+    ensures { result ≡ verb_named name.now }
+{
+    match name {
+        "set" => Some(Verb::Set),
+        "add" => Some(Verb::Add),
+        _ => None,
+    }
+}
+
+/// A change with its last item, the operand.
+#[derive(Drop)]
+struct OperandDecoder {
+    verb: Verb,
+    column: u16,
+}
+
+impl Decoder for OperandDecoder {
+    type Output = Change;
+
+    ghost meaning = { λ r. change_of r.verb r.column };
+
+    fn decode(&self, alloc: Global, value: &Value) -> Result<Change, DocFault> {
+        let column = self.column;
+        match self.verb {
+            Verb::Set => {
+                let value = ValueDecoder.decode(alloc, value)?;
+                Ok(Change::Set { column, value })
+            }
+            Verb::Add => {
+                let by = IntDecoder.decode(alloc, value)?;
+                Ok(Change::Add { column, by })
+            }
+        }
+    }
+}

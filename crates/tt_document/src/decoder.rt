@@ -1,0 +1,222 @@
+//! Reading of JSON values.
+ghost use Rattle.std.specs.Prelude.{◌≡◌, ◌++◌, Result, map, codes};
+ghost use Rattle.serde_json.specs.Data.{Data};
+ghost use Rattle.serde_json.specs.View.{view};
+ghost use Rattle.tt_document.specs.declared.fault.DocFault.{DocFault};
+ghost use Rattle.tt_document.specs.Fault.{Gives, GivesViewed, IsFault, fault_here, with_path, member_path, item_path};
+ghost use Rattle.tt_document.specs.Decoder.{object, text, int, flag, count, count_within, array, member, optional};
+
+use crate::fault::DocFault;
+use serde_json::Value;
+use std::alloc::Global;
+use tt_values::Text;
+
+pub(crate) const WRONG_TYPE: &str = "wrong type";
+
+pub(crate) const OUT_OF_RANGE: &str = "out of range";
+
+/// Reads the values of one place of the grammar.
+pub(crate) trait Decoder: Drop {
+    type Output;
+
+    /// What a value means, or its first fault.
+    ghost meaning: { Self → Data → Result Self.Output DocFault };
+
+    fn decode(&self, alloc: Global, value: &Value) -> Result<Self::Output, DocFault>
+        ensures { Gives result (meaning self.now (view value.now)) };
+}
+
+/// Asks that the value is an object.
+pub(crate) fn object(alloc: Global, value: &Value) -> Result<(), DocFault>
+    ensures { Gives result (object (view value.now)) }
+{
+    match value.as_object() {
+        Some(_) => Ok(()),
+        None => Err(DocFault::here(alloc, WRONG_TYPE)),
+    }
+}
+
+/// The text that the value is.
+pub(crate) fn text(alloc: Global, value: &Value) -> Result<&str, DocFault>
+    ensures { GivesViewed (λ s. s.now) result (text (view value.now)) }
+{
+    match value.as_str() {
+        Some(text) => Ok(text),
+        None => Err(DocFault::here(alloc, WRONG_TYPE)),
+    }
+}
+
+/// The count that the value is.
+pub(crate) fn count(alloc: Global, value: &Value) -> Result<u64, DocFault>
+    ensures { Gives result (count (view value.now)) }
+{
+    match value.as_u64() {
+        Some(count) => Ok(count),
+        None => Err(DocFault::here(alloc, WRONG_TYPE)),
+    }
+}
+
+/// The items of the array that the value is.
+pub(crate) fn array(alloc: Global, value: &Value) -> Result<&[Value], DocFault>
+    ensures { GivesViewed (λ items. map view items.now) result (array (view value.now)) }
+{
+    match value.as_array() {
+        Some(items) => Ok(items.as_slice()),
+        None => Err(DocFault::here(alloc, WRONG_TYPE)),
+    }
+}
+
+/// The meaning of a member that has to be there.
+pub(crate) fn member<D: Decoder>(
+    alloc: Global,
+    object: &Value,
+    name: &str,
+    decoder: &D,
+) -> Result<D::Output, DocFault>
+    ensures { Gives result (member name.now (D.meaning decoder.now) (view object.now)) }
+{
+    match object.get(name) {
+        Some(value) => member_value(alloc, value, name, decoder),
+        None => Err(missing(alloc, name)),
+    }
+}
+
+/// The meaning of a member that may be left out.
+pub(crate) fn optional<D: Decoder>(
+    alloc: Global,
+    object: &Value,
+    name: &str,
+    decoder: &D,
+) -> Result<Option<D::Output>, DocFault>
+    ensures { Gives result (optional name.now (D.meaning decoder.now) (view object.now)) }
+{
+    match object.get(name) {
+        Some(value) => {
+            let meaning = member_value(alloc, value, name, decoder)?;
+            Ok(Some(meaning))
+        }
+        None => Ok(None),
+    }
+}
+
+fn member_value<D: Decoder>(
+    alloc: Global,
+    value: &Value,
+    name: &str,
+    decoder: &D,
+) -> Result<D::Output, DocFault>
+    ensures { Gives result
+        (with_path (member_path name.now) (D.meaning decoder.now (view value.now))) }
+{
+    match decoder.decode(alloc, value) {
+        Ok(meaning) => Ok(meaning),
+        Err(fault) => Err(fault.in_member(alloc, name)),
+    }
+}
+
+/// The meaning of an item of an array.
+pub(crate) fn item<D: Decoder>(
+    alloc: Global,
+    index: usize,
+    value: &Value,
+    decoder: &D,
+) -> Result<D::Output, DocFault>
+    ensures { Gives result (with_path (item_path index) (D.meaning decoder.now (view value.now))) }
+{
+    match decoder.decode(alloc, value) {
+        Ok(meaning) => Ok(meaning),
+        Err(fault) => Err(fault.in_item(alloc, index)),
+    }
+}
+
+fn missing(alloc: Global, name: &str) -> DocFault
+    ensures { IsFault result (fault_here (codes "missing member " ++ name.now)) }
+{
+    DocFault::because(alloc, format!(in alloc; "missing member {name}"))
+}
+
+/// A text, in memory of its own.
+#[derive(Drop)]
+pub(crate) struct TextDecoder;
+
+impl Decoder for TextDecoder {
+    type Output = Text;
+
+    ghost meaning = { λ _. text };
+
+    fn decode(&self, alloc: Global, value: &Value) -> Result<Text, DocFault> {
+        let text = text(alloc, value)?;
+        let text = String::from_str(alloc, text)?;
+        Ok(Text::new(text))
+    }
+}
+
+/// True or false.
+#[derive(Drop)]
+pub(crate) struct FlagDecoder;
+
+impl Decoder for FlagDecoder {
+    type Output = bool;
+
+    ghost meaning = { λ _. flag };
+
+    fn decode(&self, alloc: Global, value: &Value) -> Result<bool, DocFault> {
+        match value.as_bool() {
+            Some(flag) => Ok(flag),
+            None => Err(DocFault::here(alloc, WRONG_TYPE)),
+        }
+    }
+}
+
+/// An Int.
+#[derive(Drop)]
+pub(crate) struct IntDecoder;
+
+impl Decoder for IntDecoder {
+    type Output = i64;
+
+    ghost meaning = { λ _. int };
+
+    fn decode(&self, alloc: Global, value: &Value) -> Result<i64, DocFault> {
+        match value.as_i64() {
+            Some(number) => Ok(number),
+            None => Err(DocFault::here(alloc, WRONG_TYPE)),
+        }
+    }
+}
+
+/// Any count.
+#[derive(Drop)]
+pub(crate) struct AnyCountDecoder;
+
+impl Decoder for AnyCountDecoder {
+    type Output = u64;
+
+    ghost meaning = { λ _. count };
+
+    fn decode(&self, alloc: Global, value: &Value) -> Result<u64, DocFault> {
+        let count = count(alloc, value)?;
+        Ok(count)
+    }
+}
+
+/// A count within bounds.
+#[derive(Drop)]
+pub(crate) struct CountDecoder {
+    pub(crate) min: u32,
+    pub(crate) max: u32,
+}
+
+impl Decoder for CountDecoder {
+    type Output = u32;
+
+    ghost meaning = { λ c. count_within c.min c.max };
+
+    fn decode(&self, alloc: Global, value: &Value) -> Result<u32, DocFault> {
+        let count = count(alloc, value)?;
+        if count < u64::from(self.min) || count > u64::from(self.max) {
+            return Err(DocFault::here(alloc, OUT_OF_RANGE));
+        }
+        Ok(count as u32)
+    }
+}

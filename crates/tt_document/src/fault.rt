@@ -1,0 +1,116 @@
+ghost use Rattle.std.specs.Prelude.{◌≡◌, MatchResult, string_bytes};
+
+use std::alloc::{AllocError, AllocFailed, Global};
+use tt_values::Text;
+
+/// Why a document is refused.
+#[derive(Debug, PartialEq, Drop)]
+pub enum DocFault {
+    /// The first fault of the document: where it is, and what it is.
+    At { path: Text, cause: Text },
+    /// Memory ran out. Nothing is said of the document.
+    Memory,
+}
+
+impl From<AllocError> for DocFault {
+    ghost use Rattle.std.specs.Prelude.{◌≡◌};
+    ghost use Rattle.tt_document.specs.declared.fault.DocFault.TheVariants.{Memory};
+
+    ghost from_gives = { λ _ e. e ≡ Memory };
+
+    fn from(_error: AllocError) -> DocFault {
+        DocFault::Memory
+    }
+}
+
+impl<T: Drop> From<AllocFailed<T>> for DocFault {
+    ghost use Rattle.std.specs.Prelude.{◌≡◌};
+    ghost use Rattle.tt_document.specs.declared.fault.DocFault.TheVariants.{Memory};
+
+    ghost from_gives = { λ _ e. e ≡ Memory };
+
+    fn from(_error: AllocFailed<T>) -> DocFault {
+        DocFault::Memory
+    }
+}
+
+impl DocFault {
+    ghost use Rattle.tt_document.specs.Fault.{IsFault, fault_here, fault_at, member_path, item_path, document_path, document_fault};
+
+    /// A fault of a whole document, with its cause. The path is `$`.
+    pub fn of_document(alloc: Global, cause: &str) -> DocFault
+        ensures { IsFault result (document_fault cause.now) }
+    {
+        DocFault::here(alloc, cause).in_document(alloc)
+    }
+
+    /// A fault of the value itself.
+    pub(crate) fn here(alloc: Global, cause: &str) -> DocFault
+        ensures { IsFault result (fault_here cause.now) }
+    {
+        DocFault::because(alloc, String::from_str(alloc, cause))
+    }
+
+    /// The same, with the text of the cause, or none for lack of memory.
+    pub(crate) fn because(alloc: Global, cause: Result<String, AllocError>) -> DocFault
+        ensures { MatchResult cause
+            (λ text. result ≡ fault_here (string_bytes text))
+            (λ _. result ≡ DocFault.Memory) }
+    {
+        match cause {
+            Ok(cause) => DocFault::At {
+                path: Text::new(String::new(alloc)),
+                cause: Text::new(cause),
+            },
+            Err(AllocError) => DocFault::Memory,
+        }
+    }
+
+    /// The fault of a member's value, as one of the object.
+    pub(crate) fn in_member(self, alloc: Global, name: &str) -> DocFault
+        ensures { IsFault result (fault_at (member_path name.now) self) }
+    {
+        let DocFault::At { path, cause } = self else {
+            return DocFault::Memory;
+        };
+        let inner = path.as_str();
+        fault_with_path(format!(in alloc; ".{name}{inner}"), cause)
+    }
+
+    /// The fault of an item, as one of the array.
+    pub(crate) fn in_item(self, alloc: Global, index: usize) -> DocFault
+        ensures { IsFault result (fault_at (item_path index) self) }
+    {
+        let DocFault::At { path, cause } = self else {
+            return DocFault::Memory;
+        };
+        let inner = path.as_str();
+        fault_with_path(format!(in alloc; "[{index}]{inner}"), cause)
+    }
+
+    /// The fault of the whole value, as one of the document.
+    pub(crate) fn in_document(self, alloc: Global) -> DocFault
+        ensures { IsFault result (fault_at document_path self) }
+    {
+        let DocFault::At { path, cause } = self else {
+            return DocFault::Memory;
+        };
+        let inner = path.as_str();
+        fault_with_path(format!(in alloc; "${inner}"), cause)
+    }
+}
+
+/// A fault with the text of its path, or none for lack of memory.
+fn fault_with_path(path: Result<String, AllocError>, cause: Text) -> DocFault
+    ensures { MatchResult path
+        (λ p. result ≡ DocFault.At (string_bytes p) cause)
+        (λ _. result ≡ DocFault.Memory) }
+{
+    match path {
+        Ok(path) => DocFault::At {
+            path: Text::new(path),
+            cause,
+        },
+        Err(AllocError) => DocFault::Memory,
+    }
+}

@@ -1,0 +1,29 @@
+//! The documents of a small time-travel database: a workload in JSON, or its first fault.
+#![tactic(auto)]
+
+mod calls;
+mod causes;
+mod changes;
+mod conditions;
+mod decoder;
+mod document;
+mod fault;
+mod members;
+mod quoting;
+mod reading;
+mod statements;
+mod tables;
+mod taker;
+
+pub use document::{Ask, Call, Document};
+pub use fault::DocFault;
+pub use quoting::push_quoted;
+
+/// The largest number of workers of a document.
+pub const MAX_WORKERS: u32 = 15;
+
+/// The largest number of calls of a document.
+pub const MAX_CALLS: usize = 100_000;
+
+#[cfg(test)]
+mod tests;

@@ -1,0 +1,43 @@
+//! Reading of a whole document.
+ghost use Rattle.serde_json.specs.View.{view};
+ghost use Rattle.tt_document.specs.Fault.{Gives};
+ghost use Rattle.tt_document.specs.Reading.{members_of_document};
+
+use crate::MAX_WORKERS;
+use crate::calls::CallsDecoder;
+use crate::decoder::{CountDecoder, member, object};
+use crate::document::Document;
+use crate::fault::DocFault;
+use crate::members::no_members_but;
+use crate::tables::TablesDecoder;
+use serde_json::Value;
+use std::alloc::Global;
+use tt_values::Shared;
+
+/// The document of an object. Paths begin at the object.
+#[tactic(auto, unfolding(crate::specs::Reading::members_of_document))]
+pub(crate) fn from_members(alloc: Global, value: &Value) -> Result<Document, DocFault>
+    ensures { Gives result (members_of_document (view value.now)) }
+{
+    object(alloc, value)?;
+    let version = CountDecoder { min: 1, max: 1 };
+    member(alloc, value, "version", &version)?;
+    let catalog = member(alloc, value, "tables", &TablesDecoder)?;
+    let workers = CountDecoder {
+        min: 1,
+        max: MAX_WORKERS,
+    };
+    let workers = member(alloc, value, "workers", &workers)?;
+    let decoder = CallsDecoder {
+        catalog: &catalog,
+        workers,
+    };
+    let calls = member(alloc, value, "calls", &decoder)?;
+    no_members_but(alloc, value, &["calls", "tables", "version", "workers"])?;
+    let catalog = Shared::new(alloc, catalog)?;
+    Ok(Document {
+        catalog,
+        workers,
+        calls,
+    })
+}

@@ -1,0 +1,110 @@
+//! Reading of statements.
+ghost use Rattle.serde_json.specs.View.{view};
+ghost use Rattle.tt_values.specs.Check.{write_fault, select_fault};
+ghost use Rattle.tt_document.specs.Fault.{Gives};
+ghost use Rattle.tt_document.specs.Statements.{checked_statement, conditions, insert, update, delete, select};
+
+use crate::causes::cause_of_check;
+use crate::changes::ChangeDecoder;
+use crate::conditions::{ConditionDecoder, TableNameDecoder, ValueDecoder};
+use crate::decoder::{AnyCountDecoder, member, optional};
+use crate::document::Ask;
+use crate::fault::DocFault;
+use crate::members::no_members_but;
+use crate::taker::ArrayDecoder;
+use serde_json::Value;
+use std::alloc::Global;
+use tt_values::{Catalog, Equal, Items, Row, Select, Write, check, check_select};
+
+/// The insert of an object.
+#[tactic(auto, unfolding(crate::specs::Statements::insert))]
+pub(crate) fn insert(alloc: Global, catalog: &Catalog, value: &Value) -> Result<Write, DocFault>
+    ensures { Gives result (insert catalog.now (view value.now)) }
+{
+    let table = member(alloc, value, "insert", &TableNameDecoder { catalog })?;
+    let decoder = ArrayDecoder {
+        decoder: ValueDecoder,
+    };
+    let values = member(alloc, value, "row", &decoder)?;
+    no_members_but(alloc, value, &["insert", "row", "worker"])?;
+    let row = Row { values };
+    checked_write(alloc, catalog, Write::Insert { table, row })
+}
+
+/// The update of an object.
+#[tactic(auto, unfolding(crate::specs::Statements::update))]
+pub(crate) fn update(alloc: Global, catalog: &Catalog, value: &Value) -> Result<Write, DocFault>
+    ensures { Gives result (update catalog.now (view value.now)) }
+{
+    let table = member(alloc, value, "update", &TableNameDecoder { catalog })?;
+    let decoder = ArrayDecoder {
+        decoder: ChangeDecoder { catalog, table },
+    };
+    let changes = member(alloc, value, "change", &decoder)?;
+    let equals = conditions(alloc, catalog, table, value)?;
+    no_members_but(alloc, value, &["change", "update", "where", "worker"])?;
+    let write = Write::Update {
+        table,
+        changes,
+        equals,
+    };
+    checked_write(alloc, catalog, write)
+}
+
+/// The delete of an object.
+#[tactic(auto, unfolding(crate::specs::Statements::delete))]
+pub(crate) fn delete(alloc: Global, catalog: &Catalog, value: &Value) -> Result<Write, DocFault>
+    ensures { Gives result (delete catalog.now (view value.now)) }
+{
+    let table = member(alloc, value, "delete", &TableNameDecoder { catalog })?;
+    let equals = conditions(alloc, catalog, table, value)?;
+    no_members_but(alloc, value, &["delete", "where", "worker"])?;
+    checked_write(alloc, catalog, Write::Delete { table, equals })
+}
+
+/// The select of an object.
+#[tactic(auto, unfolding(crate::specs::Statements::select))]
+pub(crate) fn select(alloc: Global, catalog: &Catalog, value: &Value) -> Result<Ask, DocFault>
+    ensures { Gives result (select catalog.now (view value.now)) }
+{
+    let table = member(alloc, value, "select", &TableNameDecoder { catalog })?;
+    let equals = conditions(alloc, catalog, table, value)?;
+    let at = optional(alloc, value, "at", &AnyCountDecoder)?;
+    no_members_but(alloc, value, &["at", "select", "where", "worker"])?;
+    let select = checked_select(alloc, catalog, Select { table, equals })?;
+    Ok(Ask::Read { select, at })
+}
+
+/// The conditions of a statement on a table, from its member `where`.
+fn conditions(
+    alloc: Global,
+    catalog: &Catalog,
+    table: u16,
+    statement: &Value,
+) -> Result<Items<Equal>, DocFault>
+    ensures { Gives result (conditions catalog.now table (view statement.now)) }
+{
+    let decoder = ArrayDecoder {
+        decoder: ConditionDecoder { catalog, table },
+    };
+    let equals = member(alloc, statement, "where", &decoder)?;
+    Ok(equals)
+}
+
+fn checked_write(alloc: Global, catalog: &Catalog, write: Write) -> Result<Write, DocFault>
+    ensures { Gives result (checked_statement write (write_fault catalog.now write)) }
+{
+    match check(catalog, &write) {
+        Ok(()) => Ok(write),
+        Err(error) => Err(DocFault::here(alloc, cause_of_check(error))),
+    }
+}
+
+fn checked_select(alloc: Global, catalog: &Catalog, select: Select) -> Result<Select, DocFault>
+    ensures { Gives result (checked_statement select (select_fault catalog.now select)) }
+{
+    match check_select(catalog, &select) {
+        Ok(()) => Ok(select),
+        Err(error) => Err(DocFault::here(alloc, cause_of_check(error))),
+    }
+}

@@ -1,0 +1,124 @@
+//! Reading of arrays, item by item from the front.
+ghost use Rattle.std.specs.Prelude.{◌≡◌, ◌++◌, ◌∷◌, [], Result, map, IfOk, List};
+ghost use Rattle.serde_json.specs.Data.{Data};
+ghost use Rattle.serde_json.specs.View.{view};
+ghost use Rattle.tt_document.specs.declared.fault.DocFault.{DocFault};
+ghost use Rattle.tt_document.specs.Fault.{Gives, with_path, item_path};
+ghost use Rattle.tt_document.specs.Taker.{take_all, with_item, each, array_of};
+
+use crate::decoder::{Decoder, array};
+use crate::fault::DocFault;
+use serde_json::Value;
+use std::alloc::{AllocError, Global};
+use tt_values::Items;
+
+/// Steps through the items of an array. Each step changes the state that the ones before it left.
+pub(crate) trait Taker {
+    type State;
+
+    /// The state after an item, or the item's first fault.
+    ghost after: { Self → Self.State → Data → Result Self.State DocFault };
+
+    fn take(&self, alloc: Global, state: Self::State, item: &Value) -> Result<Self::State, DocFault>
+        ensures { Gives result (after self.now state (view item.now)) };
+}
+
+/// The state after all items, from the front.
+pub(crate) fn take_all<T: Taker>(
+    alloc: Global,
+    taker: &T,
+    start: T::State,
+    items: &[Value],
+) -> Result<T::State, DocFault>
+    ensures { Gives result (take_all (T.after taker.now) 0 start (map view items.now)) }
+{
+    let mut state = start;
+    for (index, item) in items.iter().enumerate() {
+        state = take_item(alloc, taker, state, index, item)?;
+    }
+    Ok(state)
+}
+
+fn take_item<T: Taker>(
+    alloc: Global,
+    taker: &T,
+    state: T::State,
+    index: usize,
+    item: &Value,
+) -> Result<T::State, DocFault>
+    ensures { Gives result (with_path (item_path index) (T.after taker.now state (view item.now))) }
+{
+    match taker.take(alloc, state, item) {
+        Ok(next) => Ok(next),
+        Err(fault) => Err(fault.in_item(alloc, index)),
+    }
+}
+
+/// Collects the meaning of each item.
+#[derive(Drop)]
+struct Collector<'a, D> {
+    decoder: &'a D,
+}
+
+impl<D: Decoder> Taker for Collector<'_, D>
+where
+    D::Output: Drop,
+{
+    type State = Items<D::Output>;
+
+    ghost after = { λ c. with_item (D.meaning c.decoder.now) };
+
+    fn take(
+        &self,
+        alloc: Global,
+        state: Items<D::Output>,
+        item: &Value,
+    ) -> Result<Items<D::Output>, DocFault> {
+        let meaning = self.decoder.decode(alloc, item)?;
+        let items = push_item(state, meaning)?;
+        Ok(items)
+    }
+}
+
+/// A list with one more item at its end.
+fn push_item<T: Drop>(items: Items<T>, item: T) -> Result<Items<T>, AllocError>
+    ensures { IfOk result (λ longer. longer ≡ items ++ item ∷ []) }
+{
+    let mut items = items.into_vec();
+    items.push(item)?;
+    Ok(Items::new(items))
+}
+
+/// An array of what a decoder decodes.
+#[derive(Drop)]
+pub(crate) struct ArrayDecoder<D> {
+    pub(crate) decoder: D,
+}
+
+impl<D: Decoder> Decoder for ArrayDecoder<D>
+where
+    D::Output: Drop,
+{
+    type Output = Items<D::Output>;
+
+    ghost meaning = { λ a. array_of (D.meaning a.decoder) };
+
+    fn decode(&self, alloc: Global, value: &Value) -> Result<Items<D::Output>, DocFault> {
+        let items = array(alloc, value)?;
+        decode_items(alloc, &self.decoder, items)
+    }
+}
+
+/// The meaning of each item of an array, in order.
+pub(crate) fn decode_items<D: Decoder>(
+    alloc: Global,
+    decoder: &D,
+    items: &[Value],
+) -> Result<Items<D::Output>, DocFault>
+where
+    D::Output: Drop,
+    ensures { Gives result (each (D.meaning decoder.now) 0 (map view items.now)) }
+{
+    let start = Items::new(Vec::new(alloc));
+    take_all(alloc, &Collector { decoder }, start, items)
+}
