@@ -1,10 +1,10 @@
--- What a fault of a run leaves: the status that the program ends with, and a line on standard error.
-use Rattle.std.specs.Prelude.{ℕ, List, ◌++◌, codes}
-use Rattle.tt_workload.specs.declared.fault.DocFault.TheVariants as document_faults
-use Rattle.tt_workload.specs.declared.run_fault.RunFault.{RunFault}
-use Rattle.tt_workload.specs.declared.run_fault.RunFault.TheVariants as faults
+-- The status that a fault ends the program with, and its line on standard error.
+use Rattle.std.specs.Prelude.{ℕ, List, ◌++◌, codes, Bool, true, false}
+use Rattle.tt_workload.specs.declared.DocFault.TheVariants as document_faults
+use Rattle.tt_workload.specs.declared.RunFault.{RunFault}
+use Rattle.tt_workload.specs.declared.RunFault.TheVariants as faults
 
--- 1 for what is read, 3 for want of memory, 4 for the store and what is written
+-- 1 for what is read, 3 for out of memory, 4 for the store and for what is written
 abbrev pub status_of : RunFault → ℕ
 status_of faults.Read = 1
 status_of (faults.Document (document_faults.At path cause)) = 1
@@ -16,8 +16,15 @@ status_of faults.Memory = 3
 -- where the document is faulty and why, or else what failed
 abbrev pub fault_line : RunFault → List ℕ
 fault_line faults.Read = codes "timetravel: cannot read standard input\n"
-fault_line (faults.Document (document_faults.At path cause)) = codes "timetravel: " ++ (path ++ (codes ": " ++ (cause ++ codes "\n")))
+fault_line (faults.Document (document_faults.At path cause)) =
+    codes "timetravel: " ++ (path ++ (codes ": " ++ (cause ++ codes "\n")))
 fault_line (faults.Document document_faults.Memory) = codes "timetravel: want of memory\n"
 fault_line (faults.Store text) = codes "timetravel: store: " ++ (text ++ codes "\n")
 fault_line faults.Write = codes "timetravel: cannot write standard output\n"
 fault_line faults.Memory = codes "timetravel: want of memory\n"
+
+-- a fault whose line has a text that differs from fault to fault
+abbrev pub has_text : RunFault → Bool
+has_text (faults.Document (document_faults.At path cause)) = true
+has_text (faults.Store text) = true
+has_text _ = false

@@ -1,16 +1,18 @@
 //! The command line.
-ghost use Rattle.std.specs.Prelude.{◌≡◌, IfOk};
-ghost use Rattle.tt_workload.specs.Options.{AreWithin, usual};
+ghost use Rattle.std.specs.Prelude.{◌≡◌, IfOk, map, string_bytes};
+ghost use Rattle.clap.specs.Words.{FailsBy, app_of, fault_of};
+ghost use Rattle.tt_cli.specs.CommandLine.{command_line};
+ghost use Rattle.tt_workload.specs.Options.{usual};
 
 use clap::{Command, Error};
-use std::alloc::Global;
+use std::alloc::{AllocError, Global};
 use tt_workload::Options;
 
-const ABOUT: &str = "A time-travel database: replays a workload and prints its report";
+const ABOUT: &str = "A time-travel database: runs a workload and prints its report";
 
 const DOCUMENT: &str =
-    r#"A workload is a JSON document on standard input. It declares tables, and lists the
-calls that workers make, in order:
+    r#"The workload is a JSON document on standard input. It declares tables and lists the calls
+that workers make, in order:
 
   {"version":1,
    "tables":[{"name":"acct","columns":[
@@ -26,7 +28,7 @@ calls that workers make, in order:
      {"worker":1,"delete":"acct","where":[]}]}
 
 The second select reads the rows as they were at time 1, after the first write.
-The report goes to standard output: a line for each call, one for each table, and a last one."#;
+The report goes to standard output: a line for each call, one for each table, and a last line."#;
 
 /// What the command line asks for.
 #[derive(Clone, Copy, Debug, PartialEq, Eq)]
@@ -35,22 +37,29 @@ pub struct Cli {
 }
 
 /// Reads the words of the command line, the program's name first. An error is a fault of usage,
-/// or a text that was asked for, as help.
+/// help that was asked for, or out of memory.
 pub fn command_of<'a>(alloc: Global, words: &'a [String]) -> Result<Cli, Error>
-    ensures within { IfOk result (λ cli. AreWithin cli.options) }
     ensures usual { IfOk result (λ cli. cli.options ≡ usual) }
+    ensures kinds { FailsBy (fault_of command_line (map string_bytes words.entry.now)) result }
 {
-    let replay = Command::new(alloc, "replay")
-        .about("Runs the calls one after another, in one thread")
-        .after_help(DOCUMENT);
-    let command = Command::new(alloc, "timetravel")
-        .bin_name("timetravel")?
-        .about(ABOUT)
-        .after_help(DOCUMENT)
-        .subcommand_required(true)
-        .subcommand(replay)?;
+    let command = command(alloc)?;
     command.try_get_matches_from(words)?;
     Ok(Cli {
         options: Options::usual(),
     })
+}
+
+/// The program's command, with its subcommands.
+fn command<'a>(alloc: Global) -> Result<Command<'a>, AllocError>
+    ensures { IfOk result (λ command. app_of command ≡ command_line) }
+{
+    let replay = Command::new(alloc, "replay")
+        .about("Runs the calls one after another, in one thread")
+        .after_help(DOCUMENT);
+    Command::new(alloc, "timetravel")
+        .bin_name("timetravel")?
+        .about(ABOUT)
+        .after_help(DOCUMENT)
+        .subcommand_required(true)
+        .subcommand(replay)
 }

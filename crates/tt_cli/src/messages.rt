@@ -1,0 +1,77 @@
+//! What the program prints when it ends without a report.
+ghost use Rattle.std.specs.Prelude.{◌≡◌, OnOk, OnErr, false};
+ghost use Rattle.std.specs.IoError.{error_kind};
+ghost use Rattle.clap.specs.Values.{kind_of};
+ghost use Rattle.tt_cli.specs.Ending.{IsEndingOfFault, IsEndingOfUsage, ending_of_words};
+ghost use Rattle.tt_cli.specs.Status.{has_text};
+
+use crate::ending::Ending;
+use crate::status::fault_line;
+use std::alloc::AllocError;
+use std::borrow::CowStr;
+use std::io;
+use tt_workload::RunFault;
+
+/// Prints the line of a fault.
+pub fn print_fault(rt: &(impl Eprint + AllocGlobal), fault: RunFault) -> Ending
+    ensures ending { IsEndingOfFault fault result }
+    ensures constant { has_text fault ≡ false → result ≡ Ending.Fault fault }
+{
+    let line = fault_line(rt.alloc(), &fault);
+    print_line(rt, fault, line)
+}
+
+/// Prints the line of a fault where there was memory for it.
+pub fn print_line(
+    rt: &impl Eprint,
+    fault: RunFault,
+    line: Result<CowStr<'static>, AllocError>,
+) -> Ending
+    ensures printed { OnOk line.entry (result ≡ Ending.Fault fault) }
+    ensures out_of_memory { OnErr line.entry (result ≡ Ending.OutOfMemory) }
+{
+    match line {
+        Ok(line) => {
+            let _ = eprint!(rt; "{line}");
+            Ending::Fault(fault)
+        }
+        Err(AllocError) => print_out_of_memory(rt),
+    }
+}
+
+fn print_out_of_memory(rt: &impl Eprint) -> Ending
+    ensures { result ≡ Ending.OutOfMemory }
+{
+    let _ = eprintln!(rt; "timetravel: want of memory");
+    Ending::OutOfMemory
+}
+
+/// Prints why the words of the command line can't be read.
+pub fn print_words_fault(rt: &impl Eprint, error: &io::Error) -> Ending
+    ensures { result ≡ ending_of_words (error_kind error.now) }
+{
+    match Ending::of_words(error) {
+        Ending::OutOfMemory => print_out_of_memory(rt),
+        ending => {
+            let _ = eprintln!(rt; "error: an argument is not text in UTF-8");
+            ending
+        }
+    }
+}
+
+/// Prints a fault of usage on standard error, or help on standard output.
+pub fn print_usage(rt: &(impl Print + Eprint + AllocGlobal), error: &clap::Error) -> Ending
+    ensures { IsEndingOfUsage (kind_of error.now) result }
+{
+    match Ending::of_usage(error) {
+        Ending::OutOfMemory => print_out_of_memory(rt),
+        Ending::Help => match error.print(rt) {
+            Ok(()) => Ending::Help,
+            Err(_) => print_fault(rt, RunFault::Write),
+        },
+        ending => {
+            let _ = error.print(rt);
+            ending
+        }
+    }
+}
