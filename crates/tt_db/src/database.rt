@@ -41,7 +41,8 @@ impl Model for Db {
       history = d.history.items;
     } };
 
-    ghost invariant = { λ d. IsConsistent d.catalog d.limits d.history.items d.slots d.generation };
+    ghost invariant = { λ d.
+        IsConsistent d.catalog d.limits d.history.items d.slots d.generation };
 }
 
 impl Db {

@@ -70,7 +70,7 @@ impl SlotList {
 
     /// The reply to a select at a time.
     pub(crate) fn answer_at(&self, select: &Select, time: u64) -> Result<Reply, AllocError>
-        ensures { IfOk result (λ reply. reply ≡ answer_of select.now (content_of self.now time)) }
+        ensures { IfOk result (λ r. r ≡ answer_of select.now (content_of self.now time)) }
     {
         let alloc = *self.slots.allocator();
         let rows = self.table(select.table).rows_at(time, Side::Current)?;

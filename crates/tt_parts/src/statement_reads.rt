@@ -62,7 +62,8 @@ fn equated_partitions(
     def: &TableDef,
     equals: &[Equal],
 ) -> Result<Vec<Partition>, AllocError>
-    ensures { IfOk result (λ ps. ps.items ≡ equated_partitions table def.now.columns equals.now) }
+    ensures { IfOk result
+        (λ ps. ps.items ≡ equated_partitions table def.now.columns equals.now) }
 {
     let columns = def.columns.as_slice();
     let mut partitions = Vec::new(alloc);

@@ -112,7 +112,8 @@ impl Catalog {
     pub fn add(&mut self, name: &str, def: TableDef) -> Result<(), CatalogError>
         ensures ok { OnOk result (self.new ≡ self.old ++ (name.now, def) ∷ []) }
         ensures no_fault { OnOk result (table_fault self.old name.now def ≡ None) }
-        ensures fault { IfErr result (λ e. table_fault self.old name.now def ≡ fault_of_error e) }
+        ensures fault { IfErr result
+            (λ e. table_fault self.old name.now def ≡ fault_of_error e) }
         ensures err { OnErr result (self.new ≡ self.old) }
     {
         if let Some(fault) = self.fault(name, &def) {

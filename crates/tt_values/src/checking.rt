@@ -158,7 +158,8 @@ fn update_fault(columns: &[Column], changes: &[Change], equals: &[Equal]) -> Opt
 }
 
 fn has_wrong_kind_in_row(columns: &[Column], values: &[Value]) -> bool
-    ensures { result ≡ list_any (λ p. not (is_of_kind p.0.kind p.1)) (zip columns.now values.now) }
+    ensures { result ≡
+        list_any (λ p. not (is_of_kind p.0.kind p.1)) (zip columns.now values.now) }
 {
     columns
         .iter()

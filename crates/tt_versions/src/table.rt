@@ -106,7 +106,8 @@ impl Table {
     #[tactic(auto, using(crate::proofs::SidesLemmas::writes))]
     pub fn split_back(&self, key: i64, time: u64) -> Result<Table, AllocError>
         ensures current { IfOk result (λ t. current_of t ≡ current_of self.now) }
-        ensures next { IfOk result (λ t. next_of t ≡ rolled_back_from key time (next_of self.now)) }
+        ensures next { IfOk result
+            (λ t. next_of t ≡ rolled_back_from key time (next_of self.now)) }
         ensures split { IfOk result (λ t. is_split t ≡ with_key key (is_split self.now)) }
         ensures next_drops { IfOk result (λ t.
             DropsRowWrites (next_of self.now) (next_of t) key time) }
@@ -121,7 +122,8 @@ impl Table {
     pub fn next_written(&self, key: i64, row: Option<Row>, time: u64) -> Result<Table, AllocError>
         requires { IsTrue (is_split self.now key) }
         ensures current { IfOk result (λ t. current_of t ≡ current_of self.now) }
-        ensures next { IfOk result (λ t. next_of t ≡ written_from key row time (next_of self.now)) }
+        ensures next { IfOk result
+            (λ t. next_of t ≡ written_from key row time (next_of self.now)) }
         ensures split { IfOk result (λ t. is_split t ≡ is_split self.now) }
         ensures next_adds { IfOk result (λ t.
             AddsRowWrite (next_of self.now) (next_of t) key row time) }
