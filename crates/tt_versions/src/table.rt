@@ -35,7 +35,7 @@ impl Table {
     /// A table without rows. Takes no memory; what the other calls take comes from this allocator.
     #[tactic(auto, using(crate::proofs::LawProofs::empty_table))]
     pub fn new(alloc: Global) -> Table
-        ensures kept { result ≡ no_lineages }
+        ensures lineages { result ≡ no_lineages }
         ensures empty { (side : Side) → side_of result side ≡ no_rows }
         ensures split { is_split result ≡ none_split }
     {
