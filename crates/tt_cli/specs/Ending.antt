@@ -30,7 +30,7 @@ ending_of_usage usage.DisplayHelp = endings.Help
 ending_of_usage usage.DisplayVersion = endings.Help
 ending_of_usage _ = endings.Usage
 
--- the fault itself, or out of memory where there is none left for its line
+-- the fault itself, or out of memory if its line can't be built
 abbrev pub IsEndingOfFault : RunFault → Ending → Type 0
 IsEndingOfFault fault ending = (ending ≡ endings.Fault fault) ⊎ (ending ≡ endings.OutOfMemory)
 

@@ -31,8 +31,8 @@ abbrev pub state_of : Database → State
 state_of db = after db.history
 
 -- the slots of the current generation
-abbrev pub slots_of : Database → Slots
-slots_of db = (state_of db).slots
+abbrev pub current_slots : Database → Slots
+current_slots db = (state_of db).slots
 
 -- the current time
 abbrev pub time_of : Database → ℕ
@@ -68,11 +68,11 @@ answer_for db select time = answer_of select (current_at (state_of db) time)
 
 -- the slot of a number, counted from 1, with its reply
 abbrev pub slot_of : Database → ℕ → Option Slot
-slot_of db number = slot_at (slots_of db) number
+slot_of db number = slot_at (current_slots db) number
 
 -- for each key and time, the current row of a table
 abbrev pub current_rows_of : Database → ℕ → RowsOverTime
-current_rows_of db table = rows_of_table (slots_of db) table
+current_rows_of db table = rows_of_table (current_slots db) table
 
 -- the item of a number, counted from 1
 abbrev pub nth_item : {X : Type 0} → List X → ℕ → Option X

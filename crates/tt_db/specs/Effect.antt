@@ -29,5 +29,5 @@ abbrev pub delete_effect : List Equal → RowsByKey → List (ℤ × Option Row)
 delete_effect equals rows = map (λ e. (e.0, None)) (matching_rows equals rows)
 
 -- the rows that match
-abbrev pub listed_rows : List Equal → RowsByKey → List Row
-listed_rows equals rows = map (λ e. e.1) (matching_rows equals rows)
+abbrev pub rows_that_match : List Equal → RowsByKey → List Row
+rows_that_match equals rows = map (λ e. e.1) (matching_rows equals rows)

@@ -22,7 +22,7 @@ pub record TablesAgree (tables : TablesByPosition) (ws : List RowWrite) : Type 0
   pub current : (table : ℕ) → side_of (versions_at tables table) Current ≡ rows_by table ws
   pub whole : (table : ℕ) → is_split (versions_at tables table) ≡ none_split
 
--- tables that have the rows of row writes before, have those of these and further ones after
+-- if the tables before agree with some row writes, the tables after agree with these and further ones
 abbrev pub AddsRowWrites : TablesByPosition → TablesByPosition → List RowWrite → Type 0
 AddsRowWrites before after further = (ws : List RowWrite) → TablesAgree before ws → TablesAgree after (ws ++ further)
 

@@ -5,7 +5,7 @@ ghost use Rattle.tt_values.specs.Check.{HasKey};
 ghost use Rattle.tt_values.specs.Content.{RowsByKey};
 ghost use Rattle.tt_values.specs.Effect.{effect_on, reply_on};
 ghost use Rattle.tt_versions.specs.Sides.{side_of};
-ghost use Rattle.tt_db.specs.Effect.{IsEffect, insert_effect, update_effect, delete_effect, listed_rows};
+ghost use Rattle.tt_db.specs.Effect.{IsEffect, insert_effect, update_effect, delete_effect, rows_that_match};
 
 use std::alloc::{AllocError, Global};
 use tt_values::{Change, Equal, Reply, Row, Write, changed, matches};
@@ -99,13 +99,13 @@ fn effect_of_delete(
 }
 
 /// The rows that match, in memory of their own.
-pub(crate) fn matching_rows(
+pub(crate) fn rows_that_match(
     alloc: Global,
     rows: &Vec<(i64, &Row)>,
     equals: &[Equal],
 ) -> Result<Vec<Row>, AllocError>
     ensures { IfOk result (λ r. r.items ≡
-        listed_rows equals.now (map (λ e. (e.0, e.1.now)) rows.now.items)) }
+        rows_that_match equals.now (map (λ e. (e.0, e.1.now)) rows.now.items)) }
 {
     let mut matching = Vec::new(alloc);
     for (_, row) in rows {

@@ -7,7 +7,7 @@ ghost use Rattle.tt_versions.specs.Sides.{side_of, is_split, none_split};
 ghost use Rattle.tt_db.specs.Limits.{max_limits};
 ghost use Rattle.tt_db.specs.SlotList.{last_content, effect_now, rows_of_table, slot_at, HasRowsOf};
 
-use crate::effect::{effect_of, matching_rows, reply_to};
+use crate::effect::{effect_of, rows_that_match, reply_to};
 use crate::outcome::Slot;
 use crate::rows::Rows;
 use std::alloc::{AllocError, Global};
@@ -74,7 +74,7 @@ impl SlotList {
     {
         let alloc = *self.slots.allocator();
         let rows = self.table(select.table).rows_at(time, Side::Current)?;
-        let rows = matching_rows(alloc, &rows, select.equals.as_slice())?;
+        let rows = rows_that_match(alloc, &rows, select.equals.as_slice())?;
         Ok(Reply::Rows(Items::new(rows)))
     }
 

@@ -20,7 +20,7 @@ max_calls = 100000
 abbrev pub has : List ℕ → Data → Bool
 has name v = is_some (get name v)
 
--- what a call asks for, by the first kind that's there
+-- what a call asks for, by the first of the members insert, update, delete and select that it has
 unfoldable pub ask : Tables → Data → Result Ask DocFault
 ask tables v =
     if has (codes "insert") v then (insert tables v >>= λ write. Ok (asks.Write write)) else (
@@ -41,7 +41,7 @@ call tables workers v = do
 abbrev pub within_limit : ℕ → List Data → Result ⊤ DocFault
 within_limit limit ds = if nat_lt limit (length ds) then refuse (codes "out of range") else Ok tt
 
--- the calls, of which there may be too many
+-- the calls, or the fault that there are too many
 abbrev pub calls : Tables → ℕ → Data → Result (List Call) DocFault
 calls tables workers v = do
   ds ← array v

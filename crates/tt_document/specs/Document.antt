@@ -13,7 +13,7 @@ use Rattle.tt_document.specs.Fault.{with_path, document_path}
 use Rattle.tt_document.specs.Calls.{max_calls}
 use Rattle.tt_document.specs.Reading.{max_workers, members_of_document}
 
--- the document that a JSON value spells, or its first fault, with the path from the root
+-- the meaning of a JSON value: a document, or its first fault with the path from the root
 abbrev pub document_of : Data → Result Document DocFault
 document_of v = with_path document_path (members_of_document v)
 

@@ -23,12 +23,12 @@ abbrev pub or_refuse : {T : Type 0} → List ℕ → Option T → Result T DocFa
 or_refuse cause None = refuse cause
 or_refuse cause (Some x) = Ok x
 
--- a fault, seen from further out: a longer path replaces its own
+-- a fault of an inner value as one of the outer value: with a longer path
 abbrev pub fault_at : (List ℕ → List ℕ) → DocFault → DocFault
 fault_at path_of (At path cause) = At (path_of path) cause
 fault_at path_of Memory = Memory
 
--- a result, its fault seen from further out
+-- a result whose fault gets a longer path
 abbrev pub with_path : {T : Type 0} → (List ℕ → List ℕ) → Result T DocFault → Result T DocFault
 with_path path_of (Ok x) = Ok x
 with_path path_of (Err fault) = Err (fault_at path_of fault)
@@ -47,12 +47,12 @@ document_path path = codes "$" ++ path
 abbrev pub document_fault : List ℕ → DocFault
 document_fault cause = fault_at document_path (fault_here cause)
 
--- a function's error is this fault; where memory ran out the fault is open
+-- an error is this fault. If memory ran out, nothing is said of the fault
 abbrev pub IsFault : DocFault → DocFault → Type 0
 IsFault Memory fault = Unit {0}
 IsFault (At path cause) fault = fault ≡ At path cause
 
--- reading ends in the fault that a function's error names; where memory ran out the result is open
+-- reading ends in the fault of an error. If memory ran out, nothing is said of the result
 abbrev pub FailsWith : {T : Type 0} → DocFault → Result T DocFault → Type 0
 FailsWith Memory reading = Unit {0}
 FailsWith (At path cause) reading = reading ≡ Err (At path cause)

@@ -29,7 +29,7 @@ nothing_dirty = record { rows = []; partitions = [] }
 abbrev pub is_row_in : List (ℕ × ℤ) → ℕ → ℤ → Bool
 is_row_in rows table key = list_any (λ r. (table == r.0) && int_eq key r.1) rows
 
--- whether a list of rows has a row of a table
+-- whether some row of a list is of this table
 abbrev pub is_table_in : List (ℕ × ℤ) → ℕ → Bool
 is_table_in rows table = list_any (λ r. table == r.0) rows
 
@@ -78,7 +78,7 @@ with_row D table columns key before after = record {
 abbrev pub with_row_in : DirtyTables → ℕ → ℤ → Option Row → Option Row → DirtySet
 with_row_in d table key before after = with_row d.dirty table (columns_in d.catalog table) key before after
 
--- whether a list of partitions has one that another list doesn't have
+-- whether some partition of qs is not in ps
 abbrev pub has_other_partition : List Partition → List Partition → Bool
 has_other_partition ps qs = list_any (λ q. not (is_partition_in ps q)) qs
 

@@ -2,3 +2,4 @@ pub mod Accounts
 mod Writes
 mod Contents
 mod Checks
+mod Catalogs

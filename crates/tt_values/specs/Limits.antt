@@ -1,22 +1,22 @@
 -- The limits of catalogs and statements.
 use Rattle.std.specs.Prelude.{ℕ}
 
--- tables of a catalog
+-- the largest number of tables in a catalog
 abbrev pub max_tables : ℕ
 max_tables = 64
 
--- columns of a table
+-- the largest number of columns in a table
 abbrev pub max_columns : ℕ
 max_columns = 32
 
--- bytes of the name of a table or a column
+-- the largest number of bytes in the name of a table or a column
 abbrev pub max_name_bytes : ℕ
 max_name_bytes = 64
 
--- bytes of a text
+-- the largest number of bytes in a text
 abbrev pub max_text_bytes : ℕ
 max_text_bytes = 1024
 
--- equalities of a statement
+-- the largest number of equalities in a statement
 abbrev pub max_equals : ℕ
 max_equals = 32

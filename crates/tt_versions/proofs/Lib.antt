@@ -5,3 +5,4 @@ pub mod RowsByWritesLemmas
 pub mod RowsAtLemmas
 pub mod UnsplitLemmas
 pub mod LawProofs
+mod worked_rows

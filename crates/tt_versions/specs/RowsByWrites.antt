@@ -13,16 +13,16 @@ rows_by table ws key time = row_at (content_at ws time table) key
 abbrev pub without_row_writes : ℕ → ℤ → ℕ → List RowWrite → List RowWrite
 without_row_writes table key time ws = filter (λ w. not ((table == w.table) && int_eq key w.key && nat_le time w.time)) ws
 
--- where a side had the rows that a list of row writes leaves, it now has those that the list with one more leaves
+-- if the rows before are those by some row writes, the rows after are those by these and one more
 abbrev pub AddsRowWrite : RowsOverTime → RowsOverTime → ℤ → Option Row → ℕ → Type 0
 AddsRowWrite before after key row time = (table : ℕ) (ws : List RowWrite)
     → before ≡ rows_by table ws → after ≡ rows_by table (ws ++ record { time = time; table = table; key = key; row = row } ∷ [])
 
--- where a side had the rows that a list of row writes leaves, it now has those that the list leaves without the ones of a key from a time on
+-- if the rows before are those by some row writes, the rows after are those by these without the ones for a key from a time on
 abbrev pub DropsRowWrites : RowsOverTime → RowsOverTime → ℤ → ℕ → Type 0
 DropsRowWrites before after key time = (table : ℕ) (ws : List RowWrite)
     → before ≡ rows_by table ws → after ≡ rows_by table (without_row_writes table key time ws)
 
--- where a side has the rows that a list of row writes leaves, a list of rows is the content of the table at a time
+-- if the rows over time are those by some row writes, a list of rows is the content that these leave in the table at a time
 abbrev pub ListsContent : RowsByKey → RowsOverTime → ℕ → Type 0
 ListsContent es rows time = (table : ℕ) (ws : List RowWrite) → rows ≡ rows_by table ws → es ≡ content_at ws time table

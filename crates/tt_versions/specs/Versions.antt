@@ -3,7 +3,7 @@ use Rattle.std.specs.Prelude.{ℕ, Bool, true, false, ◌&&◌, nat_le, nat_lt, 
 use Rattle.tt_values.specs.declared.row.Row.{Row}
 use Rattle.tt_versions.specs.declared.version.Version.{Version}
 
--- whether an end is after a time. A version without an end lives on
+-- whether an end is after a time. A version without an end is still live
 abbrev pub is_after : ℕ → Option ℕ → Bool
 is_after time None = true
 is_after time (Some end) = nat_lt time end
@@ -34,7 +34,7 @@ ended_by time v = if is_after time v.end then record v { end = Some time } else 
 abbrev pub reopened_from : ℕ → Version → Version
 reopened_from time v = if is_before time v.end then v else record v { end = None }
 
--- the version that a write of a row at a time starts. A write of none starts none
+-- the version that a write of a row at a time adds. Without a row it adds none
 abbrev pub version_of : Option Row → ℕ → List Version
 version_of None time = []
 version_of (Some row) time = record { row = row; start = time; end = None } ∷ []

@@ -1,5 +1,5 @@
--- The two ends of a run: the document that bytes spell, the bytes that a reader gives, and those that a writer gets.
-use Rattle.std.specs.Prelude.{◌≡◌, ◌⊎◌, ℕ, ◌≤◌, nat_lt, if◌then◌else◌, List, length, take, Option, None, Result, Ok, Err, codes, ⊤}
+-- The two ends of a run: the document of some bytes, the bytes that a reader gives, and those that a writer gets.
+use Rattle.std.specs.Prelude.{◌≡◌, ◌⊎◌, ℕ, ◌≤◌, nat_lt, if◌then◌else◌, List, length, take, Option, None, Some, Result, Ok, Err, codes}
 use Rattle.std.specs.Str.{is_utf8}
 use Rattle.std.specs.Io.KnownBytes.{Consumes, Appends}
 use Rattle.serde_json.specs.Data.{Data}
@@ -7,8 +7,8 @@ use Rattle.serde_json.specs.Read.{read}
 use Rattle.tt_document.specs.declared.document.Document.{Document}
 use Rattle.tt_document.specs.declared.fault.DocFault.{DocFault}
 use Rattle.tt_document.specs.declared.fault.DocFault.TheVariants as doc
-use Rattle.tt_document.specs.Fault.{◌>>=◌, refuse, or_refuse, with_path, document_path}
-use Rattle.tt_document.specs.Reading.{members_of_document}
+use Rattle.tt_document.specs.Fault.{document_fault}
+use Rattle.tt_document.specs.Document.{document_of}
 use Rattle.tt_workload.specs.declared.run_fault.RunFault.{RunFault}
 use Rattle.tt_workload.specs.declared.run_fault.RunFault.TheVariants as run
 
@@ -23,28 +23,28 @@ max_bytes_read = 16777217
 abbrev pub bytes_read : List ℕ → List ℕ
 bytes_read remaining = take max_bytes_read remaining
 
--- a document is short enough
-abbrev pub within_length : List ℕ → Result ⊤ DocFault
-within_length bytes = if nat_lt max_document_bytes (length bytes) then refuse (codes "longer than 16777216 bytes") else Ok tt
-
--- the JSON value that bytes spell in UTF-8
+-- the JSON value of some bytes in UTF-8, if they have one
 abbrev pub json_of : List ℕ → Option Data
 json_of bytes = if is_utf8 bytes then read bytes else None
 
--- the document that the bytes spell, or its first fault, with the path from the root
-unfoldable pub document_of_bytes : List ℕ → Result Document DocFault
-document_of_bytes bytes = with_path document_path (do
-  _ ← within_length bytes
-  v ← or_refuse (codes "not JSON") (json_of bytes)
-  members_of_document v)
+-- the meaning of a JSON value, if there is one
+abbrev pub document_of_json : Option Data → Result Document DocFault
+document_of_json None = Err (document_fault (codes "not JSON"))
+document_of_json (Some v) = document_of v
 
--- known bytes lose at most n at their front
+-- the document of some bytes, or its first fault
+unfoldable pub document_of_bytes : List ℕ → Result Document DocFault
+document_of_bytes bytes =
+    if nat_lt max_document_bytes (length bytes) then Err (document_fault (codes "longer than 16777216 bytes"))
+    else document_of_json (json_of bytes)
+
+-- a reader gave at most n of its bytes
 pub record ConsumesAtMost (n : ℕ) (old new : Option (List ℕ)) : Type 0 where
   pub bytes : List ℕ
   pub consumed : Consumes old new bytes
   pub short : length bytes ≤ n
 
--- known bytes grow by a front part of the text
+-- a writer got a prefix of the text
 pub record AppendsFront (old new : Option (List ℕ)) (text : List ℕ) : Type 0 where
   pub count : ℕ
   pub appended : Appends old new (take count text)
@@ -70,7 +70,7 @@ ReadsDocument remaining document = document_of_bytes (bytes_read remaining) ≡ 
 abbrev pub EndsReading : List ℕ → RunFault → Type 0
 EndsReading remaining fault = IsFaultOf fault (document_of_bytes (bytes_read remaining))
 
--- some bytes spell the document
+-- it is the document of some bytes
 abbrev pub HasText : Document → Type 0
 HasText document = (bytes : List ℕ) × (document_of_bytes bytes ≡ Ok document)
 

@@ -6,7 +6,7 @@ use Rattle.tt_workload.specs.declared.options.Options.{Options}
 abbrev pub usual : Options
 usual = record { batch = 16; rounds = 8 }
 
--- both within their ranges
+-- a batch of 1 to 10,000 steps, and at most 1,000 rounds
 pub record AreWithin (options : Options) : Type 0 where
   pub some_batch : 1 ≤ options.batch
   pub batch : options.batch ≤ 10000

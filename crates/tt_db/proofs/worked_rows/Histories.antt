@@ -22,7 +22,7 @@ use Rattle.tt_db.specs.Limits.{max_limits}
 use Rattle.tt_db.specs.State.{State, after, now_of, current_at, refusal, outcome_of}
 use Rattle.tt_db.specs.SlotList.{slot_at}
 use Rattle.tt_db.specs.Database.{nth_item, write_entry}
-use Rattle.tt_db.specs.RightAnswers.{right_select_at}
+use Rattle.tt_db.specs.RightAnswers.{right_select, right_select_at}
 use Rattle.tt_db.specs.Run.{IsRun}
 
 -- the history of writes by worker 1, and the state after it
@@ -72,6 +72,14 @@ select_by_owner :
     × (right_select_at tables (state_after (insert 1 ann 10 ∷ [])) (select (of_owner ann)) 1 ≡ Ok (Rows (ann_first ∷ [])))
 unfolding row_writes
 select_by_owner = (refl, refl)
+
+-- a select of the last content, and one of a table that does not exist
+select_now :
+    let S = state_after (insert 1 ann 10 ∷ []) in
+    (right_select tables (current_at S (now_of S)) (select (of_owner ann)) ≡ Ok (Rows (ann_first ∷ [])))
+    × (right_select tables (current_at S (now_of S)) from_no_table ≡ Err (read_errors.Statement faults.NoTable))
+unfolding row_writes
+select_now = (refl, refl)
 
 -- a second insert of the key takes a slot, answers Duplicate and changes no row
 second_outcome : outcome_of (state_after (insert 1 ann 10 ∷ [])) (events.Write (insert 1 bob 20)) ≡ Written 2 Duplicate

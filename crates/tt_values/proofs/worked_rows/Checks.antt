@@ -43,3 +43,10 @@ equalities_of_writes :
     (write_fault tables (Update 0 [] (replicate 33 (id_is 1))) ≡ Some errors.TooManyEquals)
     × (write_fault tables (delete (replicate 33 (id_is 1))) ≡ Some errors.TooManyEquals)
 equalities_of_writes = (refl, refl)
+
+-- a text of 1,024 bytes is allowed, and one of 1,025 is too long
+texts :
+    (write_fault tables (update (Set 1 (values.Text (replicate 1024 97))) []) ≡ None)
+    × (write_fault tables (update (Set 1 (values.Text (replicate 1025 97))) []) ≡ Some errors.TextTooLong)
+    × (select_fault tables (select (record { column = 1; value = values.Text (replicate 1025 97) } ∷ [])) ≡ Some errors.TextTooLong)
+texts = (refl, refl, refl)

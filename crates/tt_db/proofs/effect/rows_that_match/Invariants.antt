@@ -1,7 +1,7 @@
 -- the matching rows so far and those of what is left are all
 use Rattle.std.proofs.Common.{◌≡◌, ◌++◌, map, drop}
 use Rattle.tt_db.specs.Effect.{listed_rows}
-use Rattle.tt_db.proofs.effect.matching_rows.Given as goal
+use Rattle.tt_db.proofs.effect.rows_that_match.Given as goal
 
 abbrev pub invariant-loop-row : goal.invariant-loop-row
 invariant-loop-row l =
