@@ -6,7 +6,7 @@ use Rattle.tt_values.specs.declared.table.TableDef.{TableDef}
 use Rattle.tt_values.specs.declared.catalog.CatalogError.TheVariants as errors
 use Rattle.tt_values.specs.Tables.{Tables, is_name}
 use Rattle.tt_values.specs.Catalog.{table_fault}
-use Rattle.tt_values.proofs.worked_rows.Accounts.{tables, columns}
+use Rattle.tt_values.proofs.worked_rows.Accounts.{tables}
 
 -- Int columns with the names "a", "aa" and so on
 abbrev wide : ℕ → List Column

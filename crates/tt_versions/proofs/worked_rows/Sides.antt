@@ -1,5 +1,5 @@
 -- The versions of one row on both sides, at times 1 to 5.
-use Rattle.std.proofs.Common.{◌≡◌, ℕ, List, [], ◌∷◌, map, Option, None, Some, refl}
+use Rattle.std.proofs.Common.{◌≡◌, List, [], ◌∷◌, map, Option, None, Some, refl}
 use Rattle.tt_values.specs.declared.row.Row.{Row}
 use Rattle.tt_values.proofs.worked_rows.Accounts.{ann, bob, eve, account}
 use Rattle.tt_versions.specs.declared.side.Side.{Side}
