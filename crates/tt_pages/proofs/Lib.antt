@@ -1,0 +1,3 @@
+pub mod LogRules
+pub mod MapEntriesLemmas
+pub mod MapTreeLemmas

@@ -1,0 +1,95 @@
+ghost use Rattle.std.specs.Prelude.{◌≡◌, ◌<◌, [], ◌∷◌, ◌++◌, length, slice_set, IfOk, OnOk, OnErr};
+ghost use Rattle.tt_pages.specs.LogRun.{IsRun};
+
+use crate::kept::Kept;
+use std::alloc::{AllocError, Global};
+use std::marker::Model;
+
+/// The number of items in a full page.
+pub(super) const PAGE_SIZE: usize = 32;
+
+/// A short list of items, in one block of memory.
+#[derive(Drop)]
+pub(super) struct Page<T> {
+    items: Vec<T>,
+}
+
+impl<T> Model for Page<T> {
+    ghost use Rattle.std.specs.Prelude.{List};
+    ghost use Rattle.std.specs.Coded.{coded_list};
+
+    ghost Value = { List T };
+
+    ghost coded = { coded_list T.code };
+
+    ghost view = { λ page. page.items.items };
+}
+
+impl<T: Drop> Page<T> {
+    /// A page of one item, with room for a full page.
+    pub(super) fn of_one(alloc: Global, item: T) -> Result<Self, AllocError>
+        ensures { IfOk result (λ page. page ≡ item ∷ []) }
+    {
+        let mut items = Vec::with_capacity(alloc, PAGE_SIZE)?;
+        items.push(item)?;
+        Ok(Page { items })
+    }
+
+    pub(super) fn len(&self) -> usize
+        ensures { result ≡ length self.now }
+    {
+        self.items.len()
+    }
+
+    pub(super) fn as_slice(&self) -> &[T]
+        ensures { result.now ≡ self.now }
+    {
+        self.items.as_slice()
+    }
+
+    pub(super) fn push(&mut self, item: T) -> Result<(), AllocError>
+        ensures ok { OnOk result (self.new ≡ self.old ++ item ∷ []) }
+        ensures err { OnErr result (self.new ≡ self.old) }
+    {
+        self.items.push(item)?;
+        Ok(())
+    }
+
+    pub(super) fn set(&mut self, position: usize, item: T)
+        requires { position < length self.old }
+        ensures { self.new ≡ slice_set self.old position item }
+    {
+        self.items[position] = item;
+    }
+}
+
+impl<T: Kept + Drop> Page<T> {
+    /// A page with the items of a slice, and room for one more.
+    pub(super) fn copy_of(alloc: Global, source: &[T]) -> Result<Self, AllocError>
+        ensures { IfOk result (λ page. page ≡ source.now) }
+    {
+        let mut items = Vec::with_capacity(alloc, source.len().saturating_add(1))?;
+        for item in source {
+            items.push(item.kept()?)?;
+        }
+        Ok(Page { items })
+    }
+}
+
+impl<T: Kept + Drop> Clone for Page<T> {
+    ghost use Rattle.std.specs.Prelude.{◌≡◌};
+
+    ghost is_clone = { λ source copy. copy ≡ source };
+
+    fn clone(&self) -> Result<Self, AllocError> {
+        Page::copy_of(*self.items.allocator(), self.as_slice())
+    }
+}
+
+/// The items of a page from a position on.
+pub(super) fn items_from<T>(items: &[T], position: usize) -> &[T]
+    requires { position < length items.now }
+    ensures { IsRun items.now position result.now }
+{
+    &items[position..]
+}

@@ -1,0 +1,107 @@
+// A page of a map: a list of entries by rising key.
+ghost use Rattle.std.specs.Prelude.{◌≡◌, ◌++◌, IsTrue, IfOk, IfErr, OnOk, OnErr};
+ghost use Rattle.std.specs.Option.{option_copied};
+ghost use Rattle.std.specs.Ordering.{int_cmp};
+ghost use Rattle.std.specs.FinMap.Entries.{find, put, is_sorted};
+ghost use Rattle.tt_pages.specs.MapEntries.{rank_of, entries_without, IsPlaceOf, IsGapFor};
+
+use crate::kept::Kept;
+use std::alloc::{AllocError, Global};
+
+// The most entries that a page holds.
+pub(crate) const MAX_ENTRIES: usize = 16;
+
+// Two pages with no more entries than this together are joined.
+pub(crate) const FEW_ENTRIES: usize = 8;
+
+pub(crate) type Page<V> = Vec<(i64, V)>;
+
+// How many entries stand before the key's place.
+pub(crate) fn rank_in<V>(page: &[(i64, V)], key: &i64) -> usize
+    ensures { result ≡ rank_of key.now page.now }
+{
+    let mut rank = 0;
+    while rank < page.len() && key.cmp(&page[rank].0).is_gt() {
+        rank += 1;
+    }
+    rank
+}
+
+// Where the key is, or where it would go.
+fn place_in<V>(page: &[(i64, V)], key: &i64) -> Result<usize, usize>
+    requires { IsTrue (is_sorted int_cmp page.now) }
+    ensures present { IfOk result (IsPlaceOf key.now page.now) }
+    ensures absent { IfErr result (IsGapFor key.now page.now) }
+{
+    let rank = rank_in(page, key);
+    if rank < page.len() && key.cmp(&page[rank].0).is_eq() {
+        Ok(rank)
+    } else {
+        Err(rank)
+    }
+}
+
+pub(crate) fn get_in<'a, V>(page: &'a [(i64, V)], key: &i64) -> Option<&'a V>
+    requires { IsTrue (is_sorted int_cmp page.now) }
+    ensures { option_copied result ≡ find int_cmp key.now page.now }
+{
+    match place_in(page, key) {
+        Ok(at) => Some(&page[at].1),
+        Err(_) => None,
+    }
+}
+
+// The entry, in place of the one at its key or among the others.
+pub(crate) fn put_in<V: Drop>(page: &mut Page<V>, key: &i64, value: V) -> Result<(), AllocError>
+    requires { IsTrue (is_sorted int_cmp page.old.items) }
+    ensures ok { OnOk result (page.new.items ≡ put int_cmp key.now value page.old.items) }
+    ensures err { OnErr result (page.new.items ≡ page.old.items) }
+{
+    match place_in(page, key) {
+        Ok(at) => {
+            page[at].1 = value;
+            Ok(())
+        }
+        Err(at) => Ok(page.insert(at, entry_of(key, value))?),
+    }
+}
+
+fn entry_of<V>(key: &i64, value: V) -> (i64, V)
+    ensures { result ≡ (key.now, value) }
+{
+    let key = *key;
+    (key, value)
+}
+
+pub(crate) fn remove_in<V: Drop>(page: &mut Page<V>, key: &i64)
+    requires { IsTrue (is_sorted int_cmp page.old.items) }
+    ensures { page.new.items ≡ entries_without key.now page.old.items }
+{
+    if let Ok(at) = place_in(page, key) {
+        drop(page.remove(at));
+    }
+}
+
+// A page of the same entries, with room for the most that a page holds.
+pub(crate) fn copy_of<V: Kept + Drop>(
+    alloc: Global,
+    entries: &[(i64, V)],
+) -> Result<Page<V>, AllocError>
+    ensures { IfOk result (λ page. page.items ≡ entries.now) }
+{
+    let mut page = Vec::with_capacity(alloc, MAX_ENTRIES)?;
+    add_copies(&mut page, entries)?;
+    Ok(page)
+}
+
+pub(crate) fn add_copies<V: Kept + Drop>(
+    page: &mut Page<V>,
+    entries: &[(i64, V)],
+) -> Result<(), AllocError>
+    ensures { OnOk result (page.new.items ≡ page.old.items ++ entries.now) }
+{
+    for (key, value) in entries {
+        page.push((*key, value.kept()?))?;
+    }
+    Ok(())
+}
