@@ -7,7 +7,7 @@ ghost use Rattle.tt_versions.specs.Sides.{side_of, is_split, none_split};
 ghost use Rattle.tt_db.specs.Limits.{max_limits};
 ghost use Rattle.tt_db.specs.SlotList.{last_content, effect_now, rows_of_table, slot_at, HasRowsOf};
 
-use crate::effect::{effect_of, rows_that_match, reply_to};
+use crate::effect::{effect_of, reply_to, rows_that_match};
 use crate::outcome::Slot;
 use crate::rows::Rows;
 use std::alloc::{AllocError, Global};
