@@ -1,5 +1,5 @@
 pub mod LogParts
-pub mod LogRun
+pub mod LogSlice
 pub mod LogTree
 pub mod MapEntries
 pub mod MapTree

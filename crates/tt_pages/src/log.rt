@@ -1,6 +1,6 @@
 ghost use Rattle.std.specs.Prelude.{◌≡◌, ◌==◌, ◌<◌, ◌≤◌, [], ◌∷◌, ◌++◌, length, take, slice_get, slice_set, Some, IfOk, OnOk, OnErr};
 ghost use Rattle.std.specs.Option.{option_copied};
-ghost use Rattle.tt_pages.specs.LogRun.{IsRun};
+ghost use Rattle.tt_pages.specs.LogSlice.{IsSlice};
 
 mod iter;
 mod page;
@@ -96,7 +96,7 @@ impl<T: Drop> PagedLog<T> {
     /// The items from a position to the end of its page.
     fn page_from(&self, position: usize) -> &[T]
         requires { position < length self.now }
-        ensures { IsRun self.now position result.now }
+        ensures { IsSlice self.now position result.now }
     {
         match &self.tree {
             Some(tree) if position < tree.len() => tree.page_from(position),

@@ -1,5 +1,5 @@
 ghost use Rattle.std.specs.Prelude.{◌≡◌, ◌<◌, [], ◌∷◌, ◌++◌, length, slice_set, IfOk, OnOk, OnErr};
-ghost use Rattle.tt_pages.specs.LogRun.{IsRun};
+ghost use Rattle.tt_pages.specs.LogSlice.{IsSlice};
 
 use crate::kept::Kept;
 use std::alloc::{AllocError, Global};
@@ -89,7 +89,7 @@ impl<T: Kept + Drop> Clone for Page<T> {
 /// The items of a page from a position on.
 pub(super) fn items_from<T>(items: &[T], position: usize) -> &[T]
     requires { position < length items.now }
-    ensures { IsRun items.now position result.now }
+    ensures { IsSlice items.now position result.now }
 {
     &items[position..]
 }

@@ -1,6 +1,6 @@
 ghost use Rattle.std.specs.Prelude.{◌≡◌, ◌<◌, ◌≤◌, ◌++◌, length, take, slice_get, slice_set, Some, IfOk, OnOk, OnErr};
 ghost use Rattle.tt_pages.specs.LogTree.{node_items, branch_items, IsFilled};
-ghost use Rattle.tt_pages.specs.LogRun.{IsRun};
+ghost use Rattle.tt_pages.specs.LogSlice.{IsSlice};
 
 use super::page::{Page, items_from};
 use crate::kept::Kept;
@@ -89,10 +89,10 @@ impl<T: Drop> Tree<T> {
     }
 
     /// The items from a position to the end of its page.
-    #[tactic(auto, using(crate::proofs::LogRules::run_left))]
+    #[tactic(auto, using(crate::proofs::LogRules::slice_left))]
     pub(super) fn page_from(&self, position: usize) -> &[T]
         requires { position < length self.now }
-        ensures { IsRun self.now position result.now }
+        ensures { IsSlice self.now position result.now }
     {
         match &self.node {
             Node::Leaf(page) => items_from(page.as_slice(), position),
