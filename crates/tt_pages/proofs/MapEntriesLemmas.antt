@@ -8,6 +8,7 @@ use Rattle.std.specs.Cmp.{int_cmp_total}
 use Rattle.std.specs.List.{insert, remove}
 use Rattle.std.specs.FinMap.Entries.{by_order, find, put, is_sorted, below_all, is_sorted-put, is_sorted-where_key}
 use Rattle.std.proofs.lemmas.Bool.{false≢true, and_parts, and_from}
+use Rattle.std.proofs.lemmas.List.{length-set}
 use Rattle.std.proofs.lemmas.List.Elements.{filter-append}
 use Rattle.tt_pages.specs.MapEntries.{rank_of, first_key, entries_without, IsPlaceOf, IsGapFor}
 
@@ -176,6 +177,14 @@ module _ {V : Type 0} where
       present = find-from_rank es d (rw (← place) within) (rw (← place) same);
     }
 
+    -- the place of a key that is there
+    pub is_place-present : (es : List (ℤ × V)) (at : ℕ) → at ≡ rank_of key es → IsSome (find int_cmp key es) → IsPlaceOf key es at
+    is_place-present es at place some = record {
+      place = place;
+      within = omega (arith, place, rank_of-within es some);
+      present = some;
+    }
+
     pub is_gap-other : (es : List (ℤ × V)) (d : ℤ × V) (at : ℕ) → IsTrue (is_sorted int_cmp es) → at ≡ rank_of key es → at < length es → is_eq (int_cmp key (get_or es at d).0) ≡ false → IsGapFor key es at
     is_gap-other es d at sorted place within other = record {
       place = place;
@@ -324,6 +333,12 @@ module _ {V : Type 0} where
     | Equal ↦ omega arith
     | Greater ↦ omega (arith, length-put_le key v es)
   ]
+
+  -- a key that is there keeps its one entry
+  pub length-put_present : (key : ℤ) (v : V) (es : List (ℤ × V)) → IsTrue (is_sorted int_cmp es) → IsSome (find int_cmp key es) → length (put int_cmp key v es) ≡ length es
+  length-put_present key v [] sorted some = absurd (false≢true some)
+  length-put_present key v (e ∷ es) sorted some =
+      ap length (put-at_rank key (e ∷ es) v e sorted some) ∙ length-set (e ∷ es) (rank_of key (e ∷ es)) ((get_or (e ∷ es) (rank_of key (e ∷ es)) e).0, v)
 
   pub length-put_filled : (key : ℤ) (v : V) (es : List (ℤ × V)) → 0 < length (put int_cmp key v es)
   length-put_filled key v [] = omega arith

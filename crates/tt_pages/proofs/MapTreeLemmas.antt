@@ -5,7 +5,7 @@ use Rattle.std.specs.Ordering.{int_cmp, is_lt}
 use Rattle.std.specs.Bool.{if◌then◌else◌}
 use Rattle.std.specs.FinMap.Entries.{find, put, is_sorted}
 use Rattle.tt_pages.specs.declared.map_tree.Node.{Node}
-use Rattle.tt_pages.specs.declared.map_tree.Node.TheVariants.{Fork}
+use Rattle.tt_pages.specs.declared.map_tree.Node.TheVariants.{Leaf, Fork}
 use Rattle.tt_pages.specs.MapEntries.{first_key, entries_without, IsPageAt}
 use Rattle.tt_pages.specs.MapTree.{entries_of, IsNode, IsPage, IsFork, IsNodeOf, HasMoreBeside, IsSideWithout, IsOtherOfLone}
 use Rattle.tt_pages.proofs.MapEntriesLemmas.{is_sorted-left, is_sorted-right, first_key-append, find-left, find-right, put-left, put-right, without-left, without-right, first_key-put, length-put_filled, length-without_ge, without-lone, sorted-put, sorted-without}
@@ -60,11 +60,11 @@ module _ {V : Type 0} where
   -- ---- a change of one side
 
   -- what holds of both outcomes of a call
-  pub either : {E : Type 0} (r : Result (Unit {0}) E) (new a b : List (ℤ × V)) (P : List (ℤ × V) → Type 0) → OnOk r (new ≡ a) → OnErr r (new ≡ b) → P a → P b → P new
+  pub either : {A E : Type 0} (r : Result A E) (new a b : List (ℤ × V)) (P : List (ℤ × V) → Type 0) → OnOk r (new ≡ a) → OnErr r (new ≡ b) → P a → P b → P new
   either (Ok x) new a b P ok err at_ok at_err = subst P (sym ok) at_ok
   either (Err e) new a b P ok err at_ok at_err = subst P (sym err) at_err
 
-  pub on_ok : {E : Type 0} (r : Result (Unit {0}) E) (new a : List (ℤ × V)) (f : List (ℤ × V) → List (ℤ × V)) (b : List (ℤ × V)) → OnOk r (new ≡ a) → f a ≡ b → OnOk r (f new ≡ b)
+  pub on_ok : {A E : Type 0} (r : Result A E) (new a : List (ℤ × V)) (f : List (ℤ × V) → List (ℤ × V)) (b : List (ℤ × V)) → OnOk r (new ≡ a) → f a ≡ b → OnOk r (f new ≡ b)
   on_ok (Ok x) new a f b ok same = ap f ok ∙ same
   on_ok (Err e) new a f b ok same = tt
 
@@ -155,6 +155,10 @@ module _ {V : Type 0} where
     same = sym (ap entries_of is) ∙ same;
     fork = subst IsNode is is_node;
   }
+
+  pub IsNode-sorted : (node : Node V) → IsNode node → IsTrue (is_sorted int_cmp (entries_of node))
+  IsNode-sorted (Leaf page) node = node.sorted
+  IsNode-sorted (Fork l s r) node = node.sorted
 
   -- ---- parts of a page
 

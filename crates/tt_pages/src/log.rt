@@ -203,6 +203,13 @@ impl<T: Kept + Drop> PagedLog<T> {
     }
 }
 
+/// One more owner of the same pages.
+impl<T: Drop> Kept for PagedLog<T> {
+    fn kept(&self) -> Result<Self, AllocError> {
+        self.share()
+    }
+}
+
 impl<T: Debug + Drop> Debug for PagedLog<T> {
     fn fmt<W: Write>(&self, f: &mut Formatter<W>) -> fmt::Result {
         f.debug_list().entries(self.iter()).finish()

@@ -1,4 +1,4 @@
-ghost use Rattle.std.specs.Prelude.{◌≡◌, ◌↔◌, [], length, IsTrue, IfOk, OnOk, OnErr};
+ghost use Rattle.std.specs.Prelude.{◌≡◌, ◌↔◌, [], length, IsTrue, IsSome, Some, IfOk, OnOk, OnErr};
 ghost use Rattle.std.specs.Option.{option_copied};
 ghost use Rattle.std.specs.Ordering.{int_cmp};
 ghost use Rattle.std.specs.FinMap.Entries.{find, put, is_sorted};
@@ -7,7 +7,7 @@ ghost use Rattle.tt_pages.specs.MapTree.{entries_of_root as entries};
 
 use crate::kept::Kept;
 use crate::map_iter::MapIter;
-use crate::map_tree::{Tree, lone_entry, put_shared, remove_shared};
+use crate::map_tree::{Tree, lone_entry, put_shared, remove_shared, swap_shared};
 use std::alloc::{AllocError, Global};
 use std::fmt::{self, Debug, Formatter, Write};
 use std::marker::Model;
@@ -126,6 +126,17 @@ impl<V: Kept + Drop> PagedMap<V> {
         put_in_root(self.alloc, &mut self.root, &key, value)
     }
 
+    /// Sets the value at a key that is there, and answers the value that it had. Maps that share
+    /// pages with this one stay as they are, and so does this one when it is out of memory.
+    pub fn swap(&mut self, key: i64, value: V) -> Result<V, AllocError>
+        requires { IsSome (find int_cmp key self.old) }
+        ensures map { OnOk result (self.new ≡ put int_cmp key value self.old) }
+        ensures value { IfOk result (λ old. find int_cmp key self.old ≡ Some old) }
+        ensures err { OnErr result (self.new ≡ self.old) }
+    {
+        swap_in_root(self.alloc, &mut self.root, &key, value)
+    }
+
     /// Removes the key, if it is there. Maps that share pages with this one stay as they are, and
     /// so does this one when it is out of memory.
     pub fn remove(&mut self, key: i64) -> Result<(), AllocError>
@@ -133,6 +144,13 @@ impl<V: Kept + Drop> PagedMap<V> {
         ensures err { OnErr result (self.new ≡ self.old) }
     {
         remove_from_root(self.alloc, &mut self.root, &key)
+    }
+}
+
+/// A further owner of the same pages.
+impl<V: Drop> Kept for PagedMap<V> {
+    fn kept(&self) -> Result<Self, AllocError> {
+        self.share()
     }
 }
 
@@ -166,6 +184,23 @@ fn put_in_root<V: Kept + Drop>(
             *root = Some(lone_entry(alloc, key, value)?);
             Ok(())
         }
+    }
+}
+
+fn swap_in_root<V: Kept + Drop>(
+    alloc: Global,
+    root: &mut Option<Arc<Tree<V>>>,
+    key: &i64,
+    value: V,
+) -> Result<V, AllocError>
+    requires { IsSome (find int_cmp key.now (entries root.old)) }
+    ensures map { OnOk result (entries root.new ≡ put int_cmp key.now value (entries root.old)) }
+    ensures value { IfOk result (λ old. find int_cmp key.now (entries root.old) ≡ Some old) }
+    ensures err { OnErr result (entries root.new ≡ entries root.old) }
+{
+    match root {
+        Some(tree) => swap_shared(alloc, tree, key, value),
+        None => unreachable!(),
     }
 }
 

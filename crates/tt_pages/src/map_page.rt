@@ -1,5 +1,5 @@
 // A page of a map: a list of entries by rising key.
-ghost use Rattle.std.specs.Prelude.{◌≡◌, ◌++◌, IsTrue, IfOk, IfErr, OnOk, OnErr};
+ghost use Rattle.std.specs.Prelude.{◌≡◌, ◌++◌, IsTrue, IsSome, Some, IfOk, IfErr, OnOk, OnErr};
 ghost use Rattle.std.specs.Option.{option_copied};
 ghost use Rattle.std.specs.Ordering.{int_cmp};
 ghost use Rattle.std.specs.FinMap.Entries.{find, put, is_sorted};
@@ -7,6 +7,7 @@ ghost use Rattle.tt_pages.specs.MapEntries.{rank_of, entries_without, IsPlaceOf,
 
 use crate::kept::Kept;
 use std::alloc::{AllocError, Global};
+use std::mem;
 
 // The most entries that a page holds.
 pub(crate) const MAX_ENTRIES: usize = 16;
@@ -71,6 +72,17 @@ fn entry_of<V>(key: &i64, value: V) -> (i64, V)
 {
     let key = *key;
     (key, value)
+}
+
+// Sets the value at a key that is there, and answers the value that it had.
+pub(crate) fn swap_in<V>(page: &mut Page<V>, key: &i64, value: V) -> V
+    requires sorted { IsTrue (is_sorted int_cmp page.old.items) }
+    requires present { IsSome (find int_cmp key.now page.old.items) }
+    ensures page { page.new.items ≡ put int_cmp key.now value page.old.items }
+    ensures value { find int_cmp key.now page.old.items ≡ Some result }
+{
+    let at = rank_in(page, key);
+    mem::replace(&mut page[at].1, value)
 }
 
 pub(crate) fn remove_in<V: Drop>(page: &mut Page<V>, key: &i64)

@@ -149,6 +149,39 @@ fn maps_that_were_shared_stay_while_one_changes(rt: HostRuntime) -> Result<(), F
     Ok(())
 }
 
+/// Swaps the value at a key of a copy, in a page that is shared and then in one of its own. The map
+/// keeps its value.
+fn expect_swaps(
+    rt: &impl Abort,
+    map: &PagedMap<u64>,
+    key: i64,
+    value: u64,
+) -> Result<(), AllocError> {
+    let mut copy = map.share()?;
+    for (old, new) in [(value, 1000), (1000, 2000)] {
+        copy.get(key).expect(rt, "no entry at the key");
+        assert_eq!(rt; copy.swap(key, new)?, old);
+        assert_eq!(rt; copy.get(key), Some(&new));
+    }
+    assert_eq!(rt; copy.len(), map.len());
+    assert_eq!(rt; map.get(key), Some(&value));
+    Ok(())
+}
+
+#[test]
+fn a_swap_answers_the_old_value(rt: HostRuntime) -> Result<(), Fail> {
+    let alloc = rt.alloc();
+    let page = PagedMap::new(alloc).with(1, 10)?.with(2, 20)?;
+    expect_swaps(&rt, &page, 1, 10)?;
+    expect_swaps(&rt, &page, 2, 20)?;
+    let tree = map_of(alloc, Order::OddFirst)?;
+    for number in 1..201u64 {
+        expect_swaps(&rt, &tree, number as i64, number)?;
+    }
+    expect_entries(&rt, &tree, &numbers(alloc, false)?)?;
+    Ok(())
+}
+
 #[test]
 fn a_map_prints_as_one(rt: HostRuntime) -> Result<(), Fail> {
     let alloc = rt.alloc();

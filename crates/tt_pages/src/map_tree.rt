@@ -1,5 +1,5 @@
 // The tree of a map: its leaves are pages, and a fork has two sides, each with owners of its own.
-ghost use Rattle.std.specs.Prelude.{◌≡◌, ◌+◌, ◌<◌, [], ◌∷◌, ◌++◌, ◌^◌, length, IsTrue, IsSome, IfSome, IfOk, OnOk, OnErr};
+ghost use Rattle.std.specs.Prelude.{◌≡◌, ◌+◌, ◌<◌, [], ◌∷◌, ◌++◌, ◌^◌, length, IsTrue, IsSome, Some, IfSome, IfOk, OnOk, OnErr};
 ghost use Rattle.std.specs.Arc.{arc_value as entries};
 ghost use Rattle.std.specs.Option.{option_copied};
 ghost use Rattle.std.specs.Ordering.{int_cmp};
@@ -11,6 +11,7 @@ ghost use Rattle.tt_pages.specs.declared.map_tree.Node.TheVariants.{Fork};
 use crate::kept::Kept;
 use crate::map_page::{
     FEW_ENTRIES, MAX_ENTRIES, Page, add_copies, copy_of, get_in, put_in, rank_in, remove_in,
+    swap_in,
 };
 use std::alloc::{AllocError, Global};
 use std::marker::Model;
@@ -140,6 +141,17 @@ impl<V: Kept + Drop> Tree<V> {
         Ok(())
     }
 
+    // Sets the value at a key that is there, and answers the value that it had.
+    #[cycle(map_swap)]
+    fn swap(&mut self, alloc: Global, key: &i64, value: V) -> Result<V, AllocError>
+        requires { IsSome (find int_cmp key.now self.old) }
+        ensures tree { OnOk result (self.new ≡ put int_cmp key.now value self.old) }
+        ensures value { IfOk result (λ old. find int_cmp key.now self.old ≡ Some old) }
+        ensures err { OnErr result (self.new ≡ self.old) }
+    {
+        self.node.swap(alloc, key, value)
+    }
+
     #[cycle(map_remove)]
     fn remove(&mut self, alloc: Global, key: &i64) -> Result<(), AllocError>
         requires present { IsSome (find int_cmp key.now self.old) }
@@ -181,6 +193,25 @@ pub(crate) fn put_shared<V: Kept + Drop>(
     unshare(alloc, this)?;
     match Arc::get_mut(this) {
         Some(tree) => tree.put(alloc, key, value),
+        None => Err(AllocError),
+    }
+}
+
+#[cycle(map_swap)]
+pub(crate) fn swap_shared<V: Kept + Drop>(
+    alloc: Global,
+    this: &mut Arc<Tree<V>>,
+    key: &i64,
+    value: V,
+) -> Result<V, AllocError>
+    requires { IsSome (find int_cmp key.now (entries this.old)) }
+    ensures tree { OnOk result (entries this.new ≡ put int_cmp key.now value (entries this.old)) }
+    ensures value { IfOk result (λ old. find int_cmp key.now (entries this.old) ≡ Some old) }
+    ensures err { OnErr result (entries this.new ≡ entries this.old) }
+{
+    unshare(alloc, this)?;
+    match Arc::get_mut(this) {
+        Some(tree) => tree.swap(alloc, key, value),
         None => Err(AllocError),
     }
 }
@@ -369,6 +400,27 @@ impl<V: Kept + Drop> Node<V> {
                     put_shared(alloc, left, key, value)
                 } else {
                     put_shared(alloc, right, key, value)
+                }
+            }
+        }
+    }
+
+    #[cycle(map_swap)]
+    fn swap(&mut self, alloc: Global, key: &i64, value: V) -> Result<V, AllocError>
+        requires node { IsNode self.old }
+        requires present { IsSome (find int_cmp key.now (entries_of self.old)) }
+        ensures node { IsNode self.new }
+        ensures tree { OnOk result (PutsEntry key.now value self.old self.new) }
+        ensures value { IfOk result (λ old. find int_cmp key.now (entries_of self.old) ≡ Some old) }
+        ensures err { OnErr result (entries_of self.new ≡ entries_of self.old) }
+    {
+        match self {
+            Node::Leaf(page) => Ok(swap_in(page, key, value)),
+            Node::Fork(left, split, right) => {
+                if key.cmp(&split.key).is_lt() {
+                    swap_shared(alloc, left, key, value)
+                } else {
+                    swap_shared(alloc, right, key, value)
                 }
             }
         }

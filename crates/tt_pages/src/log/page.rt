@@ -26,11 +26,11 @@ impl<T> Model for Page<T> {
 }
 
 impl<T: Drop> Page<T> {
-    /// A page of one item, with room for a full page.
+    /// A page of one item. It takes memory for just that one, and grows with the next.
     pub(super) fn of_one(alloc: Global, item: T) -> Result<Self, AllocError>
         ensures { IfOk result (λ page. page ≡ item ∷ []) }
     {
-        let mut items = Vec::with_capacity(alloc, PAGE_SIZE)?;
+        let mut items = Vec::with_capacity(alloc, 1)?;
         items.push(item)?;
         Ok(Page { items })
     }
