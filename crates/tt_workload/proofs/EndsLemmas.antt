@@ -1,7 +1,8 @@
 -- The cases of a document's bytes: too many of them, no JSON, or a value. And the bytes that reads give, one after another.
-use Rattle.std.proofs.Common.{◌≡◌, ℕ, ◌-◌, ◌<◌, ◌≤◌, true, false, List, ◌++◌, length, length-append, take, take_all, take_at, append-nil, Option, None, Some, IfSome, refl, sym, ap, subst, ◌∙◌, arith}
+use Rattle.std.proofs.Common.{◌≡◌, ℕ, ◌-◌, ◌<◌, ◌≤◌, min, true, false, List, ◌++◌, length, length-append, length-take, take, drop, take_all, take_at, append-nil, Option, None, Some, IfSome, refl, sym, ap, subst, ◌∙◌, arith}
 use Rattle.std.specs.Prelude.{codes}
 use Rattle.std.specs.Str.{IsUtf8, is_utf8}
+use Rattle.std.proofs.lemmas.List.{take-append-le}
 use Rattle.std.proofs.lemmas.Bool.{lt-ltb, le-ltb}
 use Rattle.std.proofs.lemmas.Str.{IsUtf8-from_is_utf8, is_utf8-from_IsUtf8}
 use Rattle.std.specs.Io.KnownBytes.{Consumes, IsAtEnd}
@@ -54,12 +55,20 @@ further_read a b c bs more new e p q = subst (Consumes a c) (sym e) (Consumes-tr
 pub ConsumesAtMost-all : (n : ℕ) (a b : Option (List ℕ)) (bs : List ℕ) → length bs ≤ n → Consumes a b bs → ConsumesAtMost n a b
 ConsumesAtMost-all n a b bs few p = record { bytes = bs; consumed = p; short = few }
 
--- the rest of what may be read
-pub ConsumesAtMost-rest : (n : ℕ) (a b c : Option (List ℕ)) (bs : List ℕ) → length bs ≤ n → Consumes a b bs → ConsumesAtMost (n - length bs) b c → ConsumesAtMost n a c
-ConsumesAtMost-rest n a b c bs few p more =
-    ConsumesAtMost-all n a c (bs ++ more.bytes) (omega (arith, length-append bs more.bytes, more.short)) (Consumes-trans a b c bs more.bytes p more.consumed)
-
 -- what was consumed, where the bytes are known
 pub consumed_bytes : (a b : Option (List ℕ)) (bs : List ℕ) (n : ℕ) → Consumes a b bs → IfSome a (λ xs. bs ≡ take n xs) → IfSome a (λ xs. Consumes (Some xs) b (take n xs))
 consumed_bytes None b bs n p e = tt
 consumed_bytes (Some x) b bs n p e = subst (Consumes (Some x) b) e p
+
+-- ---- one read more, into the part of the buffer that there is room for
+
+-- that part is not empty, where more bytes may be read
+pub room_left : (bs buffer : List ℕ) (room n : ℕ) → length bs < n → 0 < length buffer → room ≡ min (length buffer) (n - length bs) → 0 < length (take room buffer)
+room_left bs buffer room n more some e = omega (arith, length-take room buffer)
+
+-- with what the read gave, the bytes are not too many, and are those that the reader lost
+pub read_more : (a b c : Option (List ℕ)) (bs buffer piece new : List ℕ) (room count n : ℕ) → length bs < n → room ≡ min (length buffer) (n - length bs) → length piece ≡ length (take room buffer) → count ≤ length piece
+    → new ≡ bs ++ take count (piece ++ drop room buffer) → Consumes a b bs → Consumes b c (take count piece) → (length new ≤ n) × Consumes a c new
+read_more a b c bs buffer piece new room count n more e same few longer p q =
+    let taken = longer ∙ ap (λ l. bs ++ l) (take-append-le count piece (drop room buffer) few) in
+    (omega (arith, ap length taken, length-append bs (take count piece), length-take count piece, length-take room buffer), further_read a b c bs (take count piece) new taken p q)

@@ -79,38 +79,14 @@ fn read_bytes<R: Read>(alloc: Global, reader: &mut R) -> Result<Vec<u8>, RunFaul
     let buffer = zeros.as_mut_slice();
     let mut retries = MAX_RETRIES;
     while bytes.len() < MAX_BYTES_READ {
-        let count = read_piece(reader, &mut bytes, buffer, &mut retries)?;
+        let room = buffer.len().min(MAX_BYTES_READ - bytes.len());
+        let count = read_once(reader, &mut buffer[..room], &mut retries)?;
+        bytes.extend_from_slice(&buffer[..count])?;
         if count == 0 {
             return Ok(bytes);
         }
     }
     Ok(bytes)
-}
-
-/// Appends the bytes of one read, and answers their number: 0 only at the reader's end.
-fn read_piece<R: Read>(
-    reader: &mut R,
-    bytes: &mut Vec<u8>,
-    buffer: &mut [u8],
-    retries: &mut u32,
-) -> Result<usize, RunFault>
-    requires few { length bytes.old.items < max_bytes_read }
-    requires room { 0 < length buffer.old }
-    ensures ok { IfOk result (λ n. bytes.new.items ≡ bytes.old.items ++ take n buffer.new) }
-    ensures consumed { IfOk result (λ n.
-        Consumes (R.remaining reader.old) (R.remaining reader.new) (take n buffer.new)) }
-    ensures within { IfOk result (λ n. length bytes.new.items ≤ max_bytes_read) }
-    ensures longer { IfOk result (λ n. length bytes.new.items ≡ length bytes.old.items + n) }
-    ensures end { IfOk result (λ n. n ≡ 0 → IsAtEnd (R.remaining reader.new)) }
-    ensures fault { IfErr result IsReaderFault }
-    ensures limit { OnErr result (ConsumesAtMost (max_bytes_read - length bytes.old.items)
-        (R.remaining reader.old) (R.remaining reader.new)) }
-    ensures retries { retries.new ≤ retries.old }
-{
-    let room = buffer.len().min(MAX_BYTES_READ - bytes.len());
-    let count = read_once(reader, &mut buffer[..room], retries)?;
-    bytes.extend_from_slice(&buffer[..count])?;
-    Ok(count)
 }
 
 /// One read, tried again where it's interrupted, as long as there are retries.

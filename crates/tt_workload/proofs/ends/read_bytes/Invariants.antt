@@ -1,5 +1,5 @@
--- The bytes so far are those that the reader lost, and not too many; each turn reads some more.
-use Rattle.std.proofs.Common.{◌-◌, ◌≤◌, length}
+-- The bytes so far are those that the reader lost, and not too many; each turn reads some more, and adds no retry.
+use Rattle.std.proofs.Common.{◌+◌, ◌-◌, ◌≤◌, length}
 use Rattle.std.specs.Io.KnownBytes.{Consumes}
 use Rattle.tt_workload.specs.Ends.{max_bytes_read}
 use Rattle.tt_workload.proofs.ends.read_bytes.Given as goal
@@ -11,4 +11,4 @@ invariant-loop-buffer g l = record {
 }
 
 abbrev pub decreases-loop-buffer : goal.decreases-loop-buffer
-decreases-loop-buffer g l = max_bytes_read - length l.bytes.items
+decreases-loop-buffer g l = (max_bytes_read - length l.bytes.items) + l.retries
