@@ -1,21 +1,22 @@
 -- The tables of a database, and how they follow a list of row writes.
-use Rattle.std.specs.Prelude.{◌≡◌, ℕ, ℤ, List, ◌++◌, map, Option}
-use Rattle.std.specs.Option.{unwrap_or}
-use Rattle.std.specs.Ordering.{nat_cmp}
-use Rattle.std.specs.FinMap.Entries as sorted
+use Rattle.std.specs.Prelude.{◌≡◌, ℕ, ℤ, false, ◌==◌, List, ◌++◌, map, get_or, Option}
 use Rattle.tt_values.specs.declared.row.Row.{Row}
 use Rattle.tt_values.specs.Content.{RowWrite}
 use Rattle.tt_versions.specs.declared.side.Side.TheVariants.{Current}
 use Rattle.tt_versions.specs.Sides.{LineagesByKey, no_lineages, side_of, is_split, none_split}
 use Rattle.tt_versions.specs.RowsByWrites.{rows_by}
 
--- the tables that were written, by rising position
+-- tables by position
 abbrev pub TablesByPosition : Type 0
-TablesByPosition = List (ℕ × LineagesByKey)
+TablesByPosition = List LineagesByKey
 
--- the table at a position. One that was never written has no rows
+-- the table at a position. One past the end has no rows
 abbrev pub versions_at : TablesByPosition → ℕ → LineagesByKey
-versions_at tables table = unwrap_or (sorted.find nat_cmp table tables) no_lineages
+versions_at tables table = get_or tables table no_lineages
+
+-- the tables at all positions but one stay
+abbrev pub KeepsOthers : ℕ → TablesByPosition → TablesByPosition → Type 0
+KeepsOthers position before after = (t : ℕ) → (t == position) ≡ false → versions_at after t ≡ versions_at before t
 
 -- on its current side each table has the rows of a list of row writes, and no row is split
 pub record TablesAgree (tables : TablesByPosition) (ws : List RowWrite) : Type 0 where

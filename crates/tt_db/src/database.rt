@@ -17,15 +17,17 @@ use crate::slot_list::SlotList;
 use std::alloc::{AllocError, Global};
 use std::marker::Model;
 use std::sync::Arc;
+use tt_pages::PagedLog;
 use tt_values::{Catalog, Reply, Select, Shared, Write, check, check_select};
 use tt_versions::{Side, Table};
 
 /// A database: a catalog, limits, and the history of the accepted events.
 #[derive(Drop)]
 pub struct Db {
+    alloc: Global,
     catalog: Shared<Catalog>,
     limits: Limits,
-    history: Vec<Entry>,
+    history: PagedLog<Shared<Entry>>,
     slots: SlotList,
     generation: u64,
 }
@@ -38,11 +40,11 @@ impl Model for Db {
     ghost view = { λ d. record {
       catalog = d.catalog;
       limits = d.limits;
-      history = d.history.items;
+      history = d.history;
     } };
 
     ghost invariant = { λ d.
-        IsConsistent d.catalog d.limits d.history.items d.slots d.generation };
+        IsConsistent d.catalog d.limits d.history d.slots d.generation };
 }
 
 impl Db {
@@ -55,9 +57,10 @@ impl Db {
         // For the proof: each catalog is sound.
         let _ = catalog.get().len();
         Db {
+            alloc,
             catalog,
             limits,
-            history: Vec::new(alloc),
+            history: PagedLog::new(alloc),
             slots: SlotList::new(alloc),
             generation: 0,
         }
@@ -97,7 +100,8 @@ impl Db {
         ensures { option_copied result ≡ nth_item self.now.history place }
     {
         let position = place.checked_sub(1)?;
-        self.history.get(position as usize)
+        let entry = self.history.get(position as usize)?;
+        Some(entry.get())
     }
 
     /// The slot of a number, counted from 1.
@@ -108,7 +112,7 @@ impl Db {
     }
 
     /// Applies an event: answers the next database and the outcome, or why the event is refused.
-    /// This database stays as it is.
+    /// This database stays as it is, and shares with the next one what they have in common.
     pub fn apply(&self, entry: Entry) -> Result<(Db, Outcome), DbError>
         ensures state { IfOk result (λ r. r.0 ≡ with_entry self.now entry) }
         ensures outcome { IfOk result (λ r. r.1 ≡ outcome_for self.now entry.event) }
@@ -118,10 +122,28 @@ impl Db {
         if let Some(refusal) = self.refusal(&entry.event) {
             return Err(refusal);
         }
-        match self.apply_event(entry) {
+        match self.apply_shared(entry) {
             Ok(next) => Ok(next),
             Err(AllocError) => Err(DbError::Memory),
         }
+    }
+
+    /// Applies an event to a database whose earlier state isn't needed any more: answers the next
+    /// database and the outcome, or this database and why the event is refused. What no other
+    /// database shares is changed in place. Without memory nothing is left: use
+    /// [`apply`](Db::apply) where the database has to survive that.
+    pub fn advanced(self, entry: Entry) -> Result<(Db, Result<Outcome, DbError>), AllocError>
+        ensures state { IfOk result (λ r. OnOk r.1 (r.0 ≡ with_entry self entry)) }
+        ensures outcome { IfOk result (λ r. IfOk r.1 (λ o. o ≡ outcome_for self entry.event)) }
+        ensures accepted { IfOk result (λ r. OnOk r.1 (refusal_of self entry.event ≡ None)) }
+        ensures refused { IfOk result (λ r. IfErr r.1 (λ e. refusal_of self entry.event ≡ Some e)) }
+        ensures unchanged { IfOk result (λ r. OnErr r.1 (r.0 ≡ self)) }
+    {
+        if let Some(refusal) = self.refusal(&entry.event) {
+            return Ok((self, Err(refusal)));
+        }
+        let (next, outcome) = self.apply_event(entry)?;
+        Ok((next, Ok(outcome)))
     }
 
     /// Why the event is refused, memory aside.
@@ -149,12 +171,41 @@ impl Db {
         }
     }
 
-    /// The database after an event that isn't refused.
-    fn apply_event(&self, entry: Entry) -> Result<(Db, Outcome), AllocError>
+    /// The next database after an event that isn't refused, beside this one.
+    fn apply_shared(&self, entry: Entry) -> Result<(Db, Outcome), AllocError>
         requires accepted { refusal_of self.now entry.event ≡ None }
         requires keyed { HasKeys entry.event }
         ensures state { IfOk result (λ r. r.0 ≡ with_entry self.now entry) }
         ensures outcome { IfOk result (λ r. r.1 ≡ outcome_for self.now entry.event) }
+    {
+        let shared = self.share()?;
+        let next = shared.apply_event(entry)?;
+        Ok(next)
+    }
+
+    /// A further owner of the same database.
+    fn share(&self) -> Result<Db, AllocError>
+        ensures { IfOk result (λ db. db ≡ self.now) }
+    {
+        let catalog = self.catalog.clone()?;
+        let history = self.history.share()?;
+        let slots = self.slots.share()?;
+        Ok(Db {
+            alloc: self.alloc,
+            catalog,
+            limits: self.limits,
+            history,
+            slots,
+            generation: self.generation,
+        })
+    }
+
+    /// The database after an event that isn't refused.
+    fn apply_event(self, entry: Entry) -> Result<(Db, Outcome), AllocError>
+        requires accepted { refusal_of self entry.event ≡ None }
+        requires keyed { HasKeys entry.event }
+        ensures state { IfOk result (λ r. r.0 ≡ with_entry self entry) }
+        ensures outcome { IfOk result (λ r. r.1 ≡ outcome_for self entry.event) }
     {
         let Entry { worker, event } = entry;
         match event {
@@ -166,24 +217,34 @@ impl Db {
     }
 
     /// The database after a write that isn't refused.
-    fn apply_write(&self, worker: u32, write: Write) -> Result<(Db, Outcome), AllocError>
-        requires accepted { refusal_of self.now (Event.Write write) ≡ None }
+    fn apply_write(self, worker: u32, write: Write) -> Result<(Db, Outcome), AllocError>
+        requires accepted { refusal_of self (Event.Write write) ≡ None }
         requires keyed { HasKey write }
-        ensures state { IfOk result (λ r. r.0 ≡ with_entry self.now (write_entry worker write)) }
-        ensures outcome { IfOk result (λ r. r.1 ≡ outcome_for self.now (Event.Write write)) }
+        ensures state { IfOk result (λ r. r.0 ≡ with_entry self (write_entry worker write)) }
+        ensures outcome { IfOk result (λ r. r.1 ≡ outcome_for self (Event.Write write)) }
     {
-        let (slots, reply) = self.slots.with_write(&write)?;
+        let Db {
+            alloc,
+            catalog,
+            limits,
+            mut history,
+            slots,
+            generation,
+        } = self;
+        let (slots, reply) = slots.with_write(write.copy()?)?;
         let entry = Entry {
             worker,
             event: Event::Write(write),
         };
-        let history = history_with(&self.history, entry)?;
+        let entry = Shared::new(alloc, entry)?;
+        history.push(entry)?;
         let db = Db {
-            catalog: self.catalog.clone()?,
-            limits: self.limits,
+            alloc,
+            catalog,
+            limits,
             history,
             slots,
-            generation: self.generation,
+            generation,
         };
         let slot = db.now();
         Ok((db, Outcome::Written { slot, reply }))
@@ -203,7 +264,7 @@ impl Db {
         ensures limits { self.new.limits ≡ self.old.limits }
         ensures err { OnErr result (self.new ≡ self.old) }
     {
-        let mut answers = Vec::with_capacity(*self.history.allocator(), entries.len())?;
+        let mut answers = Vec::with_capacity(self.alloc, entries.len())?;
         for entry in entries {
             let answer = self.advance(entry);
             answers.push_reserved(answer);
@@ -241,7 +302,7 @@ impl Db {
         ensures outcome { IfOk result (λ r. r.1 ≡ outcome_for self.now entry.now.event) }
     {
         let entry = entry.clone()?;
-        let next = self.apply_event(entry)?;
+        let next = self.apply_shared(entry)?;
         Ok(next)
     }
 
@@ -299,16 +360,4 @@ impl Db {
             None
         }
     }
-}
-
-/// The history with one more entry.
-fn history_with(history: &Vec<Entry>, entry: Entry) -> Result<Vec<Entry>, AllocError>
-    ensures { IfOk result (λ next. next.items ≡ history.now.items ++ entry ∷ []) }
-{
-    let mut next = Vec::new(*history.allocator());
-    for earlier in history {
-        next.push(earlier.clone()?)?;
-    }
-    next.push(entry)?;
-    Ok(next)
 }

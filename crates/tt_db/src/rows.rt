@@ -1,21 +1,19 @@
-ghost use Rattle.std.specs.Prelude.{◌≡◌, [], ◌∷◌, IfOk};
-ghost use Rattle.std.specs.Option.{option_copied};
-ghost use Rattle.std.specs.Ordering.{nat_cmp};
-ghost use Rattle.std.specs.FinMap.Entries as sorted;
+ghost use Rattle.std.specs.Prelude.{◌≡◌, ◌<◌, [], ◌∷◌, length, IfOk, OnOk};
+ghost use Rattle.tt_db.specs.Rows.{versions_at, KeepsOthers};
 
 use std::alloc::{AllocError, Global};
-use std::collections::BTreeMap;
 use std::marker::Model;
-use tt_values::{Row, Shared};
+use std::mem;
+use tt_values::Row;
 use tt_versions::Table;
 
-/// The rows of all tables with their versions. A changing call answers new ones, which share each
-/// table but the changed one, and leaves these as they are.
+/// The rows of all tables with their versions.
 #[derive(Drop)]
 pub(crate) struct Rows {
     alloc: Global,
-    tables: BTreeMap<u16, Shared<Table>>,
-    /// Stands for each table that was never written.
+    /// By position. A table past the end was never written.
+    tables: Vec<Table>,
+    /// Stands for each table past the end.
     empty: Table,
 }
 
@@ -26,13 +24,13 @@ impl Model for Rows {
 
     ghost Value = { TablesByPosition };
 
-    ghost view = { λ r. r.tables.entries };
+    ghost view = { λ r. r.tables.items };
 
     ghost invariant = { λ r. r.empty ≡ no_lineages };
 }
 
 impl Rows {
-    ghost use Rattle.tt_db.specs.Rows.{versions_at, AddsEffect};
+    ghost use Rattle.tt_db.specs.Rows.{AddsEffect};
 
     /// No rows. Takes no memory.
     pub(crate) fn new(alloc: Global) -> Rows
@@ -40,7 +38,7 @@ impl Rows {
     {
         Rows {
             alloc,
-            tables: BTreeMap::new(alloc),
+            tables: Vec::new(alloc),
             empty: Table::new(alloc),
         }
     }
@@ -49,22 +47,39 @@ impl Rows {
     pub(crate) fn table(&self, table: u16) -> &Table
         ensures { result.now ≡ versions_at self.now table }
     {
-        match self.tables.get(&table) {
-            Some(shared) => shared.get(),
-            None => &self.empty,
+        let position = usize::from(table);
+        if position < self.tables.len() {
+            &self.tables[position]
+        } else {
+            &self.empty
         }
+    }
+
+    /// A further owner of each table.
+    pub(crate) fn share(&self) -> Result<Rows, AllocError>
+        ensures { IfOk result (λ r. r ≡ self.now) }
+    {
+        let mut tables = Vec::with_capacity(self.alloc, self.tables.len())?;
+        for table in &self.tables {
+            tables.push(table.share()?)?;
+        }
+        Ok(Rows {
+            alloc: self.alloc,
+            tables,
+            empty: Table::new(self.alloc),
+        })
     }
 
     /// The rows once these keys of a table have those rows, or none, from the time on.
     pub(crate) fn with_row_writes(
-        &self,
+        self,
         table: u16,
         effect: Vec<(i64, Option<Row>)>,
         time: u64,
     ) -> Result<Rows, AllocError>
-        ensures { IfOk result (λ r. AddsEffect self.now r time table effect.items) }
+        ensures { IfOk result (λ r. AddsEffect self r time table effect.items) }
     {
-        let mut rows = self.clone()?;
+        let mut rows = self;
         for (key, row) in effect {
             rows = rows.with_row_write(table, key, row, time)?;
         }
@@ -72,42 +87,51 @@ impl Rows {
     }
 
     fn with_row_write(
-        &self,
+        self,
         table: u16,
         key: i64,
         row: Option<Row>,
         time: u64,
     ) -> Result<Rows, AllocError>
-        ensures { IfOk result (λ r. AddsEffect self.now r time table ((key, row) ∷ [])) }
+        ensures { IfOk result (λ r. AddsEffect self r time table ((key, row) ∷ [])) }
     {
-        let next = self.table(table).written(key, row, time)?;
-        let rows = self.with_table(table, next)?;
-        Ok(rows)
-    }
-
-    /// The rows with that table at a position.
-    fn with_table(&self, position: u16, table: Table) -> Result<Rows, AllocError>
-        ensures { IfOk result (λ r. r ≡ sorted.put nat_cmp position table self.now) }
-    {
-        let shared = Shared::new(self.alloc, table)?;
-        let mut rows = self.clone()?;
-        rows.tables.insert(position, shared)?;
-        Ok(rows)
+        let Rows {
+            alloc,
+            mut tables,
+            empty,
+        } = self;
+        let position = usize::from(table);
+        let old = take_table(alloc, &mut tables, position)?;
+        let new = old.into_written(key, row, time)?;
+        tables[position] = new;
+        Ok(Rows {
+            alloc,
+            tables,
+            empty,
+        })
     }
 }
 
-impl Clone for Rows {
-    ghost use Rattle.std.specs.Prelude.{◌≡◌};
+/// Takes a table out, and leaves an empty one. There are tables up to its position then.
+#[tactic(auto, using(crate::proofs::RowsLemmas::sets_table))]
+fn take_table(alloc: Global, tables: &mut Vec<Table>, position: usize) -> Result<Table, AllocError>
+    ensures table { IfOk result (λ table. table ≡ versions_at tables.old.items position) }
+    ensures room { OnOk result (position < length tables.new.items) }
+    ensures others { OnOk result (KeepsOthers position tables.old.items tables.new.items) }
+{
+    add_tables(alloc, tables, position)?;
+    let table = mem::replace(&mut tables[position], Table::new(alloc));
+    Ok(table)
+}
 
-    ghost is_clone = { λ source copy. copy ≡ source };
-
-    /// The same rows, sharing each table.
-    fn clone(&self) -> Result<Self, AllocError> {
-        let tables = self.tables.clone()?;
-        Ok(Rows {
-            alloc: self.alloc,
-            tables,
-            empty: Table::new(self.alloc),
-        })
+/// Adds empty tables, until there is one at the position.
+#[tactic(auto, using(crate::proofs::RowsLemmas::adds_tables))]
+fn add_tables(alloc: Global, tables: &mut Vec<Table>, position: usize) -> Result<(), AllocError>
+    ensures room { OnOk result (position < length tables.new.items) }
+    ensures same { versions_at tables.new.items ≡ versions_at tables.old.items }
+{
+    while tables.len() <= position {
+        tables.push(Table::new(alloc))?;
     }
+    Ok(())
 }

@@ -12,14 +12,15 @@ use crate::outcome::Slot;
 use crate::rows::Rows;
 use std::alloc::{AllocError, Global};
 use std::marker::Model;
-use tt_values::{Items, Reply, Row, Select, Write};
+use tt_pages::PagedLog;
+use tt_values::{Items, Reply, Row, Select, Shared, Write};
 use tt_versions::{Side, Table};
 
-/// The slots of a generation with their replies, and the rows that they leave. A changing call
-/// answers new ones and leaves these as they are.
+/// The slots of a generation with their replies, and the rows that they leave.
 #[derive(Drop)]
 pub(crate) struct SlotList {
-    slots: Vec<Slot>,
+    alloc: Global,
+    slots: PagedLog<Shared<Slot>>,
     rows: Rows,
 }
 
@@ -29,9 +30,9 @@ impl Model for SlotList {
 
     ghost Value = { Slots };
 
-    ghost view = { λ s. writes_of s.slots.items };
+    ghost view = { λ s. writes_of s.slots };
 
-    ghost invariant = { λ s. IsSlotList s.slots.items s.rows };
+    ghost invariant = { λ s. IsSlotList s.slots s.rows };
 }
 
 impl SlotList {
@@ -40,7 +41,8 @@ impl SlotList {
         ensures { result ≡ [] }
     {
         SlotList {
-            slots: Vec::new(alloc),
+            alloc,
+            slots: PagedLog::new(alloc),
             rows: Rows::new(alloc),
         }
     }
@@ -57,7 +59,8 @@ impl SlotList {
         ensures { option_copied result ≡ slot_at self.now number }
     {
         let position = number.checked_sub(1)?;
-        self.slots.get(position as usize)
+        let slot = self.slots.get(position as usize)?;
+        Some(slot.get())
     }
 
     /// The versions of a table.
@@ -72,28 +75,36 @@ impl SlotList {
     pub(crate) fn answer_at(&self, select: &Select, time: u64) -> Result<Reply, AllocError>
         ensures { IfOk result (λ r. r ≡ answer_of select.now (content_of self.now time)) }
     {
-        let alloc = *self.slots.allocator();
         let rows = self.table(select.table).rows_at(time, Side::Current)?;
-        let rows = rows_that_match(alloc, &rows, select.equals.as_slice())?;
+        let rows = rows_that_match(self.alloc, &rows, select.equals.as_slice())?;
         Ok(Reply::Rows(Items::new(rows)))
     }
 
-    /// The slots and one more, for this write, with its reply.
-    pub(crate) fn with_write(&self, write: &Write) -> Result<(SlotList, Reply), AllocError>
-        requires keyed { HasKey write.now }
-        requires room { length self.now < max_limits.slots }
-        ensures slots { IfOk result (λ r. r.0 ≡ self.now ++ Some write.now ∷ []) }
-        ensures reply { IfOk result (λ r. r.1 ≡ reply_of write.now (last_content self.now)) }
+    /// A further owner of the same slots.
+    pub(crate) fn share(&self) -> Result<SlotList, AllocError>
+        ensures { IfOk result (λ s. s ≡ self.now) }
     {
-        let effect = self.effect_of(write)?;
-        let reply = reply_to(write, &effect);
-        let rows = self.rows_after(write, effect)?;
-        let slot = Slot {
-            write: Some(write.copy()?),
-            reply: Some(reply.clone()?),
-        };
-        let next = self.with_slot(slot, rows)?;
-        Ok((next, reply))
+        let slots = self.slots.share()?;
+        let rows = self.rows.share()?;
+        Ok(SlotList {
+            alloc: self.alloc,
+            slots,
+            rows,
+        })
+    }
+
+    /// The slots and one more, for this write, with its reply.
+    pub(crate) fn with_write(self, write: Write) -> Result<(SlotList, Reply), AllocError>
+        requires keyed { HasKey write }
+        requires room { length self < max_limits.slots }
+        ensures slots { IfOk result (λ r. r.0 ≡ self ++ Some write ∷ []) }
+        ensures reply { IfOk result (λ r. r.1 ≡ reply_of write (last_content self)) }
+    {
+        let effect = self.effect_of(&write)?;
+        let reply = reply_to(&write, &effect);
+        let copy = reply.clone()?;
+        let slots = self.with_slot(write, copy, effect)?;
+        Ok((slots, reply))
     }
 
     /// The effect of a write now.
@@ -102,41 +113,35 @@ impl SlotList {
         ensures effect { IfOk result (λ e. e.items ≡ effect_now self.now write.now) }
         ensures few { IfOk result (λ e. length e.items ≤ length self.now + 1) }
     {
-        let alloc = *self.slots.allocator();
-        let effect = effect_of(alloc, self.table(write.table()), write, self.len())?;
+        let effect = effect_of(self.alloc, self.table(write.table()), write, self.len())?;
         Ok(effect)
     }
 
-    /// The rows once the effect of a write took place at the next time.
-    fn rows_after(&self, write: &Write, effect: Vec<(i64, Option<Row>)>) -> Result<Rows, AllocError>
-        requires room { length self.now < max_limits.slots }
-        requires effect { effect.items ≡ effect_now self.now write.now }
-        ensures { IfOk result (λ rows. HasRowsOf rows (self.now ++ Some write.now ∷ [])) }
+    /// The slots and one more, for a write with that reply and that effect.
+    fn with_slot(
+        self,
+        write: Write,
+        reply: Reply,
+        effect: Vec<(i64, Option<Row>)>,
+    ) -> Result<SlotList, AllocError>
+        requires room { length self < max_limits.slots }
+        requires reply { reply ≡ reply_of write (last_content self) }
+        requires effect { effect.items ≡ effect_now self write }
+        ensures { IfOk result (λ s. s ≡ self ++ Some write ∷ []) }
     {
         let time = self.len() + 1;
-        let rows = self.rows.with_row_writes(write.table(), effect, time)?;
-        Ok(rows)
+        let SlotList {
+            alloc,
+            mut slots,
+            rows,
+        } = self;
+        let rows = rows.with_row_writes(write.table(), effect, time)?;
+        let slot = Slot {
+            write: Some(write),
+            reply: Some(reply),
+        };
+        let slot = Shared::new(alloc, slot)?;
+        slots.push(slot)?;
+        Ok(SlotList { alloc, slots, rows })
     }
-
-    /// The slots and one more, which leave these rows.
-    fn with_slot(&self, slot: Slot, rows: Rows) -> Result<SlotList, AllocError>
-        requires reply { slot.reply ≡ slot_reply slot.write (last_content self.now) }
-        requires rows { HasRowsOf rows (self.now ++ slot.write ∷ []) }
-        ensures { IfOk result (λ s. s ≡ self.now ++ slot.write ∷ []) }
-    {
-        let slots = slots_with(&self.slots, slot)?;
-        Ok(SlotList { slots, rows })
-    }
-}
-
-/// The slots and one more.
-fn slots_with(slots: &Vec<Slot>, slot: Slot) -> Result<Vec<Slot>, AllocError>
-    ensures { IfOk result (λ next. next.items ≡ slots.now.items ++ slot ∷ []) }
-{
-    let mut next = Vec::new(*slots.allocator());
-    for earlier in slots {
-        next.push(earlier.clone()?)?;
-    }
-    next.push(slot)?;
-    Ok(next)
 }

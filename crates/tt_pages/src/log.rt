@@ -11,7 +11,7 @@ mod tree;
 
 use crate::kept::Kept;
 pub use iter::LogIter;
-use page::{Page, items_from};
+use page::{PAGE_SIZE, Page, items_from};
 use parts::{
     front_of_tree, len_of_tree, make_room, push_to_tail, replace_in_tail, replace_in_tree,
     share_tail, share_tree, slice_of_tail,
@@ -181,7 +181,9 @@ impl<T: Kept + Drop> PagedLog<T> {
     {
         let len = self.len.checked_add(1).ok_or(AllocError)?;
         make_room(&mut self.tree, &mut self.tail, self.alloc)?;
-        push_to_tail(&mut self.tail, self.alloc, item)?;
+        // A list of few items takes little memory.
+        let room = if self.tree.is_some() { PAGE_SIZE } else { 1 };
+        push_to_tail(&mut self.tail, self.alloc, room, item)?;
         self.len = len;
         Ok(())
     }

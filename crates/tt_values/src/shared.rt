@@ -4,6 +4,7 @@ ghost use Rattle.std.specs.Arc.{arc_value};
 use std::alloc::{AllocError, Global};
 use std::marker::Model;
 use std::sync::Arc;
+use tt_pages::Kept;
 
 /// A value that several owners share. Contracts see only the value.
 #[derive(Debug, Drop)]
@@ -60,5 +61,12 @@ impl<T: Drop> Clone for Shared<T> {
     fn clone(&self) -> Result<Self, AllocError> {
         let owner = Arc::try_clone(&self.owner)?;
         Ok(Shared { owner })
+    }
+}
+
+/// A page that holds it is copied without copying the value.
+impl<T: Drop> Kept for Shared<T> {
+    fn kept(&self) -> Result<Self, AllocError> {
+        self.clone()
     }
 }

@@ -1,38 +1,14 @@
--- A map's entries, as a list by rising key.
-use Rattle.std.proofs.Common.{◌≡◌, ℤ, Bool, true, false, cond, ◌&&◌, List, [], ◌∷◌, IsTrue, None, Some, Less, Equal, Greater, refl, ap, ◌∙◌}
+-- Entries by rising key.
+use Rattle.std.proofs.Common.{◌≡◌, ℤ, Bool, true, false, cond, ◌&&◌, List, [], ◌∷◌, None, Some, Less, Equal, Greater, refl, ap, ◌∙◌}
 use Rattle.std.proofs.lemmas.Int.{to_z-of_z}
 use Rattle.std.specs.declared.cmp.Ordering.{Ordering}
-use Rattle.std.specs.Ordering.{int_cmp, is_lt, is_eq, match_ordering}
-use Rattle.std.specs.Map.{keys_of}
-use Rattle.std.specs.List.{AllByRecursion}
-use Rattle.std.specs.List.Sorted.{IsStrictlySortedBy}
-use Rattle.std.specs.BTreeMap.{insert_entry}
+use Rattle.std.specs.Ordering.{int_cmp, is_lt, is_eq}
+use Rattle.std.specs.Cmp.{int_cmp_total, tied_itself}
 use Rattle.std.specs.FinMap.Entries as sorted
 use Rattle.std.specs.FinMap.Entries.{by_order}
 
 pub both : (a b : Bool) → a ≡ true → b ≡ true → (a && b) ≡ true
 both a b p q = λ i. p i && q i
-
-below_all-keys : {K X : Type 0} (R : K → K → Ordering) (k : K) (es : List (K × X)) → AllByRecursion (λ y. R k y ≡ Less) (keys_of es) → sorted.below_all R k es ≡ true
-below_all-keys R k [] h = refl
-below_all-keys R k (e ∷ es) h = both _ _ (ap is_lt h.0) (below_all-keys R k es h.1)
-
--- keys that strictly rise make a list in order
-pub is_sorted-keys : {K X : Type 0} (R : K → K → Ordering) (es : List (K × X)) → IsStrictlySortedBy R (keys_of es) → IsTrue (sorted.is_sorted R es)
-unfolding IsStrictlySortedBy
-is_sorted-keys R [] h = refl
-is_sorted-keys R (e ∷ es) h = both _ _ (below_all-keys R e.0 es h.0) (is_sorted-keys R es h.1)
-
--- an entry goes to its place in the order
-pub insert_entry-put : {K X : Type 0} (R : K → K → Ordering) (es : List (K × X)) (k : K) (v : X) → insert_entry R es k v ≡ sorted.put R k v es
-insert_entry-put R [] k v = refl
-insert_entry-put R (e ∷ es) k v = by (R k e.0) (insert_entry-put R es k v)
-  where
-    by : (o : Ordering) → insert_entry R es k v ≡ sorted.put R k v es
-        → match_ordering o ((k, v) ∷ e ∷ es) ((e.0, v) ∷ es) (e ∷ insert_entry R es k v) ≡ by_order o ((k, v) ∷ e ∷ es) ((e.0, v) ∷ es) (e ∷ sorted.put R k v es)
-    by Less h = refl
-    by Equal h = refl
-    by Greater h = ap (λ rest. e ∷ rest) h
 
 -- the two sides of a test
 pub first : (a b : Bool) → (a && b) ≡ true → a ≡ true
@@ -54,5 +30,18 @@ find-below k [] h = refl
 find-below k (e ∷ es) h =
     ap (λ b. cond b (Some e.1) (sorted.find int_cmp k es)) (not_tied (int_cmp k e.0) (first _ _ h)) ∙ find-below k es (second _ _ h)
 
--- what iteration and insertion rest on
-pub ruleset entries = (to_z-of_z, is_sorted-keys, insert_entry-put)
+-- only the last entry that is put at a key counts
+pub put-twice : {X : Type 0} (key : ℤ) (v w : X) (es : List (ℤ × X)) → sorted.put int_cmp key v (sorted.put int_cmp key w es) ≡ sorted.put int_cmp key v es
+put-twice key v w [] = ap (λ o. by_order o ((key, v) ∷ (key, w) ∷ []) ((key, v) ∷ []) ((key, w) ∷ (key, v) ∷ [])) (tied_itself int_cmp_total key)
+put-twice key v w (e ∷ es) = by (int_cmp key e.0) refl (put-twice key v w es)
+  where
+    by : (o : Ordering) → int_cmp key e.0 ≡ o → sorted.put int_cmp key v (sorted.put int_cmp key w es) ≡ sorted.put int_cmp key v es
+        → sorted.put int_cmp key v (by_order o ((key, w) ∷ e ∷ es) ((e.0, w) ∷ es) (e ∷ sorted.put int_cmp key w es)) ≡ by_order o ((key, v) ∷ e ∷ es) ((e.0, v) ∷ es) (e ∷ sorted.put int_cmp key v es)
+    by Less is rest = ap (λ o. by_order o ((key, v) ∷ (key, w) ∷ e ∷ es) ((key, v) ∷ e ∷ es) ((key, w) ∷ sorted.put int_cmp key v (e ∷ es))) (tied_itself int_cmp_total key)
+    by Equal is rest = ap (λ o. by_order o ((key, v) ∷ (e.0, w) ∷ es) ((e.0, v) ∷ es) ((e.0, w) ∷ sorted.put int_cmp key v es)) is
+    by Greater is rest =
+        ap (λ o. by_order o ((key, v) ∷ e ∷ sorted.put int_cmp key w es) ((e.0, v) ∷ sorted.put int_cmp key w es) (e ∷ sorted.put int_cmp key v (sorted.put int_cmp key w es))) is
+        ∙ ap (λ es. e ∷ es) rest
+
+-- what taking an entry out and putting it back rests on
+pub ruleset takes = (to_z-of_z, put-twice)

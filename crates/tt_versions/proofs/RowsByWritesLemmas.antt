@@ -9,7 +9,7 @@ use Rattle.tt_values.specs.Content.{RowWrite, Content, content_at, row_at, with_
 use Rattle.tt_values.proofs.LawProofs.{row_write_changes_one_row, last_row_write_counts}
 use Rattle.tt_versions.specs.Sides.{RowsOverTime, written_from, rolled_back_from, just_before}
 use Rattle.tt_versions.specs.RowsByWrites.{rows_by, without_row_writes, AddsRowWrite, DropsRowWrites}
-use Rattle.tt_versions.proofs.VersionsLemmas.{early, late}
+use Rattle.tt_versions.proofs.VersionsLemmas.{early, late, filter-twice}
 use Rattle.tt_versions.proofs.SidesLemmas.{same_key}
 
 itself : (n : ℕ) → (n == n) ≡ true
@@ -36,14 +36,6 @@ rows_by-append table ws key row time = λ i q u. (by q u (nat_le time u) ∙ sym
     by : (q : ℤ) (u : ℕ) (b : Bool) → (if int_eq q key && b then row else rows_by table ws q u) ≡ row_at (fold with_row_write empty_content (up_to u ws ++ cond b (w ∷ []) []) table) q
     by q u true = sym (ap (λ X. row_at (X table) q) (fold-append with_row_write empty_content (up_to u ws) (w ∷ [])) ∙ at_key (content_at ws u) q)
     by q u false = never (int_eq q key) (rows_by table ws q u) ∙ sym (ap (λ vs. row_at (fold with_row_write empty_content vs table) q) (append-nil (up_to u ws)))
-
-filter-twice : {X : Type 0} (p r : X → Bool) (xs : List X) → filter p (filter r xs) ≡ filter (λ x. r x && p x) xs
-filter-twice p r [] = refl
-filter-twice p r (x ∷ xs) = by (r x) (filter-twice p r xs)
-  where
-    by : (b : Bool) → filter p (filter r xs) ≡ filter (λ x. r x && p x) xs → filter p (cond b (x ∷ filter r xs) (filter r xs)) ≡ cond (b && p x) (x ∷ filter (λ x. r x && p x) xs) (filter (λ x. r x && p x) xs)
-    by true h = λ i. cond (p x) (x ∷ h i) (h i)
-    by false h = h
 
 filter-none : {X : Type 0} (p : X → Bool) → ((x : X) → p x ≡ false) → (xs : List X) → filter p xs ≡ []
 filter-none p none [] = refl

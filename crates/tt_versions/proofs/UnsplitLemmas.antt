@@ -1,77 +1,73 @@
--- A table whose split rows are unsplit, one after another.
-use Rattle.std.proofs.Common.{◌≡◌, ℤ, Bool, true, false, cond, List, [], ◌∷◌, Option, None, Some, is_some, if◌then◌else◌, IsTrue, refl, ap, ◌∙◌}
+-- A table whose split rows are unsplit, one after another, and the set of their keys.
+use Rattle.std.proofs.Common.{◌≡◌, ℤ, Bool, true, false, cond, not, List, [], ◌∷◌, Option, None, Some, is_some, if◌then◌else◌, refl, sym, ap, ◌∙◌}
+use Rattle.std.proofs.lemmas.Int.{to_z-of_z}
 use Rattle.std.specs.Ordering.{int_cmp, int_eq}
-use Rattle.std.specs.FinMap.Entries as sorted
-use Rattle.std.specs.Option.{unwrap_or}
 use Rattle.std.specs.Cmp.{int_cmp_total}
+use Rattle.std.specs.FinMap.{int_cmp-IsAntisymmetric}
+use Rattle.std.specs.FinMap.Entries as sorted
+use Rattle.tt_pages.specs.MapEntries.{entries_without}
+use Rattle.std.specs.Option.{unwrap_or}
 use Rattle.tt_versions.specs.declared.side.Side.{Side}
 use Rattle.tt_versions.specs.declared.side.Side.TheVariants.{Current, Next}
 use Rattle.tt_versions.specs.declared.version.Version.{Version}
 use Rattle.tt_versions.specs.declared.lineage.Lineage.{Lineage}
 use Rattle.tt_versions.specs.Versions.{visible_row}
 use Rattle.tt_versions.specs.Lineage.{unwritten, chain_on, unsplit}
-use Rattle.tt_versions.specs.Sides.{LineagesByKey, lineage_at, side_of, current_of, next_of, is_split, none_split, UnsplitsRows}
-use Rattle.tt_versions.proofs.EntriesLemmas.{first, second, find-below}
-use Rattle.tt_versions.proofs.SidesLemmas.{same_key}
+use Rattle.tt_versions.specs.Sides.{LineagesByKey, lineage_at, side_of, current_of, next_of, is_split, none_split, HasSplitKeys, HasSplitKeysBut, MarksKey, unsplit_if, UnsplitsKeys, UnsplitsRow, UnsplitsRows}
+use Rattle.tt_versions.proofs.SidesLemmas.{same_key, lineage_at-put}
 
--- the lineages of a table, once each split one of a list is unsplit in it
-abbrev pub unsplit_each : Side → LineagesByKey → LineagesByKey → LineagesByKey
-unsplit_each side [] t = t
-unsplit_each side (e ∷ es) t = unsplit_each side es (if is_some e.1.next then sorted.put int_cmp e.0 (unsplit side e.1) t else t)
+unsplit-again : (b : Bool) (side : Side) (l : Lineage) → unsplit_if b side (unsplit side l) ≡ unsplit side l
+unsplit-again true Current l = refl
+unsplit-again true Next l = refl
+unsplit-again false side l = refl
 
--- the lineage of a key once that of a list is unsplit, and o where the list has none that is split
-abbrev unsplit_or : Side → Option Lineage → Option Lineage → Option Lineage
-unsplit_or side None o = o
-unsplit_or side (Some l) o = if is_some l.next then Some (unsplit side l) else o
-
-find-unsplit_each : (side : Side) (es t : LineagesByKey) → sorted.is_sorted int_cmp es ≡ true → (q : ℤ) → sorted.find int_cmp q (unsplit_each side es t) ≡ unsplit_or side (sorted.find int_cmp q es) (sorted.find int_cmp q t)
-find-unsplit_each side [] t h q = refl
-find-unsplit_each side (e ∷ es) t h q =
-    find-unsplit_each side es next (second _ _ h) q ∙ ap (unsplit_or side (sorted.find int_cmp q es)) (turn (is_some e.1.next)) ∙ by (int_eq q e.0) refl
+-- a row that was never written has nothing to unsplit
+pub UnsplitsRow-unwritten : (side : Side) (key : ℤ) (t : LineagesByKey) → sorted.find int_cmp key t ≡ None → UnsplitsRow side key t t
+UnsplitsRow-unwritten side key t none q = by (int_eq q key) refl
   where
-    l : Lineage
-    l = unsplit side e.1
+    missing : lineage_at t key ≡ unwritten
+    missing = ap (λ o. unwrap_or o unwritten) none
 
-    next : LineagesByKey
-    next = if is_some e.1.next then sorted.put int_cmp e.0 l t else t
+    nothing : (s : Side) → unwritten ≡ unsplit s unwritten
+    nothing Current = refl
+    nothing Next = refl
 
-    turn : (b : Bool) → sorted.find int_cmp q (if b then sorted.put int_cmp e.0 l t else t) ≡ (if b then cond (int_eq q e.0) (Some l) (sorted.find int_cmp q t) else sorted.find int_cmp q t)
-    turn true = sorted.find-put int_cmp int_cmp_total q e.0 l t
-    turn false = refl
+    by : (b : Bool) → int_eq q key ≡ b → lineage_at t q ≡ (if b then unsplit side (lineage_at t key) else lineage_at t q)
+    by true e = ap (lineage_at t) (same_key q key e) ∙ missing ∙ nothing side ∙ ap (unsplit side) (sym missing)
+    by false e = refl
 
-    same : (b : Bool) (o : Option Lineage) → (if b then o else o) ≡ o
-    same true o = refl
-    same false o = refl
+pub UnsplitsRow-put : (side : Side) (key : ℤ) (t : LineagesByKey) (l : Lineage) → sorted.find int_cmp key t ≡ Some l → UnsplitsRow side key t (sorted.put int_cmp key (unsplit side l) t)
+UnsplitsRow-put side key t l there q = lineage_at-put t key (unsplit side l) q ∙ by (int_eq q key)
+  where
+    by : (b : Bool) → cond b (unsplit side l) (lineage_at t q) ≡ (if b then unsplit side (lineage_at t key) else lineage_at t q)
+    by true = ap (λ o. unsplit side (unwrap_or o unwritten)) (sym there)
+    by false = refl
 
-    by : (b : Bool) → int_eq q e.0 ≡ b
-        → unsplit_or side (sorted.find int_cmp q es) (if is_some e.1.next then cond b (Some l) (sorted.find int_cmp q t) else sorted.find int_cmp q t)
-        ≡ unsplit_or side (cond b (Some e.1) (sorted.find int_cmp q es)) (sorted.find int_cmp q t)
-    by true is =
-        let missing = ap (λ k. sorted.find int_cmp k es) (same_key q e.0 is) ∙ find-below e.0 es (first _ _ h) in
-        ap (λ o. unsplit_or side o (if is_some e.1.next then Some l else sorted.find int_cmp q t)) missing
-    by false is = ap (unsplit_or side (sorted.find int_cmp q es)) (same (is_some e.1.next) (sorted.find int_cmp q t))
+-- once the first of some keys is unsplit, those behind it are left
+pub unsplit_next : (side : Side) (key : ℤ × Unit {0}) (rest : List (ℤ × Unit {0})) (before after : LineagesByKey) → UnsplitsRow side key.0 before after
+    → (q : ℤ) → unsplit_if (is_some (sorted.find int_cmp q rest)) side (lineage_at after q) ≡ unsplit_if (is_some (sorted.find int_cmp q (key ∷ rest))) side (lineage_at before q)
+unsplit_next side key rest before after h q = ap (unsplit_if (is_some (sorted.find int_cmp q rest)) side) (h q) ∙ by (int_eq q key.0) refl
+  where
+    by : (b : Bool) → int_eq q key.0 ≡ b
+        → unsplit_if (is_some (sorted.find int_cmp q rest)) side (if b then unsplit side (lineage_at before key.0) else lineage_at before q)
+        ≡ unsplit_if (is_some (cond b (Some key.1) (sorted.find int_cmp q rest))) side (lineage_at before q)
+    by true e = unsplit-again (is_some (sorted.find int_cmp q rest)) side (lineage_at before key.0) ∙ ap (λ k. unsplit side (lineage_at before k)) (sym (same_key q key.0 e))
+    by false e = refl
 
 -- a row that isn't split stays as it is
-unsplit-whole : (side : Side) (current : List Version) (next : Option (List Version)) → let l : Lineage = record { current = current; next = next } in (if is_some next then unsplit side l else l) ≡ unsplit side l
+unsplit-whole : (side : Side) (current : List Version) (next : Option (List Version)) → let l : Lineage = record { current = current; next = next } in unsplit_if (is_some next) side l ≡ unsplit side l
 unsplit-whole Current current None = refl
 unsplit-whole Next current None = refl
 unsplit-whole side current (Some n) = refl
 
--- so each row of the table is unsplit
-lineage_at-unsplit_each : (side : Side) (t : LineagesByKey) → sorted.is_sorted int_cmp t ≡ true → (q : ℤ) → lineage_at (unsplit_each side t t) q ≡ unsplit side (lineage_at t q)
-lineage_at-unsplit_each side t h q = ap (λ o. unwrap_or o unwritten) (find-unsplit_each side t t h q) ∙ by (sorted.find int_cmp q t)
-  where
-    branch : (b : Bool) (l : Lineage) → unwrap_or (if b then Some (unsplit side l) else Some l) unwritten ≡ (if b then unsplit side l else l)
-    branch true l = refl
-    branch false l = refl
-
-    by : (o : Option Lineage) → unwrap_or (unsplit_or side o o) unwritten ≡ unsplit side (unwrap_or o unwritten)
-    by None = unsplit-whole side [] None
-    by (Some l) = branch (is_some l.next) l ∙ unsplit-whole side l.current l.next
-
--- where nothing is left, all rows are unsplit
-pub unsplits_rows : (side : Side) (t after : LineagesByKey) → IsTrue (sorted.is_sorted int_cmp t) → after ≡ unsplit_each side t t → UnsplitsRows side t after
-unsplits_rows side t after h is = record { each = λ key. ap (λ es. lineage_at es key) is ∙ lineage_at-unsplit_each side t h key }
+-- so where the split rows are unsplit, all rows are
+pub unsplits_rows : (side : Side) (keys : List (ℤ × Unit {0})) (t after : LineagesByKey) → HasSplitKeys keys t
+    → UnsplitsKeys side keys t after → UnsplitsRows side t after
+unfolding is_split
+unsplits_rows side keys t after split h = record {
+  each = λ q.
+      h q ∙ ap (λ b. unsplit_if b side (lineage_at t q)) (split q) ∙ unsplit-whole side (lineage_at t q).current (lineage_at t q).next;
+}
 
 -- and both sides have the chain that one side had
 chain_on-unsplit : (which side : Side) (l : Lineage) → chain_on which (unsplit side l) ≡ chain_on side l
@@ -94,3 +90,52 @@ is_split-unsplit before after side h = λ i q. ap (λ l. is_some l.next) (h.each
 
 -- what an unsplit table shows
 pub ruleset unsplit_sides = (current_of-unsplit, next_of-unsplit, is_split-unsplit)
+
+-- no row is split then
+pub HasSplitKeys-unsplit : (before after : LineagesByKey) (side : Side) → UnsplitsRows side before after → HasSplitKeys [] after
+HasSplitKeys-unsplit before after side h key = λ i. sym (is_split-unsplit before after side h) i key
+
+-- ---- the keys of the split rows, where one row gets another lineage
+
+pub HasSplitKeys-empty : HasSplitKeys [] []
+unfolding is_split
+HasSplitKeys-empty key = refl
+
+-- a lineage was taken out at the key
+pub HasSplitKeysBut-taken : (key : ℤ) (keys : List (ℤ × Unit {0})) (t left : LineagesByKey) → HasSplitKeys keys t
+    → ((l : Lineage) → sorted.put int_cmp key l left ≡ sorted.put int_cmp key l t) → HasSplitKeysBut key keys left
+unfolding is_split
+HasSplitKeysBut-taken key keys t left split same q other =
+    let at : (es : LineagesByKey) → lineage_at (sorted.put int_cmp key unwritten es) q ≡ lineage_at es q = λ es. lineage_at-put es key unwritten q ∙ ap (λ b. cond b unwritten (lineage_at es q)) other in
+    split q ∙ ap (λ l. is_some l.next) (sym (at t) ∙ ap (λ es. lineage_at es q) (sym (same unwritten)) ∙ at left)
+
+-- the set has the keys of the split rows again, once the key is marked as the row is
+pub HasSplitKeys-put : (key : ℤ) (before after : List (ℤ × Unit {0})) (t : LineagesByKey) (l : Lineage) → HasSplitKeysBut key before t
+    → MarksKey key (is_some l.next) before after → HasSplitKeys after (sorted.put int_cmp key l t)
+unfolding is_split
+HasSplitKeys-put key before after t l others marks q = marks q ∙ by (int_eq q key) refl ∙ ap (λ x. is_some x.next) (sym (lineage_at-put t key l q))
+  where
+    by : (b : Bool) → int_eq q key ≡ b → (if b then is_some l.next else is_some (sorted.find int_cmp q before)) ≡ is_some (cond b l (lineage_at t q)).next
+    by true e = refl
+    by false e = others q e
+
+pub MarksKey-put : (key : ℤ) (keys : List (ℤ × Unit {0})) (u : Unit {0}) → MarksKey key true keys (sorted.put int_cmp key u keys)
+MarksKey-put key keys u q = ap is_some (sorted.find-put int_cmp int_cmp_total q key u keys) ∙ by (int_eq q key)
+  where
+    by : (b : Bool) → is_some (cond b (Some u) (sorted.find int_cmp q keys)) ≡ (if b then true else is_some (sorted.find int_cmp q keys))
+    by true = refl
+    by false = refl
+
+pub MarksKey-without : (key : ℤ) (keys : List (ℤ × Unit {0})) → MarksKey key false keys (entries_without key keys)
+MarksKey-without key keys q =
+    ap is_some (sorted.find-where_key int_cmp (λ k. not (int_eq k key)) q (λ x tied. ap (λ k. not (int_eq k key)) (sym (int_cmp-IsAntisymmetric q x tied))) keys) ∙ by (int_eq q key)
+  where
+    by : (b : Bool) → is_some (cond (not b) (sorted.find int_cmp q keys) None) ≡ (if b then false else is_some (sorted.find int_cmp q keys))
+    by true = refl
+    by false = refl
+
+-- what marking a key rests on
+pub ruleset marks = (to_z-of_z, MarksKey-put, MarksKey-without)
+
+-- and unsplitting one row
+pub ruleset unsplits = (to_z-of_z, UnsplitsRow-put, UnsplitsRow-unwritten)

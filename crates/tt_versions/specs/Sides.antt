@@ -43,6 +43,30 @@ next_of t = side_of t Next
 unfoldable pub is_split : LineagesByKey → ℤ → Bool
 is_split t key = is_some (lineage_at t key).next
 
+-- a set of keys has those of the split rows, and no others
+abbrev pub HasSplitKeys : List (ℤ × Unit {0}) → LineagesByKey → Type 0
+HasSplitKeys keys t = (key : ℤ) → is_some (sorted.find int_cmp key keys) ≡ is_split t key
+
+-- the same, but for one key
+abbrev pub HasSplitKeysBut : ℤ → List (ℤ × Unit {0}) → LineagesByKey → Type 0
+HasSplitKeysBut key keys t = (q : ℤ) → int_eq q key ≡ false → is_some (sorted.find int_cmp q keys) ≡ is_split t q
+
+-- a key is in a set, or not, and the others stay
+abbrev pub MarksKey : ℤ → Bool → List (ℤ × Unit {0}) → List (ℤ × Unit {0}) → Type 0
+MarksKey key member before after = (q : ℤ) → is_some (sorted.find int_cmp q after) ≡ (if int_eq q key then member else is_some (sorted.find int_cmp q before))
+
+-- one row is unsplit, and the others stay
+abbrev pub UnsplitsRow : Side → ℤ → LineagesByKey → LineagesByKey → Type 0
+UnsplitsRow side key before after = (q : ℤ) → lineage_at after q ≡ (if int_eq q key then unsplit side (lineage_at before key) else lineage_at before q)
+
+-- a lineage is unsplit, or stays
+abbrev pub unsplit_if : Bool → Side → Lineage → Lineage
+unsplit_if b side l = if b then unsplit side l else l
+
+-- the rows with some keys are unsplit, and the others stay
+abbrev pub UnsplitsKeys : Side → List (ℤ × Unit {0}) → LineagesByKey → LineagesByKey → Type 0
+UnsplitsKeys side keys before after = (q : ℤ) → lineage_at after q ≡ unsplit_if (is_some (sorted.find int_cmp q keys)) side (lineage_at before q)
+
 -- each row is unsplit: both its sides share the chain that a side shows
 pub record UnsplitsRows (side : Side) (before after : LineagesByKey) : Type 0 where
   pub each : (key : ℤ) → lineage_at after key ≡ unsplit side (lineage_at before key)

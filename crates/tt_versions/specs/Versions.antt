@@ -1,48 +1,46 @@
 -- Versions of a row, and the row at a time.
-use Rattle.std.specs.Prelude.{ℕ, Bool, true, false, ◌&&◌, nat_le, nat_lt, List, [], ◌∷◌, ◌++◌, map, filter, Option, None, Some, if◌then◌else◌}
+use Rattle.std.specs.Prelude.{◌≡◌, ℕ, ◌≤◌, nat_le, nat_lt, List, [], ◌∷◌, ◌++◌, filter, fold, Option, None}
 use Rattle.tt_values.specs.declared.row.Row.{Row}
 use Rattle.tt_versions.specs.declared.version.Version.{Version}
 
--- whether an end is after a time. A version without an end is still live
-abbrev pub is_after : ℕ → Option ℕ → Bool
-is_after time None = true
-is_after time (Some end) = nat_lt time end
+-- the versions that started by a time
+abbrev pub started_by : ℕ → List Version → List Version
+started_by time vs = filter (λ v. nat_le v.start time) vs
 
--- whether an end is before a time
-abbrev pub is_before : ℕ → Option ℕ → Bool
-is_before time None = false
-is_before time (Some end) = nat_lt end time
+-- all of some versions started by a time
+abbrev pub HaveStarted : ℕ → List Version → Type 0
+HaveStarted time vs = started_by time vs ≡ vs
 
--- a version is visible at a time from its start on, until its end
-abbrev pub is_visible : ℕ → Version → Bool
-is_visible time v = nat_le v.start time && is_after time v.end
-
--- the row at a time: that of the first version that is visible then
-abbrev pub visible_row : ℕ → List Version → Option Row
-visible_row time [] = None
-visible_row time (v ∷ vs) = if is_visible time v then Some v.row else visible_row time vs
+-- none of them did
+abbrev pub NoneHasStarted : ℕ → List Version → Type 0
+NoneHasStarted time vs = started_by time vs ≡ []
 
 -- the versions that started before a time
 abbrev pub started_before : ℕ → List Version → List Version
 started_before time vs = filter (λ v. nat_lt v.start time) vs
 
--- a version, ended at a time if not before
-abbrev pub ended_by : ℕ → Version → Version
-ended_by time v = if is_after time v.end then record v { end = Some time } else v
+-- the row of the last version. It is none where that version deleted the row
+abbrev pub last_row : List Version → Option Row
+last_row vs = fold (λ row v. v.row) None vs
 
--- a version, with its end open where it ended at a time or later
-abbrev pub reopened_from : ℕ → Version → Version
-reopened_from time v = if is_before time v.end then v else record v { end = None }
+-- the row at a time: that of the last version that started by then
+abbrev pub visible_row : ℕ → List Version → Option Row
+visible_row time vs = last_row (started_by time vs)
 
--- the version that a write of a row at a time adds. Without a row it adds none
-abbrev pub version_of : Option Row → ℕ → List Version
-version_of None time = []
-version_of (Some row) time = record { row = row; start = time; end = None } ∷ []
-
--- a row, or none, is written at a time: it ends the version that is live then, and takes the place of later ones
+-- a row, or none, is written at a time: its version takes the place of those from then on
 abbrev pub with_write : Option Row → ℕ → List Version → List Version
-with_write row time vs = map (ended_by time) (started_before time vs) ++ version_of row time
+with_write row time vs = started_before time vs ++ record { start = time; row = row } ∷ []
 
--- rolling back to before a time drops the versions that started then or later, and opens the ends that came then or later
+-- rolling back to before a time drops the versions from then on
 abbrev pub without_writes_from : ℕ → List Version → List Version
-without_writes_from time vs = map (reopened_from time) (started_before time vs)
+without_writes_from time vs = started_before time vs
+
+-- no version started before a time
+abbrev pub AllStartFrom : ℕ → List Version → Type 0
+AllStartFrom time [] = Unit {0}
+AllStartFrom time (v ∷ vs) = (time ≤ v.start) × AllStartFrom time vs
+
+-- no version started before the one in front of it
+abbrev pub StartsRise : List Version → Type 0
+StartsRise [] = Unit {0}
+StartsRise (v ∷ vs) = AllStartFrom v.start vs × StartsRise vs

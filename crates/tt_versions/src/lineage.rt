@@ -4,7 +4,8 @@ ghost use Rattle.std.specs.Option.{option_copied};
 use crate::side::Side;
 use crate::version_chain::VersionChain;
 use std::alloc::{AllocError, Global};
-use tt_values::Row;
+use tt_pages::Kept;
+use tt_values::{Row, Shared};
 
 /// The versions of one row. A row that isn't split has one chain, which both sides share. The
 /// chain that a version stands in says which generation it belongs to.
@@ -66,7 +67,7 @@ impl Lineage {
     pub(crate) fn with_write(
         self,
         side: Side,
-        row: Option<Row>,
+        row: Option<Shared<Row>>,
         time: u64,
     ) -> Result<Lineage, AllocError>
         ensures { IfOk result (λ l. l ≡ with_write_on side row time self) }
@@ -95,14 +96,14 @@ impl Lineage {
         ensures { IfOk result (λ l. l ≡ split_back time self) }
     {
         let (current, next) = self.both_chains()?;
-        let next = next.without_writes_from(time);
+        let next = next.without_writes_from(time)?;
         Ok(Lineage {
             current,
             next: Some(next),
         })
     }
 
-    /// The chain of each side, in memory of its own.
+    /// The chain of each side.
     fn both_chains(self) -> Result<(VersionChain, VersionChain), AllocError>
         ensures current { IfOk result (λ both. both.0 ≡ self.current) }
         ensures next { IfOk result (λ both. both.1 ≡ chain_on Side.Next self) }
@@ -111,7 +112,7 @@ impl Lineage {
         match next {
             Some(next) => Ok((current, next)),
             None => {
-                let next = current.clone()?;
+                let next = current.share()?;
                 Ok((current, next))
             }
         }
@@ -121,7 +122,7 @@ impl Lineage {
     pub(crate) fn unsplit(&self, side: Side) -> Result<Lineage, AllocError>
         ensures { IfOk result (λ l. l ≡ unsplit side self.now) }
     {
-        let current = self.chain(side).clone()?;
+        let current = self.chain(side).share()?;
         Ok(Lineage {
             current,
             next: None,
@@ -129,13 +130,11 @@ impl Lineage {
     }
 }
 
-impl Clone for Lineage {
-    ghost is_clone = { λ source copy. copy ≡ source };
-
-    fn clone(&self) -> Result<Self, AllocError> {
-        let current = self.current.clone()?;
+impl Kept for Lineage {
+    fn kept(&self) -> Result<Self, AllocError> {
+        let current = self.current.share()?;
         let next = match &self.next {
-            Some(next) => Some(next.clone()?),
+            Some(next) => Some(next.share()?),
             None => None,
         };
         Ok(Lineage { current, next })

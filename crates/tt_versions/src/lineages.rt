@@ -1,88 +1,208 @@
-ghost use Rattle.std.specs.Prelude.{◌≡◌, [], IsTrue, IfOk};
+ghost use Rattle.std.specs.Prelude.{◌≡◌, [], IsTrue, IfOk, OnOk};
 ghost use Rattle.std.specs.Option.{option_copied};
 ghost use Rattle.std.specs.Ordering.{int_cmp};
-ghost use Rattle.std.specs.FinMap.Entries as sorted;
+ghost use Rattle.std.specs.FinMap.Entries.{find, put, is_sorted};
+ghost use Rattle.tt_versions.specs.declared.lineage.Lineage.{Lineage};
+ghost use Rattle.tt_versions.specs.Sides.{lineage_at, HasSplitKeysBut, MarksKey, UnsplitsKeys, UnsplitsRow};
 
 use crate::lineage::Lineage;
 use crate::side::Side;
 use std::alloc::{AllocError, Global};
-use std::collections::BTreeMap;
-use std::collections::btree_map::Iter;
 use std::marker::Model;
+use tt_pages::{Kept, MapIter, PagedMap};
+use tt_values::{Row, Shared};
 
-/// A map from the keys of rows to their lineages. It is copied whole; contracts see its entries by
-/// rising key.
+/// A map from the keys of rows to their lineages, whose copies share their pages. Contracts see its
+/// entries by rising key.
 #[derive(Debug, Drop)]
 pub(crate) struct Lineages {
-    entries: BTreeMap<i64, Lineage>,
+    alloc: Global,
+    entries: PagedMap<Lineage>,
+    split_keys: PagedMap<()>,
 }
 
 impl Model for Lineages {
-    ghost use Rattle.std.specs.Prelude.{List, ℤ};
-    ghost use Rattle.tt_versions.specs.declared.lineage.Lineage.{Lineage};
+    ghost use Rattle.tt_versions.specs.Sides.{LineagesByKey, HasSplitKeys};
 
-    ghost Value = { List (ℤ × Lineage) };
+    ghost Value = { LineagesByKey };
 
-    ghost view = { λ m. m.entries.entries };
+    ghost view = { λ m. m.entries };
+
+    ghost invariant = { λ m. HasSplitKeys m.split_keys m.entries };
 }
 
 impl Lineages {
+    ghost use Rattle.tt_versions.specs.Lineage.{with_write_on, split_back};
     ghost use Rattle.tt_versions.specs.Sides.{UnsplitsRows};
 
     pub(crate) fn new(alloc: Global) -> Lineages
         ensures { result ≡ [] }
     {
         Lineages {
-            entries: BTreeMap::new(alloc),
+            alloc,
+            entries: PagedMap::new(alloc),
+            split_keys: PagedMap::new(alloc),
         }
     }
 
     pub(crate) fn get(&self, key: i64) -> Option<&Lineage>
-        ensures { option_copied result ≡ sorted.find int_cmp key self.now }
+        ensures { option_copied result ≡ find int_cmp key self.now }
     {
-        self.entries.get(&key)
+        self.entries.get(key)
     }
 
     /// The entries, by rising key.
-    #[tactic(auto, using(crate::proofs::EntriesLemmas::entries))]
-    pub(crate) fn iter(&self) -> Iter<'_, i64, Lineage>
+    pub(crate) fn iter(&self) -> MapIter<'_, Lineage>
         ensures all { result ≡ self.now }
-        ensures sorted { IsTrue (sorted.is_sorted int_cmp self.now) }
+        ensures sorted { IsTrue (is_sorted int_cmp self.now) }
     {
         self.entries.iter()
     }
 
-    /// The map with that lineage at the key. This one stays as it is.
-    #[tactic(auto, using(crate::proofs::EntriesLemmas::entries))]
-    pub(crate) fn with(&self, key: i64, lineage: Lineage) -> Result<Lineages, AllocError>
-        ensures { IfOk result (λ m. m ≡ sorted.put int_cmp key lineage self.now) }
+    /// A further owner of the same pages.
+    pub(crate) fn share(&self) -> Result<Lineages, AllocError>
+        ensures { IfOk result (λ m. m ≡ self.now) }
     {
-        let mut lineages = self.clone()?;
-        lineages.entries.insert(key, lineage)?;
-        Ok(lineages)
+        let entries = self.entries.share()?;
+        let split_keys = self.split_keys.share()?;
+        Ok(Lineages {
+            alloc: self.alloc,
+            entries,
+            split_keys,
+        })
     }
 
-    /// The map with each lineage unsplit: both sides show what this one shows. This map stays as it
-    /// is.
-    #[tactic(auto, using(crate::proofs::UnsplitLemmas::unsplits_rows))]
-    pub(crate) fn unsplit(&self, side: Side) -> Result<Lineages, AllocError>
-        ensures { IfOk result (UnsplitsRows side self.now) }
+    /// The row with the key, or none, is written at the time on that side.
+    pub(crate) fn with_write(
+        self,
+        side: Side,
+        key: i64,
+        row: Option<Shared<Row>>,
+        time: u64,
+    ) -> Result<Lineages, AllocError>
+        ensures { IfOk result (λ m.
+            let lineage = with_write_on side row time (lineage_at self key) in
+            m ≡ put int_cmp key lineage self) }
     {
-        let mut lineages = self.clone()?;
-        for (key, lineage) in self.iter() {
-            if lineage.is_split() {
-                lineages = lineages.with(*key, lineage.unsplit(side)?)?;
-            }
-        }
-        Ok(lineages)
+        let Lineages {
+            alloc,
+            mut entries,
+            split_keys,
+        } = self;
+        let lineage = take_lineage(alloc, &mut entries, key)?;
+        let lineage = lineage.with_write(side, row, time)?;
+        with_lineage(alloc, entries, split_keys, key, lineage)
+    }
+
+    /// The row with the key is split, and its next side is rolled back to before the time.
+    pub(crate) fn split_back(self, key: i64, time: u64) -> Result<Lineages, AllocError>
+        ensures { IfOk result (λ m.
+            m ≡ put int_cmp key (split_back time (lineage_at self key)) self) }
+    {
+        let Lineages {
+            alloc,
+            mut entries,
+            split_keys,
+        } = self;
+        let lineage = take_lineage(alloc, &mut entries, key)?;
+        let lineage = lineage.split_back(time)?;
+        with_lineage(alloc, entries, split_keys, key, lineage)
+    }
+
+    /// Each lineage is unsplit: both sides show what this one shows.
+    pub(crate) fn unsplit(self, side: Side) -> Result<Lineages, AllocError>
+        ensures { IfOk result (UnsplitsRows side self) }
+    {
+        let Lineages {
+            alloc,
+            mut entries,
+            split_keys,
+        } = self;
+        unsplit_keys(&mut entries, &split_keys, side)?;
+        Ok(Lineages {
+            alloc,
+            entries,
+            split_keys: PagedMap::new(alloc),
+        })
     }
 }
 
-impl Clone for Lineages {
-    ghost is_clone = { λ source copy. copy ≡ source };
-
-    fn clone(&self) -> Result<Self, AllocError> {
-        let entries = self.entries.clone()?;
-        Ok(Lineages { entries })
+/// Takes the lineage of a row out of the map, and leaves an empty one.
+#[tactic(auto, using(crate::proofs::EntriesLemmas::takes))]
+fn take_lineage(
+    alloc: Global,
+    entries: &mut PagedMap<Lineage>,
+    key: i64,
+) -> Result<Lineage, AllocError>
+    ensures lineage { IfOk result (λ l. l ≡ lineage_at entries.old key) }
+    ensures others { OnOk result ((l : Lineage)
+        → put int_cmp key l entries.new ≡ put int_cmp key l entries.old) }
+{
+    let empty = Lineage::new(alloc);
+    if entries.get(key).is_none() {
+        return Ok(empty);
     }
+    let lineage = entries.swap(key, empty)?;
+    Ok(lineage)
+}
+
+/// The map with that lineage at the key.
+fn with_lineage(
+    alloc: Global,
+    entries: PagedMap<Lineage>,
+    split_keys: PagedMap<()>,
+    key: i64,
+    lineage: Lineage,
+) -> Result<Lineages, AllocError>
+    requires others { HasSplitKeysBut key split_keys entries }
+    ensures { IfOk result (λ m. m ≡ put int_cmp key lineage entries) }
+{
+    let mut entries = entries;
+    let mut split_keys = split_keys;
+    mark(&mut split_keys, key, lineage.is_split())?;
+    entries.put(key, lineage)?;
+    Ok(Lineages {
+        alloc,
+        entries,
+        split_keys,
+    })
+}
+
+/// Puts a key into a set, or removes it.
+#[tactic(auto, using(crate::proofs::UnsplitLemmas::marks))]
+fn mark(keys: &mut PagedMap<()>, key: i64, is_member: bool) -> Result<(), AllocError>
+    ensures { OnOk result (MarksKey key is_member keys.old keys.new) }
+{
+    if is_member {
+        keys.put(key, ())?;
+    } else {
+        keys.remove(key)?;
+    }
+    Ok(())
+}
+
+/// Both sides of the rows with these keys show what this one shows.
+fn unsplit_keys(
+    entries: &mut PagedMap<Lineage>,
+    keys: &PagedMap<()>,
+    side: Side,
+) -> Result<(), AllocError>
+    ensures { OnOk result (UnsplitsKeys side keys.now entries.old entries.new) }
+{
+    for (key, _) in keys.iter() {
+        unsplit_at(entries, *key, side)?;
+    }
+    Ok(())
+}
+
+/// Both sides of a row show what this one shows.
+#[tactic(auto, using(crate::proofs::UnsplitLemmas::unsplits))]
+fn unsplit_at(entries: &mut PagedMap<Lineage>, key: i64, side: Side) -> Result<(), AllocError>
+    ensures { OnOk result (UnsplitsRow side key entries.old entries.new) }
+{
+    let Some(lineage) = entries.get(key) else {
+        return Ok(());
+    };
+    let lineage = lineage.unsplit(side)?;
+    entries.put(key, lineage)
 }

@@ -8,11 +8,14 @@ use crate::lineages::Lineages;
 use crate::side::Side;
 use std::alloc::{AllocError, Global};
 use std::marker::Model;
-use tt_values::Row;
+use tt_values::{Row, Shared};
 
 /// A table of multi-version rows, with a current and a next side. Contracts see the lineages of its
-/// rows by key, and speak of them by `side_of` and `is_split`. A changing call answers a new table,
-/// and leaves this one as it is; its only error is that there is no memory.
+/// rows by key, and speak of them by `side_of` and `is_split`.
+///
+/// A changing call answers a new table, and its only error is that there is no memory. Tables share
+/// what they have in common. A call on `&self` leaves this table as it is; one whose name begins
+/// with `into` takes it over, and copies only what other tables share with it.
 #[derive(Debug, Drop)]
 pub struct Table {
     alloc: Global,
@@ -83,9 +86,19 @@ impl Table {
         Ok(rows)
     }
 
+    /// A further owner of the same rows. Copies none of them.
+    pub fn share(&self) -> Result<Table, AllocError>
+        ensures { IfOk result (λ t. t ≡ self.now) }
+    {
+        let lineages = self.lineages.share()?;
+        Ok(Table {
+            alloc: self.alloc,
+            lineages,
+        })
+    }
+
     /// The key has that row, or none, from the time on: on both sides, or only on the current one
     /// where the row is split.
-    #[tactic(auto, using(crate::proofs::SidesLemmas::writes))]
     pub fn written(&self, key: i64, row: Option<Row>, time: u64) -> Result<Table, AllocError>
         ensures current { IfOk result (λ t.
             current_of t ≡ written_from key row time (current_of self.now)) }
@@ -97,13 +110,30 @@ impl Table {
         ensures next_adds { IfOk result (λ t. is_split self.now key ≡ false
             → AddsRowWrite (next_of self.now) (next_of t) key row time) }
     {
+        let shared = self.share()?;
+        let table = shared.into_written(key, row, time)?;
+        Ok(table)
+    }
+
+    /// As [`written`](Table::written), of a table that isn't needed any more.
+    #[tactic(auto, using(crate::proofs::SidesLemmas::writes))]
+    pub fn into_written(self, key: i64, row: Option<Row>, time: u64) -> Result<Table, AllocError>
+        ensures current { IfOk result (λ t.
+            current_of t ≡ written_from key row time (current_of self)) }
+        ensures next { IfOk result (λ t. next_of t ≡ (if is_split self key
+            then next_of self else written_from key row time (next_of self))) }
+        ensures split { IfOk result (λ t. is_split t ≡ is_split self) }
+        ensures current_adds { IfOk result (λ t.
+            AddsRowWrite (current_of self) (current_of t) key row time) }
+        ensures next_adds { IfOk result (λ t. is_split self key ≡ false
+            → AddsRowWrite (next_of self) (next_of t) key row time) }
+    {
         let table = self.with_write(Side::Current, key, row, time)?;
         Ok(table)
     }
 
     /// The row is split, and its next side is rolled back: from the time on it is what it was just
     /// before. The current side stays.
-    #[tactic(auto, using(crate::proofs::SidesLemmas::writes))]
     pub fn split_back(&self, key: i64, time: u64) -> Result<Table, AllocError>
         ensures current { IfOk result (λ t. current_of t ≡ current_of self.now) }
         ensures next { IfOk result
@@ -112,13 +142,28 @@ impl Table {
         ensures next_drops { IfOk result (λ t.
             DropsRowWrites (next_of self.now) (next_of t) key time) }
     {
-        let lineage = self.own_lineage(key)?.split_back(time)?;
-        let table = self.with_lineage(key, lineage)?;
+        let shared = self.share()?;
+        let table = shared.into_split_back(key, time)?;
         Ok(table)
     }
 
-    /// The key has that row, or none, from the time on, only on the next side.
+    /// As [`split_back`](Table::split_back), of a table that isn't needed any more.
     #[tactic(auto, using(crate::proofs::SidesLemmas::writes))]
+    pub fn into_split_back(self, key: i64, time: u64) -> Result<Table, AllocError>
+        ensures current { IfOk result (λ t. current_of t ≡ current_of self) }
+        ensures next { IfOk result (λ t. next_of t ≡ rolled_back_from key time (next_of self)) }
+        ensures split { IfOk result (λ t. is_split t ≡ with_key key (is_split self)) }
+        ensures next_drops { IfOk result (λ t.
+            DropsRowWrites (next_of self) (next_of t) key time) }
+    {
+        let lineages = self.lineages.split_back(key, time)?;
+        Ok(Table {
+            alloc: self.alloc,
+            lineages,
+        })
+    }
+
+    /// The key has that row, or none, from the time on, only on the next side.
     pub fn next_written(&self, key: i64, row: Option<Row>, time: u64) -> Result<Table, AllocError>
         requires { IsTrue (is_split self.now key) }
         ensures current { IfOk result (λ t. current_of t ≡ current_of self.now) }
@@ -128,23 +173,67 @@ impl Table {
         ensures next_adds { IfOk result (λ t.
             AddsRowWrite (next_of self.now) (next_of t) key row time) }
     {
+        let shared = self.share()?;
+        let table = shared.into_next_written(key, row, time)?;
+        Ok(table)
+    }
+
+    /// As [`next_written`](Table::next_written), of a table that isn't needed any more.
+    #[tactic(auto, using(crate::proofs::SidesLemmas::writes))]
+    pub fn into_next_written(
+        self,
+        key: i64,
+        row: Option<Row>,
+        time: u64,
+    ) -> Result<Table, AllocError>
+        requires { IsTrue (is_split self key) }
+        ensures current { IfOk result (λ t. current_of t ≡ current_of self) }
+        ensures next { IfOk result (λ t. next_of t ≡ written_from key row time (next_of self)) }
+        ensures split { IfOk result (λ t. is_split t ≡ is_split self) }
+        ensures next_adds { IfOk result (λ t.
+            AddsRowWrite (next_of self) (next_of t) key row time) }
+    {
         let table = self.with_write(Side::Next, key, row, time)?;
         Ok(table)
     }
 
-    /// The next side becomes the current one, and no row is split.
+    /// The next side becomes the current one, and no row is split. Takes time for the split rows
+    /// alone.
     pub fn switched(&self) -> Result<Table, AllocError>
         ensures current { IfOk result (λ t. current_of t ≡ next_of self.now) }
         ensures next { IfOk result (λ t. next_of t ≡ next_of self.now) }
         ensures split { IfOk result (λ t. is_split t ≡ none_split) }
     {
+        let shared = self.share()?;
+        let table = shared.into_switched()?;
+        Ok(table)
+    }
+
+    /// As [`switched`](Table::switched), of a table that isn't needed any more.
+    pub fn into_switched(self) -> Result<Table, AllocError>
+        ensures current { IfOk result (λ t. current_of t ≡ next_of self) }
+        ensures next { IfOk result (λ t. next_of t ≡ next_of self) }
+        ensures split { IfOk result (λ t. is_split t ≡ none_split) }
+    {
         self.unsplit(Side::Next)
     }
 
-    /// The next side is given up for the current one, and no row is split.
+    /// The next side is given up for the current one, and no row is split. Takes time for the split
+    /// rows alone.
     pub fn aborted(&self) -> Result<Table, AllocError>
         ensures current { IfOk result (λ t. current_of t ≡ current_of self.now) }
         ensures next { IfOk result (λ t. next_of t ≡ current_of self.now) }
+        ensures split { IfOk result (λ t. is_split t ≡ none_split) }
+    {
+        let shared = self.share()?;
+        let table = shared.into_aborted()?;
+        Ok(table)
+    }
+
+    /// As [`aborted`](Table::aborted), of a table that isn't needed any more.
+    pub fn into_aborted(self) -> Result<Table, AllocError>
+        ensures current { IfOk result (λ t. current_of t ≡ current_of self) }
+        ensures next { IfOk result (λ t. next_of t ≡ current_of self) }
         ensures split { IfOk result (λ t. is_split t ≡ none_split) }
     {
         self.unsplit(Side::Current)
@@ -152,26 +241,32 @@ impl Table {
 
     /// The row, or none, is written at the time on that side.
     fn with_write(
-        &self,
+        self,
         side: Side,
         key: i64,
         row: Option<Row>,
         time: u64,
     ) -> Result<Table, AllocError>
         ensures { IfOk result (λ t.
-            let lineage = with_write_on side row time (lineage_at self.now key) in
-            t ≡ sorted.put int_cmp key lineage self.now) }
+            let lineage = with_write_on side row time (lineage_at self key) in
+            t ≡ sorted.put int_cmp key lineage self) }
     {
-        let lineage = self.own_lineage(key)?.with_write(side, row, time)?;
-        let table = self.with_lineage(key, lineage)?;
-        Ok(table)
+        let row = match row {
+            Some(row) => Some(Shared::new(self.alloc, row)?),
+            None => None,
+        };
+        let lineages = self.lineages.with_write(side, key, row, time)?;
+        Ok(Table {
+            alloc: self.alloc,
+            lineages,
+        })
     }
 
     /// Both sides show what this one shows, and no row is split.
     #[tactic(auto, using(crate::proofs::UnsplitLemmas::unsplit_sides))]
-    fn unsplit(&self, side: Side) -> Result<Table, AllocError>
-        ensures current { IfOk result (λ t. current_of t ≡ side_of self.now side) }
-        ensures next { IfOk result (λ t. next_of t ≡ side_of self.now side) }
+    fn unsplit(self, side: Side) -> Result<Table, AllocError>
+        ensures current { IfOk result (λ t. current_of t ≡ side_of self side) }
+        ensures next { IfOk result (λ t. next_of t ≡ side_of self side) }
         ensures split { IfOk result (λ t. is_split t ≡ none_split) }
     {
         let lineages = self.lineages.unsplit(side)?;
@@ -186,26 +281,5 @@ impl Table {
         ensures { unwrap_or (option_copied result) unwritten ≡ lineage_at self.now key }
     {
         self.lineages.get(key)
-    }
-
-    /// The lineage of the row with the key, in memory of its own.
-    fn own_lineage(&self, key: i64) -> Result<Lineage, AllocError>
-        ensures { IfOk result (λ l. l ≡ lineage_at self.now key) }
-    {
-        match self.lineage_of(key) {
-            Some(lineage) => lineage.clone(),
-            None => Ok(Lineage::new(self.alloc)),
-        }
-    }
-
-    /// The table with that lineage at the key.
-    fn with_lineage(&self, key: i64, lineage: Lineage) -> Result<Table, AllocError>
-        ensures { IfOk result (λ t. t ≡ sorted.put int_cmp key lineage self.now) }
-    {
-        let lineages = self.lineages.with(key, lineage)?;
-        Ok(Table {
-            alloc: self.alloc,
-            lineages,
-        })
     }
 }

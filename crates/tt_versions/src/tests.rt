@@ -100,6 +100,8 @@ fn an_abort_leaves_the_current_side(rt: HostRuntime) -> Result<(), Fail> {
     let table = two_sides(&rt, rt.alloc())?.aborted()?;
     assert!(rt; !table.is_split(1));
     expect_sides(&rt, &table, [A, A, B, B, NONE], [A, A, B, B, NONE])?;
+    let table = two_sides(&rt, rt.alloc())?.into_aborted()?;
+    expect_sides(&rt, &table, [A, A, B, B, NONE], [A, A, B, B, NONE])?;
     Ok(())
 }
 
@@ -134,12 +136,12 @@ fn many_rows(rt: &impl Abort, alloc: Global) -> Result<Table, AllocError> {
     let mut table = Table::new(alloc);
     for key in 0..30 {
         table = table
-            .written(key, row(alloc, key, A)?, 1)?
-            .written(key, row(alloc, key, B)?, 2)?;
+            .into_written(key, row(alloc, key, A)?, 1)?
+            .into_written(key, row(alloc, key, B)?, 2)?;
         if key % 3 == 0 {
-            table = table.split_back(key, 2)?;
+            table = table.into_split_back(key, 2)?;
             assert!(rt; table.is_split(key));
-            table = table.next_written(key, row(alloc, key, C)?, 2)?;
+            table = table.into_next_written(key, row(alloc, key, C)?, 2)?;
         }
     }
     Ok(table)
@@ -165,6 +167,6 @@ fn expect_many(rt: &impl Abort, table: &Table) -> Result<(), AllocError> {
 
 #[test]
 fn many_rows_are_switched(rt: HostRuntime) -> Result<(), Fail> {
-    expect_many(&rt, &many_rows(&rt, rt.alloc())?.switched()?)?;
+    expect_many(&rt, &many_rows(&rt, rt.alloc())?.into_switched()?)?;
     Ok(())
 }

@@ -1,25 +1,29 @@
-ghost use Rattle.std.specs.Prelude.{◌≡◌, [], map, IfOk};
+ghost use Rattle.std.specs.Prelude.{◌≡◌, ◌<◌, ◌+◌, [], length, take, drop, IsTrue, IsFalse, IfOk};
 ghost use Rattle.std.specs.Option.{option_copied};
-ghost use Rattle.tt_versions.specs.Versions.{started_before, ended_by, reopened_from};
+ghost use Rattle.tt_versions.specs.Versions.{started_by, started_before, HaveStarted, NoneHasStarted, StartsRise};
 
 use crate::version::Version;
 use std::alloc::{AllocError, Global};
 use std::marker::Model;
-use tt_values::Row;
+use tt_pages::{Kept, PagedLog};
+use tt_values::{Row, Shared};
 
 /// The versions of one row, earlier ones first. Contracts see the list of them.
 #[derive(Debug, Drop)]
 pub(crate) struct VersionChain {
-    versions: Vec<Version>,
+    versions: PagedLog<Version>,
 }
 
 impl Model for VersionChain {
     ghost use Rattle.std.specs.Prelude.{List};
     ghost use Rattle.tt_versions.specs.declared.version.Version.{Version};
+    ghost use Rattle.tt_versions.specs.Versions.{StartsRise};
 
     ghost Value = { List Version };
 
-    ghost view = { λ c. c.versions.items };
+    ghost view = { λ c. c.versions };
+
+    ghost invariant = { λ c. StartsRise c.versions };
 }
 
 impl VersionChain {
@@ -29,7 +33,7 @@ impl VersionChain {
         ensures { result ≡ [] }
     {
         VersionChain {
-            versions: Vec::new(alloc),
+            versions: PagedLog::new(alloc),
         }
     }
 
@@ -37,70 +41,95 @@ impl VersionChain {
     pub(crate) fn at(&self, time: u64) -> Option<&Row>
         ensures { option_copied result ≡ visible_row time self.now }
     {
-        for version in &self.versions {
-            if version.is_visible(time) {
-                return Some(&version.row);
-            }
+        let position = self.count_by(time).checked_sub(1)?;
+        let version = self.versions.get(position)?;
+        match &version.row {
+            Some(row) => Some(row.get()),
+            None => None,
         }
-        None
     }
 
     /// The chain with that row, or none, from the time on.
-    pub(crate) fn with_write(self, row: Option<Row>, time: u64) -> Result<VersionChain, AllocError>
+    pub(crate) fn with_write(
+        self,
+        row: Option<Shared<Row>>,
+        time: u64,
+    ) -> Result<VersionChain, AllocError>
         ensures { IfOk result (λ c. c ≡ with_write row time self) }
     {
-        let mut versions = self.versions;
-        drop_started_from(&mut versions, time);
-        end_all_by(&mut versions, time);
-        let Some(row) = row else {
-            return Ok(VersionChain { versions });
-        };
-        versions.push(Version {
-            row,
-            start: time,
-            end: None,
-        })?;
+        let mut versions = self.front_before(time)?;
+        versions.push(Version { start: time, row })?;
         Ok(VersionChain { versions })
     }
 
-    /// The chain without the versions that started, and the ends that came, at the time or later.
-    pub(crate) fn without_writes_from(self, time: u64) -> VersionChain
-        ensures { result ≡ without_writes_from time self }
+    /// The chain without the versions from the time on.
+    pub(crate) fn without_writes_from(self, time: u64) -> Result<VersionChain, AllocError>
+        ensures { IfOk result (λ c. c ≡ without_writes_from time self) }
     {
-        let mut versions = self.versions;
-        drop_started_from(&mut versions, time);
-        reopen_all_from(&mut versions, time);
-        VersionChain { versions }
+        let versions = self.front_before(time)?;
+        Ok(VersionChain { versions })
     }
-}
 
-fn drop_started_from(versions: &mut Vec<Version>, time: u64)
-    ensures { versions.new.items ≡ started_before time versions.old.items }
-{
-    versions.retain(|version| version.start < time);
-}
-
-fn end_all_by(versions: &mut Vec<Version>, time: u64)
-    ensures { versions.new.items ≡ map (ended_by time) versions.old.items }
-{
-    for version in versions.iter_mut() {
-        version.end_by(time);
+    /// The versions that started before the time.
+    fn front_before(self, time: u64) -> Result<PagedLog<Version>, AllocError>
+        ensures rise { IfOk result StartsRise }
+        ensures front { IfOk result (λ versions. versions ≡ started_before time self) }
+    {
+        let count = self.count_before(time);
+        if count == self.versions.len() {
+            Ok(self.versions)
+        } else {
+            let versions = self.versions.front(count)?;
+            Ok(versions)
+        }
     }
-}
 
-fn reopen_all_from(versions: &mut Vec<Version>, time: u64)
-    ensures { versions.new.items ≡ map (reopened_from time) versions.old.items }
-{
-    for version in versions.iter_mut() {
-        version.reopen_from(time);
+    /// How many versions started before the time.
+    fn count_before(&self, time: u64) -> usize
+        ensures { started_before time self.now ≡ take result self.now }
+    {
+        match time.checked_sub(1) {
+            Some(earlier) => self.count_by(earlier),
+            None => 0,
+        }
     }
-}
 
-impl Clone for VersionChain {
-    ghost is_clone = { λ source copy. copy ≡ source };
+    /// How many versions started by the time.
+    fn count_by(&self, time: u64) -> usize
+        ensures count { result ≡ length (started_by time self.now) }
+        ensures front { started_by time self.now ≡ take result self.now }
+    {
+        let mut low = 0;
+        let mut high = self.versions.len();
+        while low < high {
+            let middle = low + (high - low) / 2;
+            if self.has_started(middle, time) {
+                low = middle + 1;
+            } else {
+                high = middle;
+            }
+        }
+        low
+    }
 
-    fn clone(&self) -> Result<Self, AllocError> {
-        let versions = self.versions.clone()?;
+    /// Whether the version at a position started by the time.
+    #[tactic(auto, using(crate::proofs::VersionsLemmas::has_started))]
+    fn has_started(&self, position: usize, time: u64) -> bool
+        requires { position < length self.now }
+        ensures front { IsTrue result → HaveStarted time (take (position + 1) self.now) }
+        ensures rest { IsFalse result → NoneHasStarted time (drop position self.now) }
+    {
+        match self.versions.get(position) {
+            Some(version) => version.start <= time,
+            None => false,
+        }
+    }
+
+    /// A further owner of the same versions.
+    pub(crate) fn share(&self) -> Result<VersionChain, AllocError>
+        ensures { IfOk result (λ c. c ≡ self.now) }
+    {
+        let versions = self.versions.share()?;
         Ok(VersionChain { versions })
     }
 }

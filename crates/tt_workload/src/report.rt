@@ -38,32 +38,31 @@ fn push_caller(out: &mut Vec<u8>, number: u64, worker: u32) -> Result<(), AllocE
     Ok(())
 }
 
-/// Applies a write to the database, and pushes the end of its line.
+/// Applies a write to the database, and pushes the end of its line. Answers the next database.
 fn push_write(
     alloc: Global,
     out: &mut Vec<u8>,
-    db: &mut Db,
+    db: Db,
     worker: u32,
-    write: &Write,
-) -> Result<(), RunFault>
-    requires accepted { write_fault db.old.catalog write.now ≡ None }
-    requires room { HasRoom db.old }
+    write: Write,
+) -> Result<Db, RunFault>
+    requires accepted { write_fault db.catalog write ≡ None }
+    requires room { HasRoom db }
     ensures text { OnOk result (out.new.items
-        ≡ out.old.items ++ ask_text (state_of db.old) (Ask.Write write.now)) }
-    ensures state { OnOk result (db.new
-        ≡ with_entries db.old (entries_of_ask worker (Ask.Write write.now))) }
+        ≡ out.old.items ++ ask_text (state_of db) (Ask.Write write)) }
+    ensures state { IfOk result (λ next. next
+        ≡ with_entries db (entries_of_ask worker (Ask.Write write))) }
     ensures err { IfErr result (λ e. e ≡ RunFault.Memory) }
 {
-    let write = write.copy()?;
     let entry = Entry {
         worker,
         event: Event::Write(write),
     };
-    match db.apply(entry) {
-        Ok((next, outcome)) => {
-            *db = next;
+    let (next, answer) = db.advanced(entry)?;
+    match answer {
+        Ok(outcome) => {
             push_outcome(out, &outcome)?;
-            Ok(())
+            Ok(next)
         }
         Err(error) => Err(RunFault::of_event(alloc, error)),
     }
@@ -145,42 +144,50 @@ fn push_answer(out: &mut Vec<u8>, time: u64, reply: &Reply) -> Result<(), AllocE
     Ok(())
 }
 
-/// Makes a call, and pushes its line.
+/// Makes a call, and pushes its line. Answers the database after it.
 fn push_call(
     alloc: Global,
     out: &mut Vec<u8>,
-    db: &mut Db,
+    db: Db,
     number: u64,
-    call: &Call,
-) -> Result<(), RunFault>
-    requires accepted { ask_fault db.old.catalog call.now.ask ≡ None }
-    requires room { HasRoom db.old }
+    call: Call,
+) -> Result<Db, RunFault>
+    requires accepted { ask_fault db.catalog call.ask ≡ None }
+    requires room { HasRoom db }
     ensures line { OnOk result (out.new.items
-        ≡ out.old.items ++ call_line number (state_of db.old) call.now) }
-    ensures state { OnOk result (db.new ≡ with_entries db.old (entries_of call.now)) }
+        ≡ out.old.items ++ call_line number (state_of db) call) }
+    ensures state { IfOk result (λ next. next ≡ with_entries db (entries_of call)) }
     ensures err { IfErr result (λ e. e ≡ RunFault.Memory) }
 {
-    push_caller(out, number, call.worker)?;
-    match &call.ask {
-        Ask::Write(write) => push_write(alloc, out, db, call.worker, write),
-        Ask::Read { select, at } => push_read(alloc, out, db, select, *at),
+    let Call { worker, ask } = call;
+    push_caller(out, number, worker)?;
+    match ask {
+        Ask::Write(write) => push_write(alloc, out, db, worker, write),
+        Ask::Read { select, at } => {
+            push_read(alloc, out, &db, &select, at)?;
+            Ok(db)
+        }
     }
 }
 
-/// Makes the calls of a document, in order, and pushes their lines.
-fn push_calls(alloc: Global, out: &mut Vec<u8>, db: &mut Db, calls: &[Call]) -> Result<(), RunFault>
-    requires empty { db.old.history ≡ [] }
-    requires limits { db.old.limits ≡ max_limits }
-    requires accepted { AreAccepted db.old.catalog calls.now }
-    requires few { length calls.now ≤ 100000 }
-    ensures lines { OnOk result (out.new.items ≡ out.old.items ++ call_lines 1 [] calls.now) }
-    ensures state { OnOk result (db.new ≡ record db.old { history = history_of calls.now }) }
+/// Makes the calls of a document, in order, and pushes their lines. Answers the last database.
+fn push_calls(alloc: Global, out: &mut Vec<u8>, db: Db, calls: Vec<Call>) -> Result<Db, RunFault>
+    requires empty { db.history ≡ [] }
+    requires limits { db.limits ≡ max_limits }
+    requires accepted { AreAccepted db.catalog calls.items }
+    requires few { length calls.items ≤ 100000 }
+    ensures lines { OnOk result (out.new.items ≡ out.old.items ++ call_lines 1 [] calls.items) }
+    ensures state { IfOk result (λ last.
+        last ≡ record db { history = history_of calls.items }) }
     ensures err { IfErr result (λ e. e ≡ RunFault.Memory) }
 {
-    for (i, call) in calls.iter().enumerate() {
-        push_call(alloc, out, db, i as u64 + 1, call)?;
+    let mut db = db;
+    let mut number: u64 = 0;
+    for call in calls {
+        number += 1;
+        db = push_call(alloc, out, db, number, call)?;
     }
-    Ok(())
+    Ok(db)
 }
 
 /// Pushes the line of a table.
@@ -255,15 +262,15 @@ fn push_last(out: &mut Vec<u8>, generation: u64, time: u64) -> Result<(), AllocE
 }
 
 /// The report of a document whose calls run one after another.
-pub(crate) fn report_of(alloc: Global, document: &Document) -> Result<Vec<u8>, RunFault>
-    requires { IsValidDocument document.now }
-    ensures ok { IfOk result (λ text. text.items ≡ report_of document.now) }
+pub(crate) fn report_of(alloc: Global, document: Document) -> Result<Vec<u8>, RunFault>
+    requires { IsValidDocument document }
+    ensures ok { IfOk result (λ text. text.items ≡ report_of document) }
     ensures err { IfErr result (λ e. e ≡ RunFault.Memory) }
 {
-    let catalog = document.catalog.clone()?;
-    let mut db = Db::new(alloc, catalog.into_arc(), Limits::usual());
+    let Document { catalog, calls, .. } = document;
+    let db = Db::new(alloc, catalog.into_arc(), Limits::usual());
     let mut out = Vec::new(alloc);
-    push_calls(alloc, &mut out, &mut db, document.calls.as_slice())?;
+    let db = push_calls(alloc, &mut out, db, calls.into_vec())?;
     push_tables(alloc, &mut out, &db)?;
     push_end(&mut out, &db)?;
     Ok(out)

@@ -36,6 +36,6 @@ pub fn run_alone<R: Read, W: Write>(
     ensures kind { IfErr result IsFaultOfRun }
 {
     let document = read_document(alloc, reader)?;
-    let report = report_of(alloc, &document)?;
+    let report = report_of(alloc, document)?;
     write_text(writer, &report)
 }

@@ -1,4 +1,4 @@
-use super::{ACCT, ANN, BOB, after, entry, has, insert, new_db, rows, select_all};
+use super::{ACCT, ANN, BOB, entry, has, insert, new_db, rows, select_all};
 use crate::{Db, Limits, Outcome, Slot};
 use std::alloc::Global;
 use std::process::Abort;
@@ -34,7 +34,9 @@ fn each_call_has_enough_memory(rt: HostRuntime) {
     let empty = new_db(&rt, alloc);
     assert_eq!(rt; empty.now(), 0);
     has(&rt, alloc, &empty, &[]);
-    let mut db = after(&rt, &empty, entry(&rt, alloc, 1, ANN), Reply::Inserted);
+    let ann = entry(&rt, alloc, 1, ANN);
+    let (mut db, answer) = empty.advanced(ann).expect(&rt, "memory");
+    assert!(rt; answer.is_ok());
     has_one_slot(&rt, &db);
     has_exact_copies(&rt, alloc, &db);
     let answers = db

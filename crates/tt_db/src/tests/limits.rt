@@ -52,6 +52,9 @@ fn a_full_database_refuses(rt: HostRuntime) {
         let db = full_db(&rt, alloc, filling);
         let next = entry(&rt, alloc, 1, (3, "cat", 30));
         assert_eq!(rt; db.apply(next).err(), Some(DbError::Full { limit }));
+        let next = entry(&rt, alloc, 1, (3, "cat", 30));
+        let (db, answer) = db.advanced(next).expect(&rt, "memory");
+        assert_eq!(rt; answer.err(), Some(DbError::Full { limit }));
         has(&rt, alloc, &db, filling.accounts);
     }
 }

@@ -26,11 +26,11 @@ impl<T> Model for Page<T> {
 }
 
 impl<T: Drop> Page<T> {
-    /// A page of one item. It takes memory for just that one, and grows with the next.
-    pub(super) fn of_one(alloc: Global, item: T) -> Result<Self, AllocError>
+    /// A page of one item, with room for so many.
+    pub(super) fn of_one(alloc: Global, item: T, room: usize) -> Result<Self, AllocError>
         ensures { IfOk result (λ page. page ≡ item ∷ []) }
     {
-        let mut items = Vec::with_capacity(alloc, 1)?;
+        let mut items = Vec::with_capacity(alloc, room)?;
         items.push(item)?;
         Ok(Page { items })
     }

@@ -94,10 +94,12 @@ fn add_page<T: Drop>(
     }
 }
 
-/// Puts an item at the end of the tail, in a copy where the tail is shared.
+/// Puts an item at the end of the tail, in a copy where the tail is shared. A new tail gets this
+/// room.
 pub(super) fn push_to_tail<T: Kept + Drop>(
     tail: &mut Option<Arc<Page<T>>>,
     alloc: Global,
+    room: usize,
     item: T,
 ) -> Result<(), AllocError>
     ensures ok { OnOk result (tail_items tail.new ≡ tail_items tail.old ++ item ∷ []) }
@@ -106,7 +108,7 @@ pub(super) fn push_to_tail<T: Kept + Drop>(
     match tail {
         Some(page) => push_to_page(page, item),
         None => {
-            *tail = Some(Arc::new(alloc, Page::of_one(alloc, item)?)?);
+            *tail = Some(Arc::new(alloc, Page::of_one(alloc, item, room)?)?);
             Ok(())
         }
     }

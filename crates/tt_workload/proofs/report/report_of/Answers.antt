@@ -10,16 +10,17 @@ use Rattle.tt_workload.proofs.report.report_of.Goals as goal
 
 pub push_calls-requires-clause-accepted : goal.push_calls-requires-clause-accepted
 push_calls-requires-clause-accepted c =
-    let tables = ap (λ (db : Database). db.catalog) c.new-db.ensures ∙ (c.into_arc.ensures ∙ c.in_ok-catalog.ensures.cases) in
-    let document = c.args.document.now in
-    subst (λ ts. AreAccepted ts c.as_slice.result.now) (sym tables) (subst (λ cs. AreAccepted document.catalog cs) (sym c.as_slice.ensures) (AreAccepted-valid document c.requires))
+    let document = c.args.document in
+    let tables = ap (λ (db : Database). db.catalog) c.new-db.ensures ∙ c.into_arc.ensures in
+    subst (λ ts. AreAccepted ts c.into_vec.result.items) (sym tables) (subst (λ cs. AreAccepted document.catalog cs) (sym c.into_vec.ensures) (AreAccepted-valid document c.requires))
 
 pub returns-clause-ok : goal.returns-clause-ok
 returns-clause-ok c =
+    let document = c.args.document in
     let new : Database = c.new-db.result in
     let empty : Tables → Limits → Database = λ tables limits. record { catalog = tables; limits = limits; history = [] } in
-    let is_new = c.new-db.ensures ∙ ap (λ (ts : Tables). empty ts c.usual.result) (c.into_arc.ensures ∙ c.in_ok-catalog.ensures.cases) ∙ ap (λ (l : Limits). empty c.args.document.now.catalog l) c.usual.ensures in
-    let state = c.in_ok-push_calls.ensures.state ∙ ap (λ (cs : List Call). record new { history = history_of cs }) c.as_slice.ensures in
-    let lines = c.in_ok-push_calls.ensures.lines ∙ ap (λ (cs : List Call). c.new-out.result.items ++ call_lines 1 [] cs) c.as_slice.ensures in
-    report-pieces c.args.document.now new c.push_calls.new.db c.new-out.result.items c.push_calls.new.out.items c.push_tables.new.out.items c.push_end.new.out.items
+    let is_new = c.new-db.ensures ∙ ap (λ (ts : Tables). empty ts c.usual.result) c.into_arc.ensures ∙ ap (λ (l : Limits). empty document.catalog l) c.usual.ensures in
+    let state = c.in_ok-db.ensures.state ∙ ap (λ (cs : List Call). record new { history = history_of cs }) c.into_vec.ensures in
+    let lines = c.in_ok-db.ensures.lines ∙ ap (λ (cs : List Call). c.new-out.result.items ++ call_lines 1 [] cs) c.into_vec.ensures in
+    report-pieces document new c.in_ok-db.db c.new-out.result.items c.push_calls.new.out.items c.push_tables.new.out.items c.push_end.new.out.items
     is_new c.new-out.ensures.items state lines c.in_ok-push_tables.ensures.text c.in_ok-push_end.ensures

@@ -12,4 +12,4 @@ returns-clause-keyed c =
     let q = c.args.select.now in
     let right = c.in_ok-reply.ensures ∙ ap (λ W. answer_of q (content_of W c.args.time)) c.self.invariant.slots in
     subst RowsHaveRisingKeys (sym right)
-    (RowsHaveRisingKeys-answer_of db.catalog db.limits db.history.items q c.args.time c.self.invariant.catalog c.self.invariant.legal)
+    (RowsHaveRisingKeys-answer_of db.catalog db.limits db.history q c.args.time c.self.invariant.catalog c.self.invariant.legal)

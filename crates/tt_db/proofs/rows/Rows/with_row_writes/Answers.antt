@@ -8,7 +8,7 @@ use Rattle.tt_db.proofs.rows.Rows.with_row_writes.Goals as goal
 pub loop-key-preserved : goal.loop-key-preserved
 loop-key-preserved c =
     let before = c.loop-key.rows in
-    let after = c.in_ok-rows-2.rows in
+    let after = c.in_ok-rows.rows in
     let fits : SFits w64 c.in-Some.key = search rules in
-    let adds = subst (λ k. AddsRowWrites before after (as_row_writes c.args.time c.args.table ((k, c.in-Some.row) ∷ []))) (to_z-of_z w64 c.in-Some.key fits) c.in_ok-rows-2.ensures in
-    AddsRowWrites-push c.args.self.now before after c.args.time c.args.table c.loop-key.yielded (c.in-Some.key, c.in-Some.row) c.loop-key.invariant adds
+    let adds = subst (λ k. AddsRowWrites before after (as_row_writes c.args.time c.args.table ((k, c.in-Some.row) ∷ []))) (to_z-of_z w64 c.in-Some.key fits) c.in_ok-rows.ensures in
+    AddsRowWrites-push c.args.self before after c.args.time c.args.table c.loop-key.yielded (c.in-Some.key, c.in-Some.row) c.loop-key.invariant adds

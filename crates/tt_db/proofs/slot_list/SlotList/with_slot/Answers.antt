@@ -1,13 +1,20 @@
 -- The slots with one more have their replies and their rows.
-use Rattle.std.proofs.Common.{◌≡◌, [], ◌∷◌, ◌++◌, subst, sym}
-use Rattle.tt_values.specs.RowWrites.{slot_reply}
-use Rattle.tt_db.specs.SlotList.{last_content, HasRowsOf}
-use Rattle.tt_db.proofs.SlotListLemmas.{IsSlotList-push}
+use Rattle.std.proofs.Common.{◌≡◌, List, Some, [], ◌∷◌, ◌++◌, subst, sym, ap, ◌∙◌, arith}
+use Rattle.tt_values.specs.RowWrites.{Slots, slot_reply}
+use Rattle.tt_db.specs.declared.outcome.Slot.{Slot}
+use Rattle.tt_db.specs.SlotList.{last_content, HasRowsOf, IsSlotList}
+use Rattle.tt_db.proofs.SlotListLemmas.{IsSlotList-push, HasRowsOf-push}
 use Rattle.tt_db.proofs.slot_list.SlotList.with_slot.Goals as goal
 
 pub invariant_of-result : goal.invariant_of-result
 invariant_of-result c =
-    let slot = c.args.slot in
-    let reply = subst (λ W. slot.reply ≡ slot_reply slot.write (last_content W)) (sym c.self.view_is) c.requires.reply in
-    let rows = subst (λ W. HasRowsOf c.args.rows (W ++ slot.write ∷ [])) (sym c.self.view_is) c.requires.rows in
-    rw c.in_ok-slots.ensures (IsSlotList-push c.self.inside.slots.items slot c.self.inside.rows c.args.rows c.self.invariant reply rows)
+    let w = c.args.write in
+    let before = c.self.inside.rows in
+    let after = c.in_ok-rows.rows in
+    let slot : Slot = record { write = Some w; reply = Some c.args.reply } in
+    let rows = HasRowsOf-push c.args.self w before after _ _ _ (subst (HasRowsOf before) c.self.view_is c.self.invariant.rows)
+    (omega (arith, c.len-time.ensures)) c.table.ensures c.requires.effect c.in_ok-rows.ensures in
+    let all = subst (λ (W : Slots). HasRowsOf after (W ++ Some w ∷ [])) (sym c.self.view_is) rows in
+    let reply = subst (λ (W : Slots). Some c.args.reply ≡ slot_reply (Some w) (last_content W)) (sym c.self.view_is) (ap Some c.requires.reply) in
+    let pushed = c.in_ok-push.ensures.ok ∙ ap (λ (s : Slot). c.self.inside.slots ++ s ∷ []) c.in_ok-slot.ensures in
+    subst (λ (slots : List Slot). IsSlotList slots after) (sym pushed) (IsSlotList-push c.self.inside.slots slot before after c.self.invariant reply all)

@@ -1,9 +1,11 @@
--- Where a side is written on, it follows its list of row writes.
-use Rattle.std.proofs.Common.{arith}
-use Rattle.tt_versions.specs.Sides.{next_of}
-use Rattle.tt_versions.proofs.SidesLemmas.{writes}
-use Rattle.tt_versions.proofs.RowsByWritesLemmas.{adds_row_write}
+-- The shared table is this one.
+use Rattle.std.proofs.Common.{w64, ℤ, subst}
+use Rattle.std.proofs.lemmas.Int.{to_z-of_z}
+use Rattle.tt_versions.specs.Sides.{LineagesByKey, next_of}
+use Rattle.tt_versions.specs.RowsByWrites.{AddsRowWrite}
 use Rattle.tt_versions.proofs.table.Table.next_written.Goals as goal
 
 pub returns-clause-next_adds : goal.returns-clause-next_adds
-returns-clause-next_adds c = adds_row_write (next_of c.args.self.now) (next_of c.in_ok-table.table) c.args.key c.args.row c.args.time (grind (arith, writes))
+returns-clause-next_adds c =
+    subst (λ (t : LineagesByKey). AddsRowWrite (next_of t) (next_of c.in_ok-table.table) c.args.key c.args.row c.args.time) c.in_ok-shared.ensures
+    (subst (λ (k : ℤ). AddsRowWrite (next_of c.in_ok-shared.shared) (next_of c.in_ok-table.table) k c.args.row c.args.time) (to_z-of_z w64 c.args.key c.ranges.key) c.in_ok-table.ensures.next_adds)

@@ -1,0 +1,10 @@
+-- once the rows of the keys that are left are unsplit, those of all keys are
+use Rattle.std.proofs.Common.{◌≡◌, ℤ, is_some}
+use Rattle.std.specs.Ordering.{int_cmp}
+use Rattle.std.specs.FinMap.Entries as sorted
+use Rattle.tt_versions.specs.Sides.{lineage_at, unsplit_if}
+use Rattle.tt_versions.proofs.lineages.unsplit_keys.Given as goal
+
+abbrev pub invariant-loop-key : goal.invariant-loop-key
+invariant-loop-key l = (q : ℤ) → unsplit_if (is_some (sorted.find int_cmp q l.key-iterator)) l.side (lineage_at l.entries q)
+    ≡ unsplit_if (is_some (sorted.find int_cmp q l.keys)) l.side (lineage_at l.initial.entries q)

@@ -1,0 +1,12 @@
+-- Where a side is written on, it follows its list of row writes.
+use Rattle.std.proofs.Common.{arith}
+use Rattle.tt_versions.specs.Sides.{current_of, next_of}
+use Rattle.tt_versions.proofs.SidesLemmas.{writes}
+use Rattle.tt_versions.proofs.RowsByWritesLemmas.{adds_row_write}
+use Rattle.tt_versions.proofs.table.Table.into_written.Goals as goal
+
+pub returns-clause-current_adds : goal.returns-clause-current_adds
+returns-clause-current_adds c = adds_row_write (current_of c.args.self) (current_of c.in_ok-table.table) c.args.key c.args.row c.args.time (grind (arith, writes))
+
+pub returns-clause-next_adds : goal.returns-clause-next_adds
+returns-clause-next_adds c whole = adds_row_write (next_of c.args.self) (next_of c.in_ok-table.table) c.args.key c.args.row c.args.time (grind (arith, writes))

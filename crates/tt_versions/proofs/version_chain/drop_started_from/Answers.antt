@@ -1,7 +1,0 @@
--- What stays is what passes the test.
-use Rattle.std.proofs.Common.{rules}
-use Rattle.std.proofs.lemmas.Fn.{filter_same}
-use Rattle.tt_versions.proofs.version_chain.drop_started_from.Goals as goal
-
-pub returns : goal.returns
-returns c = filter_same _ _ _ (λ x b f' k. search rules) _ _ c.retain.ensures.filtered
