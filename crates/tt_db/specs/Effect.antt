@@ -2,12 +2,11 @@
 use Rattle.std.specs.Prelude.{◌≡◌, ℕ, ℤ, Bool, List, [], ◌∷◌, map, Option, None, Some, if◌then◌else◌}
 use Rattle.tt_values.specs.declared.row.Row.{Row}
 use Rattle.tt_values.specs.declared.statement.Change.{Change}
-use Rattle.tt_values.specs.declared.statement.Equal.{Equal}
 use Rattle.tt_values.specs.declared.statement.Write.{Write}
 use Rattle.tt_values.specs.Row.{key_of}
 use Rattle.tt_values.specs.Change.{changed}
 use Rattle.tt_values.specs.Content.{RowsByKey, RowWrite, content_at}
-use Rattle.tt_values.specs.Effect.{table_of, matching_rows, effect}
+use Rattle.tt_values.specs.Effect.{table_of, effect}
 use Rattle.tt_versions.specs.Sides.{RowsOverTime}
 use Rattle.tt_versions.specs.RowsByWrites.{rows_by}
 
@@ -20,14 +19,10 @@ IsEffect pairs w rows time = (ws : List RowWrite)
 abbrev pub insert_effect : Bool → Row → List (ℤ × Option Row)
 insert_effect is_live row = if is_live then [] else (key_of row, Some row) ∷ []
 
--- each row that matches, changed
-abbrev pub update_effect : List Change → List Equal → RowsByKey → List (ℤ × Option Row)
-update_effect changes equals rows = map (λ e. (e.0, Some (changed e.1 changes))) (matching_rows equals rows)
+-- each of the rows that match, changed
+abbrev pub update_effect : List Change → RowsByKey → List (ℤ × Option Row)
+update_effect changes rows = map (λ e. (e.0, Some (changed e.1 changes))) rows
 
--- the key of each row that matches, without a row
-abbrev pub delete_effect : List Equal → RowsByKey → List (ℤ × Option Row)
-delete_effect equals rows = map (λ e. (e.0, None)) (matching_rows equals rows)
-
--- the rows that match
-abbrev pub rows_that_match : List Equal → RowsByKey → List Row
-rows_that_match equals rows = map (λ e. e.1) (matching_rows equals rows)
+-- the key of each of the rows that match, without a row
+abbrev pub delete_effect : RowsByKey → List (ℤ × Option Row)
+delete_effect rows = map (λ e. (e.0, None)) rows

@@ -3,7 +3,7 @@ use Rattle.std.specs.Prelude.{◌≡◌, ℕ, ℤ, false, ◌==◌, List, ◌++�
 use Rattle.tt_values.specs.declared.row.Row.{Row}
 use Rattle.tt_values.specs.Content.{RowWrite}
 use Rattle.tt_versions.specs.declared.side.Side.TheVariants.{Current}
-use Rattle.tt_versions.specs.Sides.{LineagesByKey, no_lineages, side_of, is_split, none_split}
+use Rattle.tt_versions.specs.Sides.{RowsOverTime, LineagesByKey, no_lineages, side_of, is_split, none_split}
 use Rattle.tt_versions.specs.RowsByWrites.{rows_by}
 
 -- tables by position
@@ -34,3 +34,7 @@ as_row_writes time table effect = map (λ e. record { time = time; table = table
 -- tables get the effect of a write on a table at a time
 abbrev pub AddsEffect : TablesByPosition → TablesByPosition → ℕ → ℕ → List (ℤ × Option Row) → Type 0
 AddsEffect before after time table effect = AddsRowWrites before after (as_row_writes time table effect)
+
+-- if the rows of a table before are those by some row writes, the rows after are those by these and an effect at a time
+pub record TableAddsEffect (before after : RowsOverTime) (time : ℕ) (effect : List (ℤ × Option Row)) : Type 0 where
+  pub adds : (table : ℕ) (ws : List RowWrite) → before ≡ rows_by table ws → after ≡ rows_by table (ws ++ as_row_writes time table effect)

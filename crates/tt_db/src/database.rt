@@ -231,7 +231,7 @@ impl Db {
             slots,
             generation,
         } = self;
-        let (slots, reply) = slots.with_write(write.copy()?)?;
+        let (slots, reply) = slots.with_write(catalog.get(), write.copy()?)?;
         let entry = Entry {
             worker,
             event: Event::Write(write),

@@ -4,11 +4,11 @@ ghost use Rattle.tt_values.specs.Row.{first_int};
 ghost use Rattle.tt_values.specs.Check.{HasKey};
 ghost use Rattle.tt_values.specs.Content.{RowsByKey};
 ghost use Rattle.tt_values.specs.Effect.{effect_on, reply_on};
-ghost use Rattle.tt_versions.specs.Sides.{side_of};
-ghost use Rattle.tt_db.specs.Effect.{IsEffect, insert_effect, update_effect, delete_effect, rows_that_match};
+ghost use Rattle.tt_versions.specs.Sides.{side_of, rows_behind};
+ghost use Rattle.tt_db.specs.Effect.{IsEffect, insert_effect, update_effect, delete_effect};
 
 use std::alloc::{AllocError, Global};
-use tt_values::{Change, Equal, Reply, Row, Write, changed, matches};
+use tt_values::{Change, Reply, Row, Write, changed};
 use tt_versions::{Side, Table};
 
 /// The effect of a write on its table at a time: keys with the rows that they get, or with none
@@ -33,13 +33,13 @@ pub(crate) fn effect_of(
             equals,
             ..
         } => {
-            let rows = table.rows_at(time, Side::Current)?;
-            let effect = effect_of_update(alloc, &rows, changes.as_slice(), equals.as_slice())?;
+            let rows = table.rows_matching(equals.as_slice(), time, Side::Current)?;
+            let effect = effect_of_update(alloc, &rows, changes.as_slice())?;
             Ok(effect)
         }
         Write::Delete { equals, .. } => {
-            let rows = table.rows_at(time, Side::Current)?;
-            let effect = effect_of_delete(alloc, &rows, equals.as_slice())?;
+            let rows = table.rows_matching(equals.as_slice(), time, Side::Current)?;
+            let effect = effect_of_delete(alloc, &rows)?;
             Ok(effect)
         }
     }
@@ -61,59 +61,46 @@ fn effect_of_insert(
     Ok(effect)
 }
 
-/// The effect of an update: each row that matches, changed.
+/// The effect of an update on the rows that match: each of them, changed.
 fn effect_of_update(
     alloc: Global,
     rows: &Vec<(i64, &Row)>,
     changes: &[Change],
-    equals: &[Equal],
 ) -> Result<Vec<(i64, Option<Row>)>, AllocError>
-    ensures { IfOk result (λ r. r.items ≡
-        update_effect changes.now equals.now (map (λ e. (e.0, e.1.now)) rows.now.items)) }
+    ensures { IfOk result (λ r. r.items
+        ≡ update_effect changes.now (rows_behind rows.now.items)) }
 {
-    let mut effect = Vec::new(alloc);
+    let mut effect = Vec::with_capacity(alloc, rows.len())?;
     for (key, old) in rows {
-        if matches(equals, old) {
-            effect.push((*key, Some(changed(alloc, old, changes)?)))?;
-        }
+        effect.push((*key, Some(changed(alloc, old, changes)?)))?;
     }
     Ok(effect)
 }
 
-/// The effect of a delete: the key of each row that matches, without a row.
+/// The effect of a delete on the rows that match: the key of each, without a row.
 fn effect_of_delete(
     alloc: Global,
     rows: &Vec<(i64, &Row)>,
-    equals: &[Equal],
 ) -> Result<Vec<(i64, Option<Row>)>, AllocError>
-    ensures { IfOk result (λ r. r.items ≡
-        delete_effect equals.now (map (λ e. (e.0, e.1.now)) rows.now.items)) }
+    ensures { IfOk result (λ r. r.items
+        ≡ delete_effect (rows_behind rows.now.items)) }
 {
-    let mut effect = Vec::new(alloc);
-    for (key, row) in rows {
-        if matches(equals, row) {
-            effect.push((*key, None))?;
-        }
+    let mut effect = Vec::with_capacity(alloc, rows.len())?;
+    for (key, _) in rows {
+        effect.push((*key, None))?;
     }
     Ok(effect)
 }
 
-/// The rows that match, in memory of their own.
-pub(crate) fn rows_that_match(
-    alloc: Global,
-    rows: &Vec<(i64, &Row)>,
-    equals: &[Equal],
-) -> Result<Vec<Row>, AllocError>
-    ensures { IfOk result (λ r. r.items ≡
-        rows_that_match equals.now (map (λ e. (e.0, e.1.now)) rows.now.items)) }
+/// The rows, in memory of their own.
+pub(crate) fn copies_of(alloc: Global, rows: &Vec<(i64, &Row)>) -> Result<Vec<Row>, AllocError>
+    ensures { IfOk result (λ r. r.items ≡ map (λ e. e.1) (rows_behind rows.now.items)) }
 {
-    let mut matching = Vec::new(alloc);
+    let mut copies = Vec::with_capacity(alloc, rows.len())?;
     for (_, row) in rows {
-        if matches(equals, row) {
-            matching.push(row.copy()?)?;
-        }
+        copies.push(row.copy()?)?;
     }
-    Ok(matching)
+    Ok(copies)
 }
 
 /// The reply to a write with that effect.

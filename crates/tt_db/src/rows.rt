@@ -1,11 +1,12 @@
-ghost use Rattle.std.specs.Prelude.{◌≡◌, ◌<◌, [], ◌∷◌, length, IfOk, OnOk};
-ghost use Rattle.tt_db.specs.Rows.{versions_at, KeepsOthers};
+ghost use Rattle.std.specs.Prelude.{◌≡◌, ◌<◌, [], length, IfOk, OnOk};
+ghost use Rattle.tt_versions.specs.Sides.{no_lineages, side_of, is_split};
+ghost use Rattle.tt_db.specs.Rows.{versions_at, KeepsOthers, TableAddsEffect};
 
 use std::alloc::{AllocError, Global};
 use std::marker::Model;
 use std::mem;
-use tt_values::Row;
-use tt_versions::Table;
+use tt_values::{Catalog, Row};
+use tt_versions::{Side, Table};
 
 /// The rows of all tables with their versions.
 #[derive(Drop)]
@@ -70,30 +71,16 @@ impl Rows {
         })
     }
 
-    /// The rows once these keys of a table have those rows, or none, from the time on.
+    /// The rows once these keys of a table have those rows, or none, from the time on. The catalog
+    /// says by which columns the rows of a new table can be found.
     pub(crate) fn with_row_writes(
         self,
+        catalog: &Catalog,
         table: u16,
         effect: Vec<(i64, Option<Row>)>,
         time: u64,
     ) -> Result<Rows, AllocError>
         ensures { IfOk result (λ r. AddsEffect self r time table effect.items) }
-    {
-        let mut rows = self;
-        for (key, row) in effect {
-            rows = rows.with_row_write(table, key, row, time)?;
-        }
-        Ok(rows)
-    }
-
-    fn with_row_write(
-        self,
-        table: u16,
-        key: i64,
-        row: Option<Row>,
-        time: u64,
-    ) -> Result<Rows, AllocError>
-        ensures { IfOk result (λ r. AddsEffect self r time table ((key, row) ∷ [])) }
     {
         let Rows {
             alloc,
@@ -101,8 +88,8 @@ impl Rows {
             empty,
         } = self;
         let position = usize::from(table);
-        let old = take_table(alloc, &mut tables, position)?;
-        let new = old.into_written(key, row, time)?;
+        let old = take_table(alloc, catalog, &mut tables, position)?;
+        let new = with_effect(old, effect, time)?;
         tables[position] = new;
         Ok(Rows {
             alloc,
@@ -112,26 +99,88 @@ impl Rows {
     }
 }
 
+/// The table once these keys have those rows, or none, from the time on.
+#[tactic(auto, using(crate::proofs::RowsLemmas::adds_nothing))]
+fn with_effect(
+    table: Table,
+    effect: Vec<(i64, Option<Row>)>,
+    time: u64,
+) -> Result<Table, AllocError>
+    ensures adds { IfOk result (λ t.
+        TableAddsEffect (side_of table Side.Current) (side_of t Side.Current) time effect.items) }
+    ensures split { IfOk result (λ t. is_split t ≡ is_split table) }
+{
+    let mut table = table;
+    for (key, row) in effect {
+        table = table.into_written(key, row, time)?;
+    }
+    Ok(table)
+}
+
 /// Takes a table out, and leaves an empty one. There are tables up to its position then.
 #[tactic(auto, using(crate::proofs::RowsLemmas::sets_table))]
-fn take_table(alloc: Global, tables: &mut Vec<Table>, position: usize) -> Result<Table, AllocError>
+fn take_table(
+    alloc: Global,
+    catalog: &Catalog,
+    tables: &mut Vec<Table>,
+    position: usize,
+) -> Result<Table, AllocError>
     ensures table { IfOk result (λ table. table ≡ versions_at tables.old.items position) }
     ensures room { OnOk result (position < length tables.new.items) }
     ensures others { OnOk result (KeepsOthers position tables.old.items tables.new.items) }
 {
-    add_tables(alloc, tables, position)?;
+    add_tables(alloc, catalog, tables, position)?;
     let table = mem::replace(&mut tables[position], Table::new(alloc));
     Ok(table)
 }
 
 /// Adds empty tables, until there is one at the position.
 #[tactic(auto, using(crate::proofs::RowsLemmas::adds_tables))]
-fn add_tables(alloc: Global, tables: &mut Vec<Table>, position: usize) -> Result<(), AllocError>
+fn add_tables(
+    alloc: Global,
+    catalog: &Catalog,
+    tables: &mut Vec<Table>,
+    position: usize,
+) -> Result<(), AllocError>
     ensures room { OnOk result (position < length tables.new.items) }
     ensures same { versions_at tables.new.items ≡ versions_at tables.old.items }
 {
     while tables.len() <= position {
-        tables.push(Table::new(alloc))?;
+        let table = empty_table(alloc, catalog, tables.len())?;
+        tables.push(table)?;
     }
     Ok(())
+}
+
+/// A table without rows, whose rows can be found by the partition columns of the one at that
+/// position of the catalog.
+fn empty_table(alloc: Global, catalog: &Catalog, position: usize) -> Result<Table, AllocError>
+    ensures { IfOk result (λ table. table ≡ no_lineages) }
+{
+    let columns = partition_columns(alloc, catalog, position)?;
+    let table = Table::with_columns(alloc, &columns)?;
+    Ok(table)
+}
+
+/// The positions of a table's partition columns but the first, which is the key.
+fn partition_columns(
+    alloc: Global,
+    catalog: &Catalog,
+    position: usize,
+) -> Result<Vec<u16>, AllocError> {
+    let mut columns = Vec::new(alloc);
+    let Ok(position) = u16::try_from(position) else {
+        return Ok(columns);
+    };
+    let Some(table) = catalog.table(position) else {
+        return Ok(columns);
+    };
+    let mut place: u16 = 0;
+    for column in table.columns.as_slice() {
+        if column.partition && place > 0 {
+            columns.push(place)?;
+        }
+        place = place.saturating_add(1);
+    }
+    Ok(columns)
 }

@@ -7,13 +7,13 @@ ghost use Rattle.tt_versions.specs.Sides.{side_of, is_split, none_split};
 ghost use Rattle.tt_db.specs.Limits.{max_limits};
 ghost use Rattle.tt_db.specs.SlotList.{last_content, effect_now, rows_of_table, slot_at, HasRowsOf};
 
-use crate::effect::{effect_of, reply_to, rows_that_match};
+use crate::effect::{copies_of, effect_of, reply_to};
 use crate::outcome::Slot;
 use crate::rows::Rows;
 use std::alloc::{AllocError, Global};
 use std::marker::Model;
 use tt_pages::PagedLog;
-use tt_values::{Items, Reply, Row, Select, Shared, Write};
+use tt_values::{Catalog, Items, Reply, Row, Select, Shared, Write};
 use tt_versions::{Side, Table};
 
 /// The slots of a generation with their replies, and the rows that they leave.
@@ -75,8 +75,9 @@ impl SlotList {
     pub(crate) fn answer_at(&self, select: &Select, time: u64) -> Result<Reply, AllocError>
         ensures { IfOk result (λ r. r ≡ answer_of select.now (content_of self.now time)) }
     {
-        let rows = self.table(select.table).rows_at(time, Side::Current)?;
-        let rows = rows_that_match(self.alloc, &rows, select.equals.as_slice())?;
+        let table = self.table(select.table);
+        let rows = table.rows_matching(select.equals.as_slice(), time, Side::Current)?;
+        let rows = copies_of(self.alloc, &rows)?;
         Ok(Reply::Rows(Items::new(rows)))
     }
 
@@ -94,7 +95,11 @@ impl SlotList {
     }
 
     /// The slots and one more, for this write, with its reply.
-    pub(crate) fn with_write(self, write: Write) -> Result<(SlotList, Reply), AllocError>
+    pub(crate) fn with_write(
+        self,
+        catalog: &Catalog,
+        write: Write,
+    ) -> Result<(SlotList, Reply), AllocError>
         requires keyed { HasKey write }
         requires room { length self < max_limits.slots }
         ensures slots { IfOk result (λ r. r.0 ≡ self ++ Some write ∷ []) }
@@ -103,7 +108,7 @@ impl SlotList {
         let effect = self.effect_of(&write)?;
         let reply = reply_to(&write, &effect);
         let copy = reply.clone()?;
-        let slots = self.with_slot(write, copy, effect)?;
+        let slots = self.with_slot(catalog, write, copy, effect)?;
         Ok((slots, reply))
     }
 
@@ -120,6 +125,7 @@ impl SlotList {
     /// The slots and one more, for a write with that reply and that effect.
     fn with_slot(
         self,
+        catalog: &Catalog,
         write: Write,
         reply: Reply,
         effect: Vec<(i64, Option<Row>)>,
@@ -135,7 +141,7 @@ impl SlotList {
             mut slots,
             rows,
         } = self;
-        let rows = rows.with_row_writes(write.table(), effect, time)?;
+        let rows = rows.with_row_writes(catalog, write.table(), effect, time)?;
         let slot = Slot {
             write: Some(write),
             reply: Some(reply),

@@ -126,13 +126,14 @@ impl<V: Kept + Drop> PagedMap<V> {
         put_in_root(self.alloc, &mut self.root, &key, value)
     }
 
-    /// Sets the value at a key that is there, and answers the value that it had. Maps that share
-    /// pages with this one stay as they are, and so does this one when it is out of memory.
-    pub fn swap(&mut self, key: i64, value: V) -> Result<V, AllocError>
+    /// Exchanges the value at a key that is there. Maps that share pages with this one stay as they
+    /// are. Without memory neither this one nor the value changes.
+    pub fn swap(&mut self, key: i64, value: &mut V) -> Result<(), AllocError>
         requires { IsSome (find int_cmp key self.old) }
-        ensures map { OnOk result (self.new ≡ put int_cmp key value self.old) }
-        ensures value { IfOk result (λ old. find int_cmp key self.old ≡ Some old) }
+        ensures map { OnOk result (self.new ≡ put int_cmp key value.old self.old) }
+        ensures value { OnOk result (find int_cmp key self.old ≡ Some value.new) }
         ensures err { OnErr result (self.new ≡ self.old) }
+        ensures err_value { OnErr result (value.new ≡ value.old) }
     {
         swap_in_root(self.alloc, &mut self.root, &key, value)
     }
@@ -191,12 +192,14 @@ fn swap_in_root<V: Kept + Drop>(
     alloc: Global,
     root: &mut Option<Arc<Tree<V>>>,
     key: &i64,
-    value: V,
-) -> Result<V, AllocError>
+    value: &mut V,
+) -> Result<(), AllocError>
     requires { IsSome (find int_cmp key.now (entries root.old)) }
-    ensures map { OnOk result (entries root.new ≡ put int_cmp key.now value (entries root.old)) }
-    ensures value { IfOk result (λ old. find int_cmp key.now (entries root.old) ≡ Some old) }
+    ensures map { OnOk result
+        (entries root.new ≡ put int_cmp key.now value.old (entries root.old)) }
+    ensures value { OnOk result (find int_cmp key.now (entries root.old) ≡ Some value.new) }
     ensures err { OnErr result (entries root.new ≡ entries root.old) }
+    ensures err_value { OnErr result (value.new ≡ value.old) }
 {
     match root {
         Some(tree) => swap_shared(alloc, tree, key, value),

@@ -74,15 +74,15 @@ fn entry_of<V>(key: &i64, value: V) -> (i64, V)
     (key, value)
 }
 
-// Sets the value at a key that is there, and answers the value that it had.
-pub(crate) fn swap_in<V>(page: &mut Page<V>, key: &i64, value: V) -> V
+// Exchanges the value at a key that is there.
+pub(crate) fn swap_in<V>(page: &mut Page<V>, key: &i64, value: &mut V)
     requires sorted { IsTrue (is_sorted int_cmp page.old.items) }
     requires present { IsSome (find int_cmp key.now page.old.items) }
-    ensures page { page.new.items ≡ put int_cmp key.now value page.old.items }
-    ensures value { find int_cmp key.now page.old.items ≡ Some result }
+    ensures page { page.new.items ≡ put int_cmp key.now value.old page.old.items }
+    ensures value { find int_cmp key.now page.old.items ≡ Some value.new }
 {
     let at = rank_in(page, key);
-    mem::replace(&mut page[at].1, value)
+    mem::swap(&mut page[at].1, value);
 }
 
 pub(crate) fn remove_in<V: Drop>(page: &mut Page<V>, key: &i64)

@@ -160,7 +160,9 @@ fn expect_swaps(
     let mut copy = map.share()?;
     for (old, new) in [(value, 1000), (1000, 2000)] {
         copy.get(key).expect(rt, "no entry at the key");
-        assert_eq!(rt; copy.swap(key, new)?, old);
+        let mut exchanged = new;
+        copy.swap(key, &mut exchanged)?;
+        assert_eq!(rt; exchanged, old);
         assert_eq!(rt; copy.get(key), Some(&new));
     }
     assert_eq!(rt; copy.len(), map.len());

@@ -141,13 +141,14 @@ impl<V: Kept + Drop> Tree<V> {
         Ok(())
     }
 
-    // Sets the value at a key that is there, and answers the value that it had.
+    // Exchanges the value at a key that is there.
     #[cycle(map_swap)]
-    fn swap(&mut self, alloc: Global, key: &i64, value: V) -> Result<V, AllocError>
+    fn swap(&mut self, alloc: Global, key: &i64, value: &mut V) -> Result<(), AllocError>
         requires { IsSome (find int_cmp key.now self.old) }
-        ensures tree { OnOk result (self.new ≡ put int_cmp key.now value self.old) }
-        ensures value { IfOk result (λ old. find int_cmp key.now self.old ≡ Some old) }
+        ensures tree { OnOk result (self.new ≡ put int_cmp key.now value.old self.old) }
+        ensures value { OnOk result (find int_cmp key.now self.old ≡ Some value.new) }
         ensures err { OnErr result (self.new ≡ self.old) }
+        ensures err_value { OnErr result (value.new ≡ value.old) }
     {
         self.node.swap(alloc, key, value)
     }
@@ -202,12 +203,14 @@ pub(crate) fn swap_shared<V: Kept + Drop>(
     alloc: Global,
     this: &mut Arc<Tree<V>>,
     key: &i64,
-    value: V,
-) -> Result<V, AllocError>
+    value: &mut V,
+) -> Result<(), AllocError>
     requires { IsSome (find int_cmp key.now (entries this.old)) }
-    ensures tree { OnOk result (entries this.new ≡ put int_cmp key.now value (entries this.old)) }
-    ensures value { IfOk result (λ old. find int_cmp key.now (entries this.old) ≡ Some old) }
+    ensures tree { OnOk result
+        (entries this.new ≡ put int_cmp key.now value.old (entries this.old)) }
+    ensures value { OnOk result (find int_cmp key.now (entries this.old) ≡ Some value.new) }
     ensures err { OnErr result (entries this.new ≡ entries this.old) }
+    ensures err_value { OnErr result (value.new ≡ value.old) }
 {
     unshare(alloc, this)?;
     match Arc::get_mut(this) {
@@ -406,16 +409,20 @@ impl<V: Kept + Drop> Node<V> {
     }
 
     #[cycle(map_swap)]
-    fn swap(&mut self, alloc: Global, key: &i64, value: V) -> Result<V, AllocError>
+    fn swap(&mut self, alloc: Global, key: &i64, value: &mut V) -> Result<(), AllocError>
         requires node { IsNode self.old }
         requires present { IsSome (find int_cmp key.now (entries_of self.old)) }
         ensures node { IsNode self.new }
-        ensures tree { OnOk result (PutsEntry key.now value self.old self.new) }
-        ensures value { IfOk result (λ old. find int_cmp key.now (entries_of self.old) ≡ Some old) }
+        ensures tree { OnOk result (PutsEntry key.now value.old self.old self.new) }
+        ensures value { OnOk result (find int_cmp key.now (entries_of self.old) ≡ Some value.new) }
         ensures err { OnErr result (entries_of self.new ≡ entries_of self.old) }
+        ensures err_value { OnErr result (value.new ≡ value.old) }
     {
         match self {
-            Node::Leaf(page) => Ok(swap_in(page, key, value)),
+            Node::Leaf(page) => {
+                swap_in(page, key, value);
+                Ok(())
+            }
             Node::Fork(left, split, right) => {
                 if key.cmp(&split.key).is_lt() {
                     swap_shared(alloc, left, key, value)

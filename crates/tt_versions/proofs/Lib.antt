@@ -4,5 +4,7 @@ pub mod SidesLemmas
 pub mod RowsByWritesLemmas
 pub mod RowsAtLemmas
 pub mod UnsplitLemmas
+pub mod MatchingLemmas
+pub mod IndexLemmas
 pub mod LawProofs
 mod worked_rows

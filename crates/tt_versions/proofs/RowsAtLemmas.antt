@@ -26,11 +26,11 @@ abbrev pub rows_of : ℕ → Side → LineagesByKey → RowsByKey
 rows_of time side [] = []
 rows_of time side (e ∷ es) = with_first e.0 (visible_row time (chain_on side e.1)) (rows_of time side es)
 
-with_first-other : (key : ℤ) (o : Option Row) (rows : RowsByKey) (q : ℤ) → int_eq q key ≡ false → row_at (with_first key o rows) q ≡ row_at rows q
+pub with_first-other : (key : ℤ) (o : Option Row) (rows : RowsByKey) (q : ℤ) → int_eq q key ≡ false → row_at (with_first key o rows) q ≡ row_at rows q
 with_first-other key None rows q e = refl
 with_first-other key (Some row) rows q e = ap (λ b. cond b (Some row) (row_at rows q)) e
 
-with_first-same : (key : ℤ) (o : Option Row) (rows : RowsByKey) (q : ℤ) → int_eq q key ≡ true → row_at rows q ≡ None → row_at (with_first key o rows) q ≡ o
+pub with_first-same : (key : ℤ) (o : Option Row) (rows : RowsByKey) (q : ℤ) → int_eq q key ≡ true → row_at rows q ≡ None → row_at (with_first key o rows) q ≡ o
 with_first-same key None rows q e none = none
 with_first-same key (Some row) rows q e none = ap (λ b. cond b (Some row) (row_at rows q)) e
 

@@ -2,4 +2,7 @@ pub mod Versions
 pub mod Lineage
 pub mod Sides
 pub mod RowsByWrites
+pub mod Matching
+pub mod Digest
+pub mod Index
 pub mod Laws

@@ -3,11 +3,15 @@
 //! which is rolled back and rewritten row by row while the current one stays.
 #![tactic(auto)]
 
+mod digest;
+mod index;
+mod indexed_column;
 pub mod laws;
 mod lineage;
 mod lineages;
 mod side;
 mod table;
+mod taking;
 #[cfg(test)]
 mod tests;
 mod version;

@@ -5,7 +5,7 @@ use crate::side::Side;
 use crate::version_chain::VersionChain;
 use std::alloc::{AllocError, Global};
 use tt_pages::Kept;
-use tt_values::{Row, Shared};
+use tt_values::{Equal, Row, Shared, matches};
 
 /// The versions of one row. A row that isn't split has one chain, which both sides share. The
 /// chain that a version stands in says which generation it belongs to.
@@ -18,6 +18,7 @@ pub(crate) struct Lineage {
 
 impl Lineage {
     ghost use Rattle.tt_versions.specs.Versions.{visible_row};
+    ghost use Rattle.tt_versions.specs.Matching.{if_matching};
     ghost use Rattle.tt_versions.specs.Lineage.{unwritten, chain_on, with_write_on, split_back, unsplit};
 
     /// A row that was never written.
@@ -41,6 +42,19 @@ impl Lineage {
         ensures { option_copied result ≡ visible_row time (chain_on side self.now) }
     {
         self.chain(side).at(time)
+    }
+
+    /// The row at the time on that side, if it matches.
+    pub(crate) fn matching(&self, equals: &[Equal], time: u64, side: Side) -> Option<&Row>
+        ensures { option_copied result
+            ≡ if_matching equals.now (visible_row time (chain_on side self.now)) }
+    {
+        let row = self.at(time, side)?;
+        if matches(equals, row) {
+            Some(row)
+        } else {
+            None
+        }
     }
 
     /// The chain that a side shows.

@@ -1,16 +1,20 @@
-ghost use Rattle.std.specs.Prelude.{◌≡◌, [], IsTrue, IfOk, OnOk};
+ghost use Rattle.std.specs.Prelude.{◌≡◌, [], IsTrue, IfOk, IfSome, OnOk};
 ghost use Rattle.std.specs.Option.{option_copied};
 ghost use Rattle.std.specs.Ordering.{int_cmp};
 ghost use Rattle.std.specs.FinMap.Entries.{find, put, is_sorted};
 ghost use Rattle.tt_versions.specs.declared.lineage.Lineage.{Lineage};
+ghost use Rattle.tt_versions.specs.Index.{ListsRow, KeepsRows, LineageHas, ListsTableBut, HaveKey, HaveKeysIn};
 ghost use Rattle.tt_versions.specs.Sides.{lineage_at, HasSplitKeysBut, MarksKey, UnsplitsKeys, UnsplitsRow};
 
+use crate::index::Index;
+use crate::indexed_column::{IndexedColumn, KeySet};
 use crate::lineage::Lineage;
 use crate::side::Side;
+use crate::taking::{put_value, take_value};
 use std::alloc::{AllocError, Global};
 use std::marker::Model;
-use tt_pages::{Kept, MapIter, PagedMap};
-use tt_values::{Row, Shared};
+use tt_pages::{MapIter, PagedMap};
+use tt_values::{Equal, Row, Shared};
 
 /// A map from the keys of rows to their lineages, whose copies share their pages. Contracts see its
 /// entries by rising key.
@@ -18,30 +22,34 @@ use tt_values::{Row, Shared};
 pub(crate) struct Lineages {
     alloc: Global,
     entries: PagedMap<Lineage>,
-    split_keys: PagedMap<()>,
+    split_keys: KeySet,
+    index: Index,
 }
 
 impl Model for Lineages {
-    ghost use Rattle.tt_versions.specs.Sides.{LineagesByKey, HasSplitKeys};
+    ghost use Rattle.tt_versions.specs.Sides.{LineagesByKey};
+    ghost use Rattle.tt_versions.specs.Index.{IsStored};
 
     ghost Value = { LineagesByKey };
 
     ghost view = { λ m. m.entries };
 
-    ghost invariant = { λ m. HasSplitKeys m.split_keys m.entries };
+    ghost invariant = { λ m. IsStored m.split_keys m.index m.entries };
 }
 
 impl Lineages {
     ghost use Rattle.tt_versions.specs.Lineage.{with_write_on, split_back};
     ghost use Rattle.tt_versions.specs.Sides.{UnsplitsRows};
 
-    pub(crate) fn new(alloc: Global) -> Lineages
+    /// No lineages, which are to be found by their keys and by their values in these columns.
+    pub(crate) fn new(alloc: Global, columns: Vec<IndexedColumn>) -> Lineages
         ensures { result ≡ [] }
     {
         Lineages {
             alloc,
             entries: PagedMap::new(alloc),
             split_keys: PagedMap::new(alloc),
+            index: Index::new(alloc, columns),
         }
     }
 
@@ -65,11 +73,27 @@ impl Lineages {
     {
         let entries = self.entries.share()?;
         let split_keys = self.split_keys.share()?;
+        let index = self.index.share()?;
         Ok(Lineages {
             alloc: self.alloc,
             entries,
             split_keys,
+            index,
         })
+    }
+
+    /// The one key of all rows that match, if the equalities say one.
+    pub(crate) fn key_for(&self, equals: &[Equal]) -> Option<i64>
+        ensures { IfSome result (λ key. HaveKey self.now key equals.now) }
+    {
+        self.index.key_for(equals)
+    }
+
+    /// A set with the keys of all rows that match, if there is a smaller one than all keys.
+    pub(crate) fn keys_for(&self, equals: &[Equal]) -> Option<&KeySet>
+        ensures { IfSome result (λ keys. HaveKeysIn self.now keys.now equals.now) }
+    {
+        self.index.keys_for(equals)
     }
 
     /// The row with the key, or none, is written at the time on that side.
@@ -88,10 +112,12 @@ impl Lineages {
             alloc,
             mut entries,
             split_keys,
+            index,
         } = self;
+        let index = with_row(index, key, &row)?;
         let lineage = take_lineage(alloc, &mut entries, key)?;
         let lineage = lineage.with_write(side, row, time)?;
-        with_lineage(alloc, entries, split_keys, key, lineage)
+        with_lineage(alloc, entries, split_keys, index, key, lineage)
     }
 
     /// The row with the key is split, and its next side is rolled back to before the time.
@@ -103,10 +129,11 @@ impl Lineages {
             alloc,
             mut entries,
             split_keys,
+            index,
         } = self;
         let lineage = take_lineage(alloc, &mut entries, key)?;
         let lineage = lineage.split_back(time)?;
-        with_lineage(alloc, entries, split_keys, key, lineage)
+        with_lineage(alloc, entries, split_keys, index, key, lineage)
     }
 
     /// Each lineage is unsplit: both sides show what this one shows.
@@ -117,18 +144,19 @@ impl Lineages {
             alloc,
             mut entries,
             split_keys,
+            index,
         } = self;
         unsplit_keys(&mut entries, &split_keys, side)?;
         Ok(Lineages {
             alloc,
             entries,
             split_keys: PagedMap::new(alloc),
+            index,
         })
     }
 }
 
 /// Takes the lineage of a row out of the map, and leaves an empty one.
-#[tactic(auto, using(crate::proofs::EntriesLemmas::takes))]
 fn take_lineage(
     alloc: Global,
     entries: &mut PagedMap<Lineage>,
@@ -138,39 +166,50 @@ fn take_lineage(
     ensures others { OnOk result ((l : Lineage)
         → put int_cmp key l entries.new ≡ put int_cmp key l entries.old) }
 {
-    let empty = Lineage::new(alloc);
-    if entries.get(key).is_none() {
-        return Ok(empty);
-    }
-    let lineage = entries.swap(key, empty)?;
+    let lineage = take_value(entries, key, Lineage::new(alloc))?;
     Ok(lineage)
+}
+
+/// The index, once it lists the row too, if there is one.
+fn with_row(index: Index, key: i64, row: &Option<Shared<Row>>) -> Result<Index, AllocError>
+    ensures keeps { IfOk result (KeepsRows index) }
+    ensures lists { IfOk result (λ i. IfSome row.now (ListsRow i key)) }
+{
+    match row {
+        Some(row) => index.with_row(key, row.get()),
+        None => Ok(index),
+    }
 }
 
 /// The map with that lineage at the key.
 fn with_lineage(
     alloc: Global,
     entries: PagedMap<Lineage>,
-    split_keys: PagedMap<()>,
+    split_keys: KeySet,
+    index: Index,
     key: i64,
     lineage: Lineage,
 ) -> Result<Lineages, AllocError>
     requires others { HasSplitKeysBut key split_keys entries }
+    requires listed_others { ListsTableBut key index entries }
+    requires listed { LineageHas (ListsRow index key) lineage }
     ensures { IfOk result (λ m. m ≡ put int_cmp key lineage entries) }
 {
     let mut entries = entries;
     let mut split_keys = split_keys;
     mark(&mut split_keys, key, lineage.is_split())?;
-    entries.put(key, lineage)?;
+    put_value(&mut entries, key, lineage)?;
     Ok(Lineages {
         alloc,
         entries,
         split_keys,
+        index,
     })
 }
 
 /// Puts a key into a set, or removes it.
 #[tactic(auto, using(crate::proofs::UnsplitLemmas::marks))]
-fn mark(keys: &mut PagedMap<()>, key: i64, is_member: bool) -> Result<(), AllocError>
+fn mark(keys: &mut KeySet, key: i64, is_member: bool) -> Result<(), AllocError>
     ensures { OnOk result (MarksKey key is_member keys.old keys.new) }
 {
     if is_member {
@@ -184,7 +223,7 @@ fn mark(keys: &mut PagedMap<()>, key: i64, is_member: bool) -> Result<(), AllocE
 /// Both sides of the rows with these keys show what this one shows.
 fn unsplit_keys(
     entries: &mut PagedMap<Lineage>,
-    keys: &PagedMap<()>,
+    keys: &KeySet,
     side: Side,
 ) -> Result<(), AllocError>
     ensures { OnOk result (UnsplitsKeys side keys.now entries.old entries.new) }

@@ -3,12 +3,13 @@ ghost use Rattle.std.specs.Option.{option_copied, unwrap_or};
 ghost use Rattle.std.specs.Ordering.{int_cmp};
 ghost use Rattle.std.specs.FinMap.Entries as sorted;
 
+use crate::indexed_column::{IndexedColumn, KeySet};
 use crate::lineage::Lineage;
 use crate::lineages::Lineages;
 use crate::side::Side;
 use std::alloc::{AllocError, Global};
 use std::marker::Model;
-use tt_values::{Row, Shared};
+use tt_values::{Equal, Row, Shared, matches};
 
 /// A table of multi-version rows, with a current and a next side. Contracts see the lineages of its
 /// rows by key, and speak of them by `side_of` and `is_split`.
@@ -33,6 +34,8 @@ impl Model for Table {
 impl Table {
     ghost use Rattle.tt_versions.specs.Lineage.{unwritten, with_write_on};
     ghost use Rattle.tt_versions.specs.Sides.{no_lineages, lineage_at, side_of, current_of, next_of, is_split, written_from, rolled_back_from, no_rows, none_split, with_key, rows_behind, ListsRows};
+    ghost use Rattle.tt_versions.specs.Matching.{if_matching, ListsMatches, ListsMatchingRows};
+    ghost use Rattle.tt_versions.specs.Index.{HaveKey, HaveKeysIn};
     ghost use Rattle.tt_versions.specs.RowsByWrites.{AddsRowWrite, DropsRowWrites, ListsContent};
 
     /// A table without rows. Takes no memory; what the other calls take comes from this allocator.
@@ -44,8 +47,23 @@ impl Table {
     {
         Table {
             alloc,
-            lineages: Lineages::new(alloc),
+            lineages: Lineages::new(alloc, Vec::new(alloc)),
         }
+    }
+
+    /// A table without rows, whose rows can be found by their values in these columns. No other
+    /// call's result depends on the columns.
+    pub fn with_columns(alloc: Global, columns: &[u16]) -> Result<Table, AllocError>
+        ensures { IfOk result (λ t. t ≡ no_lineages) }
+    {
+        let mut indexed = Vec::with_capacity(alloc, columns.len())?;
+        for column in columns {
+            indexed.push(IndexedColumn::new(alloc, *column))?;
+        }
+        Ok(Table {
+            alloc,
+            lineages: Lineages::new(alloc, indexed),
+        })
     }
 
     /// The row with the key as of the time, on that side. Takes no memory.
@@ -84,6 +102,114 @@ impl Table {
             }
         }
         Ok(rows)
+    }
+
+    /// The rows of that side as of the time that match all equalities, each with its key, by rising
+    /// key. An equality on the first column, or on a column that the table was created with, spares
+    /// it from reading the other rows.
+    #[tactic(auto, using(crate::proofs::MatchingLemmas::lists_matching_rows))]
+    pub fn rows_matching(
+        &self,
+        equals: &[Equal],
+        time: u64,
+        side: Side,
+    ) -> Result<Vec<(i64, &Row)>, AllocError>
+        ensures lists { IfOk result (λ rows.
+            ListsMatches (rows_behind rows.items) equals.now (side_of self.now side) time) }
+        ensures content { IfOk result (λ rows.
+            ListsMatchingRows (rows_behind rows.items) equals.now (side_of self.now side) time) }
+    {
+        let rows = self.search(equals, time, side)?;
+        Ok(rows)
+    }
+
+    fn search(
+        &self,
+        equals: &[Equal],
+        time: u64,
+        side: Side,
+    ) -> Result<Vec<(i64, &Row)>, AllocError>
+        ensures { IfOk result (λ rows.
+            ListsMatches (rows_behind rows.items) equals.now (side_of self.now side) time) }
+    {
+        if let Some(key) = self.lineages.key_for(equals) {
+            return self.row_with_key(key, equals, time, side);
+        }
+        match self.lineages.keys_for(equals) {
+            Some(keys) => self.rows_among(keys, equals, time, side),
+            None => self.rows_of_all(equals, time, side),
+        }
+    }
+
+    /// The row with the key, if it's there and matches.
+    fn row_with_key(
+        &self,
+        key: i64,
+        equals: &[Equal],
+        time: u64,
+        side: Side,
+    ) -> Result<Vec<(i64, &Row)>, AllocError>
+        requires { HaveKey self.now key equals.now }
+        ensures { IfOk result (λ rows.
+            ListsMatches (rows_behind rows.items) equals.now (side_of self.now side) time) }
+    {
+        let mut rows = Vec::new(self.alloc);
+        if let Some(row) = self.matching(key, equals, time, side) {
+            rows.push((key, row))?;
+        }
+        Ok(rows)
+    }
+
+    /// The rows that match, of those with these keys.
+    fn rows_among(
+        &self,
+        keys: &KeySet,
+        equals: &[Equal],
+        time: u64,
+        side: Side,
+    ) -> Result<Vec<(i64, &Row)>, AllocError>
+        requires { HaveKeysIn self.now keys.now equals.now }
+        ensures { IfOk result (λ rows.
+            ListsMatches (rows_behind rows.items) equals.now (side_of self.now side) time) }
+    {
+        let mut rows = Vec::new(self.alloc);
+        for (key, _) in keys.iter() {
+            if let Some(row) = self.matching(*key, equals, time, side) {
+                rows.push((*key, row))?;
+            }
+        }
+        Ok(rows)
+    }
+
+    /// The rows that match, of all.
+    fn rows_of_all(
+        &self,
+        equals: &[Equal],
+        time: u64,
+        side: Side,
+    ) -> Result<Vec<(i64, &Row)>, AllocError>
+        ensures { IfOk result (λ rows.
+            ListsMatches (rows_behind rows.items) equals.now (side_of self.now side) time) }
+    {
+        let mut rows = Vec::new(self.alloc);
+        for (key, lineage) in self.lineages.iter() {
+            if let Some(row) = lineage.matching(equals, time, side) {
+                rows.push((*key, row))?;
+            }
+        }
+        Ok(rows)
+    }
+
+    /// The row with the key, if it's there and matches.
+    fn matching(&self, key: i64, equals: &[Equal], time: u64, side: Side) -> Option<&Row>
+        ensures { option_copied result ≡ if_matching equals.now (side_of self.now side key time) }
+    {
+        let row = self.at(key, time, side)?;
+        if matches(equals, row) {
+            Some(row)
+        } else {
+            None
+        }
     }
 
     /// A further owner of the same rows. Copies none of them.

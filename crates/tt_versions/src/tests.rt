@@ -2,7 +2,7 @@ use crate::{Side, Table};
 use std::alloc::{AllocError, Global};
 use std::process::Abort;
 use std::test::Fail;
-use tt_values::{Items, Row, Value};
+use tt_values::{Equal, Items, Row, Value};
 
 const A: i64 = 1;
 
@@ -120,6 +120,39 @@ fn keys_at_the_bounds_stand_in_order(rt: HostRuntime) -> Result<(), Fail> {
     assert_eq!(rt; current.as_slice(), [i64::MIN, 0, i64::MAX].as_slice());
     let next = keys_at(alloc, &table, Side::Next)?;
     assert_eq!(rt; next.as_slice(), [0, i64::MAX].as_slice());
+    Ok(())
+}
+
+#[test]
+fn rows_are_found_by_key_by_value_and_among_all(rt: HostRuntime) -> Result<(), Fail> {
+    let alloc = rt.alloc();
+    let table = Table::with_columns(alloc, &[1])?
+        .into_written(1, row(alloc, 1, A)?, 1)?
+        .into_written(2, row(alloc, 2, A)?, 2)?
+        .into_written(1, row(alloc, 1, B)?, 3)?;
+    for (column, value, time, wanted) in [
+        (0, 1, 3, 1),
+        (0, 3, 3, 0),
+        (1, A, 2, 2),
+        (1, A, 3, 1),
+        (1, B, 3, 1),
+        (1, C, 3, 0),
+        (7, A, 3, 0),
+    ] {
+        let equals = vec![in alloc;
+            Equal {
+                column,
+                value: Value::Int(value)
+            },
+        ]?;
+        let rows = table.rows_matching(&equals, time, Side::Current)?;
+        assert_eq!(rt;
+            rows.len(),
+            wanted,
+            "column {column} value {value} time {time}"
+        );
+    }
+    assert_eq!(rt; table.rows_matching(&[], 3, Side::Next)?.len(), 2);
     Ok(())
 }
 

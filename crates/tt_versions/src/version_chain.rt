@@ -101,6 +101,10 @@ impl VersionChain {
     {
         let mut low = 0;
         let mut high = self.versions.len();
+        // The newest version is at hand.
+        if high > 0 && self.has_started(high - 1, time) {
+            return high;
+        }
         while low < high {
             let middle = low + (high - low) / 2;
             if self.has_started(middle, time) {

@@ -4,7 +4,6 @@ use Rattle.tt_values.specs.declared.table.TableDef.{TableDef}
 use Rattle.tt_values.specs.Tables.{Tables}
 use Rattle.tt_db.specs.State.{State}
 use Rattle.std.specs.Option.{option_map}
-use Rattle.tt_db.specs.State.{after}
 use Rattle.tt_db.specs.Limits.{max_limits}
 use Rattle.tt_db.specs.Database.{Database, state_of}
 use Rattle.tt_document.specs.declared.document.Document.{Document}
@@ -41,22 +40,19 @@ table_lines-named S tables i name out all new there h text = by (slice_get table
         ap (λ ls. ls ++ table_lines S (i + 1) (drop (i + 1) tables)) (text ∙ ap (λ n. out ++ table_line S i n) same) ∙ table_lines-next S tables i t out all e h
 
 -- the pieces of a report, one after another
-pub report-pieces : (document : Document) (new db : Database) (none calls tables all : List ℕ)
+pub report-pieces : (document : Document) (new db : Database) (none calls all : List ℕ)
     → new ≡ record { catalog = document.catalog; limits = max_limits; history = [] }
     → none ≡ []
     → db ≡ record new { history = history_of document.calls }
     → calls ≡ none ++ call_lines 1 [] document.calls
-    → tables ≡ calls ++ table_lines (state_of db) 0 db.catalog
-    → all ≡ tables ++ end_line (state_of db)
+    → all ≡ calls ++ (table_lines (state_of db) 0 db.catalog ++ end_line (state_of db))
     → all ≡ report_of document
-report-pieces document new db none calls tables all is_new empty state called tabled ended =
+report-pieces document new db none calls all is_new empty state called ended =
     let is : db ≡ record { catalog = document.catalog; limits = max_limits; history = history_of document.calls } =
     state ∙ ap (λ (d : Database). record d { history = history_of document.calls }) is_new in
     let lines = call_lines 1 [] document.calls in
-    let last = after (history_of document.calls) in
-    ended ∙ ap (λ ts. ts ++ end_line (state_of db)) (tabled ∙ ap (λ cs. cs ++ table_lines (state_of db) 0 db.catalog) (called ∙ ap (λ n. n ++ lines) empty))
-    ∙ ap (λ (d : Database). (lines ++ table_lines (state_of d) 0 d.catalog) ++ end_line (state_of d)) is
-    ∙ append_assoc lines (table_lines last 0 document.catalog) (end_line last)
+    ended ∙ ap (λ cs. cs ++ (table_lines (state_of db) 0 db.catalog ++ end_line (state_of db))) (called ∙ ap (λ n. n ++ lines) empty)
+    ∙ ap (λ (d : Database). lines ++ (table_lines (state_of d) 0 d.catalog ++ end_line (state_of d))) is
 
 -- a labelled number and an end, one after another
 pub labelled-once : (old first all label number end : List ℕ) → first ≡ old ++ (label ++ number) → all ≡ first ++ end → all ≡ old ++ (label ++ (number ++ end))

@@ -261,6 +261,17 @@ fn push_last(out: &mut Vec<u8>, generation: u64, time: u64) -> Result<(), AllocE
     Ok(())
 }
 
+/// Pushes the lines of all tables, and the last line.
+fn push_state(alloc: Global, out: &mut Vec<u8>, db: &Db) -> Result<(), RunFault>
+    ensures text { OnOk result (out.new.items ≡ out.old.items
+        ++ (table_lines (state_of db.now) 0 db.now.catalog ++ end_line (state_of db.now))) }
+    ensures err { IfErr result (λ e. e ≡ RunFault.Memory) }
+{
+    push_tables(alloc, out, db)?;
+    push_end(out, db)?;
+    Ok(())
+}
+
 /// The report of a document whose calls run one after another.
 pub(crate) fn report_of(alloc: Global, document: Document) -> Result<Vec<u8>, RunFault>
     requires { IsValidDocument document }
@@ -271,7 +282,6 @@ pub(crate) fn report_of(alloc: Global, document: Document) -> Result<Vec<u8>, Ru
     let db = Db::new(alloc, catalog.into_arc(), Limits::usual());
     let mut out = Vec::new(alloc);
     let db = push_calls(alloc, &mut out, db, calls.into_vec())?;
-    push_tables(alloc, &mut out, &db)?;
-    push_end(&mut out, &db)?;
+    push_state(alloc, &mut out, &db)?;
     Ok(out)
 }

@@ -8,4 +8,4 @@ use Rattle.tt_db.proofs.rows.add_tables.Goals as goal
 pub loop-alloc-preserved : goal.loop-alloc-preserved
 loop-alloc-preserved c =
     let tables = c.loop-alloc.tables.items in
-    ap versions_at (c.in_ok-push.ensures.items ∙ ap (λ (t : LineagesByKey). tables ++ t ∷ []) c.new.ensures.lineages) ∙ versions_at-push tables ∙ c.loop-alloc.invariant
+    ap versions_at (c.in_ok-push.ensures.items ∙ ap (λ (t : LineagesByKey). tables ++ t ∷ []) c.in_ok-table.ensures) ∙ versions_at-push tables ∙ c.loop-alloc.invariant

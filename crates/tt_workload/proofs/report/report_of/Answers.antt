@@ -22,5 +22,5 @@ returns-clause-ok c =
     let is_new = c.new-db.ensures ∙ ap (λ (ts : Tables). empty ts c.usual.result) c.into_arc.ensures ∙ ap (λ (l : Limits). empty document.catalog l) c.usual.ensures in
     let state = c.in_ok-db.ensures.state ∙ ap (λ (cs : List Call). record new { history = history_of cs }) c.into_vec.ensures in
     let lines = c.in_ok-db.ensures.lines ∙ ap (λ (cs : List Call). c.new-out.result.items ++ call_lines 1 [] cs) c.into_vec.ensures in
-    report-pieces document new c.in_ok-db.db c.new-out.result.items c.push_calls.new.out.items c.push_tables.new.out.items c.push_end.new.out.items
-    is_new c.new-out.ensures.items state lines c.in_ok-push_tables.ensures.text c.in_ok-push_end.ensures
+    report-pieces document new c.in_ok-db.db c.new-out.result.items c.push_calls.new.out.items c.push_state.new.out.items
+    is_new c.new-out.ensures.items state lines c.in_ok-push_state.ensures.text

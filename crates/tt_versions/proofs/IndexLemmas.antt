@@ -1,0 +1,238 @@
+-- What an index lists, as it grows, and what a search of it finds.
+use Rattle.std.proofs.Common.{◌≡◌, ℕ, zero, suc, ℤ, Bool, true, false, cond, List, [], ◌∷◌, ◌++◌, filter, fold, slice_get, Option, None, Some, IsTrue, IfSome, is_some, nat_le, nat_lt, refl, sym, ap, subst, ◌∙◌}
+use Rattle.std.proofs.lemmas.Bool.Decides.{Decides-int_eq}
+use Rattle.std.specs.Borrow.{Bor}
+use Rattle.std.proofs.lemmas.Slice.Eq.{bytes_eq-Decides}
+use Rattle.std.specs.Option.{unwrap_or, option_copied}
+use Rattle.std.specs.Ordering.{int_cmp, int_eq}
+use Rattle.std.specs.Cmp.{int_cmp_total}
+use Rattle.std.specs.FinMap.Entries as sorted
+use Rattle.tt_values.specs.declared.value.Value.{Value}
+use Rattle.tt_values.specs.declared.value.Value.TheVariants as values
+use Rattle.tt_values.specs.declared.row.Row.{Row}
+use Rattle.tt_values.specs.declared.statement.Equal.{Equal}
+use Rattle.tt_values.specs.Value.{is_same}
+use Rattle.tt_values.specs.Row.{first_int}
+use Rattle.tt_values.specs.Matches.{is_value, holds, matches}
+use Rattle.tt_versions.specs.declared.side.Side.{Side}
+use Rattle.tt_versions.specs.declared.side.Side.TheVariants.{Current, Next}
+use Rattle.tt_versions.specs.declared.version.Version.{Version}
+use Rattle.tt_versions.specs.declared.lineage.Lineage.{Lineage}
+use Rattle.tt_versions.specs.declared.indexed_column.IndexedColumn.{IndexedColumn}
+use Rattle.tt_versions.specs.Versions.{started_by, started_before, visible_row, with_write}
+use Rattle.tt_versions.specs.Lineage.{unwritten, chain_on, with_write_on, split_back}
+use Rattle.tt_versions.specs.Sides.{LineagesByKey, lineage_at, side_of, unsplit_if, UnsplitsKeys}
+use Rattle.tt_versions.specs.Digest.{digest_of}
+use Rattle.tt_versions.specs.Index.{KeySet, has_key, keys_under, KeepsKeys, ColumnLists, ColumnsList, IndexState, ListsRow, KeepsRows, CoversEqual, CoversMatches, IsKeyOfMatches, ChainHas, LineageHas, ListsTable, ListsTableBut, HaveKeysIn, HaveKey}
+use Rattle.tt_versions.proofs.EntriesLemmas.{first, second}
+use Rattle.tt_versions.proofs.SidesLemmas.{same_key, lineage_at-put}
+
+-- ---- sets of keys
+
+has_key-put : (keys : KeySet) (key : ℤ) (u : Unit {0}) (q : ℤ) → IsTrue (has_key keys q) → IsTrue (has_key (sorted.put int_cmp key u keys) q)
+has_key-put keys key u q h = ap is_some (sorted.find-put int_cmp int_cmp_total q key u keys) ∙ by (int_eq q key)
+  where
+    by : (b : Bool) → is_some (cond b (Some u) (sorted.find int_cmp q keys)) ≡ true
+    by true = refl
+    by false = h
+
+has_key-new : (keys : KeySet) (key : ℤ) (u : Unit {0}) → IsTrue (has_key (sorted.put int_cmp key u keys) key)
+has_key-new keys key u =
+    ap is_some (sorted.find-put int_cmp int_cmp_total key key u keys) ∙ ap (λ b. is_some (cond b (Some u) (sorted.find int_cmp key keys))) ((Decides-int_eq key key).1 refl)
+
+keys_under-put : (sets : List (ℤ × KeySet)) (digest : ℤ) (keys : KeySet) (d : ℤ) → keys_under d (sorted.put int_cmp digest keys sets) ≡ cond (int_eq d digest) keys (keys_under d sets)
+keys_under-put sets digest keys d = ap (λ o. unwrap_or o []) (sorted.find-put int_cmp int_cmp_total d digest keys sets) ∙ by (int_eq d digest)
+  where
+    by : (b : Bool) → unwrap_or (cond b (Some keys) (sorted.find int_cmp d sets)) [] ≡ cond b keys (keys_under d sets)
+    by true = refl
+    by false = refl
+
+-- the set under one digest gets a key
+pub KeepsKeys-put : (sets : List (ℤ × KeySet)) (digest key : ℤ) (u : Unit {0}) → KeepsKeys sets (sorted.put int_cmp digest (sorted.put int_cmp key u (keys_under digest sets)) sets)
+KeepsKeys-put sets digest key u d q h =
+    ap (λ ks. has_key ks q) (keys_under-put sets digest (sorted.put int_cmp key u (keys_under digest sets)) d) ∙ by (int_eq d digest) refl
+  where
+    by : (b : Bool) → int_eq d digest ≡ b → has_key (cond b (sorted.put int_cmp key u (keys_under digest sets)) (keys_under d sets)) q ≡ true
+    by true is = has_key-put (keys_under digest sets) key u q (subst (λ e. IsTrue (has_key (keys_under e sets) q)) (same_key d digest is) h)
+    by false is = h
+
+pub has_key-under_put : (sets : List (ℤ × KeySet)) (digest key : ℤ) (u : Unit {0}) → IsTrue (has_key (keys_under digest (sorted.put int_cmp digest (sorted.put int_cmp key u (keys_under digest sets)) sets)) key)
+has_key-under_put sets digest key u =
+    ap (λ ks. has_key ks key) (keys_under-put sets digest (sorted.put int_cmp key u (keys_under digest sets)) digest
+    ∙ ap (λ b. cond b (sorted.put int_cmp key u (keys_under digest sets)) (keys_under digest sets)) ((Decides-int_eq digest digest).1 refl))
+    ∙ has_key-new (keys_under digest sets) key u
+
+pub is_some-copied : {X : Type 0} (o : Option (Bor X)) → is_some o ≡ is_some (option_copied o)
+is_some-copied None = refl
+is_some-copied (Some x) = refl
+
+-- the sets once one was taken out, changed and put back
+pub sets-changed : (digest key : ℤ) (u : Unit {0}) (sets left after : List (ℤ × KeySet)) (keys more empty : KeySet) → empty ≡ [] → keys ≡ unwrap_or (sorted.find int_cmp digest sets) empty
+    → more ≡ sorted.put int_cmp key u keys → ((ks : KeySet) → sorted.put int_cmp digest ks left ≡ sorted.put int_cmp digest ks sets) → after ≡ sorted.put int_cmp digest more left
+    → after ≡ sorted.put int_cmp digest (sorted.put int_cmp key u (keys_under digest sets)) sets
+sets-changed digest key u sets left after keys more empty none taken grown others is =
+    is ∙ others more ∙ ap (λ ks. sorted.put int_cmp digest ks sets) (grown ∙ ap (sorted.put int_cmp key u) (taken ∙ ap (unwrap_or (sorted.find int_cmp digest sets)) none))
+
+-- ---- columns
+
+pub IfSome-map : {X : Type 0} (o : Option X) (P Q : X → Type 0) → ((x : X) → P x → Q x) → IfSome o P → IfSome o Q
+IfSome-map None P Q f h = tt
+IfSome-map (Some x) P Q f h = f x h
+
+pub ColumnLists-keeps : (c d : IndexedColumn) (key : ℤ) (row : Row) → d.position ≡ c.position → KeepsKeys c.sets d.sets → ColumnLists c key row → ColumnLists d key row
+ColumnLists-keeps c d key row same keeps h =
+    subst (λ p. IfSome (slice_get row.values p) (λ v. IsTrue (has_key (keys_under (digest_of v) d.sets) key))) (sym same)
+    (IfSome-map (slice_get row.values c.position) (λ v. IsTrue (has_key (keys_under (digest_of v) c.sets) key)) (λ v. IsTrue (has_key (keys_under (digest_of v) d.sets) key)) (λ v. keeps (digest_of v) key) h)
+
+pub ColumnsList-front : (cs ds : List IndexedColumn) (key : ℤ) (row : Row) → ColumnsList (cs ++ ds) key row → ColumnsList cs key row
+ColumnsList-front [] ds key row h = tt
+ColumnsList-front (c ∷ cs) ds key row h = (h.0, ColumnsList-front cs ds key row h.1)
+
+pub ColumnsList-last : (cs : List IndexedColumn) (c : IndexedColumn) (key : ℤ) (row : Row) → ColumnsList (cs ++ c ∷ []) key row → ColumnLists c key row
+ColumnsList-last [] c key row h = h.0
+ColumnsList-last (d ∷ cs) c key row h = ColumnsList-last cs c key row h.1
+
+pub ColumnsList-push : (cs : List IndexedColumn) (c : IndexedColumn) (key : ℤ) (row : Row) → ColumnsList cs key row → ColumnLists c key row → ColumnsList (cs ++ c ∷ []) key row
+ColumnsList-push [] c key row h last = (last, tt)
+ColumnsList-push (d ∷ cs) c key row h last = (h.0, ColumnsList-push cs c key row h.1 last)
+
+pub ColumnsList-at : (cs : List IndexedColumn) (n : ℕ) (c : IndexedColumn) (key : ℤ) (row : Row) → slice_get cs n ≡ Some c → ColumnsList cs key row → ColumnLists c key row
+ColumnsList-at [] n c key row there h = cc
+ColumnsList-at (d ∷ cs) zero c key row there h = let same : d ≡ c = cc in subst (λ x. ColumnLists x key row) same h.0
+ColumnsList-at (d ∷ cs) (suc n) c key row there h = ColumnsList-at cs n c key row there h.1
+
+-- ---- equalities
+
+equal_values : (v w : Value) → is_same v w ≡ true → v ≡ w
+equal_values (values.Int m) (values.Int n) h = ap values.Int ((Decides-int_eq m n).0 h)
+equal_values (values.Int m) (values.Text t) h = cc
+equal_values (values.Text s) (values.Int n) h = cc
+equal_values (values.Text s) (values.Text t) h = ap values.Text ((bytes_eq-Decides s t).0 h)
+
+-- each equality of those that match holds
+pub holds-at : (equals : List Equal) (n : ℕ) (q : Equal) (row : Row) → slice_get equals n ≡ Some q → IsTrue (matches equals row) → IsTrue (holds q row)
+holds-at [] n q row there h = cc
+holds-at (p ∷ equals) zero q row there h = let same : p ≡ q = cc in subst (λ x. IsTrue (holds x row)) same (first _ _ h)
+holds-at (p ∷ equals) (suc n) q row there h = holds-at equals n q row there (second _ _ h)
+
+-- where the equality is on a column, the column's set has the key
+lists_equal : (o : Option Value) (v : Value) (sets : List (ℤ × KeySet)) (key : ℤ) → IfSome o (λ w. IsTrue (has_key (keys_under (digest_of w) sets) key)) → IsTrue (is_value v o) → IsTrue (has_key (keys_under (digest_of v) sets) key)
+lists_equal None v sets key h is = cc
+lists_equal (Some w) v sets key h is = subst (λ x. IsTrue (has_key (keys_under (digest_of x) sets) key)) (sym (equal_values v w is)) h
+
+pub CoversEqual-column : (index : IndexState) (n : ℕ) (c : IndexedColumn) (equal : Equal) → slice_get index.columns n ≡ Some c → c.position ≡ equal.column
+    → CoversEqual index (keys_under (digest_of equal.value) c.sets) equal
+CoversEqual-column index n c equal there at key row listed h =
+    let column : ColumnLists c key row = ColumnsList-at index.columns n c key row there listed.columns in
+    lists_equal (slice_get row.values equal.column) equal.value c.sets key (subst (λ p. IfSome (slice_get row.values p) (λ w. IsTrue (has_key (keys_under (digest_of w) c.sets) key))) at column) h
+
+pub CoversMatches-equal : (index : IndexState) (keys : KeySet) (equals : List Equal) (n : ℕ) (equal : Equal) → slice_get equals n ≡ Some equal → CoversEqual index keys equal → CoversMatches index keys equals
+CoversMatches-equal index keys equals n equal there covers key row listed h = covers key row listed (holds-at equals n equal row there h)
+
+-- an equality on the first column says the first value
+first_value : (vs : List Value) (n : ℤ) → IsTrue (is_value (values.Int n) (slice_get vs 0)) → first_int vs ≡ Some n
+first_value [] n h = cc
+first_value (values.Int m ∷ vs) n h = ap Some (sym ((Decides-int_eq n m).0 h))
+first_value (values.Text t ∷ vs) n h = cc
+
+pub first_equated : (equal : Equal) (n : ℤ) (row : Row) → equal.column ≡ 0 → equal.value ≡ values.Int n → IsTrue (holds equal row) → first_int row.values ≡ Some n
+first_equated equal n row column value h =
+    first_value row.values n (subst (λ v. IsTrue (is_value v (slice_get row.values 0))) value (subst (λ p. IsTrue (is_value equal.value (slice_get row.values p))) column h))
+
+pub IsKeyOfMatches-equal : (index : IndexState) (only : ℤ) (equals : List Equal) (n : ℕ) (equal : Equal) → IsTrue index.is_keyed → slice_get equals n ≡ Some equal
+    → ((row : Row) → IsTrue (holds equal row) → first_int row.values ≡ Some only) → IsKeyOfMatches index only equals
+IsKeyOfMatches-equal index only equals n equal keyed there says key row listed h =
+    let same : Some key ≡ Some only = sym (listed.first keyed) ∙ says row (holds-at equals n equal row there h) in
+    cc
+
+-- ---- versions
+
+pub ChainHas-map : (P Q : Row → Type 0) → ((row : Row) → P row → Q row) → (vs : List Version) → ChainHas P vs → ChainHas Q vs
+ChainHas-map P Q f [] h = tt
+ChainHas-map P Q f (v ∷ vs) h = (IfSome-map v.row P Q f h.0, ChainHas-map P Q f vs h.1)
+
+ChainHas-filter : (P : Row → Type 0) (p : Version → Bool) (vs : List Version) → ChainHas P vs → ChainHas P (filter p vs)
+ChainHas-filter P p [] h = tt
+ChainHas-filter P p (v ∷ vs) h = by (p v) (ChainHas-filter P p vs h.1)
+  where
+    by : (b : Bool) → ChainHas P (filter p vs) → ChainHas P (cond b (v ∷ filter p vs) (filter p vs))
+    by true rest = (h.0, rest)
+    by false rest = rest
+
+ChainHas-push : (P : Row → Type 0) (vs : List Version) (v : Version) → ChainHas P vs → IfSome v.row P → ChainHas P (vs ++ v ∷ [])
+ChainHas-push P [] v h last = (last, tt)
+ChainHas-push P (w ∷ vs) v h last = (h.0, ChainHas-push P vs v h.1 last)
+
+ChainHas-write : (P : Row → Type 0) (row : Option Row) (time : ℕ) (vs : List Version) → ChainHas P vs → IfSome row P → ChainHas P (with_write row time vs)
+ChainHas-write P row time vs h last = ChainHas-push P (started_before time vs) (record { start = time; row = row }) (ChainHas-filter P (λ v. nat_lt v.start time) vs h) last
+
+last_row-has : (P : Row → Type 0) (o : Option Row) (vs : List Version) → IfSome o P → ChainHas P vs → IfSome (fold (λ row v. v.row) o vs) P
+last_row-has P o [] h vs = h
+last_row-has P o (v ∷ vs) h has = last_row-has P v.row vs has.0 has.1
+
+chain_on-has : (P : Row → Type 0) (side : Side) (l : Lineage) → LineageHas P l → ChainHas P (chain_on side l)
+chain_on-has P Current l h = h.0
+chain_on-has P Next l h = by l.next h.1
+  where
+    by : (n : Option (List Version)) → IfSome n (λ vs. ChainHas P vs) → ChainHas P (unwrap_or n l.current)
+    by None g = h.0
+    by (Some vs) g = g
+
+-- a row that a side shows has the property
+visible_row-has : (P : Row → Type 0) (side : Side) (l : Lineage) (time : ℕ) → LineageHas P l → IfSome (visible_row time (chain_on side l)) P
+visible_row-has P side l time h = last_row-has P None (started_by time (chain_on side l)) tt (ChainHas-filter P (λ v. nat_le v.start time) (chain_on side l) (chain_on-has P side l h))
+
+pub LineageHas-map : (P Q : Row → Type 0) → ((row : Row) → P row → Q row) → (l : Lineage) → LineageHas P l → LineageHas Q l
+LineageHas-map P Q f l h = (ChainHas-map P Q f l.current h.0, IfSome-map l.next (λ vs. ChainHas P vs) (λ vs. ChainHas Q vs) (λ vs. ChainHas-map P Q f vs) h.1)
+
+pub LineageHas-unwritten : (P : Row → Type 0) → LineageHas P unwritten
+LineageHas-unwritten P = (tt, tt)
+
+pub LineageHas-write : (P : Row → Type 0) (side : Side) (row : Option Row) (time : ℕ) (l : Lineage) → LineageHas P l → IfSome row P → LineageHas P (with_write_on side row time l)
+LineageHas-write P Current row time l h last = (ChainHas-write P row time l.current h.0 last, h.1)
+LineageHas-write P Next row time l h last = (h.0, ChainHas-write P row time (chain_on Next l) (chain_on-has P Next l h) last)
+
+pub LineageHas-split_back : (P : Row → Type 0) (time : ℕ) (l : Lineage) → LineageHas P l → LineageHas P (split_back time l)
+LineageHas-split_back P time l h = (h.0, ChainHas-filter P (λ v. nat_lt v.start time) (chain_on Next l) (chain_on-has P Next l h))
+
+LineageHas-unsplit_if : (P : Row → Type 0) (b : Bool) (side : Side) (l : Lineage) → LineageHas P l → LineageHas P (unsplit_if b side l)
+LineageHas-unsplit_if P true side l h = (chain_on-has P side l h, tt)
+LineageHas-unsplit_if P false side l h = h
+
+-- ---- tables
+
+pub ListsTable-empty : (index : IndexState) → ListsTable index []
+ListsTable-empty index key = LineageHas-unwritten (ListsRow index key)
+
+-- an index that keeps its rows lists those of the other keys, once a lineage was taken out
+pub ListsTableBut-taken : (key : ℤ) (before after : IndexState) (t left : LineagesByKey) → ListsTable before t → KeepsRows before after
+    → ((l : Lineage) → sorted.put int_cmp key l left ≡ sorted.put int_cmp key l t) → ListsTableBut key after left
+ListsTableBut-taken key before after t left listed keeps same q other =
+    let at : (es : LineagesByKey) → lineage_at (sorted.put int_cmp key unwritten es) q ≡ lineage_at es q = λ es. lineage_at-put es key unwritten q ∙ ap (λ b. cond b unwritten (lineage_at es q)) other in
+    let stays : lineage_at t q ≡ lineage_at left q = sym (at t) ∙ ap (λ es. lineage_at es q) (sym (same unwritten)) ∙ at left in
+    subst (λ l. LineageHas (ListsRow after q) l) stays (LineageHas-map (ListsRow before q) (ListsRow after q) (λ row. keeps q row) (lineage_at t q) (listed q))
+
+pub ListsTable-put : (key : ℤ) (index : IndexState) (t : LineagesByKey) (l : Lineage) → ListsTableBut key index t → LineageHas (ListsRow index key) l → ListsTable index (sorted.put int_cmp key l t)
+ListsTable-put key index t l others here q = subst (λ x. LineageHas (ListsRow index q) x) (sym (lineage_at-put t key l q)) (by (int_eq q key) refl)
+  where
+    by : (b : Bool) → int_eq q key ≡ b → LineageHas (ListsRow index q) (cond b l (lineage_at t q))
+    by true e = subst (λ k. LineageHas (ListsRow index k) l) (sym (same_key q key e)) here
+    by false e = others q e
+
+pub ListsTable-unsplit : (side : Side) (keys : KeySet) (index : IndexState) (t after : LineagesByKey) → UnsplitsKeys side keys t after → ListsTable index t → ListsTable index after
+ListsTable-unsplit side keys index t after h listed q =
+    subst (λ l. LineageHas (ListsRow index q) l) (sym (h q)) (LineageHas-unsplit_if (ListsRow index q) (is_some (sorted.find int_cmp q keys)) side (lineage_at t q) (listed q))
+
+shown : (P : Row → Type 0) (o : Option Row) (row : Row) → o ≡ Some row → IfSome o P → P row
+shown P None row is h = cc
+shown P (Some r) row is h = let same : r ≡ row = cc in subst P same h
+
+pub HaveKeysIn-covers : (index : IndexState) (keys : KeySet) (equals : List Equal) (t : LineagesByKey) → ListsTable index t → CoversMatches index keys equals → HaveKeysIn t keys equals
+unfolding side_of
+HaveKeysIn-covers index keys equals t listed covers side key time row is m =
+    covers key row (shown (ListsRow index key) (visible_row time (chain_on side (lineage_at t key))) row is (visible_row-has (ListsRow index key) side (lineage_at t key) time (listed key))) m
+
+pub HaveKey-covers : (index : IndexState) (only : ℤ) (equals : List Equal) (t : LineagesByKey) → ListsTable index t → IsKeyOfMatches index only equals → HaveKey t only equals
+unfolding side_of
+HaveKey-covers index only equals t listed covers side key time row is m =
+    covers key row (shown (ListsRow index key) (visible_row time (chain_on side (lineage_at t key))) row is (visible_row-has (ListsRow index key) side (lineage_at t key) time (listed key))) m

@@ -1,0 +1,176 @@
+ghost use Rattle.std.specs.Prelude.{◌≡◌, ℤ, IsTrue, IfOk, IfSome, Some};
+ghost use Rattle.tt_values.specs.Row.{first_int};
+ghost use Rattle.tt_values.specs.Matches.{holds};
+ghost use Rattle.tt_versions.specs.Index.{ColumnsList, ListsRow, KeepsRows, CoversEqual, CoversMatches, IsKeyOfMatches};
+
+use crate::digest::digest;
+use crate::indexed_column::{IndexedColumn, KeySet};
+use std::alloc::{AllocError, Global};
+use std::marker::Model;
+use tt_pages::PagedMap;
+use tt_values::{Equal, Row, Value};
+
+/// Where the rows of a table are to be found, by their values. It lists each row that the table
+/// ever had on either side, and forgets none.
+#[derive(Debug, Drop)]
+pub(crate) struct Index {
+    alloc: Global,
+    columns: Vec<IndexedColumn>,
+    /// Whether the first value of each listed row is its key.
+    is_keyed: bool,
+    empty: KeySet,
+}
+
+impl Model for Index {
+    ghost use Rattle.std.specs.Prelude.{◌≡◌, []};
+    ghost use Rattle.tt_versions.specs.Index.{IndexState};
+
+    ghost Value = { IndexState };
+
+    ghost view = { λ i. record {
+      columns = i.columns.items;
+      is_keyed = i.is_keyed;
+    } };
+
+    ghost invariant = { λ i. i.empty ≡ [] };
+}
+
+impl Index {
+    /// An index of rows by their values in these columns, and by their keys.
+    pub(crate) fn new(alloc: Global, columns: Vec<IndexedColumn>) -> Index {
+        Index {
+            alloc,
+            columns,
+            is_keyed: true,
+            empty: PagedMap::new(alloc),
+        }
+    }
+
+    /// A further owner of the same sets.
+    pub(crate) fn share(&self) -> Result<Index, AllocError>
+        ensures { IfOk result (λ i. i ≡ self.now) }
+    {
+        let mut columns = Vec::with_capacity(self.alloc, self.columns.len())?;
+        for column in &self.columns {
+            columns.push(column.share()?)?;
+        }
+        Ok(Index {
+            alloc: self.alloc,
+            columns,
+            is_keyed: self.is_keyed,
+            empty: PagedMap::new(self.alloc),
+        })
+    }
+
+    /// The index, once it lists the row too.
+    pub(crate) fn with_row(self, key: i64, row: &Row) -> Result<Index, AllocError>
+        ensures keeps { IfOk result (KeepsRows self) }
+        ensures lists { IfOk result (λ i. ListsRow i key row.now) }
+    {
+        let Index {
+            alloc,
+            columns,
+            is_keyed,
+            empty,
+        } = self;
+        let columns = columns_with_row(alloc, columns, key, row)?;
+        let is_keyed = is_keyed && begins_with(row, key);
+        Ok(Index {
+            alloc,
+            columns,
+            is_keyed,
+            empty,
+        })
+    }
+
+    /// The one key that matching rows can have, if the equalities say one.
+    pub(crate) fn key_for(&self, equals: &[Equal]) -> Option<i64>
+        ensures { IfSome result (λ key. IsKeyOfMatches self.now key equals.now) }
+    {
+        if !self.is_keyed {
+            return None;
+        }
+        for equal in equals {
+            if let Some(key) = equated_key(equal) {
+                return Some(key);
+            }
+        }
+        None
+    }
+
+    /// The smallest set that has the key of each matching row, if an equality is on a column of
+    /// the index.
+    pub(crate) fn keys_for(&self, equals: &[Equal]) -> Option<&KeySet>
+        ensures { IfSome result (λ keys. CoversMatches self.now keys.now equals.now) }
+    {
+        let mut smallest: Option<&KeySet> = None;
+        for equal in equals {
+            if let Some(keys) = self.keys_equated(equal) {
+                match smallest {
+                    Some(least) if least.len() <= keys.len() => {}
+                    _ => smallest = Some(keys),
+                }
+            }
+        }
+        smallest
+    }
+
+    /// The set that has the key of each row for which the equality holds, if it is on a column of
+    /// the index.
+    fn keys_equated(&self, equal: &Equal) -> Option<&KeySet>
+        ensures { IfSome result (λ keys. CoversEqual self.now keys.now equal.now) }
+    {
+        for column in &self.columns {
+            if column.position == equal.column {
+                return Some(column.keys_under(digest(&equal.value), &self.empty));
+            }
+        }
+        None
+    }
+}
+
+/// The columns, once each lists the row too.
+fn columns_with_row(
+    alloc: Global,
+    columns: Vec<IndexedColumn>,
+    key: i64,
+    row: &Row,
+) -> Result<Vec<IndexedColumn>, AllocError>
+    ensures keeps { IfOk result (λ cs. (q : ℤ) (r : Row)
+        → ColumnsList columns.items q r → ColumnsList cs.items q r) }
+    ensures lists { IfOk result (λ cs. ColumnsList cs.items key row.now) }
+{
+    let mut next = Vec::with_capacity(alloc, columns.len())?;
+    for column in columns {
+        let listed = column.with_row(alloc, key, row)?;
+        next.push(listed)?;
+    }
+    Ok(next)
+}
+
+/// Whether the first value of a row is this key.
+fn begins_with(row: &Row, key: i64) -> bool
+    ensures { IsTrue result → first_int row.now.values ≡ Some key }
+{
+    match row.values.get(0) {
+        Some(value) => match value {
+            Value::Int(first) => *first == key,
+            Value::Text(_) => false,
+        },
+        None => false,
+    }
+}
+
+/// The key that an equality on the first column asks for.
+fn equated_key(equal: &Equal) -> Option<i64>
+    ensures { IfSome result (λ key. (row : Row)
+        → IsTrue (holds equal.now row) → first_int row.values ≡ Some key) }
+{
+    if equal.column != 0 {
+        return None;
+    }
+    match &equal.value {
+        Value::Int(key) => Some(*key),
+        Value::Text(_) => None,
+    }
+}
