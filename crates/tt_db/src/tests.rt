@@ -4,6 +4,7 @@ mod calls;
 mod history;
 mod limits;
 mod runs;
+mod sharing;
 mod versions;
 
 use crate::{Db, Entry, Event, Limits, MAX_EDITS, Outcome};

@@ -1,5 +1,5 @@
 -- What an index lists, as it grows, and what a search of it finds.
-use Rattle.std.proofs.Common.{◌≡◌, ℕ, zero, suc, ℤ, Bool, true, false, cond, List, [], ◌∷◌, ◌++◌, filter, fold, slice_get, Option, None, Some, IsTrue, IfSome, is_some, nat_le, nat_lt, refl, sym, ap, subst, ◌∙◌}
+use Rattle.std.proofs.Common.{◌≡◌, ℕ, zero, suc, ◌+◌, ℤ, Bool, true, false, cond, List, [], ◌∷◌, ◌++◌, filter, fold, slice_get, take, Option, None, Some, IsTrue, IfSome, is_some, nat_le, nat_lt, refl, sym, ap, subst, ◌∙◌, arith}
 use Rattle.std.proofs.lemmas.Bool.Decides.{Decides-int_eq}
 use Rattle.std.specs.Borrow.{Bor}
 use Rattle.std.proofs.lemmas.Slice.Eq.{bytes_eq-Decides}
@@ -100,6 +100,17 @@ pub ColumnsList-at : (cs : List IndexedColumn) (n : ℕ) (c : IndexedColumn) (ke
 ColumnsList-at [] n c key row there h = cc
 ColumnsList-at (d ∷ cs) zero c key row there h = let same : d ≡ c = cc in subst (λ x. ColumnLists x key row) same h.0
 ColumnsList-at (d ∷ cs) (suc n) c key row there h = ColumnsList-at cs n c key row there h.1
+
+ColumnsList-take_suc : (cs : List IndexedColumn) (n : ℕ) (c : IndexedColumn) (key : ℤ) (row : Row) → slice_get cs n ≡ Some c → ColumnsList (take n cs) key row → ColumnLists c key row → ColumnsList (take (suc n) cs) key row
+ColumnsList-take_suc [] n c key row there h last = cc
+ColumnsList-take_suc (d ∷ cs) zero c key row there h last = let same : c ≡ d = cc in (subst (λ x. ColumnLists x key row) same last, tt)
+ColumnsList-take_suc (d ∷ cs) (suc n) c key row there h last = (h.0, ColumnsList-take_suc cs n c key row there h.1 last)
+
+-- one more column lists the row
+pub ColumnsList-take : (cs : List IndexedColumn) (n : ℕ) (c : IndexedColumn) (key : ℤ) (row : Row) → slice_get cs n ≡ Some c → ColumnsList (take n cs) key row → ColumnLists c key row → ColumnsList (take (n + 1) cs) key row
+ColumnsList-take cs n c key row there h last =
+    let next : suc n ≡ n + 1 = omega arith in
+    subst (λ m. ColumnsList (take m cs) key row) next (ColumnsList-take_suc cs n c key row there h last)
 
 -- ---- equalities
 

@@ -67,6 +67,23 @@ impl Index {
         ensures keeps { IfOk result (KeepsRows self) }
         ensures lists { IfOk result (λ i. ListsRow i key row.now) }
     {
+        if self.has_row(key, row) {
+            return Ok(self);
+        }
+        self.with_new_row(key, row)
+    }
+
+    /// Whether it lists the row already.
+    fn has_row(&self, key: i64, row: &Row) -> bool
+        ensures { IsTrue result → ListsRow self.now key row.now }
+    {
+        columns_have_row(&self.columns, key, row) && (!self.is_keyed || begins_with(row, key))
+    }
+
+    fn with_new_row(self, key: i64, row: &Row) -> Result<Index, AllocError>
+        ensures keeps { IfOk result (KeepsRows self) }
+        ensures lists { IfOk result (λ i. ListsRow i key row.now) }
+    {
         let Index {
             alloc,
             columns,
@@ -127,6 +144,18 @@ impl Index {
         }
         None
     }
+}
+
+/// Whether each column lists the row.
+fn columns_have_row(columns: &[IndexedColumn], key: i64, row: &Row) -> bool
+    ensures { IsTrue result → ColumnsList columns.now key row.now }
+{
+    for column in columns {
+        if !column.has_row(key, row) {
+            return false;
+        }
+    }
+    true
 }
 
 /// The columns, once each lists the row too.

@@ -41,6 +41,16 @@ impl IndexedColumn {
         })
     }
 
+    /// Whether it lists the row.
+    pub(crate) fn has_row(&self, key: i64, row: &Row) -> bool
+        ensures { IsTrue result → ColumnLists self.now key row.now }
+    {
+        match row.values.get(usize::from(self.position)) {
+            Some(value) => has_key_under(&self.sets, digest(value), key),
+            None => true,
+        }
+    }
+
     /// The column, once it lists the row too.
     pub(crate) fn with_row(
         self,

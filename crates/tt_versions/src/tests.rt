@@ -164,7 +164,8 @@ fn keys_at(alloc: Global, table: &Table, side: Side) -> Result<Vec<i64>, AllocEr
     Ok(keys)
 }
 
-/// Keys 0 to 29 have tag a at time 1 and b from time 2; every third one is split, with c from time 2.
+/// Keys 0 to 29 have tag a at time 1 and b from time 2; every third one is split, with c from
+/// time 2.
 fn many_rows(rt: &impl Abort, alloc: Global) -> Result<Table, AllocError> {
     let mut table = Table::new(alloc);
     for key in 0..30 {
