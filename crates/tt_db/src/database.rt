@@ -117,7 +117,8 @@ impl Db {
         ensures state { IfOk result (λ r. r.0 ≡ with_entry self.now entry) }
         ensures outcome { IfOk result (λ r. r.1 ≡ outcome_for self.now entry.event) }
         ensures accepted { OnOk result (refusal_of self.now entry.event ≡ None) }
-        ensures refused { IfErr result (λ e. refusal_of self.now entry.event ≡ refusal_of_error e) }
+        ensures refused { IfErr result (λ e.
+            refusal_of self.now entry.event ≡ refusal_of_error e) }
     {
         if let Some(refusal) = self.refusal(&entry.event) {
             return Err(refusal);
@@ -136,7 +137,8 @@ impl Db {
         ensures state { IfOk result (λ r. OnOk r.1 (r.0 ≡ with_entry self entry)) }
         ensures outcome { IfOk result (λ r. IfOk r.1 (λ o. o ≡ outcome_for self entry.event)) }
         ensures accepted { IfOk result (λ r. OnOk r.1 (refusal_of self entry.event ≡ None)) }
-        ensures refused { IfOk result (λ r. IfErr r.1 (λ e. refusal_of self entry.event ≡ Some e)) }
+        ensures refused { IfOk result (λ r. IfErr r.1 (λ e.
+            refusal_of self entry.event ≡ Some e)) }
         ensures unchanged { IfOk result (λ r. OnErr r.1 (r.0 ≡ self)) }
     {
         if let Some(refusal) = self.refusal(&entry.event) {

@@ -18,7 +18,8 @@ use std::alloc::{AllocError, Global};
 /// Asks that an object has only members of these names.
 pub(crate) fn no_members_but(alloc: Global, object: &Value, known: &[&str]) -> Result<(), DocFault>
     ensures { Gives result
-        (no_members_but (λ name. list_any (λ k. bytes_eq name k.now) known.now) (view object.now)) }
+        (no_members_but (λ name. list_any (λ k. bytes_eq name k.now) known.now)
+        (view object.now)) }
 {
     match least_unknown(object, known) {
         Some(name) => Err(DocFault::because(alloc, unknown_member(alloc, name))),
@@ -36,7 +37,8 @@ fn unknown_member(alloc: Global, name: &str) -> Result<String, AllocError>
 /// The least unknown name. The members are sorted by their names, so it's the first.
 fn least_unknown<'a>(object: &'a Value, known: &[&str]) -> Option<&'a str>
     ensures { option_copied result
-        ≡ least_unknown (λ name. list_any (λ k. bytes_eq name k.now) known.now) (view object.now) }
+        ≡ least_unknown (λ name. list_any (λ k. bytes_eq name k.now) known.now)
+        (view object.now) }
 {
     let members = object.as_object()?;
     let name = first_unknown(members, known)?;

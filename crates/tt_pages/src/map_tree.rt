@@ -414,7 +414,8 @@ impl<V: Kept + Drop> Node<V> {
         requires present { IsSome (find int_cmp key.now (entries_of self.old)) }
         ensures node { IsNode self.new }
         ensures tree { OnOk result (PutsEntry key.now value.old self.old self.new) }
-        ensures value { OnOk result (find int_cmp key.now (entries_of self.old) ≡ Some value.new) }
+        ensures value { OnOk result
+            (find int_cmp key.now (entries_of self.old) ≡ Some value.new) }
         ensures err { OnErr result (entries_of self.new ≡ entries_of self.old) }
         ensures err_value { OnErr result (value.new ≡ value.old) }
     {

@@ -15,7 +15,8 @@ pub(crate) fn take_value<V: Kept + Drop>(
     empty: V,
 ) -> Result<V, AllocError>
     ensures value { IfOk result (λ v. v ≡ unwrap_or (find int_cmp key map.old) empty) }
-    ensures others { OnOk result ((v : V) → put int_cmp key v map.new ≡ put int_cmp key v map.old) }
+    ensures others { OnOk result ((v : V)
+        → put int_cmp key v map.new ≡ put int_cmp key v map.old) }
 {
     let mut value = empty;
     if map.get(key).is_some() {

@@ -127,7 +127,8 @@ pub(super) fn replace_in_tree<T: Kept + Drop>(
     item: T,
 ) -> Result<(), AllocError>
     requires { position < length (tree_items tree.old) }
-    ensures ok { OnOk result (tree_items tree.new ≡ slice_set (tree_items tree.old) position item) }
+    ensures ok { OnOk result
+        (tree_items tree.new ≡ slice_set (tree_items tree.old) position item) }
     ensures err { OnErr result (tree_items tree.new ≡ tree_items tree.old) }
 {
     match tree {
@@ -142,7 +143,8 @@ pub(super) fn replace_in_tail<T: Kept + Drop>(
     item: T,
 ) -> Result<(), AllocError>
     requires { position < length (tail_items tail.old) }
-    ensures ok { OnOk result (tail_items tail.new ≡ slice_set (tail_items tail.old) position item) }
+    ensures ok { OnOk result
+        (tail_items tail.new ≡ slice_set (tail_items tail.old) position item) }
     ensures err { OnErr result (tail_items tail.new ≡ tail_items tail.old) }
 {
     match tail {

@@ -248,7 +248,8 @@ fn replace_in_node<T: Kept + Drop>(
 ) -> Result<(), AllocError>
     requires in_range { position < length (node_items node.old) }
     requires filled { IsFilled node.old }
-    ensures ok { OnOk result (node_items node.new ≡ slice_set (node_items node.old) position item) }
+    ensures ok { OnOk result
+        (node_items node.new ≡ slice_set (node_items node.old) position item) }
     ensures err { OnErr result (node_items node.new ≡ node_items node.old) }
     ensures filled { IsFilled node.new }
 {
