@@ -7,10 +7,11 @@ ghost use Rattle.tt_cli.specs.Ending.{IsEndingOfRun};
 use command_line::{Cli, command_of};
 use ending::Ending;
 use messages::{print_fault, print_usage, print_words_fault};
+use std::alloc::Global;
 use std::process::ExitCode;
 use std::rt::Env;
 use std::{env, io};
-use tt_workload::run_alone;
+use tt_workload::{RunEnd, run_to_end};
 
 mod command_line;
 mod ending;
@@ -47,8 +48,19 @@ fn replay(rt: &(impl Input + Print + Eprint + AllocGlobal), cli: &Cli) -> Ending
 {
     let mut reader = rt.reader();
     let mut writer = io::writer(rt);
-    match run_alone(rt.alloc(), &mut reader, &mut writer, &cli.options) {
-        Ok(()) => Ending::Done,
+    match run_to_end(rt.alloc(), &mut reader, &mut writer, &cli.options) {
+        Ok(end) => {
+            leave(rt.alloc(), end);
+            Ending::Done
+        }
         Err(fault) => print_fault(rt, fault),
+    }
+}
+
+/// Leaves the memory of a run to the system, which takes it back whole when the program ends. To
+/// release it piece by piece takes long.
+fn leave(alloc: Global, end: RunEnd) {
+    if let Ok(last) = Box::new(alloc, end) {
+        let _ = Box::leak(last);
     }
 }

@@ -7,6 +7,10 @@ use std::test::Fail;
 use tt_values::Text;
 use tt_workload::{DocFault, RunFault};
 
+fn text(alloc: Global, words: &str) -> Result<Text, AllocError> {
+    Text::new(alloc, String::from_str(alloc, words)?)
+}
+
 /// A fault ends the program with this status, and leaves this line.
 fn ends(rt: &impl Abort, alloc: Global, fault: &RunFault, status: u8, line: &str) {
     assert_eq!(rt; status_of(fault), status);
@@ -18,8 +22,8 @@ fn ends(rt: &impl Abort, alloc: Global, fault: &RunFault, status: u8, line: &str
 fn statuses_and_lines(rt: HostRuntime) -> Result<(), Fail> {
     let alloc = rt.alloc();
     let fault = DocFault::At {
-        path: Text::new(String::from_str(alloc, "$.calls[1].where[0][0]")?),
-        cause: Text::new(String::from_str(alloc, "no such column")?),
+        path: text(alloc, "$.calls[1].where[0][0]")?,
+        cause: text(alloc, "no such column")?,
     };
     ends(
         &rt,
@@ -28,7 +32,7 @@ fn statuses_and_lines(rt: HostRuntime) -> Result<(), Fail> {
         1,
         "timetravel: $.calls[1].where[0][0]: no such column\n",
     );
-    let full = Text::new(String::from_str(alloc, "full at 1000000")?);
+    let full = text(alloc, "full at 1000000")?;
     ends(
         &rt,
         alloc,
@@ -42,8 +46,8 @@ fn statuses_and_lines(rt: HostRuntime) -> Result<(), Fail> {
 /// The status is 3 where no memory is left for the line of a fault, whatever the fault is.
 #[test]
 fn no_memory_for_a_line(rt: HostRuntime) -> Result<(), Fail> {
-    let text = Text::new(String::from_str(rt.alloc(), "full at 1000000")?);
-    let ending = print_line(&rt, RunFault::Store(text), Err(AllocError));
+    let full = text(rt.alloc(), "full at 1000000")?;
+    let ending = print_line(&rt, RunFault::Store(full), Err(AllocError));
     assert!(rt; ending == Ending::OutOfMemory);
     assert_eq!(rt; ending.exit_status(), 3);
     Ok(())

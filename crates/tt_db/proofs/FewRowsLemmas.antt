@@ -15,7 +15,7 @@ use Rattle.tt_values.specs.Content.{RowsByKey, Content, RowWrite, row_at, with_r
 use Rattle.tt_values.specs.Effect.{table_of, effect_on, effect}
 use Rattle.tt_values.specs.RowWrites.{Slots, row_writes, slot_after, slot_writes}
 use Rattle.tt_values.proofs.LawProofs.{one_key_changes, rows_rise, next_content}
-use Rattle.tt_db.specs.Rows.{as_row_writes}
+use Rattle.tt_versions.specs.RowsByWrites.{as_row_writes}
 use Rattle.tt_db.specs.SlotList.{last_content, all_row_writes}
 
 -- keys with their rows, put one after another

@@ -1,15 +1,15 @@
 -- Tables that have the rows of row writes.
 use Rattle.std.proofs.Common.{◌≡◌, ℕ, zero, suc, ◌<◌, ℤ, Bool, true, false, cond, nat_le, ◌==◌, List, [], ◌∷◌, ◌++◌, fold, length, set, Option, None, if◌then◌else◌, refl, sym, ap, ◌∙◌, arith, append-nil, append_assoc}
 use Rattle.std.proofs.lemmas.Bool.Decides.{nat_tests}
-use Rattle.std.proofs.lemmas.List.{map-append, get_or-set_same, get_or-set_other}
+use Rattle.std.proofs.lemmas.List.{get_or-set_same, get_or-set_other}
 use Rattle.std.proofs.lemmas.List.Elements.{filter-append}
 use Rattle.std.proofs.lemmas.List.Sums.{fold-append}
 use Rattle.tt_values.specs.declared.row.Row.{Row}
 use Rattle.tt_values.specs.Content.{RowWrite, row_at, with_row_at, with_row_write, empty_content, up_to}
 use Rattle.tt_versions.specs.declared.side.Side.TheVariants.{Current}
-use Rattle.tt_versions.specs.Sides.{RowsOverTime, LineagesByKey, no_lineages, side_of, is_split, none_split}
-use Rattle.tt_versions.specs.RowsByWrites.{rows_by, AddsRowWrite}
-use Rattle.tt_db.specs.Rows.{TablesByPosition, versions_at, KeepsOthers, TablesAgree, AddsEffect, TableAddsEffect, as_row_writes}
+use Rattle.tt_versions.specs.Sides.{LineagesByKey, no_lineages, side_of, is_split, none_split}
+use Rattle.tt_versions.specs.RowsByWrites.{rows_by, as_row_writes, AddsRowWritesOf}
+use Rattle.tt_db.specs.Rows.{TablesByPosition, versions_at, KeepsOthers, TablesAgree, AddsEffect}
 
 no_lineages-side_of : side_of no_lineages Current ≡ (λ key time. None)
 unfolding side_of
@@ -67,23 +67,6 @@ rows_by-other_table ws w t other = λ i q u. (ap (λ vs. row_at (fold with_row_w
         ∙ ap (λ b. row_at (if b then with_row_at (X t) w.key w.row else X t) q) other
     by q u false = ap (λ vs. row_at (fold with_row_write empty_content vs t) q) (append-nil (up_to u ws))
 
-as_row_writes-push : (time table : ℕ) (effect : List (ℤ × Option Row)) (next : ℤ × Option Row)
-    → as_row_writes time table (effect ++ next ∷ []) ≡ as_row_writes time table effect ++ as_row_writes time table (next ∷ [])
-as_row_writes-push time table effect next = map-append (λ e. record { time = time; table = table; key = e.0; row = e.1 }) effect (next ∷ [])
-
--- nothing is added
-pub TableAddsEffect-empty : (rows : RowsOverTime) (time : ℕ) → TableAddsEffect rows rows time []
-TableAddsEffect-empty rows time = record { adds = λ table ws h. h ∙ ap (rows_by table) (sym (append-nil ws)) }
-
--- one more row write is added after those before it
-pub TableAddsEffect-push : (before between after : RowsOverTime) (time : ℕ) (effect : List (ℤ × Option Row)) (key : ℤ) (row : Option Row)
-    → TableAddsEffect before between time effect → AddsRowWrite between after key row time → TableAddsEffect before after time (effect ++ (key, row) ∷ [])
-TableAddsEffect-push before between after time effect key row first second = record {
-  adds = λ table ws h.
-      second table (ws ++ as_row_writes time table effect) (first.adds table ws h)
-      ∙ ap (rows_by table) (append_assoc ws (as_row_writes time table effect) (as_row_writes time table ((key, row) ∷ [])) ∙ ap (λ vs. ws ++ vs) (sym (as_row_writes-push time table effect (key, row))));
-}
-
 -- the effect on one table changes no other
 rows_by-other_effect : (effect : List (ℤ × Option Row)) (ws : List RowWrite) (time table t : ℕ) → (t == table) ≡ false → rows_by t (ws ++ as_row_writes time table effect) ≡ rows_by t ws
 rows_by-other_effect [] ws time table t other = ap (rows_by t) (append-nil ws)
@@ -95,7 +78,7 @@ rows_by-other_effect (e ∷ effect) ws time table t other =
 -- where one table gets an effect, all tables do
 pub AddsEffect-set : (before between : TablesByPosition) (table : ℕ) (versions : LineagesByKey) (time : ℕ) (effect : List (ℤ × Option Row))
     → KeepsOthers table before between → table < length between
-    → TableAddsEffect (side_of (versions_at before table) Current) (side_of versions Current) time effect
+    → AddsRowWritesOf (side_of (versions_at before table) Current) (side_of versions Current) effect time
     → is_split versions ≡ is_split (versions_at before table)
     → AddsEffect before (set between table versions) time table effect
 AddsEffect-set before between table versions time effect others room adds same ws agree = record {
@@ -107,15 +90,12 @@ AddsEffect-set before between table versions time effect others room adds same w
     further = as_row_writes time table effect
 
     current : (t : ℕ) (b : Bool) → (t == table) ≡ b → side_of (if b then versions else versions_at between t) Current ≡ rows_by t (ws ++ further)
-    current t true e = adds.adds table ws (agree.current table) ∙ ap (λ n. rows_by n (ws ++ further)) (sym (same_table t table e))
+    current t true e = adds table ws (agree.current table) ∙ ap (λ n. rows_by n (ws ++ further)) (sym (same_table t table e))
     current t false e = ap (λ k. side_of k Current) (others t e) ∙ agree.current t ∙ sym (rows_by-other_effect effect ws time table t e)
 
     whole : (t : ℕ) (b : Bool) → (t == table) ≡ b → is_split (if b then versions else versions_at between t) ≡ none_split
     whole t true e = same ∙ agree.whole table
     whole t false e = ap is_split (others t e) ∙ agree.whole t
-
--- what the first step of an effect rests on
-pub ruleset adds_nothing = (TableAddsEffect-empty)
 
 -- what adding empty tables rests on
 pub ruleset adds_tables = (versions_at-push)

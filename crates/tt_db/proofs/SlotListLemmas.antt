@@ -9,7 +9,8 @@ use Rattle.tt_values.specs.RowWrites.{Slots, row_writes, slot_reply}
 use Rattle.tt_values.proofs.LawProofs.{slots_follow, added_slot_leaves_past, earlier_slots_stay, added_slot_is_next}
 use Rattle.tt_db.proofs.ListLemmas.{slice_get-append_left, slice_get-append_at}
 use Rattle.tt_db.specs.declared.outcome.Slot.{Slot}
-use Rattle.tt_db.specs.Rows.{TablesByPosition, TablesAgree, AddsRowWrites, as_row_writes}
+use Rattle.tt_db.specs.Rows.{TablesByPosition, TablesAgree, AddsRowWrites}
+use Rattle.tt_versions.specs.RowsByWrites.{as_row_writes}
 use Rattle.tt_db.specs.SlotList.{last_content, effect_now, slot_with_reply, writes_of, HaveReplies, HasRowsOf, IsSlotList}
 use Rattle.tt_db.proofs.RowsLemmas.{TablesAgree-empty}
 

@@ -1,10 +1,10 @@
 -- The tables of a database, and how they follow a list of row writes.
-use Rattle.std.specs.Prelude.{◌≡◌, ℕ, ℤ, false, ◌==◌, List, ◌++◌, map, get_or, Option}
+use Rattle.std.specs.Prelude.{◌≡◌, ℕ, ℤ, false, ◌==◌, List, ◌++◌, get_or, Option}
 use Rattle.tt_values.specs.declared.row.Row.{Row}
 use Rattle.tt_values.specs.Content.{RowWrite}
 use Rattle.tt_versions.specs.declared.side.Side.TheVariants.{Current}
-use Rattle.tt_versions.specs.Sides.{RowsOverTime, LineagesByKey, no_lineages, side_of, is_split, none_split}
-use Rattle.tt_versions.specs.RowsByWrites.{rows_by}
+use Rattle.tt_versions.specs.Sides.{LineagesByKey, no_lineages, side_of, is_split, none_split}
+use Rattle.tt_versions.specs.RowsByWrites.{rows_by, as_row_writes}
 
 -- tables by position
 abbrev pub TablesByPosition : Type 0
@@ -27,14 +27,6 @@ pub record TablesAgree (tables : TablesByPosition) (ws : List RowWrite) : Type 0
 abbrev pub AddsRowWrites : TablesByPosition → TablesByPosition → List RowWrite → Type 0
 AddsRowWrites before after further = (ws : List RowWrite) → TablesAgree before ws → TablesAgree after (ws ++ further)
 
--- the effect of a write on a table, as row writes at a time
-abbrev pub as_row_writes : ℕ → ℕ → List (ℤ × Option Row) → List RowWrite
-as_row_writes time table effect = map (λ e. record { time = time; table = table; key = e.0; row = e.1 }) effect
-
 -- tables get the effect of a write on a table at a time
 abbrev pub AddsEffect : TablesByPosition → TablesByPosition → ℕ → ℕ → List (ℤ × Option Row) → Type 0
 AddsEffect before after time table effect = AddsRowWrites before after (as_row_writes time table effect)
-
--- if the rows of a table before are those by some row writes, the rows after are those by these and an effect at a time
-pub record TableAddsEffect (before after : RowsOverTime) (time : ℕ) (effect : List (ℤ × Option Row)) : Type 0 where
-  pub adds : (table : ℕ) (ws : List RowWrite) → before ≡ rows_by table ws → after ≡ rows_by table (ws ++ as_row_writes time table effect)

@@ -27,7 +27,7 @@ pub struct Db {
     alloc: Global,
     catalog: Shared<Catalog>,
     limits: Limits,
-    history: PagedLog<Shared<Entry>>,
+    history: PagedLog<Entry>,
     slots: SlotList,
     generation: u64,
 }
@@ -100,8 +100,7 @@ impl Db {
         ensures { option_copied result ≡ nth_item self.now.history place }
     {
         let position = place.checked_sub(1)?;
-        let entry = self.history.get(position as usize)?;
-        Some(entry.get())
+        self.history.get(position as usize)
     }
 
     /// The slot of a number, counted from 1.
@@ -238,7 +237,6 @@ impl Db {
             worker,
             event: Event::Write(write),
         };
-        let entry = Shared::new(alloc, entry)?;
         history.push(entry)?;
         let db = Db {
             alloc,

@@ -92,7 +92,7 @@ fn effect_of_delete(
     Ok(effect)
 }
 
-/// The rows, in memory of their own.
+/// Further owners of the rows, in their order.
 pub(crate) fn copies_of(alloc: Global, rows: &Vec<(i64, &Row)>) -> Result<Vec<Row>, AllocError>
     ensures { IfOk result (λ r. r.items ≡ map (λ e. e.1) (rows_behind rows.now.items)) }
 {

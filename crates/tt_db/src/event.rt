@@ -1,4 +1,5 @@
 use std::alloc::AllocError;
+use tt_pages::Kept;
 use tt_values::Write;
 
 /// What a history consists of.
@@ -41,5 +42,11 @@ impl Clone for Entry {
             worker: self.worker,
             event,
         })
+    }
+}
+
+impl Kept for Entry {
+    fn kept(&self) -> Result<Self, AllocError> {
+        self.clone()
     }
 }

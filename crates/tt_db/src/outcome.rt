@@ -1,4 +1,5 @@
 use std::alloc::AllocError;
+use tt_pages::Kept;
 use tt_values::{Reply, Write};
 
 /// The outcome of an accepted event.
@@ -31,5 +32,11 @@ impl Clone for Slot {
             None => None,
         };
         Ok(Slot { write, reply })
+    }
+}
+
+impl Kept for Slot {
+    fn kept(&self) -> Result<Self, AllocError> {
+        self.clone()
     }
 }

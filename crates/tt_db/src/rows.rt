@@ -1,6 +1,6 @@
 ghost use Rattle.std.specs.Prelude.{◌≡◌, ◌<◌, [], length, IfOk, OnOk};
 ghost use Rattle.tt_versions.specs.Sides.{no_lineages, side_of, is_split};
-ghost use Rattle.tt_db.specs.Rows.{versions_at, KeepsOthers, TableAddsEffect};
+ghost use Rattle.tt_db.specs.Rows.{versions_at, KeepsOthers};
 
 use std::alloc::{AllocError, Global};
 use std::marker::Model;
@@ -89,7 +89,7 @@ impl Rows {
         } = self;
         let position = usize::from(table);
         let old = take_table(alloc, catalog, &mut tables, position)?;
-        let new = with_effect(old, effect, time)?;
+        let new = old.into_all_written(effect, time)?;
         tables[position] = new;
         Ok(Rows {
             alloc,
@@ -97,24 +97,6 @@ impl Rows {
             empty,
         })
     }
-}
-
-/// The table once these keys have those rows, or none, from the time on.
-#[tactic(auto, using(crate::proofs::RowsLemmas::adds_nothing))]
-fn with_effect(
-    table: Table,
-    effect: Vec<(i64, Option<Row>)>,
-    time: u64,
-) -> Result<Table, AllocError>
-    ensures adds { IfOk result (λ t.
-        TableAddsEffect (side_of table Side.Current) (side_of t Side.Current) time effect.items) }
-    ensures split { IfOk result (λ t. is_split t ≡ is_split table) }
-{
-    let mut table = table;
-    for (key, row) in effect {
-        table = table.into_written(key, row, time)?;
-    }
-    Ok(table)
 }
 
 /// Takes a table out, and leaves an empty one. There are tables up to its position then.

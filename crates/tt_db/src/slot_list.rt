@@ -13,14 +13,14 @@ use crate::rows::Rows;
 use std::alloc::{AllocError, Global};
 use std::marker::Model;
 use tt_pages::PagedLog;
-use tt_values::{Catalog, Items, Reply, Row, Select, Shared, Write};
+use tt_values::{Catalog, Items, Reply, Row, Select, Write};
 use tt_versions::{Side, Table};
 
 /// The slots of a generation with their replies, and the rows that they leave.
 #[derive(Drop)]
 pub(crate) struct SlotList {
     alloc: Global,
-    slots: PagedLog<Shared<Slot>>,
+    slots: PagedLog<Slot>,
     rows: Rows,
 }
 
@@ -59,8 +59,7 @@ impl SlotList {
         ensures { option_copied result ≡ slot_at self.now number }
     {
         let position = number.checked_sub(1)?;
-        let slot = self.slots.get(position as usize)?;
-        Some(slot.get())
+        self.slots.get(position as usize)
     }
 
     /// The versions of a table.
@@ -78,7 +77,8 @@ impl SlotList {
         let table = self.table(select.table);
         let rows = table.rows_matching(select.equals.as_slice(), time, Side::Current)?;
         let rows = copies_of(self.alloc, &rows)?;
-        Ok(Reply::Rows(Items::new(rows)))
+        let rows = Items::new(self.alloc, rows)?;
+        Ok(Reply::Rows(rows))
     }
 
     /// A further owner of the same slots.
@@ -146,7 +146,6 @@ impl SlotList {
             write: Some(write),
             reply: Some(reply),
         };
-        let slot = Shared::new(alloc, slot)?;
         slots.push(slot)?;
         Ok(SlotList { alloc, slots, rows })
     }

@@ -29,7 +29,8 @@ const ACCT: u16 = 0;
 const LOAN: u16 = 1;
 
 fn text(rt: &impl Abort, alloc: Global, words: &str) -> Text {
-    Text::new(String::from_str(alloc, words).expect(rt, "memory"))
+    let words = String::from_str(alloc, words).expect(rt, "memory");
+    Text::new(alloc, words).expect(rt, "memory")
 }
 
 fn column(rt: &impl Abort, alloc: Global, name: &str, kind: Kind, partition: bool) -> Column {
@@ -46,7 +47,7 @@ fn accounts_table(rt: &impl Abort, alloc: Global) -> TableDef {
     let balance = column(rt, alloc, "bal", Kind::Int, false);
     let columns = Vec::from_array(alloc, [id, owner, balance]).expect(rt, "memory");
     TableDef {
-        columns: Items::new(columns),
+        columns: Items::new(alloc, columns).expect(rt, "memory"),
     }
 }
 
@@ -80,8 +81,9 @@ fn row(rt: &impl Abort, alloc: Global, account: Account) -> Row {
     let (id, owner, balance) = account;
     let owner = text(rt, alloc, owner);
     let values = [Value::Int(id), Value::Text(owner), Value::Int(balance)];
+    let values = Vec::from_array(alloc, values).expect(rt, "memory");
     Row {
-        values: Items::new(Vec::from_array(alloc, values).expect(rt, "memory")),
+        values: Items::new(alloc, values).expect(rt, "memory"),
     }
 }
 
@@ -115,10 +117,10 @@ fn after(rt: &impl Abort, db: &Db, entry: Entry, reply: Reply) -> Db {
     next
 }
 
-fn select_all(alloc: Global, table: u16) -> Select {
+fn select_all(rt: &impl Abort, alloc: Global, table: u16) -> Select {
     Select {
         table,
-        equals: Items::new(Vec::new(alloc)),
+        equals: Items::new(alloc, Vec::new(alloc)).expect(rt, "memory"),
     }
 }
 
@@ -128,11 +130,13 @@ fn rows(rt: &impl Abort, alloc: Global, accounts: &[Account]) -> Reply {
     for account in accounts {
         rows.push(row(rt, alloc, *account)).expect(rt, "memory");
     }
-    Reply::Rows(Items::new(rows))
+    Reply::Rows(Items::new(alloc, rows).expect(rt, "memory"))
 }
 
 /// Asserts that these are the accounts now, in this order.
 fn has(rt: &impl Abort, alloc: Global, db: &Db, accounts: &[Account]) {
-    let reply = db.select(&select_all(alloc, ACCT)).expect(rt, "a reply");
+    let reply = db
+        .select(&select_all(rt, alloc, ACCT))
+        .expect(rt, "a reply");
     assert_eq!(rt; reply, rows(rt, alloc, accounts));
 }

@@ -8,11 +8,12 @@ use crate::MAX_CALLS;
 use crate::decoder::{CountDecoder, Decoder, OUT_OF_RANGE, array, member, object};
 use crate::document::{Ask, Call};
 use crate::fault::DocFault;
+use crate::owned_items::OwnedItems;
 use crate::statements::{delete, insert, select, update};
-use crate::taker::decode_items;
+use crate::taker::decode_owned;
 use serde_json::Value;
 use std::alloc::Global;
-use tt_values::{Catalog, Items};
+use tt_values::Catalog;
 
 const NO_KIND: &str = "missing one of insert, update, delete, select, preview";
 
@@ -24,11 +25,11 @@ pub(crate) struct CallsDecoder<'a> {
 }
 
 impl Decoder for CallsDecoder<'_> {
-    type Output = Items<Call>;
+    type Output = OwnedItems<Call>;
 
     ghost meaning = { λ r. calls r.catalog.now r.workers };
 
-    fn decode(&self, alloc: Global, value: &Value) -> Result<Items<Call>, DocFault> {
+    fn decode(&self, alloc: Global, value: &Value) -> Result<OwnedItems<Call>, DocFault> {
         let items = array(alloc, value)?;
         if items.len() > MAX_CALLS {
             return Err(DocFault::here(alloc, OUT_OF_RANGE));
@@ -37,7 +38,7 @@ impl Decoder for CallsDecoder<'_> {
             catalog: self.catalog,
             workers: self.workers,
         };
-        decode_items(alloc, &decoder, items)
+        decode_owned(alloc, &decoder, items)
     }
 }
 

@@ -110,7 +110,8 @@ impl Decoder for ValueDecoder {
     fn decode(&self, alloc: Global, value: &Value) -> Result<tt_values::Value, DocFault> {
         if let Some(text) = value.as_str() {
             let text = String::from_str(alloc, text)?;
-            return Ok(tt_values::Value::Text(Text::new(text)));
+            let text = Text::new(alloc, text)?;
+            return Ok(tt_values::Value::Text(text));
         }
         match value.as_i64() {
             Some(number) => Ok(tt_values::Value::Int(number)),

@@ -147,7 +147,8 @@ impl Decoder for TextDecoder {
     fn decode(&self, alloc: Global, value: &Value) -> Result<Text, DocFault> {
         let text = text(alloc, value)?;
         let text = String::from_str(alloc, text)?;
-        Ok(Text::new(text))
+        let text = Text::new(alloc, text)?;
+        Ok(text)
     }
 }
 

@@ -1,8 +1,9 @@
 use crate::fault::DocFault;
+use crate::owned_items::OwnedItems;
 use crate::reading::from_members;
 use serde_json::Value;
 use std::alloc::Global;
-use tt_values::{Catalog, Items, Select, Shared, Write};
+use tt_values::{Catalog, Select, Shared, Write};
 
 /// A workload: the tables, and the calls that the workers make.
 #[derive(Debug, Drop)]
@@ -11,7 +12,7 @@ pub struct Document {
     /// The number of workers, from 1 to [`MAX_WORKERS`](crate::MAX_WORKERS).
     pub workers: u32,
     /// At most [`MAX_CALLS`](crate::MAX_CALLS).
-    pub calls: Items<Call>,
+    pub calls: OwnedItems<Call>,
 }
 
 impl Document {

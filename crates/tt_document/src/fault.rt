@@ -1,4 +1,5 @@
 ghost use Rattle.std.specs.Prelude.{◌≡◌, MatchResult, string_bytes};
+ghost use Rattle.tt_document.specs.Fault.{IsFault, fault_here};
 
 use std::alloc::{AllocError, AllocFailed, Global};
 use tt_values::Text;
@@ -54,14 +55,11 @@ impl DocFault {
     /// The same, with the text of the cause, or none for lack of memory.
     pub(crate) fn because(alloc: Global, cause: Result<String, AllocError>) -> DocFault
         ensures { MatchResult cause
-            (λ text. result ≡ fault_here (string_bytes text))
+            (λ text. IsFault result (fault_here (string_bytes text)))
             (λ _. result ≡ DocFault.Memory) }
     {
         match cause {
-            Ok(cause) => DocFault::At {
-                path: Text::new(String::new(alloc)),
-                cause: Text::new(cause),
-            },
+            Ok(cause) => fault_of(alloc, cause),
             Err(AllocError) => DocFault::Memory,
         }
     }
@@ -74,7 +72,7 @@ impl DocFault {
             return DocFault::Memory;
         };
         let inner = path.as_str();
-        fault_with_path(format!(in alloc; ".{name}{inner}"), cause)
+        fault_with_path(alloc, format!(in alloc; ".{name}{inner}"), cause)
     }
 
     /// The fault of an item, as one of the array.
@@ -85,7 +83,7 @@ impl DocFault {
             return DocFault::Memory;
         };
         let inner = path.as_str();
-        fault_with_path(format!(in alloc; "[{index}]{inner}"), cause)
+        fault_with_path(alloc, format!(in alloc; "[{index}]{inner}"), cause)
     }
 
     /// The fault of the whole value, as one of the document.
@@ -96,21 +94,37 @@ impl DocFault {
             return DocFault::Memory;
         };
         let inner = path.as_str();
-        fault_with_path(format!(in alloc; "${inner}"), cause)
+        fault_with_path(alloc, format!(in alloc; "${inner}"), cause)
+    }
+}
+
+/// A fault of the value itself, or none for lack of memory.
+fn fault_of(alloc: Global, cause: String) -> DocFault
+    ensures { IsFault result (fault_here (string_bytes cause)) }
+{
+    match Text::new(alloc, cause) {
+        Ok(cause) => fault_with_path(alloc, Ok(String::new(alloc)), cause),
+        Err(AllocError) => DocFault::Memory,
     }
 }
 
 /// A fault with the text of its path, or none for lack of memory.
-fn fault_with_path(path: Result<String, AllocError>, cause: Text) -> DocFault
+fn fault_with_path(alloc: Global, path: Result<String, AllocError>, cause: Text) -> DocFault
     ensures { MatchResult path
-        (λ p. result ≡ DocFault.At (string_bytes p) cause)
+        (λ p. IsFault result (DocFault.At (string_bytes p) cause))
         (λ _. result ≡ DocFault.Memory) }
 {
     match path {
-        Ok(path) => DocFault::At {
-            path: Text::new(path),
-            cause,
-        },
+        Ok(path) => fault_at_path(alloc, path, cause),
+        Err(AllocError) => DocFault::Memory,
+    }
+}
+
+fn fault_at_path(alloc: Global, path: String, cause: Text) -> DocFault
+    ensures { IsFault result (DocFault.At (string_bytes path) cause) }
+{
+    match Text::new(alloc, path) {
+        Ok(path) => DocFault::At { path, cause },
         Err(AllocError) => DocFault::Memory,
     }
 }

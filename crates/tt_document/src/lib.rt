@@ -9,6 +9,7 @@ mod decoder;
 mod document;
 mod fault;
 mod members;
+mod owned_items;
 mod quoting;
 mod reading;
 mod statements;
@@ -17,6 +18,7 @@ mod taker;
 
 pub use document::{Ask, Call, Document};
 pub use fault::DocFault;
+pub use owned_items::OwnedItems;
 pub use quoting::push_quoted;
 
 /// The largest number of workers of a document.

@@ -8,8 +8,9 @@ ghost use Rattle.tt_document.specs.Taker.{take_all, with_item, each, array_of};
 
 use crate::decoder::{Decoder, array};
 use crate::fault::DocFault;
+use crate::owned_items::OwnedItems;
 use serde_json::Value;
-use std::alloc::{AllocError, Global};
+use std::alloc::Global;
 use tt_values::Items;
 
 /// Steps through the items of an array. Each step changes the state that the ones before it left.
@@ -64,29 +65,20 @@ impl<D: Decoder> Taker for Collector<'_, D>
 where
     D::Output: Drop,
 {
-    type State = Items<D::Output>;
+    type State = OwnedItems<D::Output>;
 
     ghost after = { λ c. with_item (D.meaning c.decoder.now) };
 
     fn take(
         &self,
         alloc: Global,
-        state: Items<D::Output>,
+        state: OwnedItems<D::Output>,
         item: &Value,
-    ) -> Result<Items<D::Output>, DocFault> {
+    ) -> Result<OwnedItems<D::Output>, DocFault> {
         let meaning = self.decoder.decode(alloc, item)?;
-        let items = push_item(state, meaning)?;
+        let items = state.with_item(meaning)?;
         Ok(items)
     }
-}
-
-/// A list with one more item at its end.
-fn push_item<T: Drop>(items: Items<T>, item: T) -> Result<Items<T>, AllocError>
-    ensures { IfOk result (λ longer. longer ≡ items ++ item ∷ []) }
-{
-    let mut items = items.into_vec();
-    items.push(item)?;
-    Ok(Items::new(items))
 }
 
 /// An array of what a decoder decodes.
@@ -119,6 +111,21 @@ where
     D::Output: Drop,
     ensures { Gives result (each (D.meaning decoder.now) 0 (map view items.now)) }
 {
-    let start = Items::new(Vec::new(alloc));
+    let list = decode_owned(alloc, decoder, items)?;
+    let items = list.into_items(alloc)?;
+    Ok(items)
+}
+
+/// As [`decode_items`], in a list with one owner.
+pub(crate) fn decode_owned<D: Decoder>(
+    alloc: Global,
+    decoder: &D,
+    items: &[Value],
+) -> Result<OwnedItems<D::Output>, DocFault>
+where
+    D::Output: Drop,
+    ensures { Gives result (each (D.meaning decoder.now) 0 (map view items.now)) }
+{
+    let start = OwnedItems::with_room(alloc, items.len())?;
     take_all(alloc, &Collector { decoder }, start, items)
 }

@@ -22,7 +22,8 @@ fn read(rt: &impl Abort, alloc: Global, text: &str) -> Document {
 }
 
 fn text(rt: &impl Abort, alloc: Global, words: &str) -> Text {
-    Text::new(String::from_str(alloc, words).expect(rt, "memory"))
+    let words = String::from_str(alloc, words).expect(rt, "memory");
+    Text::new(alloc, words).expect(rt, "memory")
 }
 
 /// The second column of the first table is the owner.
@@ -42,20 +43,32 @@ fn call(ask: Ask) -> Call {
     Call { worker: 1, ask }
 }
 
+fn items<T: Drop>(rt: &impl Abort, alloc: Global, list: Vec<T>) -> Items<T> {
+    Items::new(alloc, list).expect(rt, "memory")
+}
+
 /// The condition that the key is 1.
 fn of_key(rt: &impl Abort, alloc: Global) -> Items<Equal> {
     let equal = Equal {
         column: 0,
         value: Value::Int(1),
     };
-    Items::new(Vec::from_array(alloc, [equal]).expect(rt, "memory"))
+    items(
+        rt,
+        alloc,
+        Vec::from_array(alloc, [equal]).expect(rt, "memory"),
+    )
 }
 
 fn insert_of_ann(rt: &impl Abort, alloc: Global) -> Call {
     let ann = Value::Text(text(rt, alloc, "ann"));
     let values = [Value::Int(1), ann, Value::Int(10)];
     let row = Row {
-        values: Items::new(Vec::from_array(alloc, values).expect(rt, "memory")),
+        values: items(
+            rt,
+            alloc,
+            Vec::from_array(alloc, values).expect(rt, "memory"),
+        ),
     };
     call(Ask::Write(Write::Insert { table: 0, row }))
 }
@@ -65,7 +78,7 @@ fn select_of_ann(rt: &impl Abort, alloc: Global) -> Call {
     let equals = Vec::from_array(alloc, [Equal { column: 1, value }]).expect(rt, "memory");
     let select = Select {
         table: 0,
-        equals: Items::new(equals),
+        equals: items(rt, alloc, equals),
     };
     call(Ask::Read { select, at: None })
 }
@@ -77,7 +90,7 @@ fn update_of_ann(rt: &impl Abort, alloc: Global) -> Call {
     let changes = Vec::from_array(alloc, [set, add]).expect(rt, "memory");
     call(Ask::Write(Write::Update {
         table: 0,
-        changes: Items::new(changes),
+        changes: items(rt, alloc, changes),
         equals: of_key(rt, alloc),
     }))
 }

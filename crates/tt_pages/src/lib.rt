@@ -1,5 +1,5 @@
-//! Persistent lists and maps that share their pages: a change copies the pages that it touches, and
-//! the version before it stays as it was.
+//! Persistent lists and maps that share their pages: a change copies those of the pages that it
+//! touches that others share too, so that these stay as they were.
 #![tactic(auto)]
 
 mod kept;

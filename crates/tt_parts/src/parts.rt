@@ -22,7 +22,8 @@ pub fn parts_of(
     for i in 0..columns.len() {
         push_part(&mut parts, table, i as u16, &columns[i], row.values.get(i))?;
     }
-    Ok(Items::new(parts))
+    let parts = Items::new(alloc, parts)?;
+    Ok(parts)
 }
 
 /// Pushes the partition of the value in a column, if there is a value and the column is a partition

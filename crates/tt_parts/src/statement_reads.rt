@@ -18,7 +18,8 @@ pub fn reads_of(alloc: Global, def: &TableDef, write: &Write) -> Result<Reads, A
     ensures sound { IfOk result (λ reads. CoversMatches def.now.columns write.now reads) }
 {
     let partitions = partitions_read(alloc, def, write)?;
-    Ok(reads_or_all(write.table(), partitions))
+    let reads = reads_or_all(alloc, write.table(), partitions)?;
+    Ok(reads)
 }
 
 /// The partitions of the equalities of a write, or of the key that it inserts.
@@ -45,13 +46,14 @@ fn partitions_read(
     }
 }
 
-fn reads_or_all(table: u16, partitions: Vec<Partition>) -> Reads
-    ensures { result ≡ reads_or_all table partitions.items }
+fn reads_or_all(alloc: Global, table: u16, partitions: Vec<Partition>) -> Result<Reads, AllocError>
+    ensures { IfOk result (λ reads. reads ≡ reads_or_all table partitions.items) }
 {
     if partitions.is_empty() {
-        Reads::All { table }
+        Ok(Reads::All { table })
     } else {
-        Reads::Equated(Items::new(partitions))
+        let partitions = Items::new(alloc, partitions)?;
+        Ok(Reads::Equated(partitions))
     }
 }
 

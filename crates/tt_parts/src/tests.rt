@@ -24,7 +24,7 @@ type PlainPartition = (u16, u16, Plain);
 const ANN: &[Plain] = &[Plain::Number(1), Plain::Words("ann"), Plain::Number(10)];
 
 fn text(alloc: Global, words: &str) -> Result<Text, AllocError> {
-    Ok(Text::new(String::from_str(alloc, words)?))
+    Text::new(alloc, String::from_str(alloc, words)?)
 }
 
 fn value(alloc: Global, plain: Plain) -> Result<Value, AllocError> {
@@ -40,7 +40,7 @@ fn row(alloc: Global, plains: &[Plain]) -> Result<Row, AllocError> {
         values.push(value(alloc, *plain)?)?;
     }
     Ok(Row {
-        values: Items::new(values),
+        values: Items::new(alloc, values)?,
     })
 }
 
@@ -53,7 +53,8 @@ fn partitions(alloc: Global, plains: &[PlainPartition]) -> Result<Items<Partitio
             value: value(alloc, *plain)?,
         })?;
     }
-    Ok(Items::new(partitions))
+    let partitions = Items::new(alloc, partitions)?;
+    Ok(partitions)
 }
 
 fn partition_reads(alloc: Global, plains: &[PlainPartition]) -> Result<Reads, AllocError> {
@@ -72,7 +73,7 @@ fn delete(alloc: Global, table: u16, pairs: &[(u16, Plain)]) -> Result<Write, Al
     }
     Ok(Write::Delete {
         table,
-        equals: Items::new(equals),
+        equals: Items::new(alloc, equals)?,
     })
 }
 
@@ -85,7 +86,7 @@ fn insert(alloc: Global, key: i64) -> Result<Write, AllocError>
     Ok(Write::Insert {
         table: 0,
         row: Row {
-            values: Items::new(values),
+            values: Items::new(alloc, values)?,
         },
     })
 }
@@ -101,7 +102,7 @@ fn table(alloc: Global, columns: &[(&str, Kind, bool)]) -> Result<TableDef, Allo
         })?;
     }
     Ok(TableDef {
-        columns: Items::new(list),
+        columns: Items::new(alloc, list)?,
     })
 }
 

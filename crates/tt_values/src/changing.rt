@@ -13,13 +13,12 @@ pub fn changed(alloc: Global, row: &Row, changes: &[Change]) -> Result<Row, Allo
     ensures { IfOk result (λ r. r ≡ changed row.now changes.now) }
 {
     let values = row.values.as_slice();
-    let mut new_values = Vec::new(alloc);
+    let mut new_values = Vec::with_capacity(alloc, values.len())?;
     for i in 0..values.len() {
         new_values.push(changed_value(changes, i, &values[i])?)?;
     }
-    Ok(Row {
-        values: Items::new(new_values),
-    })
+    let values = Items::new(alloc, new_values)?;
+    Ok(Row { values })
 }
 
 /// The value of a column after its change, or the old one if it has none.

@@ -1,32 +1,35 @@
-ghost use Rattle.std.specs.Prelude.{◌≡◌, ◌==◌, length, slice_get};
+ghost use Rattle.std.specs.Prelude.{◌≡◌, ◌==◌, length, slice_get, IfOk};
 ghost use Rattle.std.specs.Option.{option_copied};
 
-use std::alloc::AllocError;
+use std::alloc::{AllocError, Global};
 use std::marker::Model;
+use std::sync::Arc;
 
-/// A list. Contracts see its items, and not its capacity.
+/// A list that never changes, and that several owners share. Contracts see its items.
 #[derive(Debug, Drop)]
 pub struct Items<T> {
-    items: Vec<T>,
+    items: Arc<Vec<T>>,
 }
 
 impl<T> Model for Items<T> {
     ghost use Rattle.std.specs.Prelude.{List};
     ghost use Rattle.std.specs.Coded.{coded_list};
+    ghost use Rattle.std.specs.Arc.{arc_value};
 
     ghost Value = { List T };
 
     ghost coded = { coded_list T.code };
 
-    ghost view = { λ s. s.items.items };
+    ghost view = { λ s. (arc_value s.items).items };
 }
 
-impl<T> Items<T> {
-    /// Allocates nothing.
-    pub fn new(items: Vec<T>) -> Self
-        ensures { result ≡ items.items }
+impl<T: Drop> Items<T> {
+    /// Moves the items to memory that further owners can share, and is their first owner.
+    pub fn new(alloc: Global, items: Vec<T>) -> Result<Self, AllocError>
+        ensures { IfOk result (λ list. list ≡ items.items) }
     {
-        Items { items }
+        let items = Arc::new(alloc, items)?;
+        Ok(Items { items })
     }
 
     pub fn len(&self) -> usize
@@ -53,16 +56,9 @@ impl<T> Items<T> {
     {
         item_at(self.items.as_slice(), position)
     }
-
-    /// Allocates nothing.
-    pub fn into_vec(self) -> Vec<T>
-        ensures { result.items ≡ self }
-    {
-        self.items
-    }
 }
 
-impl<T: PartialEq> PartialEq for Items<T> {
+impl<T: PartialEq + Drop> PartialEq for Items<T> {
     ghost use Rattle.std.specs.Cmp.Lexicographic.{pointwise, lists_per};
 
     ghost eq = { pointwise T.eq };
@@ -70,17 +66,18 @@ impl<T: PartialEq> PartialEq for Items<T> {
     ghost laws = { lists_per T.laws };
 
     fn eq(&self, other: &Self) -> bool {
-        self.items == other.items
+        self.as_slice() == other.as_slice()
     }
 }
 
-impl<T: Clone> Clone for Items<T> {
-    ghost use Rattle.std.specs.List.{AllZip};
+/// A clone is a further owner of the same items.
+impl<T: Drop> Clone for Items<T> {
+    ghost use Rattle.std.specs.Prelude.{◌≡◌};
 
-    ghost is_clone = { AllZip T.is_clone };
+    ghost is_clone = { λ source copy. copy ≡ source };
 
     fn clone(&self) -> Result<Self, AllocError> {
-        let items = self.items.clone()?;
+        let items = Arc::try_clone(&self.items)?;
         Ok(Items { items })
     }
 }

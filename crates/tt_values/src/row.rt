@@ -24,7 +24,7 @@ impl Row {
         }
     }
 
-    /// A deep copy.
+    /// An equal row, which shares its values with this one.
     pub fn copy(&self) -> Result<Row, AllocError>
         ensures { IfOk result (λ copy. copy ≡ self.now) }
     {

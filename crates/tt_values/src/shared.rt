@@ -52,6 +52,18 @@ impl<T: Drop> Shared<T> {
     }
 }
 
+impl<T: Kept + Drop> Shared<T> {
+    /// The value: moved out where nobody else owns it, and copied otherwise.
+    pub fn into_value(self) -> Result<T, AllocError>
+        ensures { IfOk result (λ value. value ≡ self) }
+    {
+        match Arc::try_unwrap(self.owner) {
+            Ok(value) => Ok(value),
+            Err(owner) => owner.kept(),
+        }
+    }
+}
+
 /// A clone is a further owner of the same value.
 impl<T: Drop> Clone for Shared<T> {
     ghost use Rattle.std.specs.Prelude.{◌≡◌};
@@ -61,12 +73,5 @@ impl<T: Drop> Clone for Shared<T> {
     fn clone(&self) -> Result<Self, AllocError> {
         let owner = Arc::try_clone(&self.owner)?;
         Ok(Shared { owner })
-    }
-}
-
-/// A page that holds it is copied without copying the value.
-impl<T: Drop> Kept for Shared<T> {
-    fn kept(&self) -> Result<Self, AllocError> {
-        self.clone()
     }
 }

@@ -52,7 +52,7 @@ pub struct Select {
 }
 
 impl Equal {
-    /// A deep copy.
+    /// An equal one, which shares its lists and texts with this one.
     pub fn copy(&self) -> Result<Equal, AllocError>
         ensures { IfOk result (λ copy. copy ≡ self.now) }
     {
@@ -61,7 +61,7 @@ impl Equal {
 }
 
 impl Change {
-    /// A deep copy.
+    /// An equal one, which shares its lists and texts with this one.
     pub fn copy(&self) -> Result<Change, AllocError>
         ensures { IfOk result (λ copy. copy ≡ self.now) }
     {
@@ -83,7 +83,7 @@ impl Write {
         }
     }
 
-    /// A deep copy.
+    /// An equal statement, which shares its lists with this one.
     pub fn copy(&self) -> Result<Write, AllocError>
         ensures { IfOk result (λ copy. copy ≡ self.now) }
     {
@@ -92,7 +92,7 @@ impl Write {
 }
 
 impl Select {
-    /// A deep copy.
+    /// An equal statement, which shares its lists with this one.
     pub fn copy(&self) -> Result<Select, AllocError>
         ensures { IfOk result (λ copy. copy ≡ self.now) }
     {

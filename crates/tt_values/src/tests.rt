@@ -1,4 +1,4 @@
-ghost use Rattle.std.specs.Prelude.{IsSome};
+ghost use Rattle.std.specs.Prelude.{◌≡◌, IsSome};
 ghost use Rattle.tt_values.specs.Row.{first_int};
 
 mod calls;
@@ -9,7 +9,14 @@ use std::alloc::Global;
 use std::process::Abort;
 
 fn text(rt: &impl Abort, alloc: Global, words: &str) -> Text {
-    Text::new(String::from_str(alloc, words).expect(rt, "memory"))
+    let words = String::from_str(alloc, words).expect(rt, "memory");
+    Text::new(alloc, words).expect(rt, "memory")
+}
+
+fn items<T: Drop>(rt: &impl Abort, alloc: Global, list: Vec<T>) -> Items<T>
+    ensures { result ≡ list.items }
+{
+    Items::new(alloc, list).expect(rt, "memory")
 }
 
 fn column(rt: &impl Abort, alloc: Global, name: &str, kind: Kind) -> Column {
@@ -25,7 +32,7 @@ fn def(rt: &impl Abort, alloc: Global) -> TableDef {
     let id = column(rt, alloc, "id", Kind::Int);
     let owner = column(rt, alloc, "owner", Kind::Text);
     TableDef {
-        columns: Items::new(vec![in alloc; id, owner].expect(rt, "memory")),
+        columns: items(rt, alloc, vec![in alloc; id, owner].expect(rt, "memory")),
     }
 }
 
@@ -40,7 +47,11 @@ fn row(rt: &impl Abort, alloc: Global, id: i64, owner: &str) -> Row
 {
     let owner = Value::Text(text(rt, alloc, owner));
     Row {
-        values: Items::new(vec![in alloc; Value::Int(id), owner].expect(rt, "memory")),
+        values: items(
+            rt,
+            alloc,
+            vec![in alloc; Value::Int(id), owner].expect(rt, "memory"),
+        ),
     }
 }
 

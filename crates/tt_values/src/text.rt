@@ -1,30 +1,34 @@
-ghost use Rattle.std.specs.Prelude.{◌≡◌, ◌==◌, length};
+ghost use Rattle.std.specs.Prelude.{◌≡◌, ◌==◌, length, IfOk};
 ghost use Rattle.std.specs.String.{string_bytes, string_len};
 
-use std::alloc::AllocError;
+use std::alloc::{AllocError, Global};
 use std::marker::Model;
+use std::sync::Arc;
 
-/// A text in UTF-8, as a value of a row or a name. Contracts see its bytes.
+/// A text in UTF-8, as a value of a row or a name. It never changes, and several owners share it.
+/// Contracts see its bytes.
 #[derive(Debug, Drop)]
 pub struct Text {
-    text: String,
+    text: Arc<String>,
 }
 
 impl Model for Text {
     ghost use Rattle.std.specs.Prelude.{List, ℕ};
+    ghost use Rattle.std.specs.Arc.{arc_value};
     ghost use Rattle.std.specs.String.{string_bytes};
 
     ghost Value = { List ℕ };
 
-    ghost view = { λ t. string_bytes t.text };
+    ghost view = { λ t. string_bytes (arc_value t.text) };
 }
 
 impl Text {
-    /// Allocates nothing.
-    pub fn new(text: String) -> Self
-        ensures { result ≡ string_bytes text }
+    /// Moves the string to memory that further owners can share, and is its first owner.
+    pub fn new(alloc: Global, text: String) -> Result<Self, AllocError>
+        ensures { IfOk result (λ t. t ≡ string_bytes text) }
     {
-        Text { text }
+        let text = Arc::new(alloc, text)?;
+        Ok(Text { text })
     }
 
     pub fn as_str(&self) -> &str
@@ -45,13 +49,6 @@ impl Text {
     {
         self.text.is_empty()
     }
-
-    /// Allocates nothing.
-    pub fn into_string(self) -> String
-        ensures { string_bytes result ≡ self }
-    {
-        self.text
-    }
 }
 
 impl PartialEq for Text {
@@ -64,17 +61,18 @@ impl PartialEq for Text {
     ghost laws = { cmp.partial_equiv_from_equiv nat_list_eq_equiv };
 
     fn eq(&self, other: &Self) -> bool {
-        self.text == other.text
+        self.as_str() == other.as_str()
     }
 }
 
+/// A clone is a further owner of the same text.
 impl Clone for Text {
     ghost use Rattle.std.specs.Prelude.{◌≡◌};
 
     ghost is_clone = { λ text copy. copy ≡ text };
 
     fn clone(&self) -> Result<Self, AllocError> {
-        let text = self.text.clone()?;
+        let text = Arc::try_clone(&self.text)?;
         Ok(Text { text })
     }
 }

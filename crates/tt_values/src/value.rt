@@ -40,7 +40,7 @@ impl Value {
         }
     }
 
-    /// A deep copy.
+    /// An equal value, which shares its text with this one.
     pub fn copy(&self) -> Result<Value, AllocError>
         ensures { IfOk result (λ copy. copy ≡ self.now) }
     {

@@ -23,9 +23,9 @@ use Rattle.tt_versions.specs.Versions.{started_by, started_before, visible_row, 
 use Rattle.tt_versions.specs.Lineage.{unwritten, chain_on, with_write_on, split_back}
 use Rattle.tt_versions.specs.Sides.{LineagesByKey, lineage_at, side_of, unsplit_if, UnsplitsKeys}
 use Rattle.tt_versions.specs.Digest.{digest_of}
-use Rattle.tt_versions.specs.Index.{KeySet, has_key, keys_under, KeepsKeys, ColumnLists, ColumnsList, IndexState, ListsRow, KeepsRows, CoversEqual, CoversMatches, IsKeyOfMatches, ChainHas, LineageHas, ListsTable, ListsTableBut, HaveKeysIn, HaveKey}
+use Rattle.tt_versions.specs.Index.{KeySet, has_key, keys_under, KeepsKeys, ColumnLists, ColumnsList, IndexState, ListsRow, KeepsRows, IsStored, CoversEqual, CoversMatches, IsKeyOfMatches, ChainHas, LineageHas, ListsTable, ListsTableBut, HaveKeysIn, HaveKey}
 use Rattle.tt_versions.proofs.EntriesLemmas.{first, second}
-use Rattle.tt_versions.proofs.SidesLemmas.{same_key, lineage_at-put}
+use Rattle.tt_versions.proofs.SidesLemmas.{same_key, lineage_at-put, is_split-write}
 
 -- ---- sets of keys
 
@@ -112,9 +112,37 @@ ColumnsList-take cs n c key row there h last =
     let next : suc n ≡ n + 1 = omega arith in
     subst (λ m. ColumnsList (take m cs) key row) next (ColumnsList-take_suc cs n c key row there h last)
 
+-- ---- rows with the same values
+
+ColumnLists-same : (c : IndexedColumn) (key : ℤ) (old new : Row) → slice_get old.values c.position ≡ slice_get new.values c.position → ColumnLists c key old → ColumnLists c key new
+ColumnLists-same c key old new same h = subst (λ o. IfSome o (λ v. IsTrue (has_key (keys_under (digest_of v) c.sets) key))) same h
+
+-- one more column has the same value in both rows
+pub ColumnsList-take_same : (cs : List IndexedColumn) (n : ℕ) (c : IndexedColumn) (key : ℤ) (old new : Row) → slice_get cs n ≡ Some c → slice_get old.values c.position ≡ slice_get new.values c.position
+    → (ColumnsList cs key old → ColumnsList (take n cs) key new) → ColumnsList cs key old → ColumnsList (take (n + 1) cs) key new
+ColumnsList-take_same cs n c key old new there same so_far h =
+    ColumnsList-take cs n c key new there (so_far h) (ColumnLists-same c key old new same (ColumnsList-at cs n c key old there h))
+
+first_int-same : (vs ws : List Value) → slice_get vs 0 ≡ slice_get ws 0 → first_int vs ≡ first_int ws
+first_int-same [] [] same = refl
+first_int-same [] (w ∷ ws) same = cc
+first_int-same (v ∷ vs) [] same = cc
+first_int-same (values.Int m ∷ vs) (values.Int n ∷ ws) same = cc
+first_int-same (values.Int m ∷ vs) (values.Text t ∷ ws) same = cc
+first_int-same (values.Text s ∷ vs) (values.Int n ∷ ws) same = cc
+first_int-same (values.Text s ∷ vs) (values.Text t ∷ ws) same = refl
+
+-- an index lists a row that has the same values as one that it lists
+pub ListsRow-same : (index : IndexState) (key : ℤ) (old new : Row) → (ColumnsList index.columns key old → ColumnsList index.columns key new)
+    → (IsTrue index.is_keyed → slice_get old.values 0 ≡ slice_get new.values 0) → ListsRow index key old → ListsRow index key new
+ListsRow-same index key old new columns first h = record {
+  columns = columns h.columns;
+  first = λ keyed. sym (first_int-same old.values new.values (first keyed)) ∙ h.first keyed;
+}
+
 -- ---- equalities
 
-equal_values : (v w : Value) → is_same v w ≡ true → v ≡ w
+pub equal_values : (v w : Value) → is_same v w ≡ true → v ≡ w
 equal_values (values.Int m) (values.Int n) h = ap values.Int ((Decides-int_eq m n).0 h)
 equal_values (values.Int m) (values.Text t) h = cc
 equal_values (values.Text s) (values.Int n) h = cc
@@ -190,7 +218,7 @@ chain_on-has P Next l h = by l.next h.1
     by (Some vs) g = g
 
 -- a row that a side shows has the property
-visible_row-has : (P : Row → Type 0) (side : Side) (l : Lineage) (time : ℕ) → LineageHas P l → IfSome (visible_row time (chain_on side l)) P
+pub visible_row-has : (P : Row → Type 0) (side : Side) (l : Lineage) (time : ℕ) → LineageHas P l → IfSome (visible_row time (chain_on side l)) P
 visible_row-has P side l time h = last_row-has P None (started_by time (chain_on side l)) tt (ChainHas-filter P (λ v. nat_le v.start time) (chain_on side l) (chain_on-has P side l h))
 
 pub LineageHas-map : (P Q : Row → Type 0) → ((row : Row) → P row → Q row) → (l : Lineage) → LineageHas P l → LineageHas Q l
@@ -234,7 +262,7 @@ pub ListsTable-unsplit : (side : Side) (keys : KeySet) (index : IndexState) (t a
 ListsTable-unsplit side keys index t after h listed q =
     subst (λ l. LineageHas (ListsRow index q) l) (sym (h q)) (LineageHas-unsplit_if (ListsRow index q) (is_some (sorted.find int_cmp q keys)) side (lineage_at t q) (listed q))
 
-shown : (P : Row → Type 0) (o : Option Row) (row : Row) → o ≡ Some row → IfSome o P → P row
+pub shown : (P : Row → Type 0) (o : Option Row) (row : Row) → o ≡ Some row → IfSome o P → P row
 shown P None row is h = cc
 shown P (Some r) row is h = let same : r ≡ row = cc in subst P same h
 
@@ -247,3 +275,14 @@ pub HaveKey-covers : (index : IndexState) (only : ℤ) (equals : List Equal) (t 
 unfolding side_of
 HaveKey-covers index only equals t listed covers side key time row is m =
     covers key row (shown (ListsRow index key) (visible_row time (chain_on side (lineage_at t key))) row is (visible_row-has (ListsRow index key) side (lineage_at t key) time (listed key))) m
+
+-- a current write, once the index lists its row
+pub IsStored-write : (key : ℤ) (split_keys : KeySet) (before after : IndexState) (t : LineagesByKey) (row : Option Row) (time : ℕ)
+    → IsStored split_keys before t → KeepsRows before after → IfSome row (ListsRow after key)
+    → IsStored split_keys after (sorted.put int_cmp key (with_write_on Current row time (lineage_at t key)) t)
+IsStored-write key split_keys before after t row time stored keeps lists = record {
+  split = λ q. stored.split q ∙ (λ i. sym (is_split-write t key row time) i q);
+  listed = ListsTable-put key after t (with_write_on Current row time (lineage_at t key)) (ListsTableBut-taken key before after t t stored.listed keeps (λ l. refl))
+      (LineageHas-write (ListsRow after key) Current row time (lineage_at t key)
+      (LineageHas-map (ListsRow before key) (ListsRow after key) (λ r. keeps key r) (lineage_at t key) (stored.listed key)) lists);
+}

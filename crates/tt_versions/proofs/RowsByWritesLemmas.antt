@@ -1,5 +1,5 @@
 -- What one more row write, or a rollback, does to the rows that a list of row writes leaves.
-use Rattle.std.proofs.Common.{◌≡◌, ℕ, zero, suc, ◌<◌, ◌≤◌, ℤ, Bool, true, false, cond, not, ◌&&◌, nat_le, ◌==◌, List, [], ◌∷◌, ◌++◌, filter, fold, Option, None, if◌then◌else◌, refl, sym, ap, ◌∙◌, arith, append-nil}
+use Rattle.std.proofs.Common.{◌≡◌, ℕ, zero, suc, ◌<◌, ◌≤◌, ℤ, Bool, true, false, cond, not, ◌&&◌, nat_le, ◌==◌, List, [], ◌∷◌, ◌++◌, filter, fold, Option, None, if◌then◌else◌, refl, sym, ap, ◌∙◌, arith, append-nil, append_assoc}
 use Rattle.std.proofs.lemmas.Bool.Decides.{nat_tests}
 use Rattle.std.proofs.lemmas.List.Elements.{filter-append}
 use Rattle.std.proofs.lemmas.List.Sums.{fold-append}
@@ -7,8 +7,8 @@ use Rattle.std.specs.Ordering.{int_eq}
 use Rattle.tt_values.specs.declared.row.Row.{Row}
 use Rattle.tt_values.specs.Content.{RowWrite, Content, content_at, row_at, with_row_write, empty_content, up_to, last_row_written_or}
 use Rattle.tt_values.proofs.LawProofs.{row_write_changes_one_row, last_row_write_counts}
-use Rattle.tt_versions.specs.Sides.{RowsOverTime, written_from, rolled_back_from, just_before}
-use Rattle.tt_versions.specs.RowsByWrites.{rows_by, without_row_writes, AddsRowWrite, DropsRowWrites}
+use Rattle.tt_versions.specs.Sides.{all_written_from, RowsOverTime, written_from, rolled_back_from, just_before}
+use Rattle.tt_versions.specs.RowsByWrites.{as_row_writes, AddsRowWritesOf, rows_by, without_row_writes, AddsRowWrite, DropsRowWrites}
 use Rattle.tt_versions.proofs.VersionsLemmas.{early, late, filter-twice}
 use Rattle.tt_versions.proofs.SidesLemmas.{same_key}
 
@@ -102,6 +102,15 @@ rows_by-without_row_writes table ws key time = λ i q u. (by q u (int_eq q key) 
 -- a side on which a row was written follows its list of row writes
 pub adds_row_write : (before after : RowsOverTime) (key : ℤ) (row : Option Row) (time : ℕ) → after ≡ written_from key row time before → AddsRowWrite before after key row time
 adds_row_write before after key row time is table ws follows = is ∙ ap (written_from key row time) follows ∙ rows_by-append table ws key row time
+
+-- so does one on which several rows were written, one after another
+pub adds_row_writes : (es : List (ℤ × Option Row)) (before after : RowsOverTime) (time : ℕ) → after ≡ all_written_from es time before → AddsRowWritesOf before after es time
+adds_row_writes [] before after time is table ws follows = is ∙ follows ∙ ap (rows_by table) (sym (append-nil ws))
+adds_row_writes (e ∷ es) before after time is table ws follows =
+    let w : RowWrite = record { time = time; table = table; key = e.0; row = e.1 } in
+    adds_row_writes es (written_from e.0 e.1 time before) after time is table (ws ++ w ∷ [])
+    (adds_row_write before (written_from e.0 e.1 time before) e.0 e.1 time refl table ws follows)
+    ∙ ap (rows_by table) (append_assoc ws (w ∷ []) (as_row_writes time table es))
 
 -- and so does one on which a row was rolled back
 pub drops_row_writes : (before after : RowsOverTime) (key : ℤ) (time : ℕ) → after ≡ rolled_back_from key time before → DropsRowWrites before after key time

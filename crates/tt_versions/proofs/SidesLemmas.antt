@@ -1,5 +1,5 @@
 -- What a change of one row does to the sides of a table.
-use Rattle.std.proofs.Common.{◌≡◌, ℕ, ℤ, Bool, true, false, cond, ◌&&◌, ◌||◌, nat_le, List, Option, None, Some, is_some, if◌then◌else◌, Less, Greater, Equal, refl, sym, ap, ◌∙◌}
+use Rattle.std.proofs.Common.{◌≡◌, ℕ, ℤ, Bool, true, false, cond, ◌&&◌, ◌||◌, nat_le, List, Option, None, Some, is_some, if◌then◌else◌, Less, Greater, Equal, refl, sym, ap, ◌∙◌, [], ◌∷◌, not}
 use Rattle.std.proofs.lemmas.Int.{to_z-of_z}
 use Rattle.std.specs.declared.cmp.Ordering.{Ordering}
 use Rattle.std.specs.Option.{unwrap_or}
@@ -15,7 +15,7 @@ use Rattle.tt_versions.specs.declared.lineage.Lineage.{Lineage}
 use Rattle.tt_versions.specs.Versions.{visible_row}
 use Rattle.tt_versions.specs.Versions as versions
 use Rattle.tt_versions.specs.Lineage.{unwritten, chain_on, with_write_on, split_back}
-use Rattle.tt_versions.specs.Sides.{LineagesByKey, lineage_at, side_of, current_of, next_of, is_split, written_from, just_before, rolled_back_from, with_key}
+use Rattle.tt_versions.specs.Sides.{LineagesByKey, lineage_at, side_of, current_of, next_of, is_split, written_from, all_written_from, whole_among, with_writes, just_before, rolled_back_from, with_key}
 use Rattle.tt_versions.proofs.VersionsLemmas.{visible_row-with_write, visible_row-without_writes_from}
 
 tied : (o : Ordering) → is_eq o ≡ true → o ≡ Equal
@@ -135,6 +135,41 @@ next_of-whole t key whole = λ i u. by (lineage_at t key).next whole u i
     by : (n : Option (List Version)) → is_some n ≡ false → (u : ℕ) → visible_row u (unwrap_or n (lineage_at t key).current) ≡ visible_row u (lineage_at t key).current
     by None e u = refl
     by (Some n) e u = cc
+
+-- several current writes, one after another: the current side
+pub current_of-with_writes : (es : List (ℤ × Option Row)) (time : ℕ) (t : LineagesByKey) → side_of (with_writes es time t) Current ≡ all_written_from es time (current_of t)
+current_of-with_writes [] time t = refl
+current_of-with_writes (e ∷ es) time t =
+    current_of-with_writes es time (sorted.put int_cmp e.0 (with_write_on Current e.1 time (lineage_at t e.0)) t)
+    ∙ ap (all_written_from es time) (current_of-write t e.0 e.1 time)
+
+-- the split keys
+pub is_split-with_writes : (es : List (ℤ × Option Row)) (time : ℕ) (t : LineagesByKey) → is_split (with_writes es time t) ≡ is_split t
+is_split-with_writes [] time t = refl
+is_split-with_writes (e ∷ es) time t =
+    is_split-with_writes es time (sorted.put int_cmp e.0 (with_write_on Current e.1 time (lineage_at t e.0)) t) ∙ is_split-write t e.0 e.1 time
+
+-- and the next side, which they change where a row isn't split
+pub next_of-with_writes : (es : List (ℤ × Option Row)) (time : ℕ) (t : LineagesByKey)
+    → side_of (with_writes es time t) Next ≡ all_written_from (whole_among (is_split t) es) time (next_of t)
+next_of-with_writes [] time t = refl
+next_of-with_writes (e ∷ es) time t =
+    next_of-with_writes es time after
+    ∙ ap (λ split. all_written_from (whole_among split es) time (next_of after)) (is_split-write t e.0 e.1 time)
+    ∙ ap (all_written_from (whole_among (is_split t) es) time) (next_of-write t e.0 e.1 time)
+    ∙ by (is_split t e.0)
+  where
+    after : LineagesByKey
+    after = sorted.put int_cmp e.0 (with_write_on Current e.1 time (lineage_at t e.0)) t
+
+    by : (b : Bool)
+        → all_written_from (whole_among (is_split t) es) time (if b then side_of t Next else written_from e.0 e.1 time (next_of t))
+        ≡ all_written_from (cond (not b) (e ∷ whole_among (is_split t) es) (whole_among (is_split t) es)) time (next_of t)
+    by true = refl
+    by false = refl
+
+-- what writing several rows rests on
+pub ruleset writes_all = (current_of-with_writes, next_of-with_writes, is_split-with_writes)
 
 -- what reading one row rests on
 pub ruleset reads = (to_z-of_z, visible_row-unwritten, next_of-whole)

@@ -1,5 +1,5 @@
 -- The rows of one table that a list of row writes leaves, and how a side follows the list.
-use Rattle.std.specs.Prelude.{◌≡◌, ℕ, ℤ, not, ◌&&◌, nat_le, ◌==◌, List, [], ◌∷◌, ◌++◌, filter, Option}
+use Rattle.std.specs.Prelude.{◌≡◌, ℕ, ℤ, not, ◌&&◌, nat_le, ◌==◌, List, [], ◌∷◌, ◌++◌, filter, map, Option}
 use Rattle.std.specs.Ordering.{int_eq}
 use Rattle.tt_values.specs.declared.row.Row.{Row}
 use Rattle.tt_values.specs.Content.{RowsByKey, RowWrite, content_at, row_at}
@@ -17,6 +17,15 @@ without_row_writes table key time ws = filter (λ w. not ((table == w.table) && 
 abbrev pub AddsRowWrite : RowsOverTime → RowsOverTime → ℤ → Option Row → ℕ → Type 0
 AddsRowWrite before after key row time = (table : ℕ) (ws : List RowWrite)
     → before ≡ rows_by table ws → after ≡ rows_by table (ws ++ record { time = time; table = table; key = key; row = row } ∷ [])
+
+-- rows that are written, as row writes of a table at a time
+abbrev pub as_row_writes : ℕ → ℕ → List (ℤ × Option Row) → List RowWrite
+as_row_writes time table rows = map (λ e. record { time = time; table = table; key = e.0; row = e.1 }) rows
+
+-- if the rows before are those by some row writes, the rows after are those by these and one more for each of a list
+abbrev pub AddsRowWritesOf : RowsOverTime → RowsOverTime → List (ℤ × Option Row) → ℕ → Type 0
+AddsRowWritesOf before after rows time = (table : ℕ) (ws : List RowWrite)
+    → before ≡ rows_by table ws → after ≡ rows_by table (ws ++ as_row_writes time table rows)
 
 -- if the rows before are those by some row writes, the rows after are those by these without the ones for a key from a time on
 abbrev pub DropsRowWrites : RowsOverTime → RowsOverTime → ℤ → ℕ → Type 0

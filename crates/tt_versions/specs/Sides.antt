@@ -1,5 +1,5 @@
 -- The two sides of a table: for each key and time, the row.
-use Rattle.std.specs.Prelude.{◌≡◌, ℕ, zero, suc, ℤ, Bool, false, ◌&&◌, ◌||◌, nat_le, List, [], IsTrue, Option, None, is_some, map, if◌then◌else◌}
+use Rattle.std.specs.Prelude.{◌≡◌, ℕ, zero, suc, ℤ, Bool, false, ◌&&◌, ◌||◌, nat_le, List, [], IsTrue, Option, None, is_some, map, if◌then◌else◌, ◌∷◌, filter, not}
 use Rattle.std.specs.Borrow.{Bor}
 use Rattle.std.specs.Option.{unwrap_or}
 use Rattle.std.specs.Ordering.{int_cmp, int_eq}
@@ -10,7 +10,7 @@ use Rattle.tt_versions.specs.declared.side.Side.{Side}
 use Rattle.tt_versions.specs.declared.side.Side.TheVariants.{Current, Next}
 use Rattle.tt_versions.specs.declared.lineage.Lineage.{Lineage}
 use Rattle.tt_versions.specs.Versions.{visible_row}
-use Rattle.tt_versions.specs.Lineage.{unwritten, chain_on, unsplit}
+use Rattle.tt_versions.specs.Lineage.{unwritten, chain_on, with_write_on, unsplit}
 
 -- the lineages of a table, by rising key
 abbrev pub LineagesByKey : Type 0
@@ -78,6 +78,20 @@ no_rows key time = None
 -- a side, once a key has that row, or none, from a time on
 abbrev pub written_from : ℤ → Option Row → ℕ → RowsOverTime → RowsOverTime
 written_from key row time rows q u = if int_eq q key && nat_le time u then row else rows q u
+
+-- a side, once each key of a list has its row, or none, from a time on, one after another
+abbrev pub all_written_from : List (ℤ × Option Row) → ℕ → RowsOverTime → RowsOverTime
+all_written_from [] time rows = rows
+all_written_from (e ∷ es) time rows = all_written_from es time (written_from e.0 e.1 time rows)
+
+-- those of some rows to be written whose keys aren't split
+abbrev pub whole_among : (ℤ → Bool) → List (ℤ × Option Row) → List (ℤ × Option Row)
+whole_among split es = filter (λ e. not (split e.0)) es
+
+-- a table, once each key of a list has its row, or none, from a time on, by current writes
+abbrev pub with_writes : List (ℤ × Option Row) → ℕ → LineagesByKey → LineagesByKey
+with_writes [] time t = t
+with_writes (e ∷ es) time t = with_writes es time (sorted.put int_cmp e.0 (with_write_on Current e.1 time (lineage_at t e.0)) t)
 
 -- the row just before a time. Before time 0 there is none
 abbrev pub just_before : ℕ → (ℕ → Option Row) → Option Row

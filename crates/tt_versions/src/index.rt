@@ -1,4 +1,4 @@
-ghost use Rattle.std.specs.Prelude.{◌≡◌, ℤ, IsTrue, IfOk, IfSome, Some};
+ghost use Rattle.std.specs.Prelude.{◌≡◌, ℤ, IsTrue, IfOk, IfSome, Some, slice_get};
 ghost use Rattle.tt_values.specs.Row.{first_int};
 ghost use Rattle.tt_values.specs.Matches.{holds};
 ghost use Rattle.tt_versions.specs.Index.{ColumnsList, ListsRow, KeepsRows, CoversEqual, CoversMatches, IsKeyOfMatches};
@@ -80,6 +80,15 @@ impl Index {
         columns_have_row(&self.columns, key, row) && (!self.is_keyed || begins_with(row, key))
     }
 
+    /// Whether both rows have the same values in the columns of the index, so that it lists the new
+    /// one where it lists the old one.
+    pub(crate) fn has_same_values(&self, old: &Row, new: &Row) -> bool
+        ensures { IsTrue result → ((key : ℤ) → ListsRow self.now key old.now
+            → ListsRow self.now key new.now) }
+    {
+        (!self.is_keyed || same_value(0, old, new)) && same_values(&self.columns, old, new)
+    }
+
     fn with_new_row(self, key: i64, row: &Row) -> Result<Index, AllocError>
         ensures keeps { IfOk result (KeepsRows self) }
         ensures lists { IfOk result (λ i. ListsRow i key row.now) }
@@ -156,6 +165,34 @@ fn columns_have_row(columns: &[IndexedColumn], key: i64, row: &Row) -> bool
         }
     }
     true
+}
+
+/// Whether both rows have the same values in these columns.
+fn same_values(columns: &[IndexedColumn], old: &Row, new: &Row) -> bool
+    ensures { IsTrue result → ((key : ℤ) → ColumnsList columns.now key old.now
+        → ColumnsList columns.now key new.now) }
+{
+    for column in columns {
+        if !same_value(column.position, old, new) {
+            return false;
+        }
+    }
+    true
+}
+
+/// Whether both rows have the same value at a position. False where one has none there.
+#[tactic(auto, using(crate::proofs::IndexLemmas::equal_values))]
+fn same_value(position: u16, old: &Row, new: &Row) -> bool
+    ensures { IsTrue result
+        → slice_get old.now.values position ≡ slice_get new.now.values position }
+{
+    let Some(old) = old.values.get(usize::from(position)) else {
+        return false;
+    };
+    let Some(new) = new.values.get(usize::from(position)) else {
+        return false;
+    };
+    old.is_same(new)
 }
 
 /// The columns, once each lists the row too.

@@ -94,9 +94,9 @@ fn add_key(
     if has_key_under(sets, digest, key) {
         return Ok(());
     }
-    let mut keys = take_value(sets, digest, PagedMap::new(alloc))?;
+    let (mut keys, is_there) = take_value(sets, digest, PagedMap::new(alloc))?;
     keys.put(key, ())?;
-    put_value(sets, digest, keys)?;
+    put_value(sets, digest, keys, is_there)?;
     Ok(())
 }
 

@@ -9,6 +9,7 @@ mod indexed_column;
 pub mod laws;
 mod lineage;
 mod lineages;
+mod pace;
 mod side;
 mod table;
 mod taking;

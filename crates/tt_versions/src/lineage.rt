@@ -13,7 +13,7 @@ use tt_values::{Equal, Row, Shared, matches};
 pub(crate) struct Lineage {
     current: VersionChain,
     /// The next side's own chain, where the row is split.
-    next: Option<VersionChain>,
+    next: Option<Shared<VersionChain>>,
 }
 
 impl Lineage {
@@ -71,7 +71,7 @@ impl Lineage {
         ensures { result.now ≡ chain_on Side.Next self.now }
     {
         match &self.next {
-            Some(next) => next,
+            Some(next) => next.get(),
             None => &self.current,
         }
     }
@@ -80,8 +80,9 @@ impl Lineage {
     /// both sides share where the row isn't split, on the next one in a chain of its own.
     pub(crate) fn with_write(
         self,
+        alloc: Global,
         side: Side,
-        row: Option<Shared<Row>>,
+        row: Option<Row>,
         time: u64,
     ) -> Result<Lineage, AllocError>
         ensures { IfOk result (λ l. l ≡ with_write_on side row time self) }
@@ -97,6 +98,7 @@ impl Lineage {
             Side::Next => {
                 let (current, next) = self.both_chains()?;
                 let next = next.with_write(row, time)?;
+                let next = Shared::new(alloc, next)?;
                 Ok(Lineage {
                     current,
                     next: Some(next),
@@ -106,11 +108,12 @@ impl Lineage {
     }
 
     /// The row gets a next side of its own, rolled back to before the time.
-    pub(crate) fn split_back(self, time: u64) -> Result<Lineage, AllocError>
+    pub(crate) fn split_back(self, alloc: Global, time: u64) -> Result<Lineage, AllocError>
         ensures { IfOk result (λ l. l ≡ split_back time self) }
     {
         let (current, next) = self.both_chains()?;
         let next = next.without_writes_from(time)?;
+        let next = Shared::new(alloc, next)?;
         Ok(Lineage {
             current,
             next: Some(next),
@@ -124,7 +127,10 @@ impl Lineage {
     {
         let Lineage { current, next } = self;
         match next {
-            Some(next) => Ok((current, next)),
+            Some(next) => {
+                let next = next.into_value()?;
+                Ok((current, next))
+            }
             None => {
                 let next = current.share()?;
                 Ok((current, next))
@@ -148,7 +154,7 @@ impl Kept for Lineage {
     fn kept(&self) -> Result<Self, AllocError> {
         let current = self.current.share()?;
         let next = match &self.next {
-            Some(next) => Some(next.share()?),
+            Some(next) => Some(next.clone()?),
             None => None,
         };
         Ok(Lineage { current, next })

@@ -1,10 +1,11 @@
-ghost use Rattle.std.specs.Prelude.{◌≡◌, [], IsTrue, IfOk, IfSome, OnOk};
+ghost use Rattle.std.specs.Prelude.{◌≡◌, [], ℤ, IsTrue, IsSome, IfOk, IfSome, OnOk};
 ghost use Rattle.std.specs.Option.{option_copied};
 ghost use Rattle.std.specs.Ordering.{int_cmp};
 ghost use Rattle.std.specs.FinMap.Entries.{find, put, is_sorted};
 ghost use Rattle.tt_versions.specs.declared.lineage.Lineage.{Lineage};
-ghost use Rattle.tt_versions.specs.Index.{ListsRow, KeepsRows, LineageHas, ListsTableBut, HaveKey, HaveKeysIn};
-ghost use Rattle.tt_versions.specs.Sides.{lineage_at, HasSplitKeysBut, MarksKey, UnsplitsKeys, UnsplitsRow};
+ghost use Rattle.tt_versions.specs.Lineage.{with_write_on};
+ghost use Rattle.tt_versions.specs.Index.{IsStored, ListsRow, KeepsRows, LineageHas, ListsTableBut, HaveKey, HaveKeysIn};
+ghost use Rattle.tt_versions.specs.Sides.{lineage_at, with_writes, HasSplitKeysBut, MarksKey, UnsplitsKeys, UnsplitsRow};
 
 use crate::index::Index;
 use crate::indexed_column::{IndexedColumn, KeySet};
@@ -13,8 +14,9 @@ use crate::side::Side;
 use crate::taking::{put_value, take_value};
 use std::alloc::{AllocError, Global};
 use std::marker::Model;
+use std::mem;
 use tt_pages::{MapIter, PagedMap};
-use tt_values::{Equal, Row, Shared};
+use tt_values::{Equal, Row};
 
 /// A map from the keys of rows to their lineages, whose copies share their pages. Contracts see its
 /// entries by rising key.
@@ -39,7 +41,7 @@ impl Model for Lineages {
 
 impl Lineages {
     ghost use Rattle.tt_versions.specs.Lineage.{with_write_on, split_back};
-    ghost use Rattle.tt_versions.specs.Sides.{UnsplitsRows};
+    ghost use Rattle.tt_versions.specs.Sides.{UnsplitsRows, with_writes};
 
     /// No lineages, which are to be found by their keys and by their values in these columns.
     pub(crate) fn new(alloc: Global, columns: Vec<IndexedColumn>) -> Lineages
@@ -101,7 +103,7 @@ impl Lineages {
         self,
         side: Side,
         key: i64,
-        row: Option<Shared<Row>>,
+        row: Option<Row>,
         time: u64,
     ) -> Result<Lineages, AllocError>
         ensures { IfOk result (λ m.
@@ -112,12 +114,35 @@ impl Lineages {
             alloc,
             mut entries,
             split_keys,
-            index,
+            mut index,
         } = self;
-        let index = with_row(index, key, &row)?;
-        let lineage = take_lineage(alloc, &mut entries, key)?;
-        let lineage = lineage.with_write(side, row, time)?;
-        with_lineage(alloc, entries, split_keys, index, key, lineage)
+        let (lineage, is_there) = take_lineage(alloc, &mut entries, key)?;
+        list_row(alloc, &mut index, &lineage, side, key, &row, time)?;
+        let lineage = lineage.with_write(alloc, side, row, time)?;
+        with_lineage(alloc, entries, split_keys, index, key, lineage, is_there)
+    }
+
+    /// The rows with these keys, or none, are written at the time on the current side.
+    pub(crate) fn with_writes(
+        self,
+        rows: Vec<(i64, Option<Row>)>,
+        time: u64,
+    ) -> Result<Lineages, AllocError>
+        ensures { IfOk result (λ m. m ≡ with_writes rows.items time self) }
+    {
+        let Lineages {
+            alloc,
+            mut entries,
+            split_keys,
+            mut index,
+        } = self;
+        write_rows(alloc, &mut entries, &split_keys, &mut index, rows, time)?;
+        Ok(Lineages {
+            alloc,
+            entries,
+            split_keys,
+            index,
+        })
     }
 
     /// The row with the key is split, and its next side is rolled back to before the time.
@@ -131,9 +156,9 @@ impl Lineages {
             split_keys,
             index,
         } = self;
-        let lineage = take_lineage(alloc, &mut entries, key)?;
-        let lineage = lineage.split_back(time)?;
-        with_lineage(alloc, entries, split_keys, index, key, lineage)
+        let (lineage, is_there) = take_lineage(alloc, &mut entries, key)?;
+        let lineage = lineage.split_back(alloc, time)?;
+        with_lineage(alloc, entries, split_keys, index, key, lineage, is_there)
     }
 
     /// Each lineage is unsplit: both sides show what this one shows.
@@ -156,28 +181,114 @@ impl Lineages {
     }
 }
 
-/// Takes the lineage of a row out of the map, and leaves an empty one.
+/// Writes rows, or none, on the current side. The index lists them then.
+fn write_rows(
+    alloc: Global,
+    entries: &mut PagedMap<Lineage>,
+    split_keys: &KeySet,
+    index: &mut Index,
+    rows: Vec<(i64, Option<Row>)>,
+    time: u64,
+) -> Result<(), AllocError>
+    requires { IsStored split_keys.now index.old entries.old }
+    ensures entries { OnOk result (entries.new ≡ with_writes rows.items time entries.old) }
+    ensures stored { OnOk result (IsStored split_keys.now index.new entries.new) }
+{
+    for (key, row) in rows {
+        write_row(alloc, entries, split_keys, index, key, row, time)?;
+    }
+    Ok(())
+}
+
+/// Writes a row, or none, on the current side. The index lists it then.
+fn write_row(
+    alloc: Global,
+    entries: &mut PagedMap<Lineage>,
+    _split_keys: &KeySet,
+    index: &mut Index,
+    key: i64,
+    row: Option<Row>,
+    time: u64,
+) -> Result<(), AllocError>
+    requires { IsStored _split_keys.now index.old entries.old }
+    ensures entries { OnOk result (
+        let lineage = with_write_on Side.Current row time (lineage_at entries.old key) in
+        entries.new ≡ put int_cmp key lineage entries.old) }
+    ensures stored { OnOk result (IsStored _split_keys.now index.new entries.new) }
+{
+    let (lineage, is_there) = take_lineage(alloc, entries, key)?;
+    list_row(alloc, index, &lineage, Side::Current, key, &row, time)?;
+    let lineage = lineage.with_write(alloc, Side::Current, row, time)?;
+    put_value(entries, key, lineage, is_there)?;
+    Ok(())
+}
+
+/// Takes the lineage of a row out of the map, and leaves an empty one. Answers whether the map has
+/// the key.
 fn take_lineage(
     alloc: Global,
     entries: &mut PagedMap<Lineage>,
     key: i64,
-) -> Result<Lineage, AllocError>
-    ensures lineage { IfOk result (λ l. l ≡ lineage_at entries.old key) }
+) -> Result<(Lineage, bool), AllocError>
+    ensures lineage { IfOk result (λ r. r.0 ≡ lineage_at entries.old key) }
+    ensures there { IfOk result (λ r. IsTrue r.1 → IsSome (find int_cmp key entries.new)) }
     ensures others { OnOk result ((l : Lineage)
         → put int_cmp key l entries.new ≡ put int_cmp key l entries.old) }
 {
-    let lineage = take_value(entries, key, Lineage::new(alloc))?;
-    Ok(lineage)
+    let (lineage, is_there) = take_value(entries, key, Lineage::new(alloc))?;
+    Ok((lineage, is_there))
 }
 
-/// The index, once it lists the row too, if there is one.
-fn with_row(index: Index, key: i64, row: &Option<Shared<Row>>) -> Result<Index, AllocError>
-    ensures keeps { IfOk result (KeepsRows index) }
-    ensures lists { IfOk result (λ i. IfSome row.now (ListsRow i key)) }
+/// Lists a row in the index, if there is one. The lineage is the one that is to get it.
+fn list_row(
+    alloc: Global,
+    index: &mut Index,
+    lineage: &Lineage,
+    side: Side,
+    key: i64,
+    row: &Option<Row>,
+    time: u64,
+) -> Result<(), AllocError>
+    requires { LineageHas (ListsRow index.old key) lineage.now }
+    ensures keeps { OnOk result (KeepsRows index.old index.new) }
+    ensures lists { OnOk result (IfSome row.now (ListsRow index.new key)) }
 {
     match row {
-        Some(row) => index.with_row(key, row.get()),
-        None => Ok(index),
+        Some(row) => list_new_row(alloc, index, lineage, side, key, row, time),
+        None => Ok(()),
+    }
+}
+
+fn list_new_row(
+    alloc: Global,
+    index: &mut Index,
+    lineage: &Lineage,
+    side: Side,
+    key: i64,
+    row: &Row,
+    time: u64,
+) -> Result<(), AllocError>
+    requires { LineageHas (ListsRow index.old key) lineage.now }
+    ensures keeps { OnOk result (KeepsRows index.old index.new) }
+    ensures lists { OnOk result (ListsRow index.new key row.now) }
+{
+    if is_listed(index, lineage, side, row, time) {
+        return Ok(());
+    }
+    let old = mem::replace(index, Index::new(alloc, Vec::new(alloc)));
+    *index = old.with_row(key, row)?;
+    Ok(())
+}
+
+/// Whether an index that lists the versions of a row lists the new one too, since the one before it
+/// has the same values.
+fn is_listed(index: &Index, lineage: &Lineage, side: Side, row: &Row, time: u64) -> bool
+    ensures { IsTrue result → ((key : ℤ) → LineageHas (ListsRow index.now key) lineage.now
+        → ListsRow index.now key row.now) }
+{
+    match lineage.at(time, side) {
+        Some(old) => index.has_same_values(old, row),
+        None => false,
     }
 }
 
@@ -189,7 +300,9 @@ fn with_lineage(
     index: Index,
     key: i64,
     lineage: Lineage,
+    is_there: bool,
 ) -> Result<Lineages, AllocError>
+    requires there { IsTrue is_there → IsSome (find int_cmp key entries) }
     requires others { HasSplitKeysBut key split_keys entries }
     requires listed_others { ListsTableBut key index entries }
     requires listed { LineageHas (ListsRow index key) lineage }
@@ -198,7 +311,7 @@ fn with_lineage(
     let mut entries = entries;
     let mut split_keys = split_keys;
     mark(&mut split_keys, key, lineage.is_split())?;
-    put_value(&mut entries, key, lineage)?;
+    put_value(&mut entries, key, lineage, is_there)?;
     Ok(Lineages {
         alloc,
         entries,

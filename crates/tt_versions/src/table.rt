@@ -9,7 +9,7 @@ use crate::lineages::Lineages;
 use crate::side::Side;
 use std::alloc::{AllocError, Global};
 use std::marker::Model;
-use tt_values::{Equal, Row, Shared, matches};
+use tt_values::{Equal, Row, matches};
 
 /// A table of multi-version rows, with a current and a next side. Contracts see the lineages of its
 /// rows by key, and speak of them by `side_of` and `is_split`.
@@ -33,10 +33,10 @@ impl Model for Table {
 
 impl Table {
     ghost use Rattle.tt_versions.specs.Lineage.{unwritten, with_write_on};
-    ghost use Rattle.tt_versions.specs.Sides.{no_lineages, lineage_at, side_of, current_of, next_of, is_split, written_from, rolled_back_from, no_rows, none_split, with_key, rows_behind, ListsRows};
+    ghost use Rattle.tt_versions.specs.Sides.{no_lineages, lineage_at, side_of, current_of, next_of, is_split, written_from, all_written_from, whole_among, rolled_back_from, no_rows, none_split, with_key, rows_behind, ListsRows};
     ghost use Rattle.tt_versions.specs.Matching.{if_matching, ListsMatches, ListsMatchingRows};
     ghost use Rattle.tt_versions.specs.Index.{HaveKey, HaveKeysIn};
-    ghost use Rattle.tt_versions.specs.RowsByWrites.{AddsRowWrite, DropsRowWrites, ListsContent};
+    ghost use Rattle.tt_versions.specs.RowsByWrites.{AddsRowWrite, AddsRowWritesOf, DropsRowWrites, ListsContent};
 
     /// A table without rows. Takes no memory; what the other calls take comes from this allocator.
     #[tactic(auto, using(crate::proofs::LawProofs::empty_table))]
@@ -172,7 +172,7 @@ impl Table {
         ensures { IfOk result (λ rows.
             ListsMatches (rows_behind rows.items) equals.now (side_of self.now side) time) }
     {
-        let mut rows = Vec::new(self.alloc);
+        let mut rows = Vec::with_capacity(self.alloc, keys.len())?;
         for (key, _) in keys.iter() {
             if let Some(row) = self.matching(*key, equals, time, side) {
                 rows.push((*key, row))?;
@@ -256,6 +256,31 @@ impl Table {
     {
         let table = self.with_write(Side::Current, key, row, time)?;
         Ok(table)
+    }
+
+    /// Each of these keys has its row, or none, from the time on, as by one
+    /// [`written`](Table::written) after another, of a table that isn't needed any more.
+    #[tactic(auto, using(crate::proofs::SidesLemmas::writes_all))]
+    pub fn into_all_written(
+        self,
+        rows: Vec<(i64, Option<Row>)>,
+        time: u64,
+    ) -> Result<Table, AllocError>
+        ensures current { IfOk result (λ t.
+            current_of t ≡ all_written_from rows.items time (current_of self)) }
+        ensures next { IfOk result (λ t. next_of t
+            ≡ all_written_from (whole_among (is_split self) rows.items) time (next_of self)) }
+        ensures split { IfOk result (λ t. is_split t ≡ is_split self) }
+        ensures current_adds { IfOk result (λ t.
+            AddsRowWritesOf (current_of self) (current_of t) rows.items time) }
+        ensures next_adds { IfOk result (λ t. AddsRowWritesOf (next_of self) (next_of t)
+            (whole_among (is_split self) rows.items) time) }
+    {
+        let lineages = self.lineages.with_writes(rows, time)?;
+        Ok(Table {
+            alloc: self.alloc,
+            lineages,
+        })
     }
 
     /// The row is split, and its next side is rolled back: from the time on it is what it was just
@@ -377,10 +402,6 @@ impl Table {
             let lineage = with_write_on side row time (lineage_at self key) in
             t ≡ sorted.put int_cmp key lineage self) }
     {
-        let row = match row {
-            Some(row) => Some(Shared::new(self.alloc, row)?),
-            None => None,
-        };
         let lineages = self.lineages.with_write(side, key, row, time)?;
         Ok(Table {
             alloc: self.alloc,

@@ -16,7 +16,7 @@ const NONE: i64 = 0;
 fn row(alloc: Global, key: i64, tag: i64) -> Result<Option<Row>, AllocError> {
     let values = vec![in alloc; Value::Int(key), Value::Int(tag)]?;
     Ok(Some(Row {
-        values: Items::new(values),
+        values: Items::new(alloc, values)?,
     }))
 }
 
@@ -84,6 +84,24 @@ fn two_sides(rt: &impl Abort, alloc: Global) -> Result<Table, AllocError> {
 fn each_side_is_written_on_its_own(rt: HostRuntime) -> Result<(), Fail> {
     let split = two_sides(&rt, rt.alloc())?;
     expect_sides(&rt, &split, [A, A, B, B, NONE], [A, A, A, C, C])?;
+    Ok(())
+}
+
+#[test]
+fn rows_of_one_time_are_written_together(rt: HostRuntime) -> Result<(), Fail> {
+    let alloc = rt.alloc();
+    let rows = vec![in alloc; (1, row(alloc, 1, C)?), (2, row(alloc, 2, A)?)]?;
+    let table = a_then_b(alloc)?.split_back(1, 2)?;
+    let table = table.into_all_written(rows, 4)?;
+    for (key, side, before, after) in [
+        (1, Side::Current, B, C),
+        (1, Side::Next, A, A),
+        (2, Side::Current, NONE, A),
+        (2, Side::Next, NONE, A),
+    ] {
+        assert_eq!(rt; tag(table.at(key, 3, side)), before);
+        assert_eq!(rt; tag(table.at(key, 4, side)), after);
+    }
     Ok(())
 }
 

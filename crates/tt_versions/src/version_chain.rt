@@ -2,11 +2,12 @@ ghost use Rattle.std.specs.Prelude.{◌≡◌, ◌<◌, ◌+◌, [], length, tak
 ghost use Rattle.std.specs.Option.{option_copied};
 ghost use Rattle.tt_versions.specs.Versions.{started_by, started_before, HaveStarted, NoneHasStarted, StartsRise};
 
+use crate::pace::Pace;
 use crate::version::Version;
 use std::alloc::{AllocError, Global};
 use std::marker::Model;
 use tt_pages::{Kept, PagedLog};
-use tt_values::{Row, Shared};
+use tt_values::Row;
 
 /// The versions of one row, earlier ones first. Contracts see the list of them.
 #[derive(Debug, Drop)]
@@ -44,17 +45,13 @@ impl VersionChain {
         let position = self.count_by(time).checked_sub(1)?;
         let version = self.versions.get(position)?;
         match &version.row {
-            Some(row) => Some(row.get()),
+            Some(row) => Some(row),
             None => None,
         }
     }
 
     /// The chain with that row, or none, from the time on.
-    pub(crate) fn with_write(
-        self,
-        row: Option<Shared<Row>>,
-        time: u64,
-    ) -> Result<VersionChain, AllocError>
+    pub(crate) fn with_write(self, row: Option<Row>, time: u64) -> Result<VersionChain, AllocError>
         ensures { IfOk result (λ c. c ≡ with_write row time self) }
     {
         let mut versions = self.front_before(time)?;
@@ -101,31 +98,40 @@ impl VersionChain {
     {
         let mut low = 0;
         let mut high = self.versions.len();
+        let mut pace = Pace::new();
         // The newest version is at hand.
-        if high > 0 && self.has_started(high - 1, time) {
-            return high;
+        if high > 0 {
+            let (has_started, start) = self.has_started(high - 1, time);
+            if has_started {
+                return high;
+            }
+            high -= 1;
+            pace = pace.before(start);
         }
         while low < high {
-            let middle = low + (high - low) / 2;
-            if self.has_started(middle, time) {
+            let middle = pace.place_of(time, low, high);
+            let (has_started, start) = self.has_started(middle, time);
+            if has_started {
                 low = middle + 1;
+                pace = pace.after(start);
             } else {
                 high = middle;
+                pace = pace.before(start);
             }
         }
         low
     }
 
-    /// Whether the version at a position started by the time.
+    /// Whether the version at a position started by the time, and when it started.
     #[tactic(auto, using(crate::proofs::VersionsLemmas::has_started))]
-    fn has_started(&self, position: usize, time: u64) -> bool
+    fn has_started(&self, position: usize, time: u64) -> (bool, u64)
         requires { position < length self.now }
-        ensures front { IsTrue result → HaveStarted time (take (position + 1) self.now) }
-        ensures rest { IsFalse result → NoneHasStarted time (drop position self.now) }
+        ensures front { IsTrue result.0 → HaveStarted time (take (position + 1) self.now) }
+        ensures rest { IsFalse result.0 → NoneHasStarted time (drop position self.now) }
     {
         match self.versions.get(position) {
-            Some(version) => version.start <= time,
-            None => false,
+            Some(version) => (version.start <= time, version.start),
+            None => (false, 0),
         }
     }
 
@@ -135,5 +141,11 @@ impl VersionChain {
     {
         let versions = self.versions.share()?;
         Ok(VersionChain { versions })
+    }
+}
+
+impl Kept for VersionChain {
+    fn kept(&self) -> Result<Self, AllocError> {
+        self.share()
     }
 }

@@ -11,6 +11,7 @@ use Rattle.tt_db.specs.declared.event.Entry.{Entry}
 use Rattle.tt_db.specs.declared.outcome.Outcome.{Outcome}
 use Rattle.tt_db.specs.declared.outcome.Outcome.TheVariants.{Written}
 use Rattle.tt_db.specs.State.{State, after, outcome_of, now_of, current_at}
+use Rattle.tt_db.specs.Limits.{max_limits}
 use Rattle.tt_db.specs.Database.{Database, state_of}
 use Rattle.tt_document.specs.declared.document.Document.{Document}
 use Rattle.tt_document.specs.declared.document.Call.{Call}
@@ -96,6 +97,10 @@ abbrev pub report_of : Document → List ℕ
 report_of document =
     let last = after (history_of document.calls) in
     call_lines 1 [] document.calls ++ (table_lines last 0 document.catalog ++ end_line last)
+
+-- the database after the calls of a document
+abbrev pub database_after : Document → Database
+database_after document = record { catalog = document.catalog; limits = max_limits; history = history_of document.calls }
 
 -- a database with further entries at the end of its history
 abbrev pub with_entries : Database → List Entry → Database

@@ -1,17 +1,30 @@
 -- The outcome of a run on a writer.
-use Rattle.std.specs.Prelude.{ℕ, List, Option}
+use Rattle.std.specs.Prelude.{◌≡◌, ℕ, List, Option}
 use Rattle.std.specs.Io.KnownBytes.{Appends, Keeps}
 use Rattle.tt_document.specs.declared.document.Document.{Document}
 use Rattle.tt_workload.specs.declared.run_fault.RunFault.{RunFault}
 use Rattle.tt_workload.specs.declared.run_fault.RunFault.TheVariants as faults
-use Rattle.tt_workload.specs.Report.{report_of}
-use Rattle.tt_workload.specs.Ends.{AppendsFront, ReadsDocument, EndsReading, IsReadingFault}
+use Rattle.tt_db.specs.Database.{Database}
+use Rattle.tt_workload.specs.Report.{report_of, database_after}
+use Rattle.tt_workload.specs.Ends.{AppendsFront, ReadsDocument, EndsReading, HasText, IsReadingFault}
 
 -- the report of the document that the remaining bytes of the reader spell was written, and nothing else
 pub record WritesReport (remaining : List ℕ) (old new : Option (List ℕ)) : Type 0 where
   pub document : Document
   pub is_read : ReadsDocument remaining document
   pub written : Appends old new (report_of document)
+
+-- the database is the one after the calls of that document
+pub record LeavesDatabase (remaining : List ℕ) (db : Database) : Type 0 where
+  pub document : Document
+  pub is_read : ReadsDocument remaining document
+  pub is_last : db ≡ database_after document
+
+-- the same, whatever was read: it is the one after the calls of some document
+pub record IsLeftByDocument (db : Database) : Type 0 where
+  pub document : Document
+  pub text : HasText document
+  pub is_last : db ≡ database_after document
 
 -- a front part of that report was written, and nothing else
 pub record WritesFront (remaining : List ℕ) (old new : Option (List ℕ)) : Type 0 where

@@ -42,23 +42,49 @@ pub fn read_document<R: Read>(alloc: Global, reader: &mut R) -> Result<Document,
     ensures valid { IfOk result IsValidDocument }
     ensures kind { IfErr result IsReadingFault }
 {
-    let bytes = read_bytes(alloc, reader)?;
-    let document = document_from(alloc, &bytes)?;
+    let (document, _) = read_with_json(alloc, reader)?;
     Ok(document)
 }
 
-/// The document that the bytes spell.
+/// As [`read_document`], and answers the JSON value of the document too.
+pub(crate) fn read_with_json<R: Read>(
+    alloc: Global,
+    reader: &mut R,
+) -> Result<(Document, Value), RunFault>
+    // Of a reader whose bytes are known.
+    ensures ok { IfOk result (λ r.
+        IfSome (R.remaining reader.old) (λ xs. ReadsDocument xs r.0)) }
+    ensures fault { IfErr result (λ e. IfSome (R.remaining reader.old) (λ xs. EndsReading xs e)) }
+    ensures consumed { OnOk result (IfSome (R.remaining reader.old) (λ xs.
+        Consumes (Some xs) (R.remaining reader.new) (bytes_read xs))) }
+    ensures limit { ConsumesAtMost max_bytes_read
+        (R.remaining reader.old) (R.remaining reader.new) }
+
+    // Of any reader.
+    ensures text { IfOk result (λ r. HasText r.0) }
+    ensures valid { IfOk result (λ r. IsValidDocument r.0) }
+    ensures kind { IfErr result IsReadingFault }
+{
+    let bytes = read_bytes(alloc, reader)?;
+    let read = document_from(alloc, &bytes)?;
+    Ok(read)
+}
+
+/// The document that the bytes spell, and its JSON value.
 #[tactic(auto, using(crate::proofs::EndsLemmas::document_cases))]
-fn document_from(alloc: Global, bytes: &[u8]) -> Result<Document, DocFault>
-    ensures ok { IfOk result (λ d. document_of_bytes bytes.now ≡ Ok d) }
-    ensures valid { IfOk result IsValidDocument }
+fn document_from(alloc: Global, bytes: &[u8]) -> Result<(Document, Value), DocFault>
+    ensures ok { IfOk result (λ r. document_of_bytes bytes.now ≡ Ok r.0) }
+    ensures valid { IfOk result (λ r. IsValidDocument r.0) }
     ensures fault { IfErr result (λ fault. FailsWith fault (document_of_bytes bytes.now)) }
 {
     if bytes.len() > MAX_DOCUMENT_BYTES {
         return Err(DocFault::of_document(alloc, TOO_LONG));
     }
     match Value::from_slice(alloc, bytes) {
-        Ok(value) => Document::from_value(alloc, &value),
+        Ok(value) => {
+            let document = Document::from_value(alloc, &value)?;
+            Ok((document, value))
+        }
         Err(error) if error.is_memory() => Err(DocFault::Memory),
         Err(_) => Err(DocFault::of_document(alloc, NOT_JSON)),
     }

@@ -11,8 +11,9 @@ mod run_fault;
 
 pub use ends::{read_document, write_text};
 pub use options::Options;
-pub use run::run_alone;
+pub use run::{RunEnd, run_alone, run_to_end};
 pub use run_fault::RunFault;
+pub use tt_db::Db;
 pub use tt_document::{Ask, Call, DocFault, Document};
 
 #[cfg(test)]

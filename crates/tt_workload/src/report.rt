@@ -5,7 +5,7 @@ ghost use Rattle.tt_values.specs.Check.{write_fault, select_fault};
 ghost use Rattle.tt_db.specs.Limits.{max_limits};
 ghost use Rattle.tt_db.specs.Database.{Database, state_of};
 ghost use Rattle.tt_document.specs.Document.{ask_fault, IsValidDocument};
-ghost use Rattle.tt_workload.specs.Report.{outcome_text, answer_text, later_text, read_text, ask_text, caller_text, call_line, entries_of_ask, entries_of, call_lines, all_rows, table_text, table_line, table_lines, end_text, end_line, history_of, report_of, with_entries, HasRoom, AreAccepted};
+ghost use Rattle.tt_workload.specs.Report.{outcome_text, answer_text, later_text, read_text, ask_text, caller_text, call_line, entries_of_ask, entries_of, call_lines, all_rows, table_text, table_line, table_lines, end_text, end_line, history_of, report_of, database_after, with_entries, HasRoom, AreAccepted};
 
 use crate::printing::{push_decimal, push_labelled, push_reply};
 use crate::run_fault::RunFault;
@@ -205,7 +205,7 @@ fn push_table(
 {
     let all = Select {
         table,
-        equals: Items::new(Vec::new(alloc)),
+        equals: Items::new(alloc, Vec::new(alloc))?,
     };
     let reply = match db.select(&all) {
         Ok(reply) => reply,
@@ -272,10 +272,11 @@ fn push_state(alloc: Global, out: &mut Vec<u8>, db: &Db) -> Result<(), RunFault>
     Ok(())
 }
 
-/// The report of a document whose calls run one after another.
-pub(crate) fn report_of(alloc: Global, document: Document) -> Result<Vec<u8>, RunFault>
+/// The report of a document whose calls run one after another, and the database that they leave.
+pub(crate) fn report_of(alloc: Global, document: Document) -> Result<(Vec<u8>, Db), RunFault>
     requires { IsValidDocument document }
-    ensures ok { IfOk result (λ text. text.items ≡ report_of document) }
+    ensures report { IfOk result (λ r. r.0.items ≡ report_of document) }
+    ensures database { IfOk result (λ r. r.1 ≡ database_after document) }
     ensures err { IfErr result (λ e. e ≡ RunFault.Memory) }
 {
     let Document { catalog, calls, .. } = document;
@@ -283,5 +284,5 @@ pub(crate) fn report_of(alloc: Global, document: Document) -> Result<Vec<u8>, Ru
     let mut out = Vec::new(alloc);
     let db = push_calls(alloc, &mut out, db, calls.into_vec())?;
     push_state(alloc, &mut out, &db)?;
-    Ok(out)
+    Ok((out, db))
 }

@@ -1,16 +1,18 @@
 //! Runs of a workload, from the document that is read to the report that is written.
-ghost use Rattle.std.specs.Prelude.{◌≢◌, IfErr, IfSome, OnOk};
-ghost use Rattle.std.specs.Io.KnownBytes.{Keeps};
-ghost use Rattle.tt_workload.specs.Ends.{max_bytes_read, ConsumesAtMost};
+ghost use Rattle.std.specs.Prelude.{◌≡◌, ◌≢◌, IfOk, IfErr, IfSome, OnOk};
+ghost use Rattle.std.specs.Io.KnownBytes.{Appends, Keeps};
+ghost use Rattle.tt_workload.specs.Ends.{max_bytes_read, AppendsFront, ConsumesAtMost};
 ghost use Rattle.tt_workload.specs.Options.{AreWithin};
-ghost use Rattle.tt_workload.specs.Run.{WritesReport, EndsEarly, IsFaultOfRun};
+ghost use Rattle.tt_workload.specs.Run.{LeavesDatabase, IsLeftByDocument, WritesReport, EndsEarly, IsFaultOfRun};
 
-use crate::ends::{read_document, write_text};
+use crate::ends::{read_with_json, write_text};
 use crate::options::Options;
 use crate::report::report_of;
 use crate::run_fault::RunFault;
+use serde_json::Value;
 use std::alloc::Global;
 use std::io::{Read, Write};
+use tt_db::Db;
 
 /// Reads a document, runs its calls one after another, and writes their report. Nothing is written
 /// before the whole report is known.
@@ -18,9 +20,9 @@ pub fn run_alone<R: Read, W: Write>(
     alloc: Global,
     reader: &mut R,
     writer: &mut W,
-    _options: &Options,
+    options: &Options,
 ) -> Result<(), RunFault>
-    requires options { AreWithin _options.now }
+    requires options { AreWithin options.now }
 
     // Of a reader and a writer whose bytes are known.
     ensures ok { OnOk result (IfSome (R.remaining reader.old) (λ xs.
@@ -35,7 +37,57 @@ pub fn run_alone<R: Read, W: Write>(
     // Of any reader and writer.
     ensures kind { IfErr result IsFaultOfRun }
 {
-    let document = read_document(alloc, reader)?;
-    let report = report_of(alloc, document)?;
-    write_text(writer, &report)
+    run_to_end(alloc, reader, writer, options)?;
+    Ok(())
+}
+
+/// What a run leaves in memory at its end. A program that ends then may leave it to the system,
+/// since releasing it piece by piece takes long.
+#[derive(Drop)]
+pub struct RunEnd {
+    /// The database after the calls.
+    pub db: Db,
+    /// The JSON value that the document was read from.
+    pub json: Value,
+}
+
+/// As [`run_alone`], and hands over what the run leaves.
+pub fn run_to_end<R: Read, W: Write>(
+    alloc: Global,
+    reader: &mut R,
+    writer: &mut W,
+    _options: &Options,
+) -> Result<RunEnd, RunFault>
+    requires options { AreWithin _options.now }
+
+    // Of a reader and a writer whose bytes are known.
+    ensures ok { OnOk result (IfSome (R.remaining reader.old) (λ xs.
+        WritesReport xs (W.contents writer.old) (W.contents writer.new))) }
+    ensures database { IfOk result (λ end. IfSome (R.remaining reader.old) (λ xs.
+        LeavesDatabase xs end.db)) }
+    ensures err { IfErr result (λ e. IfSome (R.remaining reader.old) (λ xs.
+        EndsEarly e xs (W.contents writer.old) (W.contents writer.new))) }
+    ensures unchanged { IfErr result (λ e.
+        e ≢ RunFault.Write → Keeps (W.contents writer.old) (W.contents writer.new)) }
+    ensures limit { ConsumesAtMost max_bytes_read
+        (R.remaining reader.old) (R.remaining reader.new) }
+
+    // Of any reader and writer.
+    ensures left { IfOk result (λ end. IsLeftByDocument end.db) }
+    ensures kind { IfErr result IsFaultOfRun }
+{
+    let (document, json) = read_with_json(alloc, reader)?;
+    let (report, db) = report_of(alloc, document)?;
+    write_report(writer, &report, RunEnd { db, json })
+}
+
+/// Writes a report, and answers what the run leaves.
+fn write_report<W: Write>(writer: &mut W, report: &[u8], end: RunEnd) -> Result<RunEnd, RunFault>
+    ensures ok { OnOk result (Appends (W.contents writer.old) (W.contents writer.new) report.now) }
+    ensures database { IfOk result (λ left. left.db ≡ end.db) }
+    ensures front { AppendsFront (W.contents writer.old) (W.contents writer.new) report.now }
+    ensures err { IfErr result (λ e. e ≡ RunFault.Write) }
+{
+    write_text(writer, report)?;
+    Ok(end)
 }

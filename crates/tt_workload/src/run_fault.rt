@@ -47,7 +47,7 @@ impl RunFault {
     {
         match error {
             DbError::Memory => RunFault::Memory,
-            error => store_fault(format!(in alloc; "{error}")),
+            error => store_fault(alloc, format!(in alloc; "{error}")),
         }
     }
 
@@ -57,16 +57,21 @@ impl RunFault {
     {
         match error {
             ReadError::Memory => RunFault::Memory,
-            error => store_fault(format!(in alloc; "{error}")),
+            error => store_fault(alloc, format!(in alloc; "{error}")),
         }
     }
 }
 
-fn store_fault(text: Result<String, AllocError>) -> RunFault {
-    match text {
-        Ok(text) => RunFault::Store(Text::new(text)),
+fn store_fault(alloc: Global, text: Result<String, AllocError>) -> RunFault {
+    match text_of(alloc, text) {
+        Ok(text) => RunFault::Store(text),
         Err(AllocError) => RunFault::Memory,
     }
+}
+
+fn text_of(alloc: Global, text: Result<String, AllocError>) -> Result<Text, AllocError> {
+    let text = text?;
+    Text::new(alloc, text)
 }
 
 impl From<DocFault> for RunFault {

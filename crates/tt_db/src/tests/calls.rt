@@ -49,7 +49,7 @@ fn each_call_has_enough_memory(rt: HostRuntime) {
     assert_eq!(rt; answers.as_slice(), [Ok(want)].as_slice());
     has(&rt, alloc, &db, &[ANN, BOB]);
     let before = db
-        .select_at(&select_all(alloc, ACCT), 1)
+        .select_at(&select_all(&rt, alloc, ACCT), 1)
         .expect(&rt, "a reply");
     assert_eq!(rt; before, rows(&rt, alloc, &[ANN]));
 }

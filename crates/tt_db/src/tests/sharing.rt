@@ -8,7 +8,9 @@ const STATES: u64 = 5_000;
 
 /// How many rows the table has.
 fn count(rt: &impl Abort, alloc: Global, db: &Db) -> usize {
-    let reply = db.select(&select_all(alloc, ACCT)).expect(rt, "a reply");
+    let reply = db
+        .select(&select_all(rt, alloc, ACCT))
+        .expect(rt, "a reply");
     match &reply {
         Reply::Rows(rows) => rows.len(),
         _ => usize::MAX,

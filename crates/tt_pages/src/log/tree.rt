@@ -35,7 +35,8 @@ impl<T> Model for Tree<T> {
 
     ghost view = { λ tree. node_items tree.node };
 
-    ghost invariant = { λ tree. (tree.len ≡ length (node_items tree.node)) × IsFilled tree.node };
+    ghost invariant = { λ tree.
+        (tree.len ≡ length (node_items tree.node)) × IsFilled tree.node };
 
     ghost size = { length };
 

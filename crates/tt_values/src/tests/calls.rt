@@ -1,8 +1,8 @@
 //! Each public call once, with ample memory.
-use super::{catalog, def, owner_is, row, text};
+use super::{catalog, def, items, owner_is, row, text};
 use crate::{
-    Catalog, CatalogError, Change, Items, Kind, Reply, Select, Shared, Value, Write, changed,
-    check, check_select, laws, matches,
+    Catalog, CatalogError, Change, Kind, Reply, Select, Shared, Value, Write, changed, check,
+    check_select, laws, matches,
 };
 use std::sync::Arc;
 
@@ -14,18 +14,21 @@ fn texts(rt: HostRuntime) {
     assert!(rt; !ann.is_empty());
     assert!(rt; ann == ann.clone().expect(&rt, "memory"));
     assert!(rt; ann != text(&rt, alloc, "Ann"));
-    assert_eq!(rt; ann.into_string().as_str(), "ann");
+    assert_eq!(rt; ann.as_str(), "ann");
 }
 
 #[test]
 fn items_of_ints(rt: HostRuntime) {
-    let items = Items::new(vec![in rt.alloc(); 7, 8].expect(&rt, "memory"));
-    assert_eq!(rt; items.len(), 2);
-    assert!(rt; !items.is_empty());
-    assert_eq!(rt; items.get(1).copied(), Some(8));
-    assert!(rt; items == items.clone().expect(&rt, "memory"));
-    assert_eq!(rt; items.as_slice(), [7, 8].as_slice());
-    assert_eq!(rt; items.into_vec().as_slice(), [7, 8].as_slice());
+    let list = items(
+        &rt,
+        rt.alloc(),
+        vec![in rt.alloc(); 7, 8].expect(&rt, "memory"),
+    );
+    assert_eq!(rt; list.len(), 2);
+    assert!(rt; !list.is_empty());
+    assert_eq!(rt; list.get(1).copied(), Some(8));
+    assert!(rt; list == list.clone().expect(&rt, "memory"));
+    assert_eq!(rt; list.as_slice(), [7, 8].as_slice());
 }
 
 #[test]
@@ -36,6 +39,10 @@ fn a_shared_int(rt: HostRuntime) {
     assert_eq!(rt; *shared.get(), *further.get());
     let owner = Shared::new(rt.alloc(), 8).expect(&rt, "memory").into_arc();
     assert_eq!(rt; *owner, 8);
+    let shared = Shared::new(rt.alloc(), 9_u64).expect(&rt, "memory");
+    let further = shared.clone().expect(&rt, "memory");
+    assert_eq!(rt; shared.into_value().expect(&rt, "memory"), 9);
+    assert_eq!(rt; further.into_value().expect(&rt, "memory"), 9);
 }
 
 #[test]
@@ -86,7 +93,7 @@ fn statements(rt: HostRuntime) {
     let equal = owner_is(&rt, alloc, "ann").copy().expect(&rt, "memory");
     let select = Select {
         table: 0,
-        equals: Items::new(vec![in alloc; equal].expect(&rt, "memory")),
+        equals: items(&rt, alloc, vec![in alloc; equal].expect(&rt, "memory")),
     };
     let insert = Write::Insert {
         table: 0,

@@ -1,5 +1,6 @@
 //! Printed texts.
-use crate::{CatalogError, Change, CheckError, Equal, Items, Value, Write};
+use super::items;
+use crate::{CatalogError, Change, CheckError, Equal, Value, Write};
 
 #[test]
 fn faults_of_tables(rt: HostRuntime) {
@@ -56,8 +57,8 @@ fn a_write(rt: HostRuntime) {
     };
     let write = Write::Update {
         table: 0,
-        changes: Items::new(vec![in alloc; change].expect(&rt, "memory")),
-        equals: Items::new(vec![in alloc; equal].expect(&rt, "memory")),
+        changes: items(&rt, alloc, vec![in alloc; change].expect(&rt, "memory")),
+        equals: items(&rt, alloc, vec![in alloc; equal].expect(&rt, "memory")),
     };
     let text = format!(in alloc; "{write:?}").expect(&rt, "memory");
     let changes = "Items { items: [Add { column: 2, by: 5 }] }";

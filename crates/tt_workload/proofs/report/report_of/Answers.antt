@@ -14,8 +14,8 @@ push_calls-requires-clause-accepted c =
     let tables = ap (λ (db : Database). db.catalog) c.new-db.ensures ∙ c.into_arc.ensures in
     subst (λ ts. AreAccepted ts c.into_vec.result.items) (sym tables) (subst (λ cs. AreAccepted document.catalog cs) (sym c.into_vec.ensures) (AreAccepted-valid document c.requires))
 
-pub returns-clause-ok : goal.returns-clause-ok
-returns-clause-ok c =
+pub returns-clause-report : goal.returns-clause-report
+returns-clause-report c =
     let document = c.args.document in
     let new : Database = c.new-db.result in
     let empty : Tables → Limits → Database = λ tables limits. record { catalog = tables; limits = limits; history = [] } in

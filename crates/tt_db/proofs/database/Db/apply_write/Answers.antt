@@ -1,7 +1,6 @@
 -- The database with the write's entry and slot is consistent.
 use Rattle.std.proofs.Common.{◌≡◌, None, Some, [], ◌∷◌, ◌++◌, sym, subst, ap, ◌∙◌}
 use Rattle.tt_values.specs.declared.statement.Write.{Write}
-use Rattle.tt_db.specs.declared.event.Entry.{Entry}
 use Rattle.tt_db.specs.declared.event.Event.TheVariants as events
 use Rattle.tt_db.specs.Database.{Database, refusal_of}
 use Rattle.tt_db.proofs.DatabaseLemmas.{IsConsistent-push}
@@ -11,7 +10,7 @@ pub invariant_of-db : goal.invariant_of-db
 invariant_of-db c =
     let db = c.self.inside in
     let accepted = subst (λ (d : Database). refusal_of d (events.Write c.args.write) ≡ None) (sym c.self.view_is) c.requires.accepted in
-    let history = c.in_ok-push.ensures.ok ∙ ap (λ (e : Entry). db.history ++ e ∷ []) c.in_ok-entry.ensures in
+    let history = c.in_ok-push.ensures.ok in
     let slots = c.in_ok-slots.ensures.slots ∙ ap (λ (w : Write). db.slots ++ Some w ∷ []) c.in_ok-copy.ensures in
     rw (history, slots)
     (IsConsistent-push db.catalog db.limits db.history db.slots db.generation c.args.worker c.args.write c.self.invariant accepted)

@@ -2,7 +2,8 @@
 use Rattle.std.proofs.Common.{◌≡◌, ◌<◌, ℕ, length, set, sym, subst, ap, ◌∙◌}
 use Rattle.tt_versions.specs.declared.side.Side.TheVariants.{Current}
 use Rattle.tt_versions.specs.Sides.{LineagesByKey, side_of, is_split}
-use Rattle.tt_db.specs.Rows.{TablesByPosition, versions_at, KeepsOthers, AddsEffect, TableAddsEffect}
+use Rattle.tt_db.specs.Rows.{TablesByPosition, versions_at, KeepsOthers, AddsEffect}
+use Rattle.tt_versions.specs.RowsByWrites.{AddsRowWritesOf}
 use Rattle.tt_db.proofs.RowsLemmas.{AddsEffect-set}
 use Rattle.tt_db.proofs.rows.Rows.with_row_writes.Goals as goal
 
@@ -15,7 +16,7 @@ returns c =
     let at : c.from-position.result ≡ c.args.table = c.from-position.ensures in
     let taken = c.in_ok-old.ensures in
     let old : c.in_ok-old.old ≡ versions_at before c.args.table = taken.table ∙ ap (versions_at before) at in
-    let adds = subst (λ (k : LineagesByKey). TableAddsEffect (side_of k Current) (side_of new Current) c.args.time effect) old c.in_ok-new.ensures.adds in
+    let adds = subst (λ (k : LineagesByKey). AddsRowWritesOf (side_of k Current) (side_of new Current) effect c.args.time) old c.in_ok-new.ensures.current_adds in
     let same = c.in_ok-new.ensures.split ∙ ap is_split old in
     let others = subst (λ (p : ℕ). KeepsOthers p before between) at taken.others in
     let room = subst (λ (p : ℕ). p < length between) at taken.room in

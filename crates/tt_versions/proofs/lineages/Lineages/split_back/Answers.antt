@@ -13,6 +13,7 @@ with_lineage-requires c =
     let before = c.self.inside in
     let key = to_z w64 (of_z w64 c.args.key) in
     record {
+      there = c.in_ok-lineage.ensures.there;
       others = HasSplitKeysBut-taken key before.split_keys before.entries c.take_lineage.new.entries c.self.invariant.split c.in_ok-lineage.ensures.others;
       listed_others = ListsTableBut-taken key before.index before.index before.entries c.take_lineage.new.entries c.self.invariant.listed (λ k row h. h) c.in_ok-lineage.ensures.others;
       listed = subst (λ (l : Lineage). LineageHas (ListsRow before.index key) l) (sym (c.in_ok-lineage-2.ensures ∙ ap (split_back c.args.time) c.in_ok-lineage.ensures.lineage))
