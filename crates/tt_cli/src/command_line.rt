@@ -14,7 +14,7 @@ const DOCUMENT: &str =
     r#"The workload is a JSON document on standard input. It declares tables and lists the calls
 that workers make, in order:
 
-  {"version":1,
+  {"version":2,
    "tables":[{"name":"acct","columns":[
      {"name":"id","kind":"int"},
      {"name":"owner","kind":"text","partition":true},
@@ -25,9 +25,13 @@ that workers make, in order:
      {"worker":1,"update":"acct","change":[["add","bal",5]],"where":[["id",1]]},
      {"worker":1,"select":"acct","where":[["owner","ann"]]},
      {"worker":1,"select":"acct","where":[["owner","ann"]],"at":1},
-     {"worker":1,"delete":"acct","where":[]}]}
+     {"worker":1,"delete":"acct","where":[]},
+     {"worker":1,"do":[
+       {"insert":"acct","row":[1,"ann",10]},
+       {"insert":"acct","row":[2,"bob",20]}]}]}
 
-The second select reads the rows as they were at time 1, after the first write.
+The second select reads the rows as they were at time 1, after the first write. The last call makes
+two writes as one action: they take one slot and one time.
 The report goes to standard output: a line for each call, one for each table, and a last line."#;
 
 /// What the command line asks for.

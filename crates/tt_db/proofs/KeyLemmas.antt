@@ -1,12 +1,12 @@
 -- Rows and the keys that they are stored under.
-use Rattle.std.proofs.Common.{◌≡◌, ℕ, zero, suc, ◌≤◌, ℤ, pos, Bool, true, false, cond, not, ◌&&◌, ◌==◌, nat_le, List, [], ◌∷◌, ◌++◌, map, filter, length, fold, Option, None, Some, IsSome, is_some, Less, Equal, Greater, if◌then◌else◌, refl, sym, ap, subst, ◌∙◌, arith}
+use Rattle.std.proofs.Common.{◌≡◌, ℕ, zero, suc, ◌≤◌, ℤ, pos, Bool, true, false, cond, not, ◌&&◌, ◌==◌, nat_le, nat_lt, List, [], ◌∷◌, ◌++◌, map, filter, length, fold, Option, None, Some, IsSome, is_some, Less, Equal, Greater, if◌then◌else◌, refl, sym, ap, subst, ◌∙◌, arith}
 use Rattle.std.proofs.lemmas.Bool.Decides.{nat_tests}
 use Rattle.std.proofs.lemmas.List.Elements.{All-from_recursion}
 use Rattle.std.specs.declared.cmp.Ordering.{Ordering}
 use Rattle.std.specs.Ordering.{int_cmp, int_eq, is_eq, is_lt}
 use Rattle.std.specs.List.{AllByRecursion}
 use Rattle.std.specs.List.Sorted.{IsStrictlySortedBy}
-use Rattle.std.specs.Option.{option_map, unwrap_or}
+use Rattle.std.specs.Option.{option_or, unwrap_or}
 use Rattle.std.specs.FinMap.{int_cmp-IsAntisymmetric}
 use Rattle.std.specs.FinMap.Entries as sorted
 use Rattle.std.specs.FinMap.Entries.{by_order}
@@ -16,23 +16,27 @@ use Rattle.tt_values.specs.declared.statement.Select.{Select}
 use Rattle.tt_values.specs.declared.statement.Write.{Write}
 use Rattle.tt_values.specs.declared.statement.Write.TheVariants.{Insert, Update, Delete}
 use Rattle.tt_values.specs.declared.checking.CheckError.{CheckError}
+use Rattle.tt_values.specs.declared.checking.CheckError.TheVariants as faults
 use Rattle.tt_values.specs.Row.{first_int, key_of}
 use Rattle.tt_values.specs.Tables.{Tables, IsCatalog}
-use Rattle.tt_values.specs.Check.{write_fault}
+use Rattle.tt_values.specs.Limits.{max_writes}
+use Rattle.tt_values.specs.Check.{write_fault, first_write_fault, action_fault}
 use Rattle.tt_values.specs.Change.{changed}
 use Rattle.tt_values.specs.Matches.{matches}
 use Rattle.tt_values.specs.Content.{RowsByKey, Content, row_at, with_row_at, with_row_write, content_at}
 use Rattle.tt_values.specs.Effect.{table_of, matching_rows, effect_on, effect, answer_of}
+use Rattle.tt_values.specs.Action.{content_after_write, content_after_action}
+use Rattle.tt_values.specs.ActionLaws.{IsByRisingKey}
 use Rattle.tt_values.specs.RowWrites.{Slots, row_writes, slot_writes, slot_after, content_of}
-use Rattle.tt_values.proofs.LawProofs.{rows_rise, next_content, past_stays, last_content_stays, accepted_inserts_have_keys, accepted_updates_keep_keys}
+use Rattle.tt_values.proofs.LawProofs.{rows_rise, next_content, past_stays, last_content_stays, action_leaves_its_last_content, accepted_inserts_have_keys, accepted_updates_keep_keys}
 use Rattle.tt_db.specs.declared.limits.Limits.{Limits}
 use Rattle.tt_db.specs.declared.event.Event.{Event}
 use Rattle.tt_db.specs.declared.event.Event.TheVariants as events
 use Rattle.tt_db.specs.declared.event.Entry.{Entry}
-use Rattle.tt_db.specs.declared.errors.DbError.{DbError}
-use Rattle.tt_db.specs.declared.errors.DbError.TheVariants as errors
-use Rattle.tt_db.specs.State.{State, start, after, now_of, current_at, next_state, refusal, first_refusal, full_at, IsLegal, IsLegalFrom}
+use Rattle.tt_db.specs.State.{State, start, after, current_at, next_state, refusal, IsLegal, IsLegalFrom}
 use Rattle.tt_db.specs.RightAnswers.{RowsHaveRisingKeys}
+use Rattle.tt_db.proofs.ActionStepsLemmas.{content-after_row_writes}
+use Rattle.tt_db.proofs.DatabaseLemmas.{of_no_fault}
 
 both_true-left : (a b : Bool) → (a && b) ≡ true → a ≡ true
 both_true-left true b h = refl
@@ -46,10 +50,6 @@ is_lt-Less : (o : Ordering) → is_lt o ≡ true → o ≡ Less
 is_lt-Less Less h = refl
 is_lt-Less Equal h = cc
 is_lt-Less Greater h = cc
-
-has_no_fault : (fault : Option CheckError) (a b : Option DbError) → first_refusal (option_map errors.Statement fault ∷ a ∷ b ∷ []) ≡ None → fault ≡ None
-has_no_fault None a b h = refl
-has_no_fault (Some e) a b h = cc
 
 -- each row has the key that it is stored under
 abbrev pub AllKeyed : RowsByKey → Type 0
@@ -141,16 +141,46 @@ AllPairsKeyed-effect_on tables (Update table changes equals) rows catalog none h
     (AllKeyed-filter (λ e. matches equals e.1) rows h)
 AllPairsKeyed-effect_on tables (Delete table equals) rows catalog none h = AllPairsKeyed-delete (matching_rows equals rows)
 
--- a slot's write, where it has one, has no fault
-abbrev IsAccepted : Tables → Option Write → Type 0
+-- a content after a write without a fault, and after an action without one
+IsKeyedContent-after_write : (tables : Tables) (w : Write) (X : Content) → IsCatalog tables → write_fault tables w ≡ None → IsKeyedContent X → IsKeyedContent (content_after_write w X)
+IsKeyedContent-after_write tables w X catalog none h =
+    subst IsKeyedContent (content-after_row_writes 0 w X)
+    (IsKeyedContent-fold (effect w X) 0 (table_of w) X h (AllPairsKeyed-effect_on tables w (X (table_of w)) catalog none (h (table_of w))))
+
+abbrev HaveNoFaults : Tables → List Write → Type 0
+HaveNoFaults tables [] = Unit {0}
+HaveNoFaults tables (w ∷ ws) = (write_fault tables w ≡ None) × HaveNoFaults tables ws
+
+HaveNoFaults-first : (tables : Tables) (ws : List Write) → first_write_fault tables ws ≡ None → HaveNoFaults tables ws
+HaveNoFaults-first tables [] none = tt
+HaveNoFaults-first tables (w ∷ ws) none = by (write_fault tables w) none (HaveNoFaults-first tables ws)
+  where
+    by : (fault : Option CheckError) → option_or fault (first_write_fault tables ws) ≡ None → (first_write_fault tables ws ≡ None → HaveNoFaults tables ws) → (fault ≡ None) × HaveNoFaults tables ws
+    by None h rest = (refl, rest h)
+    by (Some e) h rest = cc
+
+HaveNoFaults-action : (tables : Tables) (ws : List Write) → action_fault tables ws ≡ None → HaveNoFaults tables ws
+HaveNoFaults-action tables ws none = by (nat_lt max_writes (length ws)) none
+  where
+    by : (b : Bool) → (if b then Some faults.TooManyWrites else first_write_fault tables ws) ≡ None → HaveNoFaults tables ws
+    by true h = cc
+    by false h = HaveNoFaults-first tables ws h
+
+IsKeyedContent-after_action : (tables : Tables) (ws : List Write) (X : Content) → IsCatalog tables → HaveNoFaults tables ws → IsKeyedContent X → IsKeyedContent (content_after_action ws X)
+IsKeyedContent-after_action tables [] X catalog none h = h
+IsKeyedContent-after_action tables (w ∷ ws) X catalog none h =
+    IsKeyedContent-after_action tables ws (content_after_write w X) catalog none.1 (IsKeyedContent-after_write tables w X catalog none.0 h)
+
+-- a slot's action, where it has one, has no fault
+abbrev IsAccepted : Tables → Option (List Write) → Type 0
 IsAccepted tables None = Unit {0}
-IsAccepted tables (Some w) = write_fault tables w ≡ None
+IsAccepted tables (Some action) = action_fault tables action ≡ None
 
 abbrev AllAccepted : Tables → Slots → Type 0
 AllAccepted tables [] = Unit {0}
 AllAccepted tables (s ∷ W) = IsAccepted tables s × AllAccepted tables W
 
-AllAccepted-push : (tables : Tables) (W : Slots) (s : Option Write) → AllAccepted tables W → IsAccepted tables s → AllAccepted tables (W ++ s ∷ [])
+AllAccepted-push : (tables : Tables) (W : Slots) (s : Option (List Write)) → AllAccepted tables W → IsAccepted tables s → AllAccepted tables (W ++ s ∷ [])
 AllAccepted-push tables [] s h a = (a, tt)
 AllAccepted-push tables (x ∷ W) s h a = (h.0, AllAccepted-push tables W s h.1 a)
 
@@ -159,7 +189,7 @@ slot_after-AllAccepted tables [] n h = tt
 slot_after-AllAccepted tables (s ∷ W) zero h = h.0
 slot_after-AllAccepted tables (s ∷ W) (suc n) h = slot_after-AllAccepted tables W n h.1
 
--- the writes of a legal history have no faults
+-- the actions of a legal history have no faults
 AllAccepted-legal : (tables : Tables) (limits : Limits) (S : State) (history : List Entry) → IsLegalFrom tables limits S history → AllAccepted tables S.slots
     → AllAccepted tables (fold (λ T e. next_state T e.event) S history).slots
 AllAccepted-legal tables limits S [] legal h = h
@@ -167,14 +197,13 @@ AllAccepted-legal tables limits S (e ∷ history) legal h =
     AllAccepted-legal tables limits (next_state S e.event) history legal.1 (of_event e.event legal.0)
   where
     of_event : (event : Event) → refusal tables limits S event ≡ None → AllAccepted tables (next_state S event).slots
-    of_event (events.Write w) accepted =
-        AllAccepted-push tables S.slots (Some w) h (has_no_fault (write_fault tables w) (full_at (now_of S) limits.slots) (full_at S.events limits.events) accepted)
+    of_event (events.Write action) accepted = AllAccepted-push tables S.slots (Some action) h (of_no_fault tables limits S action accepted)
 
-IsKeyedContent-slot : (tables : Tables) (s : Option Write) (time : ℕ) (X : Content) → IsCatalog tables → IsAccepted tables s → IsKeyedContent X
+IsKeyedContent-slot : (tables : Tables) (s : Option (List Write)) (time : ℕ) (X : Content) → IsCatalog tables → IsAccepted tables s → IsByRisingKey X → IsKeyedContent X
     → IsKeyedContent (fold with_row_write X (slot_writes time s X))
-IsKeyedContent-slot tables None time X catalog a h = h
-IsKeyedContent-slot tables (Some w) time X catalog a h =
-    IsKeyedContent-fold (effect w X) time (table_of w) X h (AllPairsKeyed-effect_on tables w (X (table_of w)) catalog a (h (table_of w)))
+IsKeyedContent-slot tables None time X catalog a rising h = h
+IsKeyedContent-slot tables (Some action) time X catalog a rising h =
+    subst IsKeyedContent (sym (action_leaves_its_last_content time action X rising)) (IsKeyedContent-after_action tables action X catalog (HaveNoFaults-action tables action a) h)
 
 IsKeyedContent-slots : (tables : Tables) (W : Slots) (n : ℕ) → IsCatalog tables → AllAccepted tables W → IsKeyedContent (content_at (row_writes W n) n)
 unfolding row_writes
@@ -182,7 +211,7 @@ IsKeyedContent-slots tables W zero catalog h = λ t. tt
 IsKeyedContent-slots tables W (suc n) catalog h =
     let X = content_at (row_writes W n) n in
     subst IsKeyedContent (sym (next_content W n))
-    (IsKeyedContent-slot tables (slot_after W n) (suc n) X catalog (slot_after-AllAccepted tables W n h) (IsKeyedContent-slots tables W n catalog h))
+    (IsKeyedContent-slot tables (slot_after W n) (suc n) X catalog (slot_after-AllAccepted tables W n h) (rows_rise (row_writes W n) n) (IsKeyedContent-slots tables W n catalog h))
 
 -- at every time
 IsKeyedContent-content_of : (tables : Tables) (W : Slots) (time : ℕ) → IsCatalog tables → AllAccepted tables W → IsKeyedContent (content_of W time)

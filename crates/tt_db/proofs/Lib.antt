@@ -1,5 +1,6 @@
 pub mod ListLemmas
 pub mod RowsLemmas
+pub mod ActionStepsLemmas
 pub mod FewRowsLemmas
 pub mod SlotListLemmas
 pub mod DatabaseLemmas

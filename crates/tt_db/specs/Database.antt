@@ -42,9 +42,9 @@ time_of db = now_of (state_of db)
 abbrev pub with_entry : Database → Entry → Database
 with_entry db entry = record db { history = db.history ++ entry ∷ [] }
 
--- the entry of a worker's write
-abbrev pub write_entry : ℕ → Write → Entry
-write_entry worker write = record { worker = worker; event = events.Write write }
+-- the entry of a worker's action
+abbrev pub action_entry : ℕ → List Write → Entry
+action_entry worker action = record { worker = worker; event = events.Write action }
 
 -- why the database refuses an event, if it does
 abbrev pub refusal_of : Database → Event → Option DbError
@@ -66,7 +66,7 @@ right_answer_at db select time = right_select_at db.catalog (state_of db) select
 abbrev pub answer_for : Database → Select → ℕ → Reply
 answer_for db select time = answer_of select (current_at (state_of db) time)
 
--- the slot of a number, counted from 1, with its reply
+-- the slot of a number, counted from 1, with its replies
 abbrev pub slot_of : Database → ℕ → Option Slot
 slot_of db number = slot_at (current_slots db) number
 

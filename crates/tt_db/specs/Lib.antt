@@ -3,6 +3,7 @@ pub mod State
 pub mod Errors
 pub mod Rows
 pub mod Effect
+pub mod ActionRun
 pub mod SlotList
 pub mod RightAnswers
 pub mod Database

@@ -1,10 +1,11 @@
 -- The sequential table: its states, its refusals, its next states and its outcomes.
 use Rattle.std.specs.Prelude.{◌≡◌, ℕ, ◌+◌, ◌==◌, List, [], ◌∷◌, ◌++◌, length, fold, Option, None, Some, if◌then◌else◌}
+use Rattle.std.specs.List.{All}
 use Rattle.std.specs.Option.{option_map}
 use Rattle.tt_values.specs.Tables.{Tables}
-use Rattle.tt_values.specs.Check.{write_fault, HasKey}
+use Rattle.tt_values.specs.Check.{action_fault, HasKey}
 use Rattle.tt_values.specs.Content.{Content}
-use Rattle.tt_values.specs.Effect.{reply_of}
+use Rattle.tt_values.specs.Action.{replies_of}
 use Rattle.tt_values.specs.RowWrites.{Slots, content_of}
 use Rattle.tt_db.specs.declared.limits.Limits.{Limits}
 use Rattle.tt_db.specs.declared.event.Event.{Event}
@@ -50,23 +51,23 @@ full_at count limit = if count == limit then Some (errors.Full limit) else None
 
 -- why the table refuses an event, if it does
 abbrev pub refusal : Tables → Limits → State → Event → Option DbError
-refusal tables limits S (events.Write w) = first_refusal
-    (option_map errors.Statement (write_fault tables w)
+refusal tables limits S (events.Write action) = first_refusal
+    (option_map errors.Statement (action_fault tables action)
     ∷ full_at (now_of S) limits.slots
     ∷ full_at S.events limits.events
     ∷ [])
 
 -- the rows that an event inserts have keys
 abbrev pub HasKeys : Event → Type 0
-HasKeys (events.Write w) = HasKey w
+HasKeys (events.Write action) = All HasKey action
 
 -- the state after an event that isn't refused
 abbrev pub next_state : State → Event → State
-next_state S (events.Write w) = record S { slots = S.slots ++ Some w ∷ []; events = S.events + 1 }
+next_state S (events.Write action) = record S { slots = S.slots ++ Some action ∷ []; events = S.events + 1 }
 
 -- the outcome of an event that isn't refused
 abbrev pub outcome_of : State → Event → Outcome
-outcome_of S (events.Write w) = Written (now_of S + 1) (reply_of w (current_at S (now_of S)))
+outcome_of S (events.Write action) = Written (now_of S + 1) (replies_of action (current_at S (now_of S)))
 
 -- the state after a history
 abbrev pub after : List Entry → State

@@ -1,3 +1,4 @@
+ghost use Rattle.std.specs.List.{All};
 ghost use Rattle.std.specs.Prelude.{◌≡◌, ◌<◌, ◌↔◌, IsSome, IfSome, [], ◌∷◌, ◌++◌, length, None, OnOk, OnErr, IfOk, IfErr, IfNone};
 ghost use Rattle.std.specs.Option.{option_copied};
 ghost use Rattle.tt_values.specs.Check.{HasKey};
@@ -5,7 +6,7 @@ ghost use Rattle.tt_versions.specs.Sides.{side_of, is_split, none_split};
 ghost use Rattle.tt_db.specs.Limits.{Fits};
 ghost use Rattle.tt_db.specs.Errors.{refusal_of_error};
 ghost use Rattle.tt_db.specs.State.{HasKeys, IsLegal};
-ghost use Rattle.tt_db.specs.Database.{state_of, time_of, with_entry, write_entry, refusal_of, outcome_for, right_answer, right_answer_at, answer_for, slot_of, current_rows_of, nth_item};
+ghost use Rattle.tt_db.specs.Database.{state_of, time_of, with_entry, action_entry, refusal_of, outcome_for, right_answer, right_answer_at, answer_for, slot_of, current_rows_of, nth_item};
 ghost use Rattle.tt_db.specs.RightAnswers.{Answers, RowsHaveRisingKeys};
 ghost use Rattle.tt_db.specs.Run.{IsRun};
 
@@ -18,7 +19,7 @@ use std::alloc::{AllocError, Global};
 use std::marker::Model;
 use std::sync::Arc;
 use tt_pages::PagedLog;
-use tt_values::{Catalog, Reply, Select, Shared, Write, check, check_select};
+use tt_values::{Catalog, Items, Reply, Select, Shared, Write, check_action, check_select};
 use tt_versions::{Side, Table};
 
 /// A database: a catalog, limits, and the history of the accepted events.
@@ -153,8 +154,8 @@ impl Db {
         ensures keyed { IfNone result (HasKeys event.now) }
     {
         match event {
-            Event::Write(write) => {
-                if let Err(fault) = check(self.catalog.get(), write) {
+            Event::Write(action) => {
+                if let Err(fault) = check_action(self.catalog.get(), action.as_slice()) {
                     return Some(DbError::Statement(fault));
                 }
                 if self.now() == self.limits.slots {
@@ -210,19 +211,19 @@ impl Db {
     {
         let Entry { worker, event } = entry;
         match event {
-            Event::Write(write) => {
-                let next = self.apply_write(worker, write)?;
+            Event::Write(action) => {
+                let next = self.apply_action(worker, action)?;
                 Ok(next)
             }
         }
     }
 
-    /// The database after a write that isn't refused.
-    fn apply_write(self, worker: u32, write: Write) -> Result<(Db, Outcome), AllocError>
-        requires accepted { refusal_of self (Event.Write write) ≡ None }
-        requires keyed { HasKey write }
-        ensures state { IfOk result (λ r. r.0 ≡ with_entry self (write_entry worker write)) }
-        ensures outcome { IfOk result (λ r. r.1 ≡ outcome_for self (Event.Write write)) }
+    /// The database after an action that isn't refused.
+    fn apply_action(self, worker: u32, action: Items<Write>) -> Result<(Db, Outcome), AllocError>
+        requires accepted { refusal_of self (Event.Write action) ≡ None }
+        requires keyed { All HasKey action }
+        ensures state { IfOk result (λ r. r.0 ≡ with_entry self (action_entry worker action)) }
+        ensures outcome { IfOk result (λ r. r.1 ≡ outcome_for self (Event.Write action)) }
     {
         let Db {
             alloc,
@@ -232,10 +233,10 @@ impl Db {
             slots,
             generation,
         } = self;
-        let (slots, reply) = slots.with_write(catalog.get(), write.copy()?)?;
+        let (slots, replies) = slots.with_action(catalog.get(), action.clone()?)?;
         let entry = Entry {
             worker,
-            event: Event::Write(write),
+            event: Event::Write(action),
         };
         history.push(entry)?;
         let db = Db {
@@ -247,7 +248,7 @@ impl Db {
             generation,
         };
         let slot = db.now();
-        Ok((db, Outcome::Written { slot, reply }))
+        Ok((db, Outcome::Written { slot, replies }))
     }
 
     /// Applies entries in order, and answers each: one that is refused, or that runs out of memory,

@@ -5,7 +5,7 @@ use tt_values::CheckError;
 /// stays as it was.
 #[derive(Clone, Copy, Debug, PartialEq, Eq, Error)]
 pub enum DbError {
-    /// The write has a fault: it can't be executed on the catalog.
+    /// The action has a fault: it can't be executed on the catalog.
     #[error("{0}")]
     Statement(CheckError),
     /// The history has as many slots as the limit allows, or as many entries.

@@ -1,12 +1,12 @@
 use std::alloc::AllocError;
 use tt_pages::Kept;
-use tt_values::Write;
+use tt_values::{Items, Write};
 
 /// What a history consists of.
 #[derive(Debug, PartialEq, Drop)]
 pub enum Event {
-    /// A write of the current generation.
-    Write(Write),
+    /// An action: writes that are carried out in order, as one slot of the current generation.
+    Write(Items<Write>),
 }
 
 /// An event with the number of the worker that asked for it.
@@ -23,9 +23,9 @@ impl Clone for Event {
 
     fn clone(&self) -> Result<Self, AllocError> {
         match self {
-            Event::Write(write) => {
-                let write = write.copy()?;
-                Ok(Event::Write(write))
+            Event::Write(action) => {
+                let action = action.clone()?;
+                Ok(Event::Write(action))
             }
         }
     }

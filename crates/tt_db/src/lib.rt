@@ -2,6 +2,7 @@
 //! one that a sequential table gives at that point of the history.
 #![tactic(auto)]
 
+mod action_run;
 mod database;
 mod effect;
 mod errors;
@@ -11,6 +12,7 @@ mod limits;
 mod outcome;
 mod rows;
 mod slot_list;
+mod slot_rows;
 #[cfg(test)]
 mod tests;
 

@@ -5,7 +5,7 @@ use crate::{MAX_EDITS, MAX_EVENTS, MAX_SLOTS};
 /// How large a history may become. Fixed when the database is created.
 #[derive(Clone, Copy, Debug, PartialEq, Eq)]
 pub struct Limits {
-    /// How many slots there may be, so how many accepted writes.
+    /// How many slots there may be, so how many accepted actions.
     pub slots: u64,
     /// How many entries the history may have.
     pub events: u64,

@@ -1,20 +1,21 @@
 use std::alloc::AllocError;
 use tt_pages::Kept;
-use tt_values::{Reply, Write};
+use tt_values::{Items, Reply, Write};
 
 /// The outcome of an accepted event.
 #[derive(Clone, Debug, PartialEq, Drop)]
 pub enum Outcome {
-    /// A write took the slot of this number, counted from 1, and this is its reply.
-    Written { slot: u64, reply: Reply },
+    /// An action took the slot of this number, counted from 1, and these are the replies to its
+    /// writes.
+    Written { slot: u64, replies: Items<Reply> },
 }
 
-/// A slot of the current generation: a write and its reply. Both are None where the slot was
-/// cancelled.
+/// A slot of the current generation: an action, and a reply to each of its writes. Both are None
+/// where the slot was cancelled.
 #[derive(Debug, PartialEq, Drop)]
 pub struct Slot {
-    pub write: Option<Write>,
-    pub reply: Option<Reply>,
+    pub action: Option<Items<Write>>,
+    pub replies: Option<Items<Reply>>,
 }
 
 impl Clone for Slot {
@@ -23,15 +24,15 @@ impl Clone for Slot {
     ghost is_clone = { λ source copy. copy ≡ source };
 
     fn clone(&self) -> Result<Self, AllocError> {
-        let write = match &self.write {
-            Some(write) => Some(write.copy()?),
+        let action = match &self.action {
+            Some(action) => Some(action.clone()?),
             None => None,
         };
-        let reply = match &self.reply {
-            Some(reply) => Some(reply.clone()?),
+        let replies = match &self.replies {
+            Some(replies) => Some(replies.clone()?),
             None => None,
         };
-        Ok(Slot { write, reply })
+        Ok(Slot { action, replies })
     }
 }
 

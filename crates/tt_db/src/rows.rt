@@ -1,12 +1,12 @@
 ghost use Rattle.std.specs.Prelude.{◌≡◌, ◌<◌, [], length, IfOk, OnOk};
-ghost use Rattle.tt_versions.specs.Sides.{no_lineages, side_of, is_split};
+ghost use Rattle.tt_versions.specs.Sides.{no_lineages};
 ghost use Rattle.tt_db.specs.Rows.{versions_at, KeepsOthers};
 
 use std::alloc::{AllocError, Global};
 use std::marker::Model;
 use std::mem;
 use tt_values::{Catalog, Row};
-use tt_versions::{Side, Table};
+use tt_versions::Table;
 
 /// The rows of all tables with their versions.
 #[derive(Drop)]

@@ -1,38 +1,46 @@
-ghost use Rattle.std.specs.Prelude.{◌≡◌, ◌<◌, ◌≤◌, ◌+◌, [], ◌∷◌, ◌++◌, length, Some, IfOk};
+ghost use Rattle.std.specs.Prelude.{◌≡◌, ◌<◌, ◌≤◌, ◌+◌, [], ◌∷◌, ◌++◌, length, Some, IfOk, OnOk};
+ghost use Rattle.std.specs.List.{All};
 ghost use Rattle.std.specs.Option.{option_copied};
 ghost use Rattle.tt_values.specs.Check.{HasKey};
-ghost use Rattle.tt_values.specs.Effect.{answer_of, reply_of};
-ghost use Rattle.tt_values.specs.RowWrites.{content_of, slot_reply};
+ghost use Rattle.tt_values.specs.Limits.{max_writes};
+ghost use Rattle.tt_values.specs.Effect.{answer_of};
+ghost use Rattle.tt_values.specs.Action.{replies_of};
+ghost use Rattle.tt_values.specs.RowWrites.{content_of};
 ghost use Rattle.tt_versions.specs.Sides.{side_of, is_split, none_split};
 ghost use Rattle.tt_db.specs.Limits.{max_limits};
-ghost use Rattle.tt_db.specs.SlotList.{last_content, effect_now, rows_of_table, slot_at, HasRowsOf};
+ghost use Rattle.tt_db.specs.SlotList.{last_content, rows_of_table, slot_at, rows_at_slot};
 
-use crate::effect::{copies_of, effect_of, reply_to};
+use crate::action_run::ActionRun;
+use crate::effect::copies_of;
 use crate::outcome::Slot;
 use crate::rows::Rows;
+use crate::slot_rows::{RowKey, SlotRows};
 use std::alloc::{AllocError, Global};
 use std::marker::Model;
 use tt_pages::PagedLog;
-use tt_values::{Catalog, Items, Reply, Row, Select, Write};
+use tt_values::{Catalog, Items, Reply, Select, Write};
 use tt_versions::{Side, Table};
 
-/// The slots of a generation with their replies, and the rows that they leave.
+/// The slots of a generation with their replies, the rows that each of them wrote, and the rows
+/// that they leave.
 #[derive(Drop)]
 pub(crate) struct SlotList {
     alloc: Global,
     slots: PagedLog<Slot>,
+    /// By slot. Beside the slots, so that a slot's rows are known without carrying it out again.
+    rows_of_slots: PagedLog<SlotRows>,
     rows: Rows,
 }
 
 impl Model for SlotList {
     ghost use Rattle.tt_values.specs.RowWrites.{Slots};
-    ghost use Rattle.tt_db.specs.SlotList.{writes_of, IsSlotList};
+    ghost use Rattle.tt_db.specs.SlotList.{actions_of, IsSlotList};
 
     ghost Value = { Slots };
 
-    ghost view = { λ s. writes_of s.slots };
+    ghost view = { λ s. actions_of s.slots };
 
-    ghost invariant = { λ s. IsSlotList s.slots s.rows };
+    ghost invariant = { λ s. IsSlotList s.slots s.rows_of_slots s.rows };
 }
 
 impl SlotList {
@@ -43,6 +51,7 @@ impl SlotList {
         SlotList {
             alloc,
             slots: PagedLog::new(alloc),
+            rows_of_slots: PagedLog::new(alloc),
             rows: Rows::new(alloc),
         }
     }
@@ -60,6 +69,15 @@ impl SlotList {
     {
         let position = number.checked_sub(1)?;
         self.slots.get(position as usize)
+    }
+
+    /// The rows that the slot of a number wrote, in the order of its writes.
+    pub(crate) fn rows_of_slot(&self, number: u64) -> Option<&[RowKey]>
+        ensures { option_copied result ≡ rows_at_slot self.now number }
+    {
+        let position = number.checked_sub(1)?;
+        let kept = self.rows_of_slots.get(position as usize)?;
+        Some(kept.rows.as_slice())
     }
 
     /// The versions of a table.
@@ -86,67 +104,71 @@ impl SlotList {
         ensures { IfOk result (λ s. s ≡ self.now) }
     {
         let slots = self.slots.share()?;
+        let rows_of_slots = self.rows_of_slots.share()?;
         let rows = self.rows.share()?;
         Ok(SlotList {
             alloc: self.alloc,
             slots,
+            rows_of_slots,
             rows,
         })
     }
 
-    /// The slots and one more, for this write, with its reply.
-    pub(crate) fn with_write(
+    /// The slots and one more, for this action, with the replies to its writes.
+    pub(crate) fn with_action(
         self,
         catalog: &Catalog,
-        write: Write,
-    ) -> Result<(SlotList, Reply), AllocError>
-        requires keyed { HasKey write }
+        action: Items<Write>,
+    ) -> Result<(SlotList, Items<Reply>), AllocError>
+        requires keyed { All HasKey action }
+        requires short { length action ≤ max_writes }
         requires room { length self < max_limits.slots }
-        ensures slots { IfOk result (λ r. r.0 ≡ self ++ Some write ∷ []) }
-        ensures reply { IfOk result (λ r. r.1 ≡ reply_of write (last_content self)) }
-    {
-        let effect = self.effect_of(&write)?;
-        let reply = reply_to(&write, &effect);
-        let copy = reply.clone()?;
-        let slots = self.with_slot(catalog, write, copy, effect)?;
-        Ok((slots, reply))
-    }
-
-    /// The effect of a write now.
-    fn effect_of(&self, write: &Write) -> Result<Vec<(i64, Option<Row>)>, AllocError>
-        requires { HasKey write.now }
-        ensures effect { IfOk result (λ e. e.items ≡ effect_now self.now write.now) }
-        ensures few { IfOk result (λ e. length e.items ≤ length self.now + 1) }
-    {
-        let effect = effect_of(self.alloc, self.table(write.table()), write, self.len())?;
-        Ok(effect)
-    }
-
-    /// The slots and one more, for a write with that reply and that effect.
-    fn with_slot(
-        self,
-        catalog: &Catalog,
-        write: Write,
-        reply: Reply,
-        effect: Vec<(i64, Option<Row>)>,
-    ) -> Result<SlotList, AllocError>
-        requires room { length self < max_limits.slots }
-        requires reply { reply ≡ reply_of write (last_content self) }
-        requires effect { effect.items ≡ effect_now self write }
-        ensures { IfOk result (λ s. s ≡ self ++ Some write ∷ []) }
+        ensures slots { IfOk result (λ r. r.0 ≡ self ++ Some action ∷ []) }
+        ensures replies { IfOk result (λ r. r.1 ≡ replies_of action (last_content self)) }
     {
         let time = self.len() + 1;
         let SlotList {
             alloc,
             mut slots,
+            mut rows_of_slots,
             rows,
         } = self;
-        let rows = rows.with_row_writes(catalog, write.table(), effect, time)?;
-        let slot = Slot {
-            write: Some(write),
-            reply: Some(reply),
+        let run = ActionRun::of_writes(alloc, catalog, rows, action.as_slice(), time)?;
+        let ActionRun {
+            rows,
+            replies,
+            keys,
+        } = run;
+        let replies = Items::new(alloc, replies)?;
+        push_slot(&mut slots, action, &replies)?;
+        let kept = SlotRows {
+            rows: Items::new(alloc, keys)?,
         };
-        slots.push(slot)?;
-        Ok(SlotList { alloc, slots, rows })
+        rows_of_slots.push(kept)?;
+        let list = SlotList {
+            alloc,
+            slots,
+            rows_of_slots,
+            rows,
+        };
+        Ok((list, replies))
     }
+}
+
+/// Adds the slot of an action with its replies.
+fn push_slot(
+    slots: &mut PagedLog<Slot>,
+    action: Items<Write>,
+    replies: &Items<Reply>,
+) -> Result<(), AllocError>
+    ensures { OnOk result (slots.new ≡ slots.old ++ record {
+      action = Some action;
+      replies = Some replies.now;
+    } ∷ []) }
+{
+    let slot = Slot {
+        action: Some(action),
+        replies: Some(replies.clone()?),
+    };
+    slots.push(slot)
 }

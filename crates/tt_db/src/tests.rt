@@ -11,7 +11,9 @@ use crate::{Db, Entry, Event, Limits, MAX_EDITS, Outcome};
 use std::alloc::Global;
 use std::process::Abort;
 use std::sync::Arc;
-use tt_values::{Catalog, Column, Items, Kind, Reply, Row, Select, TableDef, Text, Value, Write};
+use tt_values::{
+    Catalog, Change, Column, Equal, Items, Kind, Reply, Row, Select, TableDef, Text, Value, Write,
+};
 
 /// An account: its id, its owner and its balance.
 type Account = (i64, &'static str, i64);
@@ -94,10 +96,36 @@ fn insert(rt: &impl Abort, alloc: Global, table: u16, account: Account) -> Write
     }
 }
 
+/// An update of the balance of the account with this id.
+fn add_to_balance(rt: &impl Abort, alloc: Global, id: i64, by: i64) -> Write {
+    let change = Vec::from_array(alloc, [Change::Add { column: 2, by }]).expect(rt, "memory");
+    let of_id = Equal {
+        column: 0,
+        value: Value::Int(id),
+    };
+    let equals = Vec::from_array(alloc, [of_id]).expect(rt, "memory");
+    Write::Update {
+        table: ACCT,
+        changes: Items::new(alloc, change).expect(rt, "memory"),
+        equals: Items::new(alloc, equals).expect(rt, "memory"),
+    }
+}
+
+/// An action of these writes.
+fn action<const N: usize>(rt: &impl Abort, alloc: Global, writes: [Write; N]) -> Items<Write> {
+    let writes = Vec::from_array(alloc, writes).expect(rt, "memory");
+    Items::new(alloc, writes).expect(rt, "memory")
+}
+
+fn replies<const N: usize>(rt: &impl Abort, alloc: Global, replies: [Reply; N]) -> Items<Reply> {
+    let replies = Vec::from_array(alloc, replies).expect(rt, "memory");
+    Items::new(alloc, replies).expect(rt, "memory")
+}
+
 fn entry(rt: &impl Abort, alloc: Global, worker: u32, account: Account) -> Entry {
     Entry {
         worker,
-        event: Event::Write(insert(rt, alloc, ACCT, account)),
+        event: Event::Write(action(rt, alloc, [insert(rt, alloc, ACCT, account)])),
     }
 }
 
@@ -105,15 +133,16 @@ fn entry(rt: &impl Abort, alloc: Global, worker: u32, account: Account) -> Entry
 fn bad_entry(rt: &impl Abort, alloc: Global) -> Entry {
     Entry {
         worker: 1,
-        event: Event::Write(insert(rt, alloc, LOAN, ANN)),
+        event: Event::Write(action(rt, alloc, [insert(rt, alloc, LOAN, ANN)])),
     }
 }
 
 /// The database after an entry with this reply.
-fn after(rt: &impl Abort, db: &Db, entry: Entry, reply: Reply) -> Db {
+fn after(rt: &impl Abort, alloc: Global, db: &Db, entry: Entry, reply: Reply) -> Db {
     let slot = db.now().saturating_add(1);
+    let replies = replies(rt, alloc, [reply]);
     let (next, outcome) = db.apply(entry).expect(rt, "an accepted entry");
-    assert_eq!(rt; outcome, Outcome::Written { slot, reply });
+    assert_eq!(rt; outcome, Outcome::Written { slot, replies });
     next
 }
 

@@ -1,4 +1,4 @@
--- The texts of the faults of a catalog and of a statement.
+-- The texts of the faults of a catalog, of a statement and of an action.
 use Rattle.std.specs.Prelude.{ℕ, List, Option, Some, None, Result, Ok, codes, ⊤}
 use Rattle.tt_values.specs.declared.catalog.CatalogError.{CatalogError}
 use Rattle.tt_values.specs.declared.catalog.CatalogError.TheVariants as tables
@@ -22,7 +22,7 @@ cause_of_catalog tables.SameColumn = codes "column named twice"
 cause_of_catalog tables.TooMany = codes "too many tables or columns"
 cause_of_catalog tables.Memory = codes "out of memory"
 
--- why a statement is refused
+-- why a statement or an action is refused
 abbrev pub cause_of_check : CheckError → List ℕ
 cause_of_check statements.NoTable = codes "no such table"
 cause_of_check statements.NoColumn = codes "no such column"
@@ -32,3 +32,4 @@ cause_of_check statements.TextTooLong = codes "text too long"
 cause_of_check statements.SetsKey = codes "key set by an update"
 cause_of_check statements.SameColumnTwice = codes "column changed twice"
 cause_of_check statements.TooManyEquals = codes "too many equalities"
+cause_of_check statements.TooManyWrites = codes "too many writes"

@@ -1,5 +1,5 @@
 -- JSON values of the types that a document needs. A decoder gives the meaning of a value: what it stands for, or its first fault.
-use Rattle.std.specs.Prelude.{ℕ, ℤ, Bool, List, [], ◌∷◌, ◌++◌, Option, Some, None, option_map, option_and_then, Result, Ok, codes, ⊤, nat_lt, ◌||◌, if◌then◌else◌}
+use Rattle.std.specs.Prelude.{ℕ, ℤ, Bool, List, [], ◌∷◌, ◌++◌, length, Option, Some, None, is_some, option_map, option_and_then, Result, Ok, codes, ⊤, nat_lt, ◌||◌, if◌then◌else◌}
 use Rattle.serde_json.specs.Data.{Data, Items, no_items, item}
 use Rattle.serde_json.specs.Find.{get, as_bool, as_number, as_str, as_array, as_object, as_i64, as_u64}
 use Rattle.tt_document.specs.declared.fault.DocFault.{DocFault}
@@ -38,6 +38,10 @@ list_of (item d ds) = d ∷ list_of ds
 abbrev pub array : Data → Result (List Data) DocFault
 array v = or_wrong_type (option_map list_of (as_array v))
 
+-- items that are at most so many
+abbrev pub within_limit : ℕ → List Data → Result ⊤ DocFault
+within_limit limit ds = if nat_lt limit (length ds) then refuse (codes "out of range") else Ok tt
+
 -- a number within bounds
 abbrev pub within : ℕ → ℕ → ℕ → Result ℕ DocFault
 within min max n = if nat_lt n min || nat_lt max n then refuse (codes "out of range") else Ok n
@@ -47,6 +51,10 @@ abbrev pub count_within : ℕ → ℕ → Data → Result ℕ DocFault
 count_within min max v = do
   n ← count v
   within min max n
+
+-- whether an object has a member
+abbrev pub has : List ℕ → Data → Bool
+has name v = is_some (get name v)
 
 -- the meaning of a member's value, its faults at the member's path; the member has to be there
 abbrev pub read_member : {T : Type 0} → List ℕ → (Data → Result T DocFault) → Option Data → Result T DocFault

@@ -3,7 +3,7 @@ use Rattle.std.specs.Prelude.{◌≡◌, ℕ, ◌≤◌, length, Option, None, A
 use Rattle.serde_json.specs.Data.{Data}
 use Rattle.tt_values.specs.declared.checking.CheckError.{CheckError}
 use Rattle.tt_values.specs.Tables.{Tables}
-use Rattle.tt_values.specs.Check.{write_fault, select_fault}
+use Rattle.tt_values.specs.Check.{action_fault, select_fault}
 use Rattle.tt_document.specs.declared.document.Document.{Document}
 use Rattle.tt_document.specs.declared.document.Call.{Call}
 use Rattle.tt_document.specs.declared.document.Ask.{Ask}
@@ -19,10 +19,10 @@ document_of v = with_path document_path (members_of_document v)
 
 -- the fault of what a call asks for, if it has one
 abbrev pub ask_fault : Tables → Ask → Option CheckError
-ask_fault tables (asks.Write write) = write_fault tables write
+ask_fault tables (asks.Write action) = action_fault tables action
 ask_fault tables (asks.Read select at) = select_fault tables select
 
--- a call of one of the workers, whose statement the tables accept
+-- a call of one of the workers, whose action or select the tables accept
 pub record IsValidCall (tables : Tables) (workers : ℕ) (call : Call) : Type 0 where
   pub from_one : 1 ≤ call.worker
   pub to_last : call.worker ≤ workers

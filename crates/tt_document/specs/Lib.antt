@@ -8,6 +8,8 @@ pub mod Tables
 pub mod Conditions
 pub mod Changes
 pub mod Statements
+pub mod Actions
+pub mod Version
 pub mod Calls
 pub mod Reading
 pub mod Document

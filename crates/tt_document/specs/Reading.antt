@@ -8,6 +8,7 @@ use Rattle.tt_document.specs.Fault.{◌>>=◌}
 use Rattle.tt_document.specs.Decoder.{object, count_within, member}
 use Rattle.tt_document.specs.Members.{is_one_of, no_members_but}
 use Rattle.tt_document.specs.Tables.{catalog}
+use Rattle.tt_document.specs.Version.{version}
 use Rattle.tt_document.specs.Calls.{calls}
 
 -- the largest number of workers
@@ -18,9 +19,9 @@ max_workers = 15
 unfoldable pub members_of_document : Data → Result Document DocFault
 members_of_document v = do
   _ ← object v
-  _ ← member (codes "version") (count_within 1 1) v
+  version ← member (codes "version") version v
   tables ← member (codes "tables") catalog v
   workers ← member (codes "workers") (count_within 1 max_workers) v
-  calls ← member (codes "calls") (calls tables workers) v
+  calls ← member (codes "calls") (calls version tables workers) v
   _ ← no_members_but (is_one_of (codes "calls" ∷ codes "tables" ∷ codes "version" ∷ codes "workers" ∷ [])) v
   Ok (record { catalog = tables; workers = workers; calls = calls })

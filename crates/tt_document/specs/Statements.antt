@@ -1,5 +1,5 @@
 -- Statements: each member of the object in order, then an unknown member, then the check of the statement as a whole.
-use Rattle.std.specs.Prelude.{ℕ, List, [], ◌∷◌, Option, Result, Ok, codes}
+use Rattle.std.specs.Prelude.{ℕ, List, [], ◌∷◌, Option, Result, Ok, codes, ⊤}
 use Rattle.serde_json.specs.Data.{Data}
 use Rattle.tt_values.specs.declared.statement.Equal.{Equal}
 use Rattle.tt_values.specs.declared.statement.Select.{Select}
@@ -11,6 +11,8 @@ use Rattle.tt_values.specs.Check.{write_fault, select_fault}
 use Rattle.tt_document.specs.declared.document.Ask.{Ask}
 use Rattle.tt_document.specs.declared.document.Ask.TheVariants as asks
 use Rattle.tt_document.specs.declared.fault.DocFault.{DocFault}
+use Rattle.tt_document.specs.declared.statements.Place.{Place}
+use Rattle.tt_document.specs.declared.statements.Place.TheVariants as places
 use Rattle.tt_document.specs.Fault.{◌>>=◌}
 use Rattle.tt_document.specs.Decoder.{count, member, optional}
 use Rattle.tt_document.specs.Taker.{array_of}
@@ -29,31 +31,36 @@ checked_statement statement fault = do
 abbrev pub conditions : Tables → ℕ → Data → Result (List Equal) DocFault
 conditions tables table v = member (codes "where") (array_of (condition tables table)) v
 
+-- an object of a write has only members of these names, and in a call its worker
+abbrev pub no_members_at : Place → List (List ℕ) → Data → Result ⊤ DocFault
+no_members_at places.Call names v = no_members_but (is_one_of (codes "worker" ∷ names)) v
+no_members_at places.Item names v = no_members_but (is_one_of names) v
+
 -- an insert: the table, and the values of its row
-unfoldable pub insert : Tables → Data → Result Write DocFault
-insert tables v = do
+unfoldable pub insert : Tables → Place → Data → Result Write DocFault
+insert tables place v = do
   table ← member (codes "insert") (table_named tables) v
   values ← member (codes "row") (array_of value) v
-  _ ← no_members_but (is_one_of (codes "insert" ∷ codes "row" ∷ codes "worker" ∷ [])) v
+  _ ← no_members_at place (codes "insert" ∷ codes "row" ∷ []) v
   let statement : Write = Insert table (record { values = values })
   checked_statement statement (write_fault tables statement)
 
 -- an update: the table, the changes, and the conditions
-unfoldable pub update : Tables → Data → Result Write DocFault
-update tables v = do
+unfoldable pub update : Tables → Place → Data → Result Write DocFault
+update tables place v = do
   table ← member (codes "update") (table_named tables) v
   changes ← member (codes "change") (array_of (change tables table)) v
   equals ← conditions tables table v
-  _ ← no_members_but (is_one_of (codes "change" ∷ codes "update" ∷ codes "where" ∷ codes "worker" ∷ [])) v
+  _ ← no_members_at place (codes "change" ∷ codes "update" ∷ codes "where" ∷ []) v
   let statement : Write = Update table changes equals
   checked_statement statement (write_fault tables statement)
 
 -- a delete: the table, and the conditions
-unfoldable pub delete : Tables → Data → Result Write DocFault
-delete tables v = do
+unfoldable pub delete : Tables → Place → Data → Result Write DocFault
+delete tables place v = do
   table ← member (codes "delete") (table_named tables) v
   equals ← conditions tables table v
-  _ ← no_members_but (is_one_of (codes "delete" ∷ codes "where" ∷ codes "worker" ∷ [])) v
+  _ ← no_members_at place (codes "delete" ∷ codes "where" ∷ []) v
   let statement : Write = Delete table equals
   checked_statement statement (write_fault tables statement)
 

@@ -1,25 +1,26 @@
 //! Reading of the calls of a document.
-ghost use Rattle.std.specs.Prelude.{◌≡◌};
+ghost use Rattle.std.specs.Prelude.{◌≡◌, None};
 ghost use Rattle.serde_json.specs.View.{view};
 ghost use Rattle.tt_document.specs.Fault.{Gives};
-ghost use Rattle.tt_document.specs.Calls.{has, ask, call, calls};
+ghost use Rattle.tt_document.specs.Calls.{has_action, no_kind, ask_by, ask, call, calls};
 
 use crate::MAX_CALLS;
-use crate::decoder::{CountDecoder, Decoder, OUT_OF_RANGE, array, member, object};
+use crate::actions::{action, action_of_one, write};
+use crate::decoder::{CountDecoder, Decoder, OUT_OF_RANGE, array, has, member, object};
 use crate::document::{Ask, Call};
 use crate::fault::DocFault;
 use crate::owned_items::OwnedItems;
-use crate::statements::{delete, insert, select, update};
+use crate::statements::{Place, select};
 use crate::taker::decode_owned;
+use crate::version::Version;
 use serde_json::Value;
 use std::alloc::Global;
 use tt_values::Catalog;
 
-const NO_KIND: &str = "missing one of insert, update, delete, select, preview";
-
 /// The calls of workers on a catalog, of which there may be too many.
 #[derive(Drop)]
 pub(crate) struct CallsDecoder<'a> {
+    pub(crate) version: Version,
     pub(crate) catalog: &'a Catalog,
     pub(crate) workers: u32,
 }
@@ -27,7 +28,7 @@ pub(crate) struct CallsDecoder<'a> {
 impl Decoder for CallsDecoder<'_> {
     type Output = OwnedItems<Call>;
 
-    ghost meaning = { λ r. calls r.catalog.now r.workers };
+    ghost meaning = { λ r. calls r.version r.catalog.now r.workers };
 
     fn decode(&self, alloc: Global, value: &Value) -> Result<OwnedItems<Call>, DocFault> {
         let items = array(alloc, value)?;
@@ -35,6 +36,7 @@ impl Decoder for CallsDecoder<'_> {
             return Err(DocFault::here(alloc, OUT_OF_RANGE));
         }
         let decoder = CallDecoder {
+            version: self.version,
             catalog: self.catalog,
             workers: self.workers,
         };
@@ -44,6 +46,7 @@ impl Decoder for CallsDecoder<'_> {
 
 #[derive(Drop)]
 struct CallDecoder<'a> {
+    version: Version,
     catalog: &'a Catalog,
     workers: u32,
 }
@@ -51,7 +54,7 @@ struct CallDecoder<'a> {
 impl Decoder for CallDecoder<'_> {
     type Output = Call;
 
-    ghost meaning = { λ r. call r.catalog.now r.workers };
+    ghost meaning = { λ r. call r.version r.catalog.now r.workers };
 
     #[tactic(auto, unfolding(crate::specs::Calls::call))]
     fn decode(&self, alloc: Global, value: &Value) -> Result<Call, DocFault> {
@@ -61,37 +64,58 @@ impl Decoder for CallDecoder<'_> {
             max: self.workers,
         };
         let worker = member(alloc, value, "worker", &workers)?;
-        let ask = ask(alloc, self.catalog, value)?;
+        let ask = ask(alloc, self.version, self.catalog, value)?;
         Ok(Call { worker, ask })
     }
 }
 
 /// What a call asks for, by the first kind that's there.
 #[tactic(auto, unfolding(crate::specs::Calls::ask))]
-fn ask(alloc: Global, catalog: &Catalog, value: &Value) -> Result<Ask, DocFault>
-    ensures { Gives result (ask catalog.now (view value.now)) }
+fn ask(alloc: Global, version: Version, catalog: &Catalog, value: &Value) -> Result<Ask, DocFault>
+    ensures { Gives result (ask version catalog.now (view value.now)) }
 {
-    if has(value, "insert") {
-        let write = insert(alloc, catalog, value)?;
-        return Ok(Ask::Write(write));
+    match write(alloc, catalog, Place::Call, value)? {
+        Some(write) => {
+            let action = action_of_one(alloc, write)?;
+            Ok(Ask::Write(action))
+        }
+        None => ask_without_write(alloc, version, catalog, value),
     }
-    if has(value, "update") {
-        let write = update(alloc, catalog, value)?;
-        return Ok(Ask::Write(write));
-    }
-    if has(value, "delete") {
-        let write = delete(alloc, catalog, value)?;
-        return Ok(Ask::Write(write));
-    }
+}
+
+fn ask_without_write(
+    alloc: Global,
+    version: Version,
+    catalog: &Catalog,
+    value: &Value,
+) -> Result<Ask, DocFault>
+    ensures { Gives result (ask_by version catalog.now (view value.now) None) }
+{
     if has(value, "select") {
         let read = select(alloc, catalog, value)?;
         return Ok(read);
     }
-    Err(DocFault::here(alloc, NO_KIND))
+    if has_action(version, value) {
+        let action = action(alloc, catalog, value)?;
+        return Ok(Ask::Write(action));
+    }
+    Err(DocFault::here(alloc, no_kind(version)))
 }
 
-fn has(object: &Value, name: &str) -> bool
-    ensures { result ≡ has name.now (view object.now) }
+fn has_action(version: Version, object: &Value) -> bool
+    ensures { result ≡ has_action version (view object.now) }
 {
-    object.get(name).is_some()
+    match version {
+        Version::One => false,
+        Version::Two => has(object, "do"),
+    }
+}
+
+fn no_kind(version: Version) -> &'static str
+    ensures { result.now ≡ no_kind version }
+{
+    match version {
+        Version::One => "missing one of insert, update, delete, select, preview",
+        Version::Two => "missing one of insert, update, delete, select, preview, do",
+    }
 }

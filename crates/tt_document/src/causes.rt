@@ -1,4 +1,4 @@
-//! The texts of the faults of a catalog and of a statement.
+//! The texts of the faults of a catalog, of a statement and of an action.
 ghost use Rattle.std.specs.Prelude.{◌≡◌};
 ghost use Rattle.tt_document.specs.Causes.{cause_of_catalog, cause_of_check};
 
@@ -19,7 +19,7 @@ pub(crate) fn cause_of_catalog(error: CatalogError) -> &'static str
     }
 }
 
-/// Why a statement is refused.
+/// Why a statement or an action is refused.
 pub(crate) fn cause_of_check(error: CheckError) -> &'static str
     ensures { result.now ≡ cause_of_check error }
 {
@@ -32,5 +32,6 @@ pub(crate) fn cause_of_check(error: CheckError) -> &'static str
         CheckError::SetsKey => "key set by an update",
         CheckError::SameColumnTwice => "column changed twice",
         CheckError::TooManyEquals => "too many equalities",
+        CheckError::TooManyWrites => "too many writes",
     }
 }

@@ -4,7 +4,7 @@ ghost use Rattle.serde_json.specs.Data.{Data};
 ghost use Rattle.serde_json.specs.View.{view};
 ghost use Rattle.tt_document.specs.declared.fault.DocFault.{DocFault};
 ghost use Rattle.tt_document.specs.Fault.{Gives, GivesViewed, IsFault, fault_here, with_path, member_path, item_path};
-ghost use Rattle.tt_document.specs.Decoder.{object, text, int, flag, count, count_within, array, member, optional};
+ghost use Rattle.tt_document.specs.Decoder.{object, text, int, flag, count, count_within, array, has, member, optional};
 
 use crate::fault::DocFault;
 use serde_json::Value;
@@ -64,6 +64,13 @@ pub(crate) fn array(alloc: Global, value: &Value) -> Result<&[Value], DocFault>
         Some(items) => Ok(items.as_slice()),
         None => Err(DocFault::here(alloc, WRONG_TYPE)),
     }
+}
+
+/// Whether an object has a member.
+pub(crate) fn has(object: &Value, name: &str) -> bool
+    ensures { result ≡ has name.now (view object.now) }
+{
+    object.get(name).is_some()
 }
 
 /// The meaning of a member that has to be there.

@@ -3,7 +3,7 @@ use crate::owned_items::OwnedItems;
 use crate::reading::from_members;
 use serde_json::Value;
 use std::alloc::Global;
-use tt_values::{Catalog, Select, Shared, Write};
+use tt_values::{Catalog, Items, Select, Shared, Write};
 
 /// A workload: the tables, and the calls that the workers make.
 #[derive(Debug, Drop)]
@@ -45,7 +45,9 @@ pub struct Call {
 /// What a call asks for.
 #[derive(Debug, PartialEq, Drop)]
 pub enum Ask {
-    Write(Write),
+    /// An action: at most [`MAX_WRITES`](tt_values::MAX_WRITES) writes, carried out in order as
+    /// one slot.
+    Write(Items<Write>),
     /// Rows of a table: as they were at a time, or as they are now where none is given.
     Read { select: Select, at: Option<u64> },
 }

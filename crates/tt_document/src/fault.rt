@@ -52,14 +52,14 @@ impl DocFault {
         DocFault::because(alloc, String::from_str(alloc, cause))
     }
 
-    /// The same, with the text of the cause, or none for lack of memory.
+    /// The same, with the text of the cause, or `Memory` where there was none for it.
     pub(crate) fn because(alloc: Global, cause: Result<String, AllocError>) -> DocFault
         ensures { MatchResult cause
             (λ text. IsFault result (fault_here (string_bytes text)))
             (λ _. result ≡ DocFault.Memory) }
     {
         match cause {
-            Ok(cause) => fault_of(alloc, cause),
+            Ok(cause) => fault_because(alloc, cause),
             Err(AllocError) => DocFault::Memory,
         }
     }
@@ -72,7 +72,7 @@ impl DocFault {
             return DocFault::Memory;
         };
         let inner = path.as_str();
-        fault_with_path(alloc, format!(in alloc; ".{name}{inner}"), cause)
+        fault_if_path(alloc, format!(in alloc; ".{name}{inner}"), cause)
     }
 
     /// The fault of an item, as one of the array.
@@ -83,7 +83,7 @@ impl DocFault {
             return DocFault::Memory;
         };
         let inner = path.as_str();
-        fault_with_path(alloc, format!(in alloc; "[{index}]{inner}"), cause)
+        fault_if_path(alloc, format!(in alloc; "[{index}]{inner}"), cause)
     }
 
     /// The fault of the whole value, as one of the document.
@@ -94,22 +94,22 @@ impl DocFault {
             return DocFault::Memory;
         };
         let inner = path.as_str();
-        fault_with_path(alloc, format!(in alloc; "${inner}"), cause)
+        fault_if_path(alloc, format!(in alloc; "${inner}"), cause)
     }
 }
 
-/// A fault of the value itself, or none for lack of memory.
-fn fault_of(alloc: Global, cause: String) -> DocFault
+/// A fault of the value itself, or `Memory` where there is none for its texts.
+fn fault_because(alloc: Global, cause: String) -> DocFault
     ensures { IsFault result (fault_here (string_bytes cause)) }
 {
     match Text::new(alloc, cause) {
-        Ok(cause) => fault_with_path(alloc, Ok(String::new(alloc)), cause),
+        Ok(cause) => fault_if_path(alloc, Ok(String::new(alloc)), cause),
         Err(AllocError) => DocFault::Memory,
     }
 }
 
-/// A fault with the text of its path, or none for lack of memory.
-fn fault_with_path(alloc: Global, path: Result<String, AllocError>, cause: Text) -> DocFault
+/// A fault at a path, or `Memory` where there was none for the text of the path.
+fn fault_if_path(alloc: Global, path: Result<String, AllocError>, cause: Text) -> DocFault
     ensures { MatchResult path
         (λ p. IsFault result (DocFault.At (string_bytes p) cause))
         (λ _. result ≡ DocFault.Memory) }
@@ -120,6 +120,7 @@ fn fault_with_path(alloc: Global, path: Result<String, AllocError>, cause: Text)
     }
 }
 
+/// A fault at a path, or `Memory` where there is none to share the path.
 fn fault_at_path(alloc: Global, path: String, cause: Text) -> DocFault
     ensures { IsFault result (DocFault.At (string_bytes path) cause) }
 {

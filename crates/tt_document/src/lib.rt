@@ -1,6 +1,7 @@
 //! The documents of a small time-travel database: a workload in JSON, or its first fault.
 #![tactic(auto)]
 
+mod actions;
 mod calls;
 mod causes;
 mod changes;
@@ -15,6 +16,7 @@ mod reading;
 mod statements;
 mod tables;
 mod taker;
+mod version;
 
 pub use document::{Ask, Call, Document};
 pub use fault::DocFault;

@@ -10,6 +10,7 @@ use crate::document::Document;
 use crate::fault::DocFault;
 use crate::members::no_members_but;
 use crate::tables::TablesDecoder;
+use crate::version::VersionDecoder;
 use serde_json::Value;
 use std::alloc::Global;
 use tt_values::Shared;
@@ -20,8 +21,7 @@ pub(crate) fn from_members(alloc: Global, value: &Value) -> Result<Document, Doc
     ensures { Gives result (members_of_document (view value.now)) }
 {
     object(alloc, value)?;
-    let version = CountDecoder { min: 1, max: 1 };
-    member(alloc, value, "version", &version)?;
+    let version = member(alloc, value, "version", &VersionDecoder)?;
     let catalog = member(alloc, value, "tables", &TablesDecoder)?;
     let workers = CountDecoder {
         min: 1,
@@ -29,6 +29,7 @@ pub(crate) fn from_members(alloc: Global, value: &Value) -> Result<Document, Doc
     };
     let workers = member(alloc, value, "workers", &workers)?;
     let decoder = CallsDecoder {
+        version,
         catalog: &catalog,
         workers,
     };

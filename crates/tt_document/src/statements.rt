@@ -1,8 +1,9 @@
 //! Reading of statements.
+ghost use Rattle.std.specs.Prelude.{[], ◌∷◌, codes};
 ghost use Rattle.serde_json.specs.View.{view};
 ghost use Rattle.tt_values.specs.Check.{write_fault, select_fault};
 ghost use Rattle.tt_document.specs.Fault.{Gives};
-ghost use Rattle.tt_document.specs.Statements.{checked_statement, conditions, insert, update, delete, select};
+ghost use Rattle.tt_document.specs.Statements.{checked_statement, conditions, no_members_at, insert, update, delete, select};
 
 use crate::causes::cause_of_check;
 use crate::changes::ChangeDecoder;
@@ -16,25 +17,42 @@ use serde_json::Value;
 use std::alloc::Global;
 use tt_values::{Catalog, Equal, Items, Row, Select, Write, check, check_select};
 
+/// Where a write stands: as a call, with a worker, or as an item of an action.
+#[derive(Clone, Copy)]
+pub(crate) enum Place {
+    Call,
+    Item,
+}
+
 /// The insert of an object.
 #[tactic(auto, unfolding(crate::specs::Statements::insert))]
-pub(crate) fn insert(alloc: Global, catalog: &Catalog, value: &Value) -> Result<Write, DocFault>
-    ensures { Gives result (insert catalog.now (view value.now)) }
+pub(crate) fn insert(
+    alloc: Global,
+    catalog: &Catalog,
+    place: Place,
+    value: &Value,
+) -> Result<Write, DocFault>
+    ensures { Gives result (insert catalog.now place (view value.now)) }
 {
     let table = member(alloc, value, "insert", &TableNameDecoder { catalog })?;
     let decoder = ArrayDecoder {
         decoder: ValueDecoder,
     };
     let values = member(alloc, value, "row", &decoder)?;
-    no_members_but(alloc, value, &["insert", "row", "worker"])?;
+    no_members_but_insert(alloc, place, value)?;
     let row = Row { values };
     checked_write(alloc, catalog, Write::Insert { table, row })
 }
 
 /// The update of an object.
 #[tactic(auto, unfolding(crate::specs::Statements::update))]
-pub(crate) fn update(alloc: Global, catalog: &Catalog, value: &Value) -> Result<Write, DocFault>
-    ensures { Gives result (update catalog.now (view value.now)) }
+pub(crate) fn update(
+    alloc: Global,
+    catalog: &Catalog,
+    place: Place,
+    value: &Value,
+) -> Result<Write, DocFault>
+    ensures { Gives result (update catalog.now place (view value.now)) }
 {
     let table = member(alloc, value, "update", &TableNameDecoder { catalog })?;
     let decoder = ArrayDecoder {
@@ -42,7 +60,7 @@ pub(crate) fn update(alloc: Global, catalog: &Catalog, value: &Value) -> Result<
     };
     let changes = member(alloc, value, "change", &decoder)?;
     let equals = conditions(alloc, catalog, table, value)?;
-    no_members_but(alloc, value, &["change", "update", "where", "worker"])?;
+    no_members_but_update(alloc, place, value)?;
     let write = Write::Update {
         table,
         changes,
@@ -53,12 +71,17 @@ pub(crate) fn update(alloc: Global, catalog: &Catalog, value: &Value) -> Result<
 
 /// The delete of an object.
 #[tactic(auto, unfolding(crate::specs::Statements::delete))]
-pub(crate) fn delete(alloc: Global, catalog: &Catalog, value: &Value) -> Result<Write, DocFault>
-    ensures { Gives result (delete catalog.now (view value.now)) }
+pub(crate) fn delete(
+    alloc: Global,
+    catalog: &Catalog,
+    place: Place,
+    value: &Value,
+) -> Result<Write, DocFault>
+    ensures { Gives result (delete catalog.now place (view value.now)) }
 {
     let table = member(alloc, value, "delete", &TableNameDecoder { catalog })?;
     let equals = conditions(alloc, catalog, table, value)?;
-    no_members_but(alloc, value, &["delete", "where", "worker"])?;
+    no_members_but_delete(alloc, place, value)?;
     checked_write(alloc, catalog, Write::Delete { table, equals })
 }
 
@@ -73,6 +96,37 @@ pub(crate) fn select(alloc: Global, catalog: &Catalog, value: &Value) -> Result<
     no_members_but(alloc, value, &["at", "select", "where", "worker"])?;
     let select = checked_select(alloc, catalog, Select { table, equals })?;
     Ok(Ask::Read { select, at })
+}
+
+fn no_members_but_insert(alloc: Global, place: Place, value: &Value) -> Result<(), DocFault>
+    ensures { Gives result
+        (no_members_at place (codes "insert" ∷ codes "row" ∷ []) (view value.now)) }
+{
+    match place {
+        Place::Call => no_members_but(alloc, value, &["worker", "insert", "row"]),
+        Place::Item => no_members_but(alloc, value, &["insert", "row"]),
+    }
+}
+
+fn no_members_but_update(alloc: Global, place: Place, value: &Value) -> Result<(), DocFault>
+    ensures { Gives result
+        (no_members_at place (codes "change" ∷ codes "update" ∷ codes "where" ∷ [])
+        (view value.now)) }
+{
+    match place {
+        Place::Call => no_members_but(alloc, value, &["worker", "change", "update", "where"]),
+        Place::Item => no_members_but(alloc, value, &["change", "update", "where"]),
+    }
+}
+
+fn no_members_but_delete(alloc: Global, place: Place, value: &Value) -> Result<(), DocFault>
+    ensures { Gives result
+        (no_members_at place (codes "delete" ∷ codes "where" ∷ []) (view value.now)) }
+{
+    match place {
+        Place::Call => no_members_but(alloc, value, &["worker", "delete", "where"]),
+        Place::Item => no_members_but(alloc, value, &["delete", "where"]),
+    }
 }
 
 /// The conditions of a statement on a table, from its member `where`.

@@ -1,5 +1,5 @@
 //! Reading of arrays, item by item from the front.
-ghost use Rattle.std.specs.Prelude.{◌≡◌, ◌++◌, ◌∷◌, [], Result, map, IfOk, List};
+ghost use Rattle.std.specs.Prelude.{Result, map};
 ghost use Rattle.serde_json.specs.Data.{Data};
 ghost use Rattle.serde_json.specs.View.{view};
 ghost use Rattle.tt_document.specs.declared.fault.DocFault.{DocFault};

@@ -43,6 +43,11 @@ fn call(ask: Ask) -> Call {
     Call { worker: 1, ask }
 }
 
+fn call_of<const N: usize>(rt: &impl Abort, alloc: Global, writes: [Write; N]) -> Call {
+    let writes = Vec::from_array(alloc, writes).expect(rt, "memory");
+    call(Ask::Write(items(rt, alloc, writes)))
+}
+
 fn items<T: Drop>(rt: &impl Abort, alloc: Global, list: Vec<T>) -> Items<T> {
     Items::new(alloc, list).expect(rt, "memory")
 }
@@ -60,7 +65,7 @@ fn of_key(rt: &impl Abort, alloc: Global) -> Items<Equal> {
     )
 }
 
-fn insert_of_ann(rt: &impl Abort, alloc: Global) -> Call {
+fn insert_of_ann(rt: &impl Abort, alloc: Global) -> Write {
     let ann = Value::Text(text(rt, alloc, "ann"));
     let values = [Value::Int(1), ann, Value::Int(10)];
     let row = Row {
@@ -70,7 +75,7 @@ fn insert_of_ann(rt: &impl Abort, alloc: Global) -> Call {
             Vec::from_array(alloc, values).expect(rt, "memory"),
         ),
     };
-    call(Ask::Write(Write::Insert { table: 0, row }))
+    Write::Insert { table: 0, row }
 }
 
 fn select_of_ann(rt: &impl Abort, alloc: Global) -> Call {
@@ -83,21 +88,21 @@ fn select_of_ann(rt: &impl Abort, alloc: Global) -> Call {
     call(Ask::Read { select, at: None })
 }
 
-fn update_of_ann(rt: &impl Abort, alloc: Global) -> Call {
+fn update_of_ann(rt: &impl Abort, alloc: Global) -> Write {
     let value = Value::Text(text(rt, alloc, "eve"));
     let set = Change::Set { column: 1, value };
     let add = Change::Add { column: 2, by: -3 };
     let changes = Vec::from_array(alloc, [set, add]).expect(rt, "memory");
-    call(Ask::Write(Write::Update {
+    Write::Update {
         table: 0,
         changes: items(rt, alloc, changes),
         equals: of_key(rt, alloc),
-    }))
+    }
 }
 
-fn delete_of_ann(rt: &impl Abort, alloc: Global) -> Call {
+fn delete_of_ann(rt: &impl Abort, alloc: Global) -> Write {
     let equals = of_key(rt, alloc);
-    call(Ask::Write(Write::Delete { table: 0, equals }))
+    Write::Delete { table: 0, equals }
 }
 
 fn select_at(rt: &impl Abort, alloc: Global, time: u64) -> Call {
@@ -109,12 +114,17 @@ fn select_at(rt: &impl Abort, alloc: Global, time: u64) -> Call {
     call(Ask::Read { select, at })
 }
 
-/// The call that a text spells is this one.
-fn is_call(rt: &impl Abort, alloc: Global, call: &str, expected: Call) {
+/// The text of a document of this version, with one call.
+fn document_of(rt: &impl Abort, alloc: Global, version: u32, call: &str) -> String {
     let text = format!(in alloc;
-        "{{\"version\":1,\"tables\":[{TABLE}],\"workers\":15,\"calls\":[{call}]}}"
+        "{{\"version\":{version},\"tables\":[{TABLE}],\"workers\":15,\"calls\":[{call}]}}"
     );
-    let text = text.expect(rt, "memory");
+    text.expect(rt, "memory")
+}
+
+/// The call that a text spells in this version is this one.
+fn is_call(rt: &impl Abort, alloc: Global, version: u32, call: &str, expected: Call) {
+    let text = document_of(rt, alloc, version, call);
     let document = read(rt, alloc, text.as_str());
     assert_eq!(rt; document.workers, 15);
     assert!(rt;
@@ -127,8 +137,13 @@ fn is_call(rt: &impl Abort, alloc: Global, call: &str, expected: Call) {
 fn tables_and_calls(rt: HostRuntime) {
     let alloc = rt.alloc();
     let document = read(&rt, alloc, STORED);
-    let calls = [insert_of_ann(&rt, alloc), select_of_ann(&rt, alloc)];
+    let calls = [
+        call_of(&rt, alloc, [insert_of_ann(&rt, alloc)]),
+        select_of_ann(&rt, alloc),
+    ];
     assert_eq!(rt; document.workers, 1);
+    assert_eq!(rt; document.calls.len(), 2);
+    assert!(rt; !document.calls.is_empty());
     assert!(rt; document.calls.as_slice() == calls.as_slice());
     let catalog = document.catalog.get();
     assert_eq!(rt; catalog.len(), 1);
@@ -141,13 +156,33 @@ fn updates_deletes_and_times(rt: HostRuntime) {
     let alloc = rt.alloc();
     let update =
         r#"{"worker":1,"update":"acct","change":[["set","owner","eve"],["add","bal",-3]],"where":[["id",1]]}"#;
-    is_call(&rt, alloc, update, update_of_ann(&rt, alloc));
+    let updated = call_of(&rt, alloc, [update_of_ann(&rt, alloc)]);
+    is_call(&rt, alloc, 1, update, updated);
     let delete = r#"{"worker":1,"delete":"acct","where":[["id",1]]}"#;
-    is_call(&rt, alloc, delete, delete_of_ann(&rt, alloc));
+    let deleted = call_of(&rt, alloc, [delete_of_ann(&rt, alloc)]);
+    is_call(&rt, alloc, 1, delete, deleted);
     let first = r#"{"worker":1,"select":"acct","where":[["id",1]],"at":0}"#;
-    is_call(&rt, alloc, first, select_at(&rt, alloc, 0));
+    is_call(&rt, alloc, 1, first, select_at(&rt, alloc, 0));
     let last = r#"{"worker":1,"select":"acct","where":[["id",1]],"at":18446744073709551615}"#;
-    is_call(&rt, alloc, last, select_at(&rt, alloc, u64::MAX));
+    is_call(&rt, alloc, 1, last, select_at(&rt, alloc, u64::MAX));
+}
+
+#[test]
+fn actions_of_version_2(rt: HostRuntime) {
+    let alloc = rt.alloc();
+    let both =
+        r#"{"worker":1,"do":[{"insert":"acct","row":[1,"ann",10]},{"delete":"acct","where":[["id",1]]}]}"#;
+    let writes = [insert_of_ann(&rt, alloc), delete_of_ann(&rt, alloc)];
+    is_call(&rt, alloc, 2, both, call_of(&rt, alloc, writes));
+    let refused =
+        r#"{"worker":1,"do":[{"delete":"acct","where":[]},{"insert":"acct","row":[1,"ann",1.5]}]}"#;
+    let text = document_of(&rt, alloc, 2, refused);
+    let value = Json::from_str(alloc, text.as_str()).expect(&rt, "JSON");
+    let Err(DocFault::At { path, cause }) = Document::from_value(alloc, &value) else {
+        return assert!(rt; false, "a fault");
+    };
+    assert_eq!(rt; path.as_str(), "$.calls[0].do[1].row[2]");
+    assert_eq!(rt; cause.as_str(), "wrong type");
 }
 
 #[test]

@@ -1,5 +1,5 @@
-//! Persistent lists and maps that share their pages: a change copies those of the pages that it
-//! touches that others share too, so that these stay as they were.
+//! Persistent lists and maps that share their pages: a change writes a page in place where nobody
+//! shares it, and copies it first where others do, so that theirs stays as it was.
 #![tactic(auto)]
 
 mod kept;

@@ -1,9 +1,10 @@
 -- The dirty set of a repair tracks where the edited slots differ.
-use Rattle.std.proofs.Common.{◌≡◌, ℕ, zero, suc, ◌+◌, ◌-◌, ℤ, Bool, true, false, T, List, fold, Option, None, Some, is_some, if◌then◌else◌, refl, sym, ap, subst, ◌∙◌, arith, zero-add, true≢false}
+use Rattle.std.proofs.Common.{◌≡◌, ℕ, zero, suc, ◌+◌, ◌-◌, ℤ, Bool, true, false, List, fold, Option, None, Some, is_some, if◌then◌else◌, refl, sym, ap, ◌∙◌, arith, zero-add, true≢false}
 use Rattle.std.proofs.lemmas.Bool.{or_parts}
 use Rattle.tt_values.specs.Tables.{Tables}
 use Rattle.tt_values.specs.Content.{row_at, with_row_write}
-use Rattle.tt_values.specs.RowWrites.{Slots, slot_after, slot_writes, slot_reply, row_writes}
+use Rattle.tt_values.specs.ActionLaws.{IsByRisingKey}
+use Rattle.tt_values.specs.RowWrites.{Slots, slot_after, slot_writes, slot_replies, row_writes}
 use Rattle.tt_values.proofs.LawProofs.{rows_rise, next_content, past_stays}
 use Rattle.tt_parts.specs.Dirty.{DirtySet, has_row}
 use Rattle.tt_repair_laws.specs.declared.edit.Edit.{Edit}
@@ -11,11 +12,12 @@ use Rattle.tt_repair_laws.specs.Edits.{edit_of, edited_slots}
 use Rattle.tt_repair_laws.specs.Due.{content_after, is_slot_affected, is_due_by, rows_reexecuted, with_row_of, dirty_after_slot, dirty_after}
 use Rattle.tt_repair_laws.specs.Laws.{IsSameSlot, NoAffectedSlotIsMissed, CleanRowsAgree, DirtyRowsLieInDirtyPartitions}
 use Rattle.tt_repair_laws.proofs.DirtyLemmas.{clean_before}
-use Rattle.tt_repair_laws.proofs.TrackingLemmas.{Rises, Tracks, slot_writes-unaffected, slot_reply-unaffected, Tracks-unaffected, Tracks-reexecuted}
+use Rattle.tt_repair_laws.proofs.TrackingLemmas.{Tracks, Tracks-reexecuted}
+use Rattle.tt_repair_laws.proofs.UnaffectedLemmas.{slot_writes-unaffected, slot_replies-unaffected, Tracks-unaffected}
 use Rattle.tt_repair_laws.proofs.EditsLemmas.{unedited_slots_stay}
 
-pub content_rises : (W : Slots) (n : ℕ) → Rises (content_after W n)
-content_rises W n table = subst T (sym (rows_rise (row_writes W n) n table)) tt
+pub content_rises : (W : Slots) (n : ℕ) → IsByRisingKey (content_after W n)
+content_rises W n table = rows_rise (row_writes W n) n table
 
 pub no_edit : {X : Type 0} (o : Option X) → is_some o ≡ false → o ≡ None
 no_edit None h = refl
@@ -67,7 +69,7 @@ no_affected_slot_is_missed tables W E n h =
     let same : IsSameSlot W V n = record {
       slot = unedited;
       writes = ap (λ s. slot_writes (suc n) s Y) unedited ∙ slot_writes-unaffected tables D X Y t (content_rises W n) (content_rises V n) (suc n) (slot_after W n) (or_parts _ _ h).1;
-      reply = ap (λ s. slot_reply s Y) unedited ∙ slot_reply-unaffected tables D X Y t (content_rises W n) (content_rises V n) (slot_after W n) (or_parts _ _ h).1;
+      replies = ap (λ s. slot_replies s Y) unedited ∙ slot_replies-unaffected tables D X Y t (content_rises W n) (content_rises V n) (slot_after W n) (or_parts _ _ h).1;
     } in same
 
 pub clean_rows_agree : CleanRowsAgree

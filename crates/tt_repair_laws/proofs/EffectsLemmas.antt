@@ -1,7 +1,9 @@
 -- The rows that a slot doesn't write.
-use Rattle.std.proofs.Common.{◌≡◌, ℕ, ℤ, Bool, true, false, cond, List, [], ◌∷◌, map, fold, Option, None, Some, is_some, if◌then◌else◌, refl, sym, ap, ◌∙◌}
+use Rattle.std.proofs.Common.{◌≡◌, ℕ, ℤ, Bool, true, false, cond, ◌||◌, List, [], ◌∷◌, ◌++◌, map, fold, Option, None, Some, is_some, if◌then◌else◌, refl, sym, ap, ◌∙◌}
 use Rattle.std.specs.List.{list_any}
 use Rattle.std.proofs.lemmas.Bool.{or_parts}
+use Rattle.std.proofs.lemmas.List.{map-append}
+use Rattle.std.proofs.lemmas.List.Folds.{list_any-append}
 use Rattle.std.proofs.lemmas.Simd.{map-map}
 use Rattle.tt_values.specs.declared.row.Row.{Row}
 use Rattle.tt_values.specs.declared.statement.Write.{Write}
@@ -10,24 +12,39 @@ use Rattle.tt_values.specs.Row.{key_of}
 use Rattle.tt_values.specs.Change.{changed}
 use Rattle.tt_values.specs.Content.{Content, RowWrite, row_at, with_row_write, for_key, last_row_written_or}
 use Rattle.tt_values.specs.Effect.{matching_rows, table_of, effect}
+use Rattle.tt_values.specs.Action.{RowId, content_after_write, rows_of_write, rows_of_action, is_among, effect_of_action, action_writes}
 use Rattle.tt_values.specs.RowWrites.{slot_writes}
-use Rattle.tt_values.proofs.LawProofs.{last_row_write_counts}
-use Rattle.tt_repair_laws.specs.Due.{rows_written, rows_matched, slot_rows_written, slot_rows_matched}
+use Rattle.tt_values.proofs.LawProofs.{last_row_write_counts, action_writes_each_row_once}
+use Rattle.tt_repair_laws.specs.Due.{rows_written, rows_matched, row_pair, action_rows_written, action_rows_matched, slot_rows_written, slot_rows_matched}
+use Rattle.tt_repair_laws.proofs.RowListsLemmas.{list_any-map, list_none-append}
 use Rattle.tt_repair_laws.proofs.DirtyLemmas.{is_row}
 
+abbrev id : ℕ → ℤ → RowId
+id table key = record { table = table; key = key }
+
+-- the rows that an action writes: those of its first write, then those of the others
+pub action_rows_written-next : (w : Write) (ws : List Write) (X : Content) → action_rows_written (w ∷ ws) X ≡ rows_written w X ++ action_rows_written ws (content_after_write w X)
+action_rows_written-next w ws X =
+    let next = content_after_write w X in
+    map-append row_pair (rows_of_write w X) (rows_of_action ws next) ∙ ap (λ rs. rs ++ action_rows_written ws next) (map-map row_pair (λ (e : ℤ × Option Row). id (table_of w) e.0) (effect w X))
+
 -- an effect without a row has no row write for it
-for_key-none : (time of : ℕ) (es : List (ℤ × Option Row)) (table : ℕ) (key : ℤ) → list_any (is_row table key) (map (λ e. (of, e.0)) es) ≡ false →
-    for_key table key (map (λ e. record { time = time; table = of; key = e.0; row = e.1 }) es) ≡ []
-for_key-none time of [] table key h = refl
-for_key-none time of (e ∷ es) table key h =
-    let rest : List RowWrite = map (λ d. record { time = time; table = of; key = d.0; row = d.1 }) es in
-    let first : RowWrite = record { time = time; table = of; key = e.0; row = e.1 } in
-    ap (λ b. cond b (first ∷ for_key table key rest) (for_key table key rest)) (or_parts _ _ h).0 ∙ for_key-none time of es table key (or_parts _ _ h).1
+for_key-none : (time : ℕ) (es : List (RowId × Option Row)) (table : ℕ) (key : ℤ) → is_among (id table key) (map (λ e. e.0) es) ≡ false →
+    for_key table key (map (λ e. record { time = time; table = e.0.table; key = e.0.key; row = e.1 }) es) ≡ []
+for_key-none time [] table key h = refl
+for_key-none time (e ∷ es) table key h =
+    let rest : List RowWrite = map (λ (d : RowId × Option Row). record { time = time; table = d.0.table; key = d.0.key; row = d.1 }) es in
+    let first : RowWrite = record { time = time; table = e.0.table; key = e.0.key; row = e.1 } in
+    ap (λ b. cond b (first ∷ for_key table key rest) (for_key table key rest)) (or_parts _ _ h).0 ∙ for_key-none time es table key (or_parts _ _ h).1
 
 -- a row that a slot doesn't write stays the same
-pub row_at-unwritten : (time : ℕ) (s : Option Write) (X : Content) (table : ℕ) (key : ℤ) → list_any (is_row table key) (slot_rows_written s X) ≡ false → row_at (fold with_row_write X (slot_writes time s X) table) key ≡ row_at (X table) key
+pub row_at-unwritten : (time : ℕ) (s : Option (List Write)) (X : Content) (table : ℕ) (key : ℤ) → list_any (is_row table key) (slot_rows_written s X) ≡ false → row_at (fold with_row_write X (slot_writes time s X) table) key ≡ row_at (X table) key
 row_at-unwritten time None X table key h = refl
-row_at-unwritten time (Some w) X table key h = last_row_write_counts (slot_writes time (Some w) X) X table key ∙ ap (last_row_written_or (row_at (X table) key)) (for_key-none time (table_of w) (effect w X) table key h)
+row_at-unwritten time (Some action) X table key h =
+    let once = action_writes_each_row_once action X in
+    let none = once.1 (id table key) ∙ sym (list_any-map (is_row table key) row_pair (rows_of_action action X)) ∙ h in
+    last_row_write_counts (action_writes time action X) X table key
+    ∙ ap (last_row_written_or (row_at (X table) key)) (for_key-none time (effect_of_action action X) table key none)
 
 -- rows that agree still agree after the same row writes
 pub row_at-agree : (ws : List RowWrite) (X Y : Content) (table : ℕ) (key : ℤ) → row_at (X table) key ≡ row_at (Y table) key → row_at (fold with_row_write X ws table) key ≡ row_at (fold with_row_write Y ws table) key
@@ -44,6 +61,18 @@ unmatched_unwritten (Insert of row) X table key h = unmatched_unwritten-insert (
 unmatched_unwritten (Update of cs qs) X table key h = ap (list_any (is_row table key)) (map-map (λ e. (of, e.0)) (λ e. (e.0, Some (changed e.1 cs))) (matching_rows qs (X of))) ∙ h
 unmatched_unwritten (Delete of qs) X table key h = ap (list_any (is_row table key)) (map-map (λ e. (of, e.0)) (λ e. (e.0, None)) (matching_rows qs (X of))) ∙ h
 
-pub slot_unmatched_unwritten : (s : Option Write) (X : Content) (table : ℕ) (key : ℤ) → list_any (is_row table key) (slot_rows_matched s X) ≡ false → list_any (is_row table key) (slot_rows_written s X) ≡ false
+-- an action doesn't write a row that none of its writes matches in its turn
+action_unmatched_unwritten : (ws : List Write) (X : Content) (table : ℕ) (key : ℤ) → list_any (is_row table key) (action_rows_matched ws X) ≡ false → list_any (is_row table key) (action_rows_written ws X) ≡ false
+action_unmatched_unwritten [] X table key h = refl
+action_unmatched_unwritten (w ∷ ws) X table key h =
+    let next = content_after_write w X in
+    let both = list_none-append (is_row table key) (rows_matched w X) (action_rows_matched ws next) h in
+    let first = unmatched_unwritten w X table key both.0 in
+    let rest = action_unmatched_unwritten ws next table key both.1 in
+    ap (list_any (is_row table key)) (action_rows_written-next w ws X)
+    ∙ list_any-append (is_row table key) (rows_written w X) (action_rows_written ws next)
+    ∙ (λ i. first i || rest i)
+
+pub slot_unmatched_unwritten : (s : Option (List Write)) (X : Content) (table : ℕ) (key : ℤ) → list_any (is_row table key) (slot_rows_matched s X) ≡ false → list_any (is_row table key) (slot_rows_written s X) ≡ false
 slot_unmatched_unwritten None X table key h = refl
-slot_unmatched_unwritten (Some w) X table key h = unmatched_unwritten w X table key h
+slot_unmatched_unwritten (Some action) X table key h = action_unmatched_unwritten action X table key h

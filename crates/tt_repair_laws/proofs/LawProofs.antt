@@ -1,10 +1,14 @@
 -- The proofs of this crate's laws. Other crates cite these lemmas of it, and no others.
-use Rattle.tt_repair_laws.specs.Laws.{NoAffectedSlotIsMissed, CleanRowsAgree, DirtyRowsLieInDirtyPartitions, LaterSlotsChangeNoRepair, UneditedSlotsStay, LaterSlotsStay}
+use Rattle.tt_repair_laws.specs.Laws.{ActionsAreAffectedByTheirWrites, NoAffectedSlotIsMissed, CleanRowsAgree, DirtyRowsLieInDirtyPartitions, LaterSlotsChangeNoRepair, UneditedSlotsStay, LaterSlotsStay}
 use Rattle.tt_repair_laws.specs.NextSide.{NextSideBeginsAsCurrent, NextSideShowsEditedSlots, UndueSlotsLeaveNextSide, DueSlotsChangeReexecutedRows, LaterSlotsLeaveDirtyRows, NextSideEndsAsEditedSlots}
 use Rattle.tt_repair_laws.proofs.EditsLemmas as edits
+use Rattle.tt_repair_laws.proofs.AffectedLemmas as affected
 use Rattle.tt_repair_laws.proofs.DueLemmas as due
 use Rattle.tt_repair_laws.proofs.LaterSlotsLemmas as later
 use Rattle.tt_repair_laws.proofs.NextSideLemmas as sides
+
+pub actions_are_affected_by_their_writes : ActionsAreAffectedByTheirWrites
+actions_are_affected_by_their_writes = affected.actions_are_affected_by_their_writes
 
 pub no_affected_slot_is_missed : NoAffectedSlotIsMissed
 no_affected_slot_is_missed = due.no_affected_slot_is_missed

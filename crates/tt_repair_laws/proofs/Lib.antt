@@ -2,7 +2,9 @@ pub mod RowListsLemmas
 pub mod EditsLemmas
 pub mod DirtyLemmas
 pub mod EffectsLemmas
+pub mod AffectedLemmas
 pub mod TrackingLemmas
+pub mod UnaffectedLemmas
 pub mod DueLemmas
 pub mod StepsLemmas
 pub mod LaterSlotsLemmas

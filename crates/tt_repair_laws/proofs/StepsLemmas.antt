@@ -13,7 +13,7 @@ use Rattle.tt_repair_laws.specs.Due.{content_after, is_slot_affected, slot_rows_
 use Rattle.tt_repair_laws.proofs.RowListsLemmas.{list_none-append}
 use Rattle.tt_repair_laws.proofs.DirtyLemmas.{is_row, clean_rows_differ, has_row-with_rows}
 use Rattle.tt_repair_laws.proofs.EffectsLemmas.{row_at-unwritten, slot_unmatched_unwritten}
-use Rattle.tt_repair_laws.proofs.TrackingLemmas.{slot_rows_written-unaffected, unaffected_writes_clean_rows}
+use Rattle.tt_repair_laws.proofs.UnaffectedLemmas.{slot_rows_written-unaffected, unaffected_writes_clean_rows}
 use Rattle.tt_repair_laws.proofs.EditsLemmas.{unedited_slots_stay}
 use Rattle.tt_repair_laws.proofs.DueLemmas.{content_rises, no_edit, Tracks-dirty_after}
 

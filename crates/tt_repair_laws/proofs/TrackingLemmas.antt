@@ -1,5 +1,5 @@
 -- Dirty sets that track where two contents differ.
-use Rattle.std.proofs.Common.{◌≡◌, ℕ, ℤ, Bool, true, false, cond, ◌||◌, List, [], ◌∷◌, ◌++◌, map, fold, length, Option, None, Some, is_some, if◌then◌else◌, T, refl, sym, ap, ◌∙◌, int_cmp, true≢false}
+use Rattle.std.proofs.Common.{◌≡◌, ℕ, ℤ, Bool, true, false, cond, ◌||◌, List, [], ◌∷◌, ◌++◌, map, fold, length, Option, None, Some, is_some, if◌then◌else◌, T, refl, sym, ap, subst, ◌∙◌, int_cmp, true≢false}
 use Rattle.std.specs.List.{list_any, list_all}
 use Rattle.std.specs.FinMap.Entries as sorted
 use Rattle.std.specs.Cmp.{int_cmp_total}
@@ -14,14 +14,15 @@ use Rattle.tt_values.specs.Row.{key_of}
 use Rattle.tt_values.specs.Matches.{matches}
 use Rattle.tt_values.specs.Change.{changed}
 use Rattle.tt_values.specs.Tables.{Tables}
-use Rattle.tt_values.specs.Content.{Content, row_at, with_row_write}
-use Rattle.tt_values.specs.Effect.{matching_rows, table_of, effect, reply_of}
-use Rattle.tt_values.specs.RowWrites.{slot_writes, slot_reply}
+use Rattle.tt_values.specs.Content.{Content, RowWrite, row_at, with_row_write}
+use Rattle.tt_values.specs.Effect.{matching_rows, effect, reply_of}
+use Rattle.tt_values.specs.ActionLaws.{IsByRisingKey}
+use Rattle.tt_values.specs.RowWrites.{slot_writes}
 use Rattle.tt_parts.specs.Partitions.{parts_of, equated_partitions}
 use Rattle.tt_parts.specs.Dirty.{columns_in, DirtySet, has_row, has_partition, is_clear}
-use Rattle.tt_repair_laws.specs.Due.{is_affected, is_slot_affected, slot_rows_written, slot_rows_matched, with_row_of}
+use Rattle.tt_repair_laws.specs.Due.{is_write_affected, slot_rows_written, slot_rows_matched, with_row_of}
 use Rattle.tt_repair_laws.proofs.RowListsLemmas.{if_passes, is_sorted-filter, row_at-filter, fails_at, list_any-map, list_none-append, list_all_if, same_key}
-use Rattle.tt_repair_laws.proofs.DirtyLemmas.{is_row, clean_rows_differ, equated_partitions_are_dirty, not_clear, has_row-with_rows, clean_before, has_partition-with_rows, rows_lie_in_dirty_partitions}
+use Rattle.tt_repair_laws.proofs.DirtyLemmas.{is_row, equated_partitions_are_dirty, not_clear, has_row-with_rows, clean_before, has_partition-with_rows, rows_lie_in_dirty_partitions}
 use Rattle.tt_repair_laws.proofs.EffectsLemmas.{row_at-unwritten, row_at-agree, slot_unmatched_unwritten}
 
 -- a dirty set tracks where two contents differ: they have the same clean rows, and the partitions in which a dirty row of the second lies are dirty
@@ -29,20 +30,22 @@ pub record Tracks (tables : Tables) (D : DirtySet) (X Y : Content) : Type 0 wher
   pub agree : (table : ℕ) (key : ℤ) → has_row D table key ≡ false → row_at (X table) key ≡ row_at (Y table) key
   pub parts : (table : ℕ) (key : ℤ) (row : Row) → has_row D table key ≡ true → row_at (Y table) key ≡ Some row → list_all (has_partition D) (parts_of table (columns_in tables table) row) ≡ true
 
--- the rows of each table are in strictly ascending order of their keys
-abbrev pub Rises : Content → Type 0
-Rises X = (table : ℕ) → T (sorted.is_sorted int_cmp (X table))
-
 module _ (tables : Tables) (D : DirtySet) (X Y : Content) (tracks : Tracks tables D X Y) where
   -- equalities match the same rows in both contents if they match no dirty row of the first and are clear
-  module _ (rises : Rises X) (rises2 : Rises Y) (table : ℕ) (qs : List Equal) where
+  module _ (rising : IsByRisingKey X) (rising2 : IsByRisingKey Y) (table : ℕ) (qs : List Equal) where
+    rises : T (sorted.is_sorted int_cmp (X table))
+    rises = subst T (sym (rising table)) tt
+
+    rises2 : T (sorted.is_sorted int_cmp (Y table))
+    rises2 = subst T (sym (rising2 table)) tt
+
     unmatched_before : (key : ℤ) → has_row D table key ≡ true → list_any (λ e. has_row D table e.0) (matching_rows qs (X table)) ≡ false → (o : Option Row) → row_at (X table) key ≡ o → if_passes (matches qs) o ≡ None
     unmatched_before key dirty none None is = refl
     unmatched_before key dirty none (Some r) is = by (matches qs r) refl
       where
         by : (b : Bool) → matches qs r ≡ b → cond b (Some r) None ≡ None
         by true e =
-            let here = row_at-filter (matches qs) (X table) key (rises table) ∙ ap (if_passes (matches qs)) is ∙ ap (λ b. cond b (Some r) None) e in
+            let here = row_at-filter (matches qs) (X table) key rises ∙ ap (if_passes (matches qs)) is ∙ ap (λ b. cond b (Some r) None) e in
             absurd (true≢false (sym dirty ∙ fails_at (has_row D table) (matching_rows qs (X table)) key r here none))
         by false e = refl
 
@@ -58,22 +61,22 @@ module _ (tables : Tables) (D : DirtySet) (X Y : Content) (tracks : Tracks table
 
     same_matches : list_any (λ e. has_row D table e.0) (matching_rows qs (X table)) ≡ false → is_clear D table (equated_partitions table (columns_in tables table) qs) ≡ true → matching_rows qs (X table) ≡ matching_rows qs (Y table)
     same_matches none clear =
-        sorted.same_entries int_cmp int_cmp_total (λ x y e. same_key x y (ap is_eq e)) _ _ (is_sorted-filter (matches qs) (X table) (rises table)) (is_sorted-filter (matches qs) (Y table) (rises2 table)) same
+        sorted.same_entries int_cmp int_cmp_total (λ x y e. same_key x y (ap is_eq e)) _ _ (is_sorted-filter (matches qs) (X table) rises) (is_sorted-filter (matches qs) (Y table) rises2) same
       where
         by : (key : ℤ) (b : Bool) → has_row D table key ≡ b → if_passes (matches qs) (row_at (X table) key) ≡ if_passes (matches qs) (row_at (Y table) key)
         by key true e = unmatched_before key e none (row_at (X table) key) refl ∙ sym (unmatched_after key e clear (row_at (Y table) key) refl)
         by key false e = ap (if_passes (matches qs)) (tracks.agree table key e)
 
         same : (key : ℤ) → row_at (matching_rows qs (X table)) key ≡ row_at (matching_rows qs (Y table)) key
-        same key = row_at-filter (matches qs) (X table) key (rises table) ∙ by key (has_row D table key) refl ∙ sym (row_at-filter (matches qs) (Y table) key (rises2 table))
+        same key = row_at-filter (matches qs) (X table) key rises ∙ by key (has_row D table key) refl ∙ sym (row_at-filter (matches qs) (Y table) key rises2)
 
   -- a write that isn't affected has the same effect and the same reply on both
-  module _ (rises : Rises X) (rises2 : Rises Y) where
+  module _ (rises : IsByRisingKey X) (rises2 : IsByRisingKey Y) where
     clean_matching_rows : (table : ℕ) (f : ℤ × Row → Option Row) (es : List (ℤ × Row)) → list_any (λ (r : ℕ × ℤ). has_row D r.0 r.1) (map (λ (e : ℤ × Option Row). (table, e.0)) (map (λ e. (e.0, f e)) es)) ≡ false → list_any (λ e. has_row D table e.0) es ≡ false
     clean_matching_rows table f es h =
         sym (list_any-map (λ (r : ℕ × ℤ). has_row D r.0 r.1) (λ (e : ℤ × Option Row). (table, e.0)) (map (λ e. (e.0, f e)) es) ∙ list_any-map (λ (e : ℤ × Option Row). has_row D table e.0) (λ e. (e.0, f e)) es) ∙ h
 
-    unaffected : (w : Write) → is_affected tables D w X ≡ false → (effect w Y ≡ effect w X) × (reply_of w Y ≡ reply_of w X)
+    pub unaffected : (w : Write) → is_write_affected tables D w X ≡ false → (effect w Y ≡ effect w X) × (reply_of w Y ≡ reply_of w X)
     unaffected (Insert table row) h =
         let same = sym (tracks.agree table (key_of row) (or_parts _ _ (or_parts _ _ h).0).1) in
         (ap (λ o. if is_some o then [] else (key_of row, Some row) ∷ []) same, ap (λ o. if is_some o then Duplicate else Inserted) same)
@@ -86,37 +89,17 @@ module _ (tables : Tables) (D : DirtySet) (X Y : Content) (tracks : Tracks table
         let pairs : effect (Delete table qs) Y ≡ effect (Delete table qs) X = ap (map (λ e. (e.0, None))) same in
         (pairs, ap (λ es. Deleted (length es)) pairs)
 
-    pub slot_writes-unaffected : (time : ℕ) (s : Option Write) → is_slot_affected tables D s X ≡ false → slot_writes time s Y ≡ slot_writes time s X
-    slot_writes-unaffected time None h = refl
-    slot_writes-unaffected time (Some w) h = ap (map (λ e. record { time = time; table = table_of w; key = e.0; row = e.1 })) (unaffected w h).0
-
-    pub slot_reply-unaffected : (s : Option Write) → is_slot_affected tables D s X ≡ false → slot_reply s Y ≡ slot_reply s X
-    slot_reply-unaffected None h = refl
-    slot_reply-unaffected (Some w) h = ap Some (unaffected w h).1
-
-    pub slot_rows_written-unaffected : (s : Option Write) → is_slot_affected tables D s X ≡ false → slot_rows_written s Y ≡ slot_rows_written s X
-    slot_rows_written-unaffected None h = refl
-    slot_rows_written-unaffected (Some w) h = ap (map (λ e. (table_of w, e.0))) (unaffected w h).0
-
-    pub unaffected_writes_clean_rows : (s : Option Write) → is_slot_affected tables D s X ≡ false → list_any (λ r. has_row D r.0 r.1) (slot_rows_written s X) ≡ false
-    unaffected_writes_clean_rows None h = refl
-    unaffected_writes_clean_rows (Some w) h = (or_parts _ _ (or_parts _ _ h).0).0
-
-    -- and the set tracks the contents after it
-    pub Tracks-unaffected : (time : ℕ) (s : Option Write) (X2 Y2 : Content) → is_slot_affected tables D s X ≡ false → X2 ≡ fold with_row_write X (slot_writes time s X) → Y2 ≡ fold with_row_write Y (slot_writes time s Y) → Tracks tables D X2 Y2
-    Tracks-unaffected time s X2 Y2 h is is2 = record {
-      agree = λ table key clean.
-          ap (λ Z. row_at (Z table) key) is
-          ∙ row_at-agree (slot_writes time s X) X Y table key (tracks.agree table key clean)
-          ∙ ap (λ ws. row_at (fold with_row_write Y ws table) key) (sym (slot_writes-unaffected time s h))
-          ∙ ap (λ Z. row_at (Z table) key) (sym is2);
-      parts = λ table key row dirty there.
-          let differs = ap (list_any (is_row table key)) (slot_rows_written-unaffected s h) ∙ clean_rows_differ D (slot_rows_written s X) table key dirty (unaffected_writes_clean_rows s h) in
-          tracks.parts table key row dirty (sym (ap (λ Z. row_at (Z table) key) is2 ∙ row_at-unwritten time s Y table key differs) ∙ there);
-    }
+  -- the set tracks two contents after the same row writes, if these are for no dirty row of the second
+  pub Tracks-same_writes : (ws : List RowWrite) (X2 Y2 : Content) → X2 ≡ fold with_row_write X ws → Y2 ≡ fold with_row_write Y ws →
+      ((table : ℕ) (key : ℤ) → has_row D table key ≡ true → row_at (Y2 table) key ≡ row_at (Y table) key) → Tracks tables D X2 Y2
+  Tracks-same_writes ws X2 Y2 is is2 stays = record {
+    agree = λ table key clean.
+        ap (λ Z. row_at (Z table) key) is ∙ row_at-agree ws X Y table key (tracks.agree table key clean) ∙ ap (λ Z. row_at (Z table) key) (sym is2);
+    parts = λ table key row dirty there. tracks.parts table key row dirty (sym (stays table key dirty) ∙ there);
+  }
 
   -- the set tracks the contents after two slots once the rows are dirty that the first wrote and those that the second matches
-  pub Tracks-reexecuted : (time : ℕ) (s v : Option Write) (X2 Y2 : Content) → X2 ≡ fold with_row_write X (slot_writes time s X) → Y2 ≡ fold with_row_write Y (slot_writes time v Y) →
+  pub Tracks-reexecuted : (time : ℕ) (s v : Option (List Write)) (X2 Y2 : Content) → X2 ≡ fold with_row_write X (slot_writes time s X) → Y2 ≡ fold with_row_write Y (slot_writes time v Y) →
       Tracks tables (fold (with_row_of tables Y Y2) D (slot_rows_written s X ++ slot_rows_matched v Y)) X2 Y2
   Tracks-reexecuted time s v X2 Y2 is is2 = record { agree = agree2; parts = λ table key row dirty there. parts2 table key row there (list_any (is_row table key) rows) refl dirty }
     where

@@ -1,3 +1,4 @@
 mod Repairs
 mod DueSlots
 mod NextSides
+mod Actions

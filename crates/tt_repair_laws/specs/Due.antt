@@ -10,6 +10,7 @@ use Rattle.tt_values.specs.Row.{key_of}
 use Rattle.tt_values.specs.Tables.{Tables}
 use Rattle.tt_values.specs.Content.{Content, content_at, row_at}
 use Rattle.tt_values.specs.Effect.{matching_rows, table_of, effect}
+use Rattle.tt_values.specs.Action.{RowId, content_after_write, rows_of_action}
 use Rattle.tt_values.specs.RowWrites.{Slots, slot_after, row_writes}
 use Rattle.tt_parts.specs.Partitions.{partitions_read}
 use Rattle.tt_parts.specs.Dirty.{DirtySet, nothing_dirty, columns_in, has_row, with_row, is_clear}
@@ -45,25 +46,49 @@ names_dirty_row D (Insert table row) = has_row D table (key_of row)
 names_dirty_row D (Update table changes equals) = list_any (has_dirty_key D table) equals
 names_dirty_row D (Delete table equals) = list_any (has_dirty_key D table) equals
 
+-- whether a write is clear, by the partitions that it reads
+abbrev pub is_write_clear : Tables → DirtySet → Write → Bool
+is_write_clear tables D w = is_clear D (table_of w) (partitions_read (columns_in tables (table_of w)) w)
+
 -- whether what is dirty may affect a write: the write writes a dirty row, names one, or isn't clear
-abbrev pub is_affected : Tables → DirtySet → Write → Content → Bool
-is_affected tables D w X =
+abbrev pub is_write_affected : Tables → DirtySet → Write → Content → Bool
+is_write_affected tables D w X =
     list_any (λ r. has_row D r.0 r.1) (rows_written w X)
     || names_dirty_row D w
-    || not (is_clear D (table_of w) (partitions_read (columns_in tables (table_of w)) w))
+    || not (is_write_clear tables D w)
+
+-- a row by its table and key
+abbrev pub row_pair : RowId → ℕ × ℤ
+row_pair r = (r.table, r.key)
+
+-- the rows that the writes of an action write, in their turn
+abbrev pub action_rows_written : List Write → Content → List (ℕ × ℤ)
+action_rows_written action X = map row_pair (rows_of_action action X)
+
+-- the rows that the writes of an action match, each on the content that the ones before it left
+abbrev pub action_rows_matched : List Write → Content → List (ℕ × ℤ)
+action_rows_matched [] X = []
+action_rows_matched (w ∷ ws) X = rows_matched w X ++ action_rows_matched ws (content_after_write w X)
+
+-- whether what is dirty may affect an action: it writes a dirty row, or one of its writes names one or isn't clear
+abbrev pub is_affected : Tables → DirtySet → List Write → Content → Bool
+is_affected tables D action X =
+    list_any (λ r. has_row D r.0 r.1) (action_rows_written action X)
+    || list_any (names_dirty_row D) action
+    || list_any (λ w. not (is_write_clear tables D w)) action
 
 -- the same for slots. A cancelled slot writes and matches nothing, and isn't affected
-abbrev pub slot_rows_written : Option Write → Content → List (ℕ × ℤ)
+abbrev pub slot_rows_written : Option (List Write) → Content → List (ℕ × ℤ)
 slot_rows_written None X = []
-slot_rows_written (Some w) X = rows_written w X
+slot_rows_written (Some action) X = action_rows_written action X
 
-abbrev pub slot_rows_matched : Option Write → Content → List (ℕ × ℤ)
+abbrev pub slot_rows_matched : Option (List Write) → Content → List (ℕ × ℤ)
 slot_rows_matched None X = []
-slot_rows_matched (Some w) X = rows_matched w X
+slot_rows_matched (Some action) X = action_rows_matched action X
 
-abbrev pub is_slot_affected : Tables → DirtySet → Option Write → Content → Bool
+abbrev pub is_slot_affected : Tables → DirtySet → Option (List Write) → Content → Bool
 is_slot_affected tables D None X = false
-is_slot_affected tables D (Some w) X = is_affected tables D w X
+is_slot_affected tables D (Some action) X = is_affected tables D action X
 
 -- the set after a row gets dirty that is in one content before, and in another one after
 abbrev pub with_row_of : Tables → Content → Content → DirtySet → ℕ × ℤ → DirtySet
@@ -73,7 +98,7 @@ with_row_of tables before after D r = with_row D r.0 (columns_in tables r.0) r.1
 abbrev pub is_due_by : Tables → Slots → List Edit → ℕ → DirtySet → Bool
 is_due_by tables W E n D = is_some (edit_of E (suc n)) || is_slot_affected tables D (slot_after W n) (content_after W n)
 
--- the rows that get dirty where slot n + 1 is re-executed: those that it wrote, and those that its edited write matches after the first n edited slots
+-- the rows that get dirty where slot n + 1 is re-executed: those that it wrote, and those that its edited action matches after the first n edited slots
 abbrev pub rows_reexecuted : Slots → List Edit → ℕ → List (ℕ × ℤ)
 rows_reexecuted W E n =
     slot_rows_written (slot_after W n) (content_after W n)

@@ -8,12 +8,12 @@ use Rattle.tt_repair_laws.specs.declared.edit.Edit.TheVariants.{Cancel, Replace}
 -- the number of the slot that an edit is for
 abbrev pub slot_number : Edit → ℕ
 slot_number (Cancel t) = t
-slot_number (Replace t w) = t
+slot_number (Replace t action) = t
 
--- the write that an edit puts into its slot, none if it cancels the slot
-abbrev pub replacement_of : Edit → Option Write
+-- the action that an edit puts into its slot, none if it cancels the slot
+abbrev pub replacement_of : Edit → Option (List Write)
 replacement_of (Cancel t) = None
-replacement_of (Replace t w) = Some w
+replacement_of (Replace t action) = Some action
 
 -- the edit of slot t, the first if there are several
 abbrev pub edit_of : List Edit → ℕ → Option Edit
@@ -21,7 +21,7 @@ edit_of [] t = None
 edit_of (e ∷ E) t = if slot_number e == t then Some e else edit_of E t
 
 -- a slot with its edit, if it has one
-abbrev pub slot_with_edit : Option Edit → Option Write → Option Write
+abbrev pub slot_with_edit : Option Edit → Option (List Write) → Option (List Write)
 slot_with_edit None s = s
 slot_with_edit (Some e) s = replacement_of e
 
@@ -30,6 +30,6 @@ abbrev pub edited_slots_from : ℕ → Slots → List Edit → Slots
 edited_slots_from t [] E = []
 edited_slots_from t (s ∷ W) E = slot_with_edit (edit_of E t) s ∷ edited_slots_from (suc t) W E
 
--- a list of slots with nothing at each slot that is cancelled, and the new write at each slot that is replaced
+-- a list of slots with nothing at each slot that is cancelled, and the new action at each slot that is replaced
 abbrev pub edited_slots : Slots → List Edit → Slots
 edited_slots W E = edited_slots_from 1 W E

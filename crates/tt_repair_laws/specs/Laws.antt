@@ -1,23 +1,31 @@
 -- What holds of all repairs: of all tables, slots and edits.
-use Rattle.std.specs.Prelude.{◌≡◌, ℕ, suc, ◌<◌, ◌≤◌, ℤ, true, false, List, ◌++◌, length, None, Some, IsTrue}
+use Rattle.std.specs.Prelude.{◌≡◌, ℕ, suc, ◌<◌, ◌≤◌, ℤ, true, false, ◌||◌, List, [], ◌∷◌, ◌++◌, length, None, Some, IsTrue}
 use Rattle.std.specs.List.{list_all}
 use Rattle.tt_values.specs.declared.row.Row.{Row}
+use Rattle.tt_values.specs.declared.statement.Write.{Write}
 use Rattle.tt_values.specs.Tables.{Tables}
-use Rattle.tt_values.specs.Content.{content_at, row_at}
-use Rattle.tt_values.specs.RowWrites.{Slots, slot_after, slot_writes, slot_reply, row_writes}
+use Rattle.tt_values.specs.Content.{Content, content_at, row_at}
+use Rattle.tt_values.specs.Action.{content_after_write}
+use Rattle.tt_values.specs.RowWrites.{Slots, slot_after, slot_writes, slot_replies, row_writes}
 use Rattle.tt_parts.specs.Partitions.{parts_of}
-use Rattle.tt_parts.specs.Dirty.{columns_in, has_row, has_partition}
+use Rattle.tt_parts.specs.Dirty.{columns_in, DirtySet, has_row, has_partition}
 use Rattle.tt_repair_laws.specs.declared.edit.Edit.{Edit}
 use Rattle.tt_repair_laws.specs.Edits.{edit_of, edited_slots}
-use Rattle.tt_repair_laws.specs.Due.{content_after, is_due, dirty_after, rerun_count}
+use Rattle.tt_repair_laws.specs.Due.{content_after, is_write_affected, is_affected, is_due, dirty_after, rerun_count}
 
--- slot n + 1 is the same in two lists of slots, and in each has the same row writes and the same reply after the slots before it
+-- an action is affected exactly where its first write is, or the others are on the content that this write leaves
+abbrev pub ActionsAreAffectedByTheirWrites : Type 0
+ActionsAreAffectedByTheirWrites = (tables : Tables) (D : DirtySet) (X : Content) →
+    (is_affected tables D [] X ≡ false)
+    × ((w : Write) (ws : List Write) → is_affected tables D (w ∷ ws) X ≡ (is_write_affected tables D w X || is_affected tables D ws (content_after_write w X)))
+
+-- slot n + 1 is the same in two lists of slots, and in each has the same row writes and the same replies after the slots before it
 pub record IsSameSlot (W V : Slots) (n : ℕ) : Type 0 where
   pub slot : slot_after V n ≡ slot_after W n
   pub writes : slot_writes (suc n) (slot_after V n) (content_after V n) ≡ slot_writes (suc n) (slot_after W n) (content_after W n)
-  pub reply : slot_reply (slot_after V n) (content_after V n) ≡ slot_reply (slot_after W n) (content_after W n)
+  pub replies : slot_replies (slot_after V n) (content_after V n) ≡ slot_replies (slot_after W n) (content_after W n)
 
--- a slot that isn't due is the same among the edited slots, with the same row writes and the same reply
+-- a slot that isn't due is the same among the edited slots, with the same row writes and the same replies
 abbrev pub NoAffectedSlotIsMissed : Type 0
 NoAffectedSlotIsMissed = (tables : Tables) (W : Slots) (E : List Edit) (n : ℕ) → is_due tables W E n ≡ false → IsSameSlot W (edited_slots W E) n
 

@@ -46,7 +46,7 @@ DueSlotsChangeReexecutedRows = (tables : Tables) (W : Slots) (E : List Edit) (n 
 
 -- a slot that is added during the repair leaves the dirty rows as they are; any other row is as on the current side
 abbrev pub LaterSlotsLeaveDirtyRows : Type 0
-LaterSlotsLeaveDirtyRows = (tables : Tables) (W : Slots) (s : Option Write) (E : List Edit) (n table : ℕ) (key : ℤ) → n ≤ length W →
+LaterSlotsLeaveDirtyRows = (tables : Tables) (W : Slots) (s : Option (List Write)) (E : List Edit) (n table : ℕ) (key : ℤ) → n ≤ length W →
     let V = W ++ s ∷ [] in
     next_side tables V E n table key ≡ (if has_row (dirty_after tables W E n) table key then next_side tables W E n table key else current_side V table key)
 

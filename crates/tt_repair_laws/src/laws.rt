@@ -1,10 +1,16 @@
 //! Laws of repairs, for the proofs of the crate above. Each is the contract of a function without a
 //! body.
-ghost use Rattle.tt_repair_laws.specs.Laws.{NoAffectedSlotIsMissed, CleanRowsAgree, DirtyRowsLieInDirtyPartitions, LaterSlotsChangeNoRepair, UneditedSlotsStay, LaterSlotsStay};
+ghost use Rattle.tt_repair_laws.specs.Laws.{ActionsAreAffectedByTheirWrites, NoAffectedSlotIsMissed, CleanRowsAgree, DirtyRowsLieInDirtyPartitions, LaterSlotsChangeNoRepair, UneditedSlotsStay, LaterSlotsStay};
 ghost use Rattle.tt_repair_laws.specs.NextSide.{NextSideBeginsAsCurrent, NextSideShowsEditedSlots, UndueSlotsLeaveNextSide, DueSlotsChangeReexecutedRows, LaterSlotsLeaveDirtyRows, NextSideEndsAsEditedSlots};
 
+/// An action is affected exactly where its first write is, or the others are on the content that
+/// this write leaves.
+pub fn actions_are_affected_by_their_writes()
+    ensures { ActionsAreAffectedByTheirWrites }
+{}
+
 /// A slot that isn't due is the same among the edited slots, with the same row writes and the same
-/// reply.
+/// replies.
 pub fn no_affected_slot_is_missed()
     ensures { NoAffectedSlotIsMissed }
 {}

@@ -1,9 +1,12 @@
--- The laws of accepted writes: keys of inserts and updates.
-use Rattle.std.proofs.Common.{◌≡◌, ℕ, true, false, not, List, [], ◌∷◌, cond, Option, None, Some, IsTrue, IsSome, slice_get, length, arith, refl, ap, subst, ◌∙◌, ◌==◌}
-use Rattle.std.specs.Option.{option_map}
+-- The laws of accepted writes and actions: keys of inserts and updates.
+use Rattle.std.proofs.Common.{◌≡◌, ℕ, Bool, true, false, not, nat_lt, if◌then◌else◌, List, [], ◌∷◌, cond, Option, None, Some, IsTrue, IsSome, slice_get, length, arith, refl, ap, subst, ◌∙◌, ◌==◌}
+use Rattle.std.specs.List.{All}
+use Rattle.std.specs.Option.{option_map, option_or}
 use Rattle.std.proofs.lemmas.Bool.{or_parts}
 use Rattle.std.proofs.lemmas.Bool.Decides.{nat_tests}
 use Rattle.std.proofs.lemmas.Option.{slice_get_within, get_or_from_slice_get}
+use Rattle.std.proofs.lemmas.List.Elements.{All-nil, All-cons}
+use Rattle.tt_values.specs.Limits.{max_writes}
 use Rattle.tt_values.specs.declared.value.Kind.{Kind}
 use Rattle.tt_values.specs.declared.value.Kind.TheVariants as kinds
 use Rattle.tt_values.specs.declared.value.Value.{Value}
@@ -11,13 +14,18 @@ use Rattle.tt_values.specs.declared.value.Value.TheVariants as values
 use Rattle.tt_values.specs.declared.table.Column.{Column}
 use Rattle.tt_values.specs.declared.table.TableDef.{TableDef}
 use Rattle.tt_values.specs.declared.statement.Change.{Change}
+use Rattle.tt_values.specs.declared.statement.Write.{Write}
+use Rattle.tt_values.specs.declared.statement.Write.TheVariants.{Insert, Update, Delete}
+use Rattle.tt_values.specs.declared.checking.CheckError.{CheckError}
+use Rattle.tt_values.specs.declared.checking.CheckError.TheVariants as errors
 use Rattle.tt_values.specs.Value.{is_of_kind}
 use Rattle.tt_values.specs.Row.{first_int}
 use Rattle.tt_values.specs.Change.{column_of, value_after, changed_value, changed_values}
-use Rattle.tt_values.specs.Tables.{is_int, is_key_int, IsTable, columns_at}
+use Rattle.tt_values.specs.Tables.{is_int, is_key_int, Tables, IsTable, IsCatalog, columns_at}
 use Rattle.tt_values.specs.Faults.{first_fault}
-use Rattle.tt_values.specs.Check.{row_tests, update_tests, changes_key, fault_on}
+use Rattle.tt_values.specs.Check.{row_tests, update_tests, changes_key, fault_on, write_fault, first_write_fault, HasKey}
 use Rattle.tt_values.specs.Laws.{AcceptedInsertsHaveKeys, AcceptedUpdatesKeepKeys}
+use Rattle.tt_values.specs.ActionLaws.{AcceptedActionsHaveKeys}
 use Rattle.tt_values.proofs.FaultLemmas.{none_holds, true_from_not}
 
 -- a value of the first column's kind is a number
@@ -66,3 +74,23 @@ accepted_updates_keep_keys tables table cs qs row h = first_int-changed_values c
     by : (o : Option (List Column)) → fault_on o (λ columns. update_tests columns cs qs) ≡ None → changes_key cs ≡ false
     by None g = cc
     by (Some columns) g = (none_holds (update_tests columns cs qs) g).1.1.1.0
+
+key_of_accepted_write : (tables : Tables) (w : Write) → IsCatalog tables → write_fault tables w ≡ None → HasKey w
+key_of_accepted_write tables (Insert table row) catalog h = accepted_inserts_have_keys tables table row catalog h
+key_of_accepted_write tables (Update table cs qs) catalog h = tt
+key_of_accepted_write tables (Delete table qs) catalog h = tt
+
+keys_of_accepted_writes : (tables : Tables) (ws : List Write) → IsCatalog tables → first_write_fault tables ws ≡ None → All HasKey ws
+keys_of_accepted_writes tables [] catalog h = All-nil HasKey
+keys_of_accepted_writes tables (w ∷ ws) catalog h = by (write_fault tables w) refl h (keys_of_accepted_writes tables ws catalog)
+  where
+    by : (o : Option CheckError) → write_fault tables w ≡ o → option_or o (first_write_fault tables ws) ≡ None → (first_write_fault tables ws ≡ None → All HasKey ws) → All HasKey (w ∷ ws)
+    by None at g rest = All-cons HasKey w ws (key_of_accepted_write tables w catalog at) (rest g)
+    by (Some e) at g rest = cc
+
+pub accepted_actions_have_keys : AcceptedActionsHaveKeys
+accepted_actions_have_keys tables ws catalog h = by (nat_lt max_writes (length ws)) h
+  where
+    by : (b : Bool) → (if b then Some errors.TooManyWrites else first_write_fault tables ws) ≡ None → All HasKey ws
+    by true g = cc
+    by false g = keys_of_accepted_writes tables ws catalog g

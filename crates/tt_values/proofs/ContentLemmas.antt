@@ -16,7 +16,7 @@ one_key_changes rows key None q =
     sorted.find-where_key int_cmp (λ k. not (int_eq k key)) q (λ x t. ap (λ o. not (is_eq o)) (sym (int_cmp_total.congr q x key t))) rows ∙ cond-not (int_eq q key) (row_at rows q) None
 one_key_changes rows key (Some row) q = sorted.find-put int_cmp int_cmp_total q key row rows
 
-is_sorted-with_row_at : (rows : RowsByKey) (key : ℤ) (row : Option Row) → T (sorted.is_sorted int_cmp rows) → T (sorted.is_sorted int_cmp (with_row_at rows key row))
+pub is_sorted-with_row_at : (rows : RowsByKey) (key : ℤ) (row : Option Row) → T (sorted.is_sorted int_cmp rows) → T (sorted.is_sorted int_cmp (with_row_at rows key row))
 is_sorted-with_row_at rows key None h = sorted.is_sorted-where_key int_cmp (λ k. not (int_eq k key)) rows h
 is_sorted-with_row_at rows key (Some row) h = sorted.is_sorted-put int_cmp int_cmp_total key row rows h
 
@@ -49,7 +49,7 @@ last_row_write_counts (w ∷ ws) X table q =
 pub shows_last_row_write : ShowsLastRowWrite
 shows_last_row_write ws time table key = last_row_write_counts (up_to time ws) empty_content table key ∙ last_row_written_or-None-is (for_key table key (up_to time ws))
 
-is_sorted-fold : (ws : List RowWrite) (X : Content) (table : ℕ) → T (sorted.is_sorted int_cmp (X table)) → T (sorted.is_sorted int_cmp (fold with_row_write X ws table))
+pub is_sorted-fold : (ws : List RowWrite) (X : Content) (table : ℕ) → T (sorted.is_sorted int_cmp (X table)) → T (sorted.is_sorted int_cmp (fold with_row_write X ws table))
 is_sorted-fold [] X table h = h
 is_sorted-fold (w ∷ ws) X table h = is_sorted-fold ws (with_row_write X w) table (by (table == w.table))
   where
@@ -57,7 +57,7 @@ is_sorted-fold (w ∷ ws) X table h = is_sorted-fold ws (with_row_write X w) tab
     by true = is_sorted-with_row_at (X table) w.key w.row h
     by false = h
 
-true_from_T : (b : Bool) → T b → IsTrue b
+pub true_from_T : (b : Bool) → T b → IsTrue b
 true_from_T true h = refl
 true_from_T false h = absurd h
 

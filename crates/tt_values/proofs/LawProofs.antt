@@ -1,8 +1,10 @@
 -- The proofs of the laws, for proofs in other crates. All other lemmas are private to this crate.
 use Rattle.tt_values.specs.Laws.{ShowsLastRowWrite, RowsRise, SlotsFollow, LaterSlotsChangeNothing, PastStays, LastContentStays, NextContent, OneKeyChanges, RowsStayByRisingKey, RowWriteChangesOneRow, LastRowWriteCounts, EarlierSlotsStay, AddedSlotIsNext, AddedSlotLeavesPast, AcceptedInsertsHaveKeys, AcceptedUpdatesKeepKeys}
+use Rattle.tt_values.specs.ActionLaws.{ActionLeavesItsLastContent, ActionOfOneWrite, ActionWritesEachRowOnce, ActionsFollow, AcceptedActionsHaveKeys}
 use Rattle.tt_values.proofs.ContentLemmas as contents
 use Rattle.tt_values.proofs.RowWritesLemmas as slots
 use Rattle.tt_values.proofs.CheckLemmas as checks
+use Rattle.tt_values.proofs.ActionLemmas as actions
 
 pub shows_last_row_write : ShowsLastRowWrite
 shows_last_row_write = contents.shows_last_row_write
@@ -51,3 +53,18 @@ accepted_inserts_have_keys = checks.accepted_inserts_have_keys
 
 pub accepted_updates_keep_keys : AcceptedUpdatesKeepKeys
 accepted_updates_keep_keys = checks.accepted_updates_keep_keys
+
+pub action_leaves_its_last_content : ActionLeavesItsLastContent
+action_leaves_its_last_content = actions.action_leaves_its_last_content
+
+pub action_of_one_write : ActionOfOneWrite
+action_of_one_write = actions.action_of_one_write
+
+pub action_writes_each_row_once : ActionWritesEachRowOnce
+action_writes_each_row_once = actions.action_writes_each_row_once
+
+pub actions_follow : ActionsFollow
+actions_follow = actions.actions_follow
+
+pub accepted_actions_have_keys : AcceptedActionsHaveKeys
+accepted_actions_have_keys = checks.accepted_actions_have_keys

@@ -4,5 +4,6 @@ mod CatalogLemmas
 mod ContentLemmas
 mod RowWritesLemmas
 mod CheckLemmas
+mod ActionLemmas
 pub mod LawProofs
 pub mod worked_rows

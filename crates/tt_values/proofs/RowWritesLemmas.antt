@@ -1,12 +1,12 @@
 -- The laws of slots: their row writes, and the contents that these leave.
-use Rattle.std.proofs.Common.{sym, length-append, ◌≡◌, ℕ, zero, suc, ◌+◌, ◌<◌, ◌≤◌, Bool, true, false, cond, nat_le, List, [], ◌∷◌, ◌++◌, map, filter, length, ℤ, Option, None, Some, slice_get, refl, ap, ◌∙◌, arith, append-nil, zero-add, fold, ◌-◌}
+use Rattle.std.proofs.Common.{sym, length-append, ◌≡◌, ℕ, zero, suc, ◌+◌, ◌<◌, ◌≤◌, Bool, true, false, cond, nat_le, List, [], ◌∷◌, ◌++◌, map, filter, length, Option, None, Some, slice_get, refl, ap, ◌∙◌, arith, append-nil, zero-add, fold, ◌-◌}
 use Rattle.std.proofs.lemmas.List.Sums.{fold-append}
 use Rattle.std.proofs.lemmas.Bool.Decides.{nat_tests}
 use Rattle.std.specs.Option.{unwrap_or}
 use Rattle.tt_values.specs.declared.row.Row.{Row}
 use Rattle.tt_values.specs.declared.statement.Write.{Write}
 use Rattle.tt_values.specs.Content.{Content, RowWrite, with_row_write, content_at, empty_content, up_to}
-use Rattle.tt_values.specs.Effect.{table_of, effect}
+use Rattle.tt_values.specs.Action.{RowId, effect_of_action}
 use Rattle.tt_values.specs.RowWrites.{Slots, slot_after, slot_writes, row_writes}
 use Rattle.tt_values.specs.Laws.{SlotsFollow, LaterSlotsChangeNothing, PastStays, LastContentStays, NextContent, EarlierSlotsStay, AddedSlotIsNext, AddedSlotLeavesPast}
 
@@ -52,16 +52,16 @@ nat_le-false : (time later : ℕ) → time < later → nat_le later time ≡ fal
 nat_le-false time later h = grind (arith, nat_tests)
 
 -- row writes at a later time aren't among those up to an earlier time
-up_to-before_effect : (time later table : ℕ) → time < later → (es : List (ℤ × Option Row)) → up_to time (map (λ e. record { time = later; table = table; key = e.0; row = e.1 }) es) ≡ []
-up_to-before_effect time later table h [] = refl
-up_to-before_effect time later table h (e ∷ es) =
-    let rest = map (λ d. record { time = later; table = table; key = d.0; row = d.1 }) es in
-    let first : RowWrite = record { time = later; table = table; key = e.0; row = e.1 } in
-    ap (λ b. cond b (first ∷ up_to time rest) (up_to time rest)) (nat_le-false time later h) ∙ up_to-before_effect time later table h es
+up_to-before_effect : (time later : ℕ) → time < later → (es : List (RowId × Option Row)) → up_to time (map (λ e. record { time = later; table = e.0.table; key = e.0.key; row = e.1 }) es) ≡ []
+up_to-before_effect time later h [] = refl
+up_to-before_effect time later h (e ∷ es) =
+    let rest = map (λ (d : RowId × Option Row). record { time = later; table = d.0.table; key = d.0.key; row = d.1 }) es in
+    let first : RowWrite = record { time = later; table = e.0.table; key = e.0.key; row = e.1 } in
+    ap (λ b. cond b (first ∷ up_to time rest) (up_to time rest)) (nat_le-false time later h) ∙ up_to-before_effect time later h es
 
-up_to-before_slot : (time later : ℕ) → time < later → (s : Option Write) (X : Content) → up_to time (slot_writes later s X) ≡ []
+up_to-before_slot : (time later : ℕ) → time < later → (s : Option (List Write)) (X : Content) → up_to time (slot_writes later s X) ≡ []
 up_to-before_slot time later h None X = refl
-up_to-before_slot time later h (Some w) X = up_to-before_effect time later (table_of w) h (effect w X)
+up_to-before_slot time later h (Some action) X = up_to-before_effect time later h (effect_of_action action X)
 
 up_to-suc : (W : Slots) (n time : ℕ) → time ≤ n → up_to time (row_writes W (suc n)) ≡ up_to time (row_writes W n)
 unfolding row_writes
@@ -85,16 +85,16 @@ nat_le-true : (time earlier : ℕ) → earlier ≤ time → nat_le earlier time 
 nat_le-true time earlier h = grind (arith, nat_tests)
 
 -- row writes at an earlier time are among those up to a later time
-up_to-after_effect : (time earlier table : ℕ) → earlier ≤ time → (es : List (ℤ × Option Row)) → let ws : List RowWrite = map (λ e. record { time = earlier; table = table; key = e.0; row = e.1 }) es in up_to time ws ≡ ws
-up_to-after_effect time earlier table h [] = refl
-up_to-after_effect time earlier table h (e ∷ es) =
-    let rest : List RowWrite = map (λ d. record { time = earlier; table = table; key = d.0; row = d.1 }) es in
-    let first : RowWrite = record { time = earlier; table = table; key = e.0; row = e.1 } in
-    ap (λ b. cond b (first ∷ up_to time rest) (up_to time rest)) (nat_le-true time earlier h) ∙ ap (λ r. first ∷ r) (up_to-after_effect time earlier table h es)
+up_to-after_effect : (time earlier : ℕ) → earlier ≤ time → (es : List (RowId × Option Row)) → let ws : List RowWrite = map (λ e. record { time = earlier; table = e.0.table; key = e.0.key; row = e.1 }) es in up_to time ws ≡ ws
+up_to-after_effect time earlier h [] = refl
+up_to-after_effect time earlier h (e ∷ es) =
+    let rest : List RowWrite = map (λ (d : RowId × Option Row). record { time = earlier; table = d.0.table; key = d.0.key; row = d.1 }) es in
+    let first : RowWrite = record { time = earlier; table = e.0.table; key = e.0.key; row = e.1 } in
+    ap (λ b. cond b (first ∷ up_to time rest) (up_to time rest)) (nat_le-true time earlier h) ∙ ap (λ r. first ∷ r) (up_to-after_effect time earlier h es)
 
-up_to-after_slot : (time earlier : ℕ) → earlier ≤ time → (s : Option Write) (X : Content) → up_to time (slot_writes earlier s X) ≡ slot_writes earlier s X
+up_to-after_slot : (time earlier : ℕ) → earlier ≤ time → (s : Option (List Write)) (X : Content) → up_to time (slot_writes earlier s X) ≡ slot_writes earlier s X
 up_to-after_slot time earlier h None X = refl
-up_to-after_slot time earlier h (Some w) X = up_to-after_effect time earlier (table_of w) h (effect w X)
+up_to-after_slot time earlier h (Some action) X = up_to-after_effect time earlier h (effect_of_action action X)
 
 -- the row writes of n slots are at times up to n
 up_to-all : (W : Slots) (n time : ℕ) → n ≤ time → up_to time (row_writes W n) ≡ row_writes W n

@@ -1,5 +1,6 @@
 pub mod Accounts
 mod Writes
 mod Contents
+mod Actions
 mod Checks
 mod Catalogs

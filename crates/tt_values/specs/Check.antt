@@ -1,7 +1,8 @@
--- The faults of statements.
-use Rattle.std.specs.Prelude.{Bool, false, not, ◌||◌, nat_lt, nat_le, ◌==◌, List, [], ◌∷◌, length, Option, None, Some, IsSome, slice_get}
+-- The faults of statements and of actions.
+use Rattle.std.specs.Prelude.{Bool, false, not, ◌||◌, nat_lt, nat_le, ◌==◌, List, [], ◌∷◌, length, Option, None, Some, IsSome, slice_get, if◌then◌else◌}
 use Rattle.std.specs.List.{list_any, zip}
-use Rattle.tt_values.specs.Limits.{max_equals}
+use Rattle.std.specs.Option.{option_or}
+use Rattle.tt_values.specs.Limits.{max_equals, max_writes}
 use Rattle.tt_values.specs.declared.value.Value.{Value}
 use Rattle.tt_values.specs.declared.table.Column.{Column}
 use Rattle.tt_values.specs.declared.statement.Equal.{Equal}
@@ -107,6 +108,15 @@ abbrev pub write_fault : Tables → Write → Option CheckError
 write_fault tables (Insert table row) = fault_on (columns_at tables table) (λ columns. row_tests columns row.values)
 write_fault tables (Update table cs qs) = fault_on (columns_at tables table) (λ columns. update_tests columns cs qs)
 write_fault tables (Delete table qs) = fault_on (columns_at tables table) (λ columns. equals_tests columns qs)
+
+-- the fault of the first write that has one
+abbrev pub first_write_fault : Tables → List Write → Option CheckError
+first_write_fault tables [] = None
+first_write_fault tables (w ∷ ws) = option_or (write_fault tables w) (first_write_fault tables ws)
+
+-- the first fault of an action. Its writes are counted before any of them is looked at
+abbrev pub action_fault : Tables → List Write → Option CheckError
+action_fault tables ws = if nat_lt max_writes (length ws) then Some errors.TooManyWrites else first_write_fault tables ws
 
 -- the first fault of a select
 abbrev pub select_fault : Tables → Select → Option CheckError

@@ -10,4 +10,6 @@ pub mod Check
 pub mod Content
 pub mod Effect
 pub mod RowWrites
+pub mod Action
 pub mod Laws
+pub mod ActionLaws

@@ -1,4 +1,4 @@
--- The limits of catalogs and statements.
+-- The limits of catalogs, statements and actions.
 use Rattle.std.specs.Prelude.{ℕ}
 
 -- the largest number of tables in a catalog
@@ -20,3 +20,7 @@ max_text_bytes = 1024
 -- the largest number of equalities in a statement
 abbrev pub max_equals : ℕ
 max_equals = 32
+
+-- the largest number of writes in an action
+abbrev pub max_writes : ℕ
+max_writes = 16

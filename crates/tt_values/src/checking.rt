@@ -1,9 +1,9 @@
 ghost use Rattle.std.specs.Prelude.{◌≡◌, ◌==◌, not, length, None, OnOk};
-ghost use Rattle.std.specs.List.{list_any, zip};
+ghost use Rattle.std.specs.List.{All, list_any, zip};
 ghost use Rattle.std.specs.Option.{option_copied};
 ghost use Rattle.tt_values.specs.Faults.{first_fault, ReportsFault};
 ghost use Rattle.tt_values.specs.Value.{is_of_kind, is_long_text};
-ghost use Rattle.tt_values.specs.Check.{row_tests, equals_tests, update_tests, write_fault, select_fault, has_no_column, has_wrong_kind, has_long_text, has_too_many, is_wrong_kind, HasKey};
+ghost use Rattle.tt_values.specs.Check.{row_tests, equals_tests, update_tests, write_fault, action_fault, select_fault, has_no_column, has_wrong_kind, has_long_text, has_too_many, is_wrong_kind, HasKey};
 
 mod changes;
 
@@ -12,12 +12,12 @@ use crate::items::item_at;
 use crate::statement::{Change, Equal, Select, Write};
 use crate::table::Column;
 use crate::value::Value;
-use crate::{MAX_EQUALS, MAX_TEXT_BYTES};
+use crate::{MAX_EQUALS, MAX_TEXT_BYTES, MAX_WRITES};
 use changes::{changes_key, changes_no_column, changes_twice, changes_wrong_kind, sets_long_text};
 use thiserror::Error;
 
-/// The fault of a statement. The whole statement is searched for one kind of fault before the
-/// next.
+/// The fault of a statement or of an action. A whole statement is searched for one kind of fault
+/// before the next.
 #[derive(Clone, Copy, Debug, PartialEq, Eq, Error)]
 pub enum CheckError {
     /// The catalog has no such table.
@@ -44,6 +44,9 @@ pub enum CheckError {
     /// The statement has more than 32 equalities.
     #[error("too many equalities")]
     TooManyEquals,
+    /// The action has more than 16 writes.
+    #[error("too many writes")]
+    TooManyWrites,
 }
 
 /// Whether a write can run on the tables of a catalog. Allocates nothing.
@@ -79,6 +82,21 @@ pub fn check(catalog: &Catalog, write: &Write) -> Result<(), CheckError>
             ok_unless(equals_fault(def.columns.as_slice(), equals.as_slice()))
         }
     }
+}
+
+/// Whether an action, a list of writes, can run on the tables of a catalog. Its writes are counted
+/// first; then the first of them that can't run decides. Allocates nothing.
+pub fn check_action(catalog: &Catalog, writes: &[Write]) -> Result<(), CheckError>
+    ensures fault { ReportsFault result (action_fault catalog.now writes.now) }
+    ensures keys { OnOk result (All HasKey writes.now) }
+{
+    if writes.len() > MAX_WRITES {
+        return Err(CheckError::TooManyWrites);
+    }
+    for write in writes {
+        check(catalog, write)?;
+    }
+    Ok(())
 }
 
 /// Whether a select can run on the tables of a catalog. Allocates nothing.

@@ -24,7 +24,7 @@ impl<T> Model for Items<T> {
 }
 
 impl<T: Drop> Items<T> {
-    /// Moves the items to memory that further owners can share, and is their first owner.
+    /// Moves the items to memory that several owners can share; the result is the first of them.
     pub fn new(alloc: Global, items: Vec<T>) -> Result<Self, AllocError>
         ensures { IfOk result (λ list. list ≡ items.items) }
     {

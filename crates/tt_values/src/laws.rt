@@ -1,6 +1,7 @@
 //! Laws of the definitions in this crate's contracts and in those of the crates above. Each law is
 //! the contract of a function with an empty body.
 ghost use Rattle.tt_values.specs.Laws.{ShowsLastRowWrite, RowsRise, SlotsFollow, LaterSlotsChangeNothing, PastStays, LastContentStays, NextContent, OneKeyChanges, RowsStayByRisingKey, RowWriteChangesOneRow, LastRowWriteCounts, EarlierSlotsStay, AddedSlotIsNext, AddedSlotLeavesPast, AcceptedInsertsHaveKeys, AcceptedUpdatesKeepKeys};
+ghost use Rattle.tt_values.specs.ActionLaws.{ActionLeavesItsLastContent, ActionOfOneWrite, ActionWritesEachRowOnce, ActionsFollow, AcceptedActionsHaveKeys};
 
 /// At each time, table and key the content has the row of the last row write so far, or no row if
 /// there is no row write or the last one is a delete.
@@ -82,4 +83,30 @@ pub fn accepted_inserts_have_keys()
 /// An update without a fault leaves the key of every row as it is.
 pub fn accepted_updates_keep_keys()
     ensures { AcceptedUpdatesKeepKeys }
+{}
+
+/// The row writes of an action leave the content after its writes, one after another.
+pub fn action_leaves_its_last_content()
+    ensures { ActionLeavesItsLastContent }
+{}
+
+/// An action of one write makes the row writes of that write, and has its reply.
+pub fn action_of_one_write()
+    ensures { ActionOfOneWrite }
+{}
+
+/// The effect of an action has the rows that its writes write, and no others, each once: by
+/// table, then by key.
+pub fn action_writes_each_row_once()
+    ensures { ActionWritesEachRowOnce }
+{}
+
+/// The writes at the end of an action are carried out on the content that those before them left.
+pub fn actions_follow()
+    ensures { ActionsFollow }
+{}
+
+/// Each insert of an action without a fault has a row with a key.
+pub fn accepted_actions_have_keys()
+    ensures { AcceptedActionsHaveKeys }
 {}

@@ -20,7 +20,7 @@ mod value;
 
 pub use catalog::{Catalog, CatalogError};
 pub use changing::changed;
-pub use checking::{CheckError, check, check_select};
+pub use checking::{CheckError, check, check_action, check_select};
 pub use items::Items;
 pub use matching::matches;
 pub use reply::Reply;
@@ -45,3 +45,6 @@ pub const MAX_TEXT_BYTES: usize = 1024;
 
 /// The maximal number of equalities of a statement.
 pub const MAX_EQUALS: usize = 32;
+
+/// The maximal number of writes of an action.
+pub const MAX_WRITES: usize = 16;

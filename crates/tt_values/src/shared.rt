@@ -23,7 +23,7 @@ impl<T> Model for Shared<T> {
 }
 
 impl<T: Drop> Shared<T> {
-    /// Moves a value to memory of its own, and is its first owner.
+    /// Moves a value to memory that several owners can share; the result is the first of them.
     pub fn new(alloc: Global, value: T) -> Result<Self, AllocError>
         ensures { IfOk result (λ shared. shared ≡ value) }
     {

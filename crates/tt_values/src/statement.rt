@@ -52,7 +52,7 @@ pub struct Select {
 }
 
 impl Equal {
-    /// An equal one, which shares its lists and texts with this one.
+    /// An equal condition, which shares its text with this one.
     pub fn copy(&self) -> Result<Equal, AllocError>
         ensures { IfOk result (λ copy. copy ≡ self.now) }
     {
@@ -61,7 +61,7 @@ impl Equal {
 }
 
 impl Change {
-    /// An equal one, which shares its lists and texts with this one.
+    /// An equal change, which shares its text with this one.
     pub fn copy(&self) -> Result<Change, AllocError>
         ensures { IfOk result (λ copy. copy ≡ self.now) }
     {

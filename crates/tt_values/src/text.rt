@@ -23,7 +23,7 @@ impl Model for Text {
 }
 
 impl Text {
-    /// Moves the string to memory that further owners can share, and is its first owner.
+    /// Moves the string to memory that several owners can share; the result is the first of them.
     pub fn new(alloc: Global, text: String) -> Result<Self, AllocError>
         ensures { IfOk result (λ t. t ≡ string_bytes text) }
     {

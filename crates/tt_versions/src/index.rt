@@ -80,8 +80,8 @@ impl Index {
         columns_have_row(&self.columns, key, row) && (!self.is_keyed || begins_with(row, key))
     }
 
-    /// Whether both rows have the same values in the columns of the index, so that it lists the new
-    /// one where it lists the old one.
+    /// Whether both rows have the same values in the columns of the index, and the same first value
+    /// where it lists keys, so that it lists the new row where it lists the old one.
     pub(crate) fn has_same_values(&self, old: &Row, new: &Row) -> bool
         ensures { IsTrue result → ((key : ℤ) → ListsRow self.now key old.now
             → ListsRow self.now key new.now) }

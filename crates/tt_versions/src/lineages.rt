@@ -40,8 +40,8 @@ impl Model for Lineages {
 }
 
 impl Lineages {
-    ghost use Rattle.tt_versions.specs.Lineage.{with_write_on, split_back};
-    ghost use Rattle.tt_versions.specs.Sides.{UnsplitsRows, with_writes};
+    ghost use Rattle.tt_versions.specs.Lineage.{split_back};
+    ghost use Rattle.tt_versions.specs.Sides.{UnsplitsRows};
 
     /// No lineages, which are to be found by their keys and by their values in these columns.
     pub(crate) fn new(alloc: Global, columns: Vec<IndexedColumn>) -> Lineages
@@ -59,6 +59,10 @@ impl Lineages {
         ensures { option_copied result ≡ find int_cmp key self.now }
     {
         self.entries.get(key)
+    }
+
+    pub(crate) fn len(&self) -> usize {
+        self.entries.len()
     }
 
     /// The entries, by rising key.
@@ -253,25 +257,9 @@ fn list_row(
     ensures keeps { OnOk result (KeepsRows index.old index.new) }
     ensures lists { OnOk result (IfSome row.now (ListsRow index.new key)) }
 {
-    match row {
-        Some(row) => list_new_row(alloc, index, lineage, side, key, row, time),
-        None => Ok(()),
-    }
-}
-
-fn list_new_row(
-    alloc: Global,
-    index: &mut Index,
-    lineage: &Lineage,
-    side: Side,
-    key: i64,
-    row: &Row,
-    time: u64,
-) -> Result<(), AllocError>
-    requires { LineageHas (ListsRow index.old key) lineage.now }
-    ensures keeps { OnOk result (KeepsRows index.old index.new) }
-    ensures lists { OnOk result (ListsRow index.new key row.now) }
-{
+    let Some(row) = row else {
+        return Ok(());
+    };
     if is_listed(index, lineage, side, row, time) {
         return Ok(());
     }

@@ -136,8 +136,11 @@ impl Table {
             return self.row_with_key(key, equals, time, side);
         }
         match self.lineages.keys_for(equals) {
-            Some(keys) => self.rows_among(keys, equals, time, side),
-            None => self.rows_of_all(equals, time, side),
+            // Where most rows are listed, reading all in order is faster than looking them up.
+            Some(keys) if keys.len() < self.lineages.len() / 2 => {
+                self.rows_among(keys, equals, time, side)
+            }
+            _ => self.rows_of_all(equals, time, side),
         }
     }
 

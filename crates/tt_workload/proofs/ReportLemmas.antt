@@ -1,17 +1,25 @@
 -- Lines of a report, one after another.
-use Rattle.std.proofs.Common.{◌≡◌, ℕ, zero, suc, ◌+◌, List, [], ◌∷◌, ◌++◌, drop, Option, Some, None, slice_get, refl, sym, ap, ◌∙◌, arith, append_assoc}
+use Rattle.std.proofs.Common.{◌≡◌, ℕ, zero, suc, ◌<◌, ◌+◌, ◌==◌, Bool, true, false, List, [], ◌∷◌, ◌++◌, drop, Option, Some, None, Result, Ok, Err, IsErrAnd, IfErr, if◌then◌else◌, slice_get, refl, sym, ap, ◌∙◌, arith, append_assoc}
+use Rattle.std.proofs.lemmas.Bool.Decides.{nat_tests}
+use Rattle.tt_values.specs.declared.statement.Write.{Write}
+use Rattle.tt_values.specs.Check.{action_fault}
+use Rattle.tt_db.specs.declared.event.Event.TheVariants as events
+use Rattle.tt_db.specs.declared.errors.DbError.TheVariants as errors
+use Rattle.tt_db.specs.State.{full_at, now_of}
 use Rattle.tt_values.specs.declared.table.TableDef.{TableDef}
 use Rattle.tt_values.specs.Tables.{Tables}
 use Rattle.tt_db.specs.State.{State}
 use Rattle.std.specs.Option.{option_map}
 use Rattle.tt_db.specs.Limits.{max_limits}
-use Rattle.tt_db.specs.Database.{Database, state_of}
+use Rattle.tt_db.specs.Database.{Database, state_of, refusal_of}
 use Rattle.tt_document.specs.declared.document.Document.{Document}
 use Rattle.tt_document.specs.declared.document.Call.{Call}
 use Rattle.tt_document.specs.Document.{IsValidCall, IsValidDocument}
 use Rattle.std.specs.List.{AllByRecursion}
 use Rattle.std.proofs.lemmas.List.Elements.{recursion_from_All}
-use Rattle.tt_workload.specs.Report.{AreAccepted, table_line, table_lines, call_lines, end_line, history_of, report_of}
+use Rattle.tt_workload.specs.declared.run_fault.RunFault.{RunFault}
+use Rattle.tt_workload.specs.declared.run_fault.RunFault.TheVariants.{Memory}
+use Rattle.tt_workload.specs.Report.{AreAccepted, HasRoom, table_line, table_lines, call_lines, end_line, history_of, report_of}
 
 drop-at : {X : Type 0} → (xs : List X) (i : ℕ) (x : X) → slice_get xs i ≡ Some x → drop i xs ≡ x ∷ drop (suc i) xs
 drop-at [] i x h = cc
@@ -72,3 +80,22 @@ AreAccepted-valid_calls tables workers (call ∷ cs) h = (h.0.is_accepted, AreAc
 -- the tables of a valid document accept the statement of each call
 pub AreAccepted-valid : (d : Document) → IsValidDocument d → AreAccepted d.catalog d.calls
 AreAccepted-valid d valid = AreAccepted-valid_calls d.catalog d.workers d.calls (recursion_from_All (IsValidCall d.catalog d.workers) d.calls valid.valid_calls)
+
+-- an error that says that there is no memory
+pub is_memory : {T : Type 0} (r : Result T RunFault) → IsErrAnd r (λ e. e ≡ Memory) → IfErr r (λ e. e ≡ Memory)
+is_memory (Ok x) h = tt
+is_memory (Err e) h = h
+
+full_at-below : (count limit : ℕ) → count < limit → full_at count limit ≡ None
+full_at-below count limit below = by (count == limit) refl
+  where
+    by : (b : Bool) → (count == limit) ≡ b → (if b then Some (errors.Full limit) else None) ≡ None
+    by true e = let clash : count ≡ limit = grind (arith, nat_tests) in absurd (omega (arith, clash, below))
+    by false e = refl
+
+-- where there is room, an action that the tables accept isn't refused
+pub is_accepted : (db : Database) (action : List Write) → action_fault db.catalog action ≡ None → HasRoom db → refusal_of db (events.Write action) ≡ None
+is_accepted db action accepted room =
+    let slots = full_at-below (now_of (state_of db)) db.limits.slots room.slots in
+    let entries = full_at-below (state_of db).events db.limits.events room.events in
+    rw (accepted, slots, entries) refl

@@ -37,3 +37,12 @@ reply_text replies.Duplicate = codes "duplicate"
 reply_text (replies.Updated count) = codes "updated " ++ decimal count
 reply_text (replies.Deleted count) = codes "deleted " ++ decimal count
 reply_text (replies.Rows rows) = codes "rows " ++ (decimal (length rows) ++ flat_map spaced_row rows)
+
+-- a further reply, behind a comma and a space
+abbrev pub further_reply : Reply → List ℕ
+further_reply reply = codes ", " ++ reply_text reply
+
+-- the replies to an action, with commas between them
+abbrev pub replies_text : List Reply → List ℕ
+replies_text [] = codes "nothing"
+replies_text (reply ∷ rs) = reply_text reply ++ flat_map further_reply rs

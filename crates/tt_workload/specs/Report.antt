@@ -18,11 +18,11 @@ use Rattle.tt_document.specs.declared.document.Call.{Call}
 use Rattle.tt_document.specs.declared.document.Ask.{Ask}
 use Rattle.tt_document.specs.declared.document.Ask.TheVariants as asks
 use Rattle.tt_document.specs.Document.{ask_fault}
-use Rattle.tt_workload.specs.Printing.{reply_text}
+use Rattle.tt_workload.specs.Printing.{reply_text, replies_text}
 
--- the end of a write's line: its slot and its reply
+-- the end of the line of an action: its slot and its replies
 abbrev pub outcome_text : Outcome → List ℕ
-outcome_text (Written slot reply) = codes " slot " ++ (decimal slot ++ (codes " " ++ (reply_text reply ++ codes "\n")))
+outcome_text (Written slot replies) = codes " slot " ++ (decimal slot ++ (codes " " ++ (replies_text replies ++ codes "\n")))
 
 -- the end of a select's line: the time that its reply is right at, and the reply
 abbrev pub answer_text : ℕ → Reply → List ℕ
@@ -37,9 +37,9 @@ abbrev pub read_text : State → Select → Option ℕ → List ℕ
 read_text S q None = answer_text (now_of S) (answer_of q (current_at S (now_of S)))
 read_text S q (Some time) = if nat_lt (now_of S) time then later_text (now_of S) else answer_text time (answer_of q (current_at S time))
 
--- the end of a call's line, in a state: the outcome of a write, or the answer of a select
+-- the end of a call's line, in a state: the outcome of an action, or the answer of a select
 abbrev pub ask_text : State → Ask → List ℕ
-ask_text S (asks.Write w) = outcome_text (outcome_of S (events.Write w))
+ask_text S (asks.Write action) = outcome_text (outcome_of S (events.Write action))
 ask_text S (asks.Read q at) = read_text S q at
 
 -- the beginning of a call's line: its number and its worker's
@@ -50,9 +50,9 @@ caller_text number worker = codes "call " ++ (decimal number ++ (codes " worker 
 abbrev pub call_line : ℕ → State → Call → List ℕ
 call_line number S call = caller_text number call.worker ++ ask_text S call.ask
 
--- the entries that a call adds to the history: that of a write, under its worker's number
+-- the entries that a call adds to the history: that of an action, under its worker's number
 abbrev pub entries_of_ask : ℕ → Ask → List Entry
-entries_of_ask worker (asks.Write w) = record { worker = worker; event = events.Write w } ∷ []
+entries_of_ask worker (asks.Write action) = record { worker = worker; event = events.Write action } ∷ []
 entries_of_ask worker (asks.Read q at) = []
 
 abbrev pub entries_of : Call → List Entry

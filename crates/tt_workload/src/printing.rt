@@ -3,7 +3,7 @@
 ghost use Rattle.std.specs.Prelude.{◌≡◌, ◌++◌, OnOk};
 ghost use Rattle.std.specs.Fmt.{decimal, signed_decimal};
 ghost use Rattle.std.specs.List.{flat_map};
-ghost use Rattle.tt_workload.specs.Printing.{value_text, further_value, values_text, row_text, spaced_row, reply_text};
+ghost use Rattle.tt_workload.specs.Printing.{value_text, further_value, values_text, row_text, spaced_row, reply_text, further_reply, replies_text};
 
 use std::alloc::AllocError;
 use std::io::Write;
@@ -101,6 +101,30 @@ pub(crate) fn push_reply(out: &mut Vec<u8>, reply: &Reply) -> Result<(), AllocEr
             push_decimal(out, rows.len() as u64)?;
             push_spaced_rows(out, rows.as_slice())?;
         }
+    }
+    Ok(())
+}
+
+/// Pushes the replies to an action.
+pub(crate) fn push_replies(out: &mut Vec<u8>, replies: &[Reply]) -> Result<(), AllocError>
+    ensures { OnOk result (out.new.items ≡ out.old.items ++ replies_text replies.now) }
+{
+    match replies {
+        [first, further @ ..] => {
+            push_reply(out, first)?;
+            push_further_replies(out, further)?;
+        }
+        [] => out.extend_from_slice(b"nothing")?,
+    }
+    Ok(())
+}
+
+fn push_further_replies(out: &mut Vec<u8>, replies: &[Reply]) -> Result<(), AllocError>
+    ensures { OnOk result (out.new.items ≡ out.old.items ++ flat_map further_reply replies.now) }
+{
+    for reply in replies {
+        out.extend_from_slice(b", ")?;
+        push_reply(out, reply)?;
     }
     Ok(())
 }

@@ -1,28 +1,28 @@
 //! The report of a document whose calls run one after another.
 ghost use Rattle.std.specs.Prelude.{◌≡◌, ◌+◌, ◌<◌, ◌≤◌, ◌++◌, [], length, OnOk, IfOk, IfErr, None, Some, codes};
 ghost use Rattle.std.specs.Fmt.{decimal};
-ghost use Rattle.tt_values.specs.Check.{write_fault, select_fault};
+ghost use Rattle.tt_values.specs.Check.{action_fault, select_fault};
 ghost use Rattle.tt_db.specs.Limits.{max_limits};
 ghost use Rattle.tt_db.specs.Database.{Database, state_of};
 ghost use Rattle.tt_document.specs.Document.{ask_fault, IsValidDocument};
 ghost use Rattle.tt_workload.specs.Report.{outcome_text, answer_text, later_text, read_text, ask_text, caller_text, call_line, entries_of_ask, entries_of, call_lines, all_rows, table_text, table_line, table_lines, end_text, end_line, history_of, report_of, database_after, with_entries, HasRoom, AreAccepted};
 
-use crate::printing::{push_decimal, push_labelled, push_reply};
+use crate::printing::{push_decimal, push_labelled, push_replies, push_reply};
 use crate::run_fault::RunFault;
 use std::alloc::{AllocError, Global};
 use tt_db::{Db, Entry, Event, Limits, Outcome, ReadError};
 use tt_document::{Ask, Call, Document};
 use tt_values::{Items, Reply, Select, Write};
 
-/// Pushes the end of a write's line.
+/// Pushes the end of the line of an action.
 fn push_outcome(out: &mut Vec<u8>, outcome: &Outcome) -> Result<(), AllocError>
     ensures { OnOk result (out.new.items ≡ out.old.items ++ outcome_text outcome.now) }
 {
-    let Outcome::Written { slot, reply } = outcome;
+    let Outcome::Written { slot, replies } = outcome;
     out.extend_from_slice(b" slot ")?;
     push_decimal(out, *slot)?;
     out.push(b' ')?;
-    push_reply(out, reply)?;
+    push_replies(out, replies.as_slice())?;
     out.push(b'\n')?;
     Ok(())
 }
@@ -38,25 +38,25 @@ fn push_caller(out: &mut Vec<u8>, number: u64, worker: u32) -> Result<(), AllocE
     Ok(())
 }
 
-/// Applies a write to the database, and pushes the end of its line. Answers the next database.
-fn push_write(
+/// Applies an action to the database, and pushes the end of its line. Answers the next database.
+fn push_action(
     alloc: Global,
     out: &mut Vec<u8>,
     db: Db,
     worker: u32,
-    write: Write,
+    action: Items<Write>,
 ) -> Result<Db, RunFault>
-    requires accepted { write_fault db.catalog write ≡ None }
+    requires accepted { action_fault db.catalog action ≡ None }
     requires room { HasRoom db }
     ensures text { OnOk result (out.new.items
-        ≡ out.old.items ++ ask_text (state_of db) (Ask.Write write)) }
+        ≡ out.old.items ++ ask_text (state_of db) (Ask.Write action)) }
     ensures state { IfOk result (λ next. next
-        ≡ with_entries db (entries_of_ask worker (Ask.Write write))) }
+        ≡ with_entries db (entries_of_ask worker (Ask.Write action))) }
     ensures err { IfErr result (λ e. e ≡ RunFault.Memory) }
 {
     let entry = Entry {
         worker,
-        event: Event::Write(write),
+        event: Event::Write(action),
     };
     let (next, answer) = db.advanced(entry)?;
     match answer {
@@ -162,7 +162,7 @@ fn push_call(
     let Call { worker, ask } = call;
     push_caller(out, number, worker)?;
     match ask {
-        Ask::Write(write) => push_write(alloc, out, db, worker, write),
+        Ask::Write(action) => push_action(alloc, out, db, worker, action),
         Ask::Read { select, at } => {
             push_read(alloc, out, &db, &select, at)?;
             Ok(db)

@@ -41,14 +41,14 @@ pub fn run_alone<R: Read, W: Write>(
     Ok(())
 }
 
-/// What a run leaves in memory at its end. A program that ends then may leave it to the system,
-/// since releasing it piece by piece takes long.
+/// What a run leaves in memory: the last database, and the JSON value of its document. A program
+/// that ends then may leave it to the system, since releasing it piece by piece takes long.
 #[derive(Drop)]
 pub struct RunEnd {
     /// The database after the calls.
     pub db: Db,
-    /// The JSON value that the document was read from.
-    pub json: Value,
+    /// The JSON value of the document, kept so that the run needn't release it.
+    json: Value,
 }
 
 /// As [`run_alone`], and hands over what the run leaves.

@@ -1,5 +1,5 @@
 -- Histories of accounts, computed.
-use Rattle.std.proofs.Common.{◌≡◌, ℕ, pos, List, [], ◌∷◌, map, None, Some, Ok, Err, refl}
+use Rattle.std.proofs.Common.{◌≡◌, ℕ, pos, List, [], ◌∷◌, map, None, Some, Ok, Err, replicate, refl}
 use Rattle.tt_values.specs.declared.row.Row.{Row}
 use Rattle.tt_values.specs.declared.statement.Change.TheVariants.{Set}
 use Rattle.tt_values.specs.declared.statement.Write.{Write}
@@ -11,26 +11,41 @@ use Rattle.tt_values.specs.declared.checking.CheckError.TheVariants as faults
 use Rattle.tt_values.specs.Row.{first_int}
 use Rattle.tt_values.specs.RowWrites.{row_writes}
 use Rattle.tt_values.specs.Content.{row_at}
-use Rattle.tt_values.proofs.worked_rows.Accounts.{tables, ann, bob, zed, min_int, account, account_of, narrow_account, of_owner, balance_to, balance_by, insert, update, delete, select, two_inserts_of_a_key, insert_and_update, insert_after_delete}
+use Rattle.tt_values.proofs.worked_rows.Accounts.{tables, ann, bob, zed, min_int, account, account_of, narrow_account, of_id, of_owner, balance_to, balance_by, insert, update, delete, select, two_inserts_of_a_key, insert_and_update, insert_after_delete}
 use Rattle.tt_db.specs.declared.limits.Limits.{Limits}
 use Rattle.tt_db.specs.declared.event.Event.TheVariants as events
 use Rattle.tt_db.specs.declared.event.Entry.{Entry}
+use Rattle.tt_db.specs.declared.slot_rows.RowKey.{RowKey}
 use Rattle.tt_db.specs.declared.outcome.Outcome.TheVariants.{Written}
 use Rattle.tt_db.specs.declared.errors.DbError.TheVariants as errors
 use Rattle.tt_db.specs.declared.errors.ReadError.TheVariants as read_errors
 use Rattle.tt_db.specs.Limits.{max_limits}
 use Rattle.tt_db.specs.State.{State, after, now_of, current_at, refusal, outcome_of}
-use Rattle.tt_db.specs.SlotList.{slot_at}
-use Rattle.tt_db.specs.Database.{nth_item, write_entry}
+use Rattle.tt_db.specs.SlotList.{slot_at, rows_at_slot}
+use Rattle.tt_db.specs.Database.{nth_item, action_entry}
 use Rattle.tt_db.specs.RightAnswers.{right_select, right_select_at}
 use Rattle.tt_db.specs.Run.{IsRun}
 
--- the history of writes by worker 1, and the state after it
+-- the history of actions by worker 1, and the state after it
+abbrev history_of_actions : List (List Write) → List Entry
+history_of_actions actions = map (action_entry 1) actions
+
+abbrev state_after_actions : List (List Write) → State
+state_after_actions actions = after (history_of_actions actions)
+
+-- an action of one write; the history of such actions, and the state after it
+abbrev only : Write → List Write
+only w = w ∷ []
+
 abbrev history_of : List Write → List Entry
-history_of writes = map (write_entry 1) writes
+history_of writes = history_of_actions (map only writes)
 
 abbrev state_after : List Write → State
 state_after writes = after (history_of writes)
+
+-- the row with key 1, as the rows that a slot wrote have it
+abbrev key_1 : RowKey
+key_1 = record { table = 0; key = pos 1 }
 
 abbrev ann_first : Row
 ann_first = account 1 ann 10
@@ -59,10 +74,10 @@ unfolding row_writes
 empty_select = refl
 
 -- the first insert is accepted, takes slot 1 and inserts its row
-first_accepted : refusal tables max_limits (after []) (events.Write (insert 1 ann 10)) ≡ None
+first_accepted : refusal tables max_limits (after []) (events.Write (only (insert 1 ann 10))) ≡ None
 first_accepted = refl
 
-first_outcome : outcome_of (after []) (events.Write (insert 1 ann 10)) ≡ Written 1 Inserted
+first_outcome : outcome_of (after []) (events.Write (only (insert 1 ann 10))) ≡ Written 1 (Inserted ∷ [])
 unfolding row_writes
 first_outcome = refl
 
@@ -82,7 +97,7 @@ unfolding row_writes
 select_now = (refl, refl)
 
 -- a second insert of the key takes a slot, answers Duplicate and changes no row
-second_outcome : outcome_of (state_after (insert 1 ann 10 ∷ [])) (events.Write (insert 1 bob 20)) ≡ Written 2 Duplicate
+second_outcome : outcome_of (state_after (insert 1 ann 10 ∷ [])) (events.Write (only (insert 1 bob 20))) ≡ Written 2 (Duplicate ∷ [])
 unfolding row_writes
 second_outcome = refl
 
@@ -93,12 +108,12 @@ duplicate_select : right_select_at tables (state_after two_inserts_of_a_key) all
 unfolding row_writes
 duplicate_select = refl
 
-second_slot : slot_at (state_after two_inserts_of_a_key).slots 2 ≡ Some (record { write = Some (insert 1 bob 20); reply = Some Duplicate })
+second_slot : slot_at (state_after two_inserts_of_a_key).slots 2 ≡ Some (record { action = Some (only (insert 1 bob 20)); replies = Some (Duplicate ∷ []) })
 unfolding row_writes
 second_slot = refl
 
 -- places of the history count from 1
-second_entry : nth_item (history_of two_inserts_of_a_key) 2 ≡ Some (write_entry 1 (insert 1 bob 20))
+second_entry : nth_item (history_of two_inserts_of_a_key) 2 ≡ Some (action_entry 1 (only (insert 1 bob 20)))
 second_entry = refl
 
 no_entry_at_0 : nth_item (history_of two_inserts_of_a_key) 0 ≡ None
@@ -113,28 +128,28 @@ unfolding row_writes
 rising_keys = refl
 
 -- refusals: full of slots, full of entries, full from the beginning
-full_of_slots : refusal tables (limits_of 2 4000000) (state_after two_inserts_of_a_key) (events.Write (insert 3 ann 10)) ≡ Some (errors.Full 2)
+full_of_slots : refusal tables (limits_of 2 4000000) (state_after two_inserts_of_a_key) (events.Write (only (insert 3 ann 10))) ≡ Some (errors.Full 2)
 full_of_slots = refl
 
-full_of_entries : refusal tables (limits_of 2 1) (state_after (insert 1 ann 10 ∷ [])) (events.Write (insert 2 bob 20)) ≡ Some (errors.Full 1)
+full_of_entries : refusal tables (limits_of 2 1) (state_after (insert 1 ann 10 ∷ [])) (events.Write (only (insert 2 bob 20))) ≡ Some (errors.Full 1)
 full_of_entries = refl
 
-full_at_once : refusal tables (limits_of 0 4000000) (after []) (events.Write (insert 1 ann 10)) ≡ Some (errors.Full 0)
+full_at_once : refusal tables (limits_of 0 4000000) (after []) (events.Write (only (insert 1 ann 10))) ≡ Some (errors.Full 0)
 full_at_once = refl
 
 -- a fault of the statement comes before a full database
-width_first : refusal tables (limits_of 0 0) (after []) (events.Write narrow) ≡ Some (errors.Statement faults.WrongWidth)
+width_first : refusal tables (limits_of 0 0) (after []) (events.Write (only narrow)) ≡ Some (errors.Statement faults.WrongWidth)
 width_first = refl
 
-no_table_first : refusal tables (limits_of 0 0) (after []) (events.Write in_no_table) ≡ Some (errors.Statement faults.NoTable)
+no_table_first : refusal tables (limits_of 0 0) (after []) (events.Write (only in_no_table)) ≡ Some (errors.Statement faults.NoTable)
 no_table_first = refl
 
-key_change_first : refusal tables (limits_of 0 0) (after []) (events.Write (update (Set 0 (values.Int (pos 2))) [])) ≡ Some (errors.Statement faults.SetsKey)
+key_change_first : refusal tables (limits_of 0 0) (after []) (events.Write (only (update (Set 0 (values.Int (pos 2))) []))) ≡ Some (errors.Statement faults.SetsKey)
 key_change_first = refl
 
 -- a run of four entries over two slots: accepted, a fault, a duplicate, and full. The two that are accepted are its history
 run_answers : IsRun tables (limits_of 2 4000000) [] (history_of (insert 1 ann 10 ∷ narrow ∷ insert 1 bob 20 ∷ insert 2 bob 20 ∷ []))
-    (Ok (Written 1 Inserted) ∷ Err (errors.Statement faults.WrongWidth) ∷ Ok (Written 2 Duplicate) ∷ Err (errors.Full 2) ∷ []) (history_of two_inserts_of_a_key)
+    (Ok (Written 1 (Inserted ∷ [])) ∷ Err (errors.Statement faults.WrongWidth) ∷ Ok (Written 2 (Duplicate ∷ [])) ∷ Err (errors.Full 2) ∷ []) (history_of two_inserts_of_a_key)
 unfolding row_writes
 run_answers = (refl, refl, (refl, (refl, refl, (refl, refl))))
 
@@ -154,7 +169,7 @@ unfolding row_writes
 no_table_before_later = refl
 
 -- outcomes of an update without matching rows and of a delete, and the row after an addition
-update_outcome : outcome_of (state_after (insert 1 ann 10 ∷ [])) (events.Write (update (balance_to 0) (of_owner zed))) ≡ Written 2 (Updated 0)
+update_outcome : outcome_of (state_after (insert 1 ann 10 ∷ [])) (events.Write (only (update (balance_to 0) (of_owner zed)))) ≡ Written 2 (Updated 0 ∷ [])
 unfolding row_writes
 update_outcome = refl
 
@@ -162,7 +177,7 @@ row_after_addition : right_select_at tables (state_after (insert 1 ann 10 ∷ up
 unfolding row_writes
 row_after_addition = refl
 
-delete_outcome : outcome_of (state_after (insert 2 bob 20 ∷ insert 1 ann 10 ∷ [])) (events.Write (delete [])) ≡ Written 3 (Deleted 2)
+delete_outcome : outcome_of (state_after (insert 2 bob 20 ∷ insert 1 ann 10 ∷ [])) (events.Write (only (delete []))) ≡ Written 3 (Deleted 2 ∷ [])
 unfolding row_writes
 delete_outcome = refl
 
@@ -180,3 +195,67 @@ updated_row :
     × (first_int (account 1 ann 0).values ≡ Some (pos 1))
 unfolding row_writes
 updated_row = (refl, refl)
+
+-- an action of three writes takes one slot. Each write is answered on the rows that the ones before it left
+abbrev insert_sum_insert : List Write
+insert_sum_insert = insert 1 ann 10 ∷ update (balance_by 5) (of_id 1) ∷ insert 1 bob 1 ∷ []
+
+action_accepted : refusal tables max_limits (after []) (events.Write insert_sum_insert) ≡ None
+action_accepted = refl
+
+action_outcome : outcome_of (after []) (events.Write insert_sum_insert) ≡ Written 1 (Inserted ∷ Updated 1 ∷ Duplicate ∷ [])
+unfolding row_writes
+action_outcome = refl
+
+action_takes_one_slot :
+    (now_of (state_after_actions (insert_sum_insert ∷ [])) ≡ 1)
+    × ((state_after_actions (insert_sum_insert ∷ [])).events ≡ 1)
+    × (slot_at (state_after_actions (insert_sum_insert ∷ [])).slots 1 ≡ Some (record { action = Some insert_sum_insert; replies = Some (Inserted ∷ Updated 1 ∷ Duplicate ∷ []) }))
+unfolding row_writes
+action_takes_one_slot = (refl, refl, refl)
+
+-- no time shows the rows between its writes
+reads_around_an_action :
+    (right_select_at tables (state_after_actions (insert_sum_insert ∷ [])) all 0 ≡ Ok (Rows []))
+    × (right_select_at tables (state_after_actions (insert_sum_insert ∷ [])) all 1 ≡ Ok (Rows (account 1 ann 15 ∷ [])))
+unfolding row_writes
+reads_around_an_action = (refl, refl)
+
+-- the row that it wrote, each time that it did
+rows_that_an_action_wrote : rows_at_slot (state_after_actions (insert_sum_insert ∷ [])).slots 1 ≡ Some (key_1 ∷ key_1 ∷ [])
+unfolding row_writes
+rows_that_an_action_wrote = refl
+
+-- an action without writes takes a slot too
+empty_action :
+    (refusal tables max_limits (after []) (events.Write []) ≡ None)
+    × (outcome_of (after []) (events.Write []) ≡ Written 1 [])
+    × (slot_at (state_after_actions ([] ∷ [])).slots 1 ≡ Some (record { action = Some []; replies = Some [] }))
+    × (rows_at_slot (state_after_actions ([] ∷ [])).slots 1 ≡ Some [])
+unfolding row_writes
+empty_action = (refl, refl, refl, refl)
+
+-- a row that an action inserts and deletes is at no time, and is one that the action wrote
+abbrev insert_delete : List Write
+insert_delete = insert 1 ann 1 ∷ delete (of_id 1) ∷ []
+
+insert_and_delete :
+    (outcome_of (after []) (events.Write insert_delete) ≡ Written 1 (Inserted ∷ Deleted 1 ∷ []))
+    × (right_select_at tables (state_after_actions (insert_delete ∷ [])) all 1 ≡ Ok (Rows []))
+    × (rows_at_slot (state_after_actions (insert_delete ∷ [])).slots 1 ≡ Some (key_1 ∷ key_1 ∷ []))
+unfolding row_writes
+insert_and_delete = (refl, refl, refl)
+
+-- an action is refused where a later write of it has a fault, or where it has too many. Nothing of it is carried out
+abbrev insert_set_key : List Write
+insert_set_key = insert 1 ann 1 ∷ update (Set 0 (values.Int (pos 2))) [] ∷ []
+
+faulty_actions :
+    (refusal tables max_limits (after []) (events.Write insert_set_key) ≡ Some (errors.Statement faults.SetsKey))
+    × (refusal tables max_limits (after []) (events.Write (replicate 16 (insert 1 ann 1))) ≡ None)
+    × (refusal tables max_limits (after []) (events.Write (replicate 17 (insert 1 ann 1))) ≡ Some (errors.Statement faults.TooManyWrites))
+faulty_actions = (refl, refl, refl)
+
+run_of_faulty_actions : IsRun tables max_limits [] (history_of_actions (insert_set_key ∷ replicate 17 (insert 1 ann 1) ∷ []))
+    (Err (errors.Statement faults.SetsKey) ∷ Err (errors.Statement faults.TooManyWrites) ∷ []) []
+run_of_faulty_actions = (refl, (refl, refl))

@@ -1,4 +1,4 @@
-use super::{ACCT, ANN, BOB, entry, has, insert, new_db, rows, select_all};
+use super::{ACCT, ANN, BOB, action, entry, has, insert, new_db, replies, rows, select_all};
 use crate::{Db, Limits, Outcome, Slot};
 use std::alloc::Global;
 use std::process::Abort;
@@ -22,8 +22,8 @@ fn has_exact_copies(rt: &impl Abort, alloc: Global, db: &Db) {
     let slot = db.slot(1).expect(rt, "a slot");
     let copy = slot.clone().expect(rt, "memory");
     let want = Slot {
-        write: Some(insert(rt, alloc, ACCT, ANN)),
-        reply: Some(Reply::Inserted),
+        action: Some(action(rt, alloc, [insert(rt, alloc, ACCT, ANN)])),
+        replies: Some(replies(rt, alloc, [Reply::Inserted])),
     };
     assert_eq!(rt; copy, want);
 }
@@ -44,7 +44,7 @@ fn each_call_has_enough_memory(rt: HostRuntime) {
         .expect(&rt, "memory");
     let want = Outcome::Written {
         slot: 2,
-        reply: Reply::Inserted,
+        replies: replies(&rt, alloc, [Reply::Inserted]),
     };
     assert_eq!(rt; answers.as_slice(), [Ok(want)].as_slice());
     has(&rt, alloc, &db, &[ANN, BOB]);

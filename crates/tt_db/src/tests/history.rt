@@ -1,4 +1,4 @@
-use super::{ACCT, ANN, BOB, SAME_KEY, after, entry, has, insert, new_db};
+use super::{ACCT, ANN, BOB, SAME_KEY, action, after, entry, has, insert, new_db, replies};
 use crate::Slot;
 use tt_values::Reply;
 
@@ -6,8 +6,8 @@ use tt_values::Reply;
 fn the_old_database_stays(rt: HostRuntime) {
     let alloc = rt.alloc();
     let old = new_db(&rt, alloc);
-    let old = after(&rt, &old, entry(&rt, alloc, 1, ANN), Reply::Inserted);
-    let new = after(&rt, &old, entry(&rt, alloc, 1, BOB), Reply::Inserted);
+    let old = after(&rt, alloc, &old, entry(&rt, alloc, 1, ANN), Reply::Inserted);
+    let new = after(&rt, alloc, &old, entry(&rt, alloc, 1, BOB), Reply::Inserted);
     assert_eq!(rt; old.now(), 1);
     assert_eq!(rt; old.events(), 1);
     assert!(rt; old.slot(2).is_none() && old.entry(2).is_none());
@@ -19,8 +19,14 @@ fn the_old_database_stays(rt: HostRuntime) {
 fn the_old_database_can_go_another_way(rt: HostRuntime) {
     let alloc = rt.alloc();
     let old = new_db(&rt, alloc);
-    let new = after(&rt, &old, entry(&rt, alloc, 1, ANN), Reply::Inserted);
-    let other = after(&rt, &old, entry(&rt, alloc, 1, SAME_KEY), Reply::Inserted);
+    let new = after(&rt, alloc, &old, entry(&rt, alloc, 1, ANN), Reply::Inserted);
+    let other = after(
+        &rt,
+        alloc,
+        &old,
+        entry(&rt, alloc, 1, SAME_KEY),
+        Reply::Inserted,
+    );
     has(&rt, alloc, &new, &[ANN]);
     has(&rt, alloc, &other, &[SAME_KEY]);
 }
@@ -29,11 +35,17 @@ fn the_old_database_can_go_another_way(rt: HostRuntime) {
 fn a_duplicate_has_a_slot_and_an_entry(rt: HostRuntime) {
     let alloc = rt.alloc();
     let db = new_db(&rt, alloc);
-    let db = after(&rt, &db, entry(&rt, alloc, 3, ANN), Reply::Inserted);
-    let db = after(&rt, &db, entry(&rt, alloc, 4, SAME_KEY), Reply::Duplicate);
+    let db = after(&rt, alloc, &db, entry(&rt, alloc, 3, ANN), Reply::Inserted);
+    let db = after(
+        &rt,
+        alloc,
+        &db,
+        entry(&rt, alloc, 4, SAME_KEY),
+        Reply::Duplicate,
+    );
     let second = Slot {
-        write: Some(insert(&rt, alloc, ACCT, SAME_KEY)),
-        reply: Some(Reply::Duplicate),
+        action: Some(action(&rt, alloc, [insert(&rt, alloc, ACCT, SAME_KEY)])),
+        replies: Some(replies(&rt, alloc, [Reply::Duplicate])),
     };
     assert_eq!(rt; db.slot(2), Some(&second));
     assert_eq!(rt; db.entry(2), Some(&entry(&rt, alloc, 4, SAME_KEY)));

@@ -39,7 +39,13 @@ const FILLINGS: [Filling; 3] = [
 fn full_db(rt: &impl Abort, alloc: Global, filling: &Filling) -> Db {
     let mut db = small_db(rt, alloc, filling.slots, filling.events);
     for account in filling.accounts {
-        db = after(rt, &db, entry(rt, alloc, 1, *account), Reply::Inserted);
+        db = after(
+            rt,
+            alloc,
+            &db,
+            entry(rt, alloc, 1, *account),
+            Reply::Inserted,
+        );
     }
     db
 }

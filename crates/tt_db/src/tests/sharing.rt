@@ -24,6 +24,7 @@ fn all_states(rt: &impl Abort, alloc: Global) -> Vec<Db> {
     for key in 0..STATES as i64 {
         let next = after(
             rt,
+            alloc,
             &last,
             entry(rt, alloc, 1, (key, "ann", 10)),
             Reply::Inserted,

@@ -8,8 +8,8 @@ use tt_versions::Side;
 /// A database of `acct` and `loan`, with two accounts and no loan.
 fn accounts(rt: &impl Abort, alloc: Global) -> Db {
     let db = Db::new(alloc, bank(rt, alloc, &["acct", "loan"]), Limits::usual());
-    let db = after(rt, &db, entry(rt, alloc, 1, ANN), Reply::Inserted);
-    after(rt, &db, entry(rt, alloc, 1, BOB), Reply::Inserted)
+    let db = after(rt, alloc, &db, entry(rt, alloc, 1, ANN), Reply::Inserted);
+    after(rt, alloc, &db, entry(rt, alloc, 1, BOB), Reply::Inserted)
 }
 
 #[test]

@@ -2,7 +2,7 @@
 use Rattle.std.proofs.Common.{◌≡◌, ℕ, ℤ, pos, List, [], ◌∷◌, ◌++◌, map, Option, None, Some, refl}
 use Rattle.tt_values.specs.declared.row.Row.{Row}
 use Rattle.tt_values.specs.RowWrites.{Slots, row_writes}
-use Rattle.tt_values.proofs.worked_rows.Accounts.{tables, ann, bob, account, of_id, balance_to, balance_by, insert, update, slots_of}
+use Rattle.tt_values.proofs.worked_rows.Accounts.{tables, ann, bob, account, of_id, balance_to, balance_by, insert, update, slot_of, slots_of}
 use Rattle.tt_repair_laws.specs.declared.edit.Edit.{Edit}
 use Rattle.tt_repair_laws.specs.declared.edit.Edit.TheVariants.{Cancel}
 use Rattle.tt_repair_laws.specs.Due.{dirty_after}
@@ -13,7 +13,7 @@ two_accounts = slots_of (insert 1 ann 10 ∷ insert 2 bob 20 ∷ update (balance
 
 -- the same slots, and one that is added during the repair
 abbrev one_slot_more : Slots
-one_slot_more = two_accounts ++ Some (update (balance_by 5) []) ∷ []
+one_slot_more = two_accounts ++ slot_of (update (balance_by 5) []) ∷ []
 
 -- the update of account 1 is cancelled
 abbrev no_update : List Edit

@@ -3,8 +3,8 @@ use Rattle.std.proofs.Common.{◌≡◌, ℕ, zero, suc, pos, Bool, true, false,
 use Rattle.tt_values.specs.declared.reply.Reply.{Reply}
 use Rattle.tt_values.specs.declared.reply.Reply.TheVariants.{Inserted, Duplicate, Updated, Deleted}
 use Rattle.tt_values.specs.Content.{RowsByKey}
-use Rattle.tt_values.specs.RowWrites.{Slots, slot_after, slot_reply, row_writes}
-use Rattle.tt_values.proofs.worked_rows.Accounts.{tables, ann, bob, eve, account, of_id, of_owner, owner_to, balance_by, insert, update, delete, slots_of, two_inserts_of_a_key, insert_and_update, change_of_owner, insert_after_delete, three_accounts}
+use Rattle.tt_values.specs.RowWrites.{Slots, slot_after, slot_replies, row_writes}
+use Rattle.tt_values.proofs.worked_rows.Accounts.{tables, ann, bob, eve, account, of_id, of_owner, owner_to, balance_by, insert, update, delete, slot_of, slots_of, two_inserts_of_a_key, insert_and_update, change_of_owner, insert_after_delete, three_accounts}
 use Rattle.tt_repair_laws.specs.declared.edit.Edit.{Edit}
 use Rattle.tt_repair_laws.specs.declared.edit.Edit.TheVariants.{Cancel, Replace}
 use Rattle.tt_repair_laws.specs.Edits.{edited_slots}
@@ -19,12 +19,16 @@ abbrev pub due_slots : Slots → List Edit → List Bool
 due_slots W E = due_from W E 0 (length W)
 
 -- the replies of some slots, from slot i + 1 on
-abbrev replies_from : Slots → ℕ → ℕ → List (Option Reply)
+abbrev replies_from : Slots → ℕ → ℕ → List (Option (List Reply))
 replies_from W i zero = []
-replies_from W i (suc more) = slot_reply (slot_after W i) (content_after W i) ∷ replies_from W (suc i) more
+replies_from W i (suc more) = slot_replies (slot_after W i) (content_after W i) ∷ replies_from W (suc i) more
 
-abbrev replies : Slots → List (Option Reply)
+abbrev pub replies : Slots → List (Option (List Reply))
 replies W = replies_from W 0 (length W)
+
+-- the replies to a slot of one write
+abbrev answered : Reply → Option (List Reply)
+answered reply = Some (reply ∷ [])
 
 -- the accounts after all slots
 abbrev pub accounts : Slots → RowsByKey
@@ -35,10 +39,10 @@ abbrev two_inserts : Slots
 two_inserts = slots_of two_inserts_of_a_key
 
 first_insert_cancelled :
-    (replies two_inserts ≡ Some Inserted ∷ Some Duplicate ∷ [])
+    (replies two_inserts ≡ answered Inserted ∷ answered Duplicate ∷ [])
     × (due_slots two_inserts (Cancel 1 ∷ []) ≡ true ∷ true ∷ [])
     × (rerun_count tables two_inserts (Cancel 1 ∷ []) 2 ≡ 2)
-    × (replies (edited_slots two_inserts (Cancel 1 ∷ [])) ≡ None ∷ Some Inserted ∷ [])
+    × (replies (edited_slots two_inserts (Cancel 1 ∷ [])) ≡ None ∷ answered Inserted ∷ [])
     × (accounts (edited_slots two_inserts (Cancel 1 ∷ [])) ≡ (pos 1, account 1 bob 20) ∷ [])
 unfolding row_writes dirty_after rerun_count
 first_insert_cancelled = (refl, refl, refl, refl, refl)
@@ -48,10 +52,10 @@ abbrev owner_changes : Slots
 owner_changes = slots_of change_of_owner
 
 change_of_owner_cancelled :
-    (replies owner_changes ≡ Some Inserted ∷ Some (Updated 1) ∷ Some (Updated 1) ∷ Some (Updated 0) ∷ [])
+    (replies owner_changes ≡ answered Inserted ∷ answered (Updated 1) ∷ answered (Updated 1) ∷ answered (Updated 0) ∷ [])
     × (due_slots owner_changes (Cancel 2 ∷ []) ≡ false ∷ true ∷ true ∷ true ∷ [])
     × (rerun_count tables owner_changes (Cancel 2 ∷ []) 4 ≡ 3)
-    × (replies (edited_slots owner_changes (Cancel 2 ∷ [])) ≡ Some Inserted ∷ None ∷ Some (Updated 0) ∷ Some (Updated 1) ∷ [])
+    × (replies (edited_slots owner_changes (Cancel 2 ∷ [])) ≡ answered Inserted ∷ None ∷ answered (Updated 0) ∷ answered (Updated 1) ∷ [])
     × (accounts (edited_slots owner_changes (Cancel 2 ∷ [])) ≡ (pos 1, account 1 ann 17) ∷ [])
 unfolding row_writes dirty_after rerun_count
 change_of_owner_cancelled = (refl, refl, refl, refl, refl)
@@ -61,14 +65,14 @@ abbrev deletion : Slots
 deletion = slots_of (three_accounts ++ delete (of_owner ann) ∷ update (balance_by 1) [] ∷ [])
 
 abbrev delete_bob : List Edit
-delete_bob = Replace 4 (delete (of_owner bob)) ∷ []
+delete_bob = Replace 4 (delete (of_owner bob) ∷ []) ∷ []
 
 delete_replaced :
-    (replies deletion ≡ Some Inserted ∷ Some Inserted ∷ Some Inserted ∷ Some (Deleted 2) ∷ Some (Updated 1) ∷ [])
+    (replies deletion ≡ answered Inserted ∷ answered Inserted ∷ answered Inserted ∷ answered (Deleted 2) ∷ answered (Updated 1) ∷ [])
     × (accounts deletion ≡ (pos 3, account 3 bob 8) ∷ [])
     × (due_slots deletion delete_bob ≡ false ∷ false ∷ false ∷ true ∷ true ∷ [])
     × (rerun_count tables deletion delete_bob 5 ≡ 2)
-    × (replies (edited_slots deletion delete_bob) ≡ Some Inserted ∷ Some Inserted ∷ Some Inserted ∷ Some (Deleted 1) ∷ Some (Updated 2) ∷ [])
+    × (replies (edited_slots deletion delete_bob) ≡ answered Inserted ∷ answered Inserted ∷ answered Inserted ∷ answered (Deleted 1) ∷ answered (Updated 2) ∷ [])
     × (accounts (edited_slots deletion delete_bob) ≡ (pos 1, account 1 ann 6) ∷ (pos 2, account 2 ann 7) ∷ [])
 unfolding row_writes dirty_after rerun_count
 delete_replaced = (refl, refl, refl, refl, refl, refl)
@@ -99,7 +103,7 @@ update_cancelled = (refl, refl, refl, refl, refl)
 
 -- and a further update changes its owner
 abbrev three_updates : Slots
-three_updates = two_updates ++ Some (update (owner_to eve) (of_id 1)) ∷ []
+three_updates = two_updates ++ slot_of (update (owner_to eve) (of_id 1)) ∷ []
 
 later_update_is_due :
     (due_slots three_updates (Cancel 2 ∷ []) ≡ false ∷ true ∷ true ∷ true ∷ [])

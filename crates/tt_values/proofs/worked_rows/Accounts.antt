@@ -1,6 +1,6 @@
 -- A catalog with one table, `acct`, and statements on it: the fixture of the worked rows of every
 -- crate. Ids and amounts are natural numbers, except in `account_of`.
-use Rattle.std.proofs.Common.{ℕ, ℤ, pos, negsuc, true, false, List, [], ◌∷◌, codes, map, Some}
+use Rattle.std.proofs.Common.{Option, ℕ, ℤ, pos, negsuc, true, false, List, [], ◌∷◌, codes, map, Some}
 use Rattle.tt_values.specs.declared.value.Kind.TheVariants as kinds
 use Rattle.tt_values.specs.declared.value.Value.TheVariants as values
 use Rattle.tt_values.specs.declared.table.Column.{Column}
@@ -99,9 +99,13 @@ delete equals = Delete 0 equals
 abbrev pub select : List Equal → Select
 select equals = record { table = 0; equals = equals }
 
--- slots of which none is cancelled
+-- an action of one write, as a slot
+abbrev pub slot_of : Write → Option (List Write)
+slot_of w = Some (w ∷ [])
+
+-- slots of one write each, of which none is cancelled
 abbrev pub slots_of : List Write → Slots
-slots_of writes = map (λ w. Some w) writes
+slots_of writes = map slot_of writes
 
 -- an insert, and one of the same key
 abbrev pub two_inserts_of_a_key : List Write

@@ -1,12 +1,12 @@
 -- What selects answer at each time.
-use Rattle.std.proofs.Common.{◌≡◌, ℕ, pos, List, [], ◌∷◌, ◌++◌, None, Some, refl}
+use Rattle.std.proofs.Common.{◌≡◌, ℕ, pos, List, [], ◌∷◌, ◌++◌, None, refl}
 use Rattle.tt_values.specs.declared.statement.Write.{Write}
 use Rattle.tt_values.specs.declared.statement.Write.TheVariants.{Insert}
 use Rattle.tt_values.specs.declared.reply.Reply.{Reply}
 use Rattle.tt_values.specs.declared.reply.Reply.TheVariants.{Rows}
 use Rattle.tt_values.specs.Effect.{answer_of}
 use Rattle.tt_values.specs.RowWrites.{Slots, row_writes, content_of}
-use Rattle.tt_values.proofs.worked_rows.Accounts.{ann, bob, eve, zed, max_int, account, account_of, of_id, of_owner, balance_to, balance_by, insert, update, delete, select, slots_of, two_inserts_of_a_key, insert_and_update, change_of_owner, insert_after_delete, three_accounts}
+use Rattle.tt_values.proofs.worked_rows.Accounts.{ann, bob, eve, zed, max_int, account, account_of, of_id, of_owner, balance_to, balance_by, insert, update, delete, select, slot_of, slots_of, two_inserts_of_a_key, insert_and_update, change_of_owner, insert_after_delete, three_accounts}
 
 -- all accounts at a time, after slots and after writes of which none is cancelled
 abbrev accounts_after_slots : Slots → ℕ → Reply
@@ -31,7 +31,7 @@ after_a_duplicate : accounts_at two_inserts_of_a_key 2 ≡ Rows (account 1 ann 1
 unfolding row_writes
 after_a_duplicate = refl
 
-after_a_cancelled_slot : accounts_after_slots (None ∷ Some (insert 1 bob 20) ∷ []) 2 ≡ Rows (account 1 bob 20 ∷ [])
+after_a_cancelled_slot : accounts_after_slots (None ∷ slot_of (insert 1 bob 20) ∷ []) 2 ≡ Rows (account 1 bob 20 ∷ [])
 unfolding row_writes
 after_a_cancelled_slot = refl
 
@@ -57,7 +57,7 @@ unfolding row_writes
 after_a_change_of_owner = refl
 
 without_the_change_of_owner :
-    accounts_after_slots (Some (insert 1 ann 10) ∷ None ∷ Some (update (balance_to 0) (of_owner eve)) ∷ Some (update (balance_by 7) (of_owner ann)) ∷ []) 4
+    accounts_after_slots (slot_of (insert 1 ann 10) ∷ None ∷ slot_of (update (balance_to 0) (of_owner eve)) ∷ slot_of (update (balance_by 7) (of_owner ann)) ∷ []) 4
     ≡ Rows (account 1 ann 17 ∷ [])
 unfolding row_writes
 without_the_change_of_owner = refl
@@ -70,7 +70,7 @@ around_a_delete :
 unfolding row_writes
 around_a_delete = (refl, refl, refl)
 
-after_a_cancelled_insert : accounts_after_slots (Some (insert 1 ann 10) ∷ Some (delete (of_id 1)) ∷ None ∷ []) 3 ≡ Rows []
+after_a_cancelled_insert : accounts_after_slots (slot_of (insert 1 ann 10) ∷ slot_of (delete (of_id 1)) ∷ None ∷ []) 3 ≡ Rows []
 unfolding row_writes
 after_a_cancelled_insert = refl
 

@@ -9,7 +9,7 @@ use Rattle.tt_values.specs.Change.{changed}
 use Rattle.tt_values.specs.Content.{RowWrite}
 use Rattle.tt_values.specs.Effect.{reply_of}
 use Rattle.tt_values.specs.RowWrites.{Slots, row_writes, content_of}
-use Rattle.tt_values.proofs.worked_rows.Accounts.{ann, bob, eve, zed, max_int, min_int, account, account_of, of_id, of_owner, owner_to, balance_to, balance_by, insert, update, delete, slots_of, three_accounts}
+use Rattle.tt_values.proofs.worked_rows.Accounts.{ann, bob, eve, zed, max_int, min_int, account, account_of, of_id, of_owner, owner_to, balance_to, balance_by, insert, update, delete, slot_of, slots_of, three_accounts}
 
 -- what a write answers after slots, and after writes of which none is cancelled
 abbrev reply_after_slots : Slots → Write → Reply
@@ -99,8 +99,8 @@ updates_by_owner = (refl, refl)
 
 -- with the change of owner cancelled it's the other way round
 updates_without_change :
-    (reply_after_slots (Some first_insert ∷ None ∷ []) empty_eves ≡ Updated 0)
-    × (reply_after_slots (Some first_insert ∷ None ∷ Some empty_eves ∷ []) raise_anns ≡ Updated 1)
+    (reply_after_slots (slot_of first_insert ∷ None ∷ []) empty_eves ≡ Updated 0)
+    × (reply_after_slots (slot_of first_insert ∷ None ∷ slot_of empty_eves ∷ []) raise_anns ≡ Updated 1)
 unfolding row_writes
 updates_without_change = (refl, refl)
 

@@ -1,8 +1,8 @@
 //! Each public call once, with ample memory.
 use super::{catalog, def, items, owner_is, row, text};
 use crate::{
-    Catalog, CatalogError, Change, Kind, Reply, Select, Shared, Value, Write, changed, check,
-    check_select, laws, matches,
+    Catalog, CatalogError, Change, CheckError, Kind, Reply, Select, Shared, Value, Write, changed,
+    check, check_action, check_select, laws, matches,
 };
 use std::sync::Arc;
 
@@ -103,6 +103,10 @@ fn statements(rt: HostRuntime) {
     let insert = insert.copy().expect(&rt, "memory");
     assert_eq!(rt; insert.table(), 0);
     assert_eq!(rt; check(&catalog, &insert), Ok(()));
+    let action = [insert.copy().expect(&rt, "memory"), insert];
+    assert_eq!(rt; check_action(&catalog, &action), Ok(()));
+    let no_table = Err(CheckError::NoTable);
+    assert_eq!(rt; check_action(&Catalog::new(alloc), &action), no_table);
     assert_eq!(rt; check_select(&catalog, &select), Ok(()));
     assert!(rt; check_select(&Catalog::new(alloc), &select).is_err());
     assert_ne!(rt; Reply::Updated(1), Reply::Deleted(1));
@@ -126,4 +130,9 @@ fn all_laws() {
     laws::added_slot_leaves_past();
     laws::accepted_inserts_have_keys();
     laws::accepted_updates_keep_keys();
+    laws::action_leaves_its_last_content();
+    laws::action_of_one_write();
+    laws::action_writes_each_row_once();
+    laws::actions_follow();
+    laws::accepted_actions_have_keys();
 }

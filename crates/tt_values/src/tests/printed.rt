@@ -41,6 +41,7 @@ fn faults_of_statements(rt: HostRuntime) {
         (CheckError::SetsKey, "key set by an update"),
         (CheckError::SameColumnTwice, "column changed twice"),
         (CheckError::TooManyEquals, "too many equalities"),
+        (CheckError::TooManyWrites, "too many writes"),
     ] {
         let text = format!(in rt.alloc(); "{error}").expect(&rt, "memory");
         assert_eq!(rt; text.as_str(), expected);

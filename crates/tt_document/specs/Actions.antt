@@ -1,0 +1,43 @@
+-- Actions: lists of writes, each an insert, an update or a delete.
+use Rattle.std.specs.Prelude.{List, [], ◌∷◌, Option, Some, None, if◌then◌else◌, Result, Ok, codes}
+use Rattle.serde_json.specs.Data.{Data}
+use Rattle.tt_values.specs.declared.statement.Write.{Write}
+use Rattle.tt_values.specs.Limits.{max_writes}
+use Rattle.tt_values.specs.Tables.{Tables}
+use Rattle.tt_document.specs.declared.fault.DocFault.{DocFault}
+use Rattle.tt_document.specs.declared.statements.Place.{Place}
+use Rattle.tt_document.specs.declared.statements.Place.TheVariants as places
+use Rattle.tt_document.specs.Fault.{◌>>=◌, or_refuse}
+use Rattle.tt_document.specs.Decoder.{object, array, within_limit, has, member}
+use Rattle.tt_document.specs.Taker.{each}
+use Rattle.tt_document.specs.Members.{is_one_of, no_members_but}
+use Rattle.tt_document.specs.Statements.{insert, update, delete}
+
+-- the write of an object, by the first of the members insert, update and delete that it has; or None, where it has none of them
+unfoldable pub write : Tables → Place → Data → Result (Option Write) DocFault
+write tables place v =
+    if has (codes "insert") v then (insert tables place v >>= λ write. Ok (Some write)) else (
+    if has (codes "update") v then (update tables place v >>= λ write. Ok (Some write)) else (
+    if has (codes "delete") v then (delete tables place v >>= λ write. Ok (Some write)) else
+    Ok None))
+
+-- an item of an action: a write without a worker
+unfoldable pub item_of_action : Tables → Data → Result Write DocFault
+item_of_action tables v = do
+  _ ← object v
+  write ← write tables places.Item v
+  or_refuse (codes "missing one of insert, update, delete") write
+
+-- the writes of an action, or the fault that there are too many
+abbrev pub writes : Tables → Data → Result (List Write) DocFault
+writes tables v = do
+  ds ← array v
+  _ ← within_limit max_writes ds
+  each (item_of_action tables) 0 ds
+
+-- the action of an object: the writes of its member do
+unfoldable pub action : Tables → Data → Result (List Write) DocFault
+action tables v = do
+  writes ← member (codes "do") (writes tables) v
+  _ ← no_members_but (is_one_of (codes "do" ∷ codes "worker" ∷ [])) v
+  Ok writes

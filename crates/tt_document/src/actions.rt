@@ -1,0 +1,107 @@
+//! Reading of actions.
+ghost use Rattle.std.specs.Prelude.{◌≡◌, [], ◌∷◌, IfOk};
+ghost use Rattle.serde_json.specs.View.{view};
+ghost use Rattle.tt_document.specs.Fault.{Gives};
+ghost use Rattle.tt_document.specs.Actions.{write, item_of_action, writes, action};
+
+use crate::decoder::{Decoder, OUT_OF_RANGE, array, has, member, object};
+use crate::fault::DocFault;
+use crate::members::no_members_but;
+use crate::statements::{Place, delete, insert, update};
+use crate::taker::decode_items;
+use serde_json::Value;
+use std::alloc::{AllocError, Global};
+use tt_values::{Catalog, Items, MAX_WRITES, Write};
+
+const NO_KIND: &str = "missing one of insert, update, delete";
+
+/// The write of an object, by the first of its kinds that's there, or none.
+#[tactic(auto, unfolding(crate::specs::Actions::write))]
+pub(crate) fn write(
+    alloc: Global,
+    catalog: &Catalog,
+    place: Place,
+    value: &Value,
+) -> Result<Option<Write>, DocFault>
+    ensures { Gives result (write catalog.now place (view value.now)) }
+{
+    if has(value, "insert") {
+        let write = insert(alloc, catalog, place, value)?;
+        return Ok(Some(write));
+    }
+    if has(value, "update") {
+        let write = update(alloc, catalog, place, value)?;
+        return Ok(Some(write));
+    }
+    if has(value, "delete") {
+        let write = delete(alloc, catalog, place, value)?;
+        return Ok(Some(write));
+    }
+    Ok(None)
+}
+
+/// An action of one write.
+pub(crate) fn action_of_one(alloc: Global, write: Write) -> Result<Items<Write>, AllocError>
+    ensures { IfOk result (λ action. action ≡ write ∷ []) }
+{
+    let writes = Vec::from_array(alloc, [write])?;
+    Items::new(alloc, writes)
+}
+
+/// The action of an object, from its member `do`.
+#[tactic(auto, unfolding(crate::specs::Actions::action))]
+pub(crate) fn action(
+    alloc: Global,
+    catalog: &Catalog,
+    value: &Value,
+) -> Result<Items<Write>, DocFault>
+    ensures { Gives result (action catalog.now (view value.now)) }
+{
+    let writes = member(alloc, value, "do", &WritesDecoder { catalog })?;
+    no_members_but(alloc, value, &["do", "worker"])?;
+    Ok(writes)
+}
+
+/// The writes of an action, of which there may be too many.
+#[derive(Drop)]
+struct WritesDecoder<'a> {
+    catalog: &'a Catalog,
+}
+
+impl Decoder for WritesDecoder<'_> {
+    type Output = Items<Write>;
+
+    ghost meaning = { λ r. writes r.catalog.now };
+
+    fn decode(&self, alloc: Global, value: &Value) -> Result<Items<Write>, DocFault> {
+        let items = array(alloc, value)?;
+        if items.len() > MAX_WRITES {
+            return Err(DocFault::here(alloc, OUT_OF_RANGE));
+        }
+        let decoder = WriteDecoder {
+            catalog: self.catalog,
+        };
+        decode_items(alloc, &decoder, items)
+    }
+}
+
+/// A write that is an item of an action.
+#[derive(Drop)]
+struct WriteDecoder<'a> {
+    catalog: &'a Catalog,
+}
+
+impl Decoder for WriteDecoder<'_> {
+    type Output = Write;
+
+    ghost meaning = { λ r. item_of_action r.catalog.now };
+
+    #[tactic(auto, unfolding(crate::specs::Actions::item_of_action))]
+    fn decode(&self, alloc: Global, value: &Value) -> Result<Write, DocFault> {
+        object(alloc, value)?;
+        match write(alloc, self.catalog, Place::Item, value)? {
+            Some(write) => Ok(write),
+            None => Err(DocFault::here(alloc, NO_KIND)),
+        }
+    }
+}

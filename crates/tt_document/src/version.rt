@@ -1,0 +1,42 @@
+//! Reading of the version of a document.
+ghost use Rattle.std.specs.Prelude.{◌≡◌};
+ghost use Rattle.tt_document.specs.Version.{version_numbered, version};
+
+use crate::decoder::{Decoder, OUT_OF_RANGE, count};
+use crate::fault::DocFault;
+use serde_json::Value;
+use std::alloc::Global;
+
+/// The version of a document. Version 2 is version 1 with a further kind of call, `do`.
+#[derive(Clone, Copy)]
+pub(crate) enum Version {
+    One,
+    Two,
+}
+
+#[derive(Drop)]
+pub(crate) struct VersionDecoder;
+
+impl Decoder for VersionDecoder {
+    type Output = Version;
+
+    ghost meaning = { λ _. version };
+
+    fn decode(&self, alloc: Global, value: &Value) -> Result<Version, DocFault> {
+        let number = count(alloc, value)?;
+        match version_numbered(number) {
+            Some(version) => Ok(version),
+            None => Err(DocFault::here(alloc, OUT_OF_RANGE)),
+        }
+    }
+}
+
+fn version_numbered(number: u64) -> Option<Version>
+    ensures { result ≡ version_numbered number }
+{
+    match number {
+        1 => Some(Version::One),
+        2 => Some(Version::Two),
+        _ => None,
+    }
+}
