@@ -1,32 +1,35 @@
 -- A database with one more entry.
-use Rattle.std.proofs.Common.{◌≡◌, ℕ, ◌<◌, ◌≤◌, Bool, true, false, ◌==◌, nat_lt, List, [], ◌∷◌, ◌++◌, fold, length, Option, None, Some, if◌then◌else◌, refl, sym, ap, subst, ◌∙◌, arith, length-append}
+use Rattle.std.proofs.Common.{◌≡◌, ℕ, zero, suc, ◌+◌, ◌<◌, ◌≤◌, List, [], ◌∷◌, ◌++◌, fold, length, None, Some, refl, sym, ap, subst, ◌∙◌, arith, length-append}
 use Rattle.std.proofs.lemmas.List.Sums.{fold-append}
-use Rattle.std.proofs.lemmas.Bool.Decides.{nat_tests}
-use Rattle.std.specs.Option.{option_map}
 use Rattle.tt_values.specs.declared.statement.Write.{Write}
-use Rattle.tt_values.specs.declared.checking.CheckError.{CheckError}
-use Rattle.tt_values.specs.declared.checking.CheckError.TheVariants as faults
 use Rattle.tt_values.specs.Tables.{Tables, IsCatalog}
-use Rattle.tt_values.specs.Limits.{max_writes}
-use Rattle.tt_values.specs.Check.{first_write_fault, action_fault}
 use Rattle.tt_values.specs.RowWrites.{Slots}
+use Rattle.tt_repair_laws.proofs.LawProofs.{edited_slots_are_as_many}
+use Rattle.tt_generations.specs.Limits.{max_slots}
+use Rattle.tt_generations.specs.TwoGenerations.{TwoGenerations, Phase, Idle, Repairing, no_slots, left_of, done_of, phase_after_step, slots_edited_by, IsWithin}
 use Rattle.tt_db.specs.declared.limits.Limits.{Limits}
 use Rattle.tt_db.specs.declared.event.Entry.{Entry}
+use Rattle.tt_db.specs.declared.event.Event.{Event}
 use Rattle.tt_db.specs.declared.event.Event.TheVariants as events
-use Rattle.tt_db.specs.declared.errors.DbError.{DbError}
-use Rattle.tt_db.specs.declared.errors.DbError.TheVariants as errors
-use Rattle.tt_db.specs.Limits.{Fits}
-use Rattle.tt_db.specs.State.{State, start, after, next_state, refusal, first_refusal, full_at, now_of, IsLegalFrom}
-use Rattle.tt_db.specs.Database.{IsConsistent, action_entry}
+use Rattle.tt_db.specs.declared.outcome.Outcome.{Outcome}
+use Rattle.tt_db.specs.Limits.{max_limits, Fits}
+use Rattle.tt_db.specs.State.{State, start, after, next_state, refusal, outcome_of, now_of, slots_left, IsLegal, IsLegalFrom}
+use Rattle.tt_db.specs.Database.{IsConsistent}
+use Rattle.tt_db.specs.Transition.{generations_after, number_after, state_with, Allows}
+use Rattle.tt_db.proofs.RefusalLemmas.{accepted_action, accepted_begin, has_room_for_entry, has_room_for_slot, step_finds_slot, switch_finds_none, is_idle, All-names, All-accepted}
 
-pub IsConsistent-empty : (tables : Tables) (limits : Limits) → IsCatalog tables → Fits limits → IsConsistent tables limits [] [] 0
+pub IsConsistent-empty : (tables : Tables) (limits : Limits) → IsCatalog tables → Fits limits → IsConsistent limits [] (no_slots tables) 0
 IsConsistent-empty tables limits catalog fits = record {
   catalog = catalog;
   fits = fits;
   legal = tt;
   events = refl;
   few_slots = omega arith;
+  few_events = omega arith;
+  few_generations = omega arith;
+  within = tt;
   slots = refl;
+  phase = refl;
   generation = refl;
 }
 
@@ -40,71 +43,133 @@ IsLegalFrom-push : (tables : Tables) (limits : Limits) (S : State) (history : Li
 IsLegalFrom-push tables limits S [] e legal none = (none, tt)
 IsLegalFrom-push tables limits S (d ∷ history) e legal none = (legal.0, IsLegalFrom-push tables limits (next_state S d.event) history e legal.1 none)
 
--- without a first refusal there is none of three
-pub record AreNone (a b c : Option DbError) : Type 0 where
-  pub first : a ≡ None
-  pub second : b ≡ None
-  pub third : c ≡ None
+-- tables of two generations and a number are those of a state
+pub record Agrees (G : TwoGenerations) (number : ℕ) (S : State) : Type 0 where
+  pub slots : G.slots ≡ S.slots
+  pub phase : G.phase ≡ S.phase
+  pub generation : number ≡ S.generation
 
-pub none_of_three : (a b c : Option DbError) → first_refusal (a ∷ b ∷ c ∷ []) ≡ None → AreNone a b c
-none_of_three (Some e) b c h = cc
-none_of_three None (Some e) c h = cc
-none_of_three None None (Some e) h = cc
-none_of_three None None None h = record { first = refl; second = refl; third = refl }
+pub Agrees-consistent : (limits : Limits) (history : List Entry) (G : TwoGenerations) (number : ℕ) → IsConsistent limits history G number → Agrees G number (after history)
+Agrees-consistent limits history G number is = record { slots = is.slots; phase = is.phase; generation = is.generation }
 
-not_full : (count limit : ℕ) → full_at count limit ≡ None → count ≤ limit → count < limit
-not_full count limit none within = by (count == limit) refl none
-  where
-    by : (b : Bool) → (count == limit) ≡ b → (if b then Some (errors.Full limit) else None) ≡ None → count < limit
-    by true e g = cc
-    by false e g = grind (arith, nat_tests)
+-- after an event they are those of the next state
+Agrees-next : (G : TwoGenerations) (number : ℕ) (S : State) (event : Event) → Agrees G number S → Agrees (generations_after G event) (number_after number event) (next_state S event)
+Agrees-next G number S (events.Write action) h = record { slots = ap (λ (W : Slots). W ++ Some action ∷ []) h.slots; phase = h.phase; generation = h.generation }
+Agrees-next G number S (events.Begin edits) h = record { slots = h.slots; phase = refl; generation = h.generation }
+Agrees-next G number S events.Step h = record { slots = h.slots; phase = ap phase_after_step h.phase; generation = h.generation }
+Agrees-next G number S events.Switch h = record { slots = λ i. slots_edited_by (h.phase i) (h.slots i); phase = refl; generation = ap (λ n. n + 1) h.generation }
+Agrees-next G number S events.Abort h = record { slots = h.slots; phase = refl; generation = h.generation }
 
-none_of_an_action : (tables : Tables) (limits : Limits) (S : State) (action : List Write) → refusal tables limits S (events.Write action) ≡ None
-    → AreNone (option_map errors.Statement (action_fault tables action)) (full_at (now_of S) limits.slots) (full_at S.events limits.events)
-none_of_an_action tables limits S action accepted = none_of_three (option_map errors.Statement (action_fault tables action)) (full_at (now_of S) limits.slots) (full_at S.events limits.events) accepted
+-- so the outcome is that of the state
+outcome_uncounted : (tables : Tables) (S : State) (event : Event) → outcome_of tables (record S { events = 0 }) event ≡ outcome_of tables S event
+outcome_uncounted tables S (events.Write action) = refl
+outcome_uncounted tables S (events.Begin edits) = refl
+outcome_uncounted tables S events.Step = refl
+outcome_uncounted tables S events.Switch = refl
+outcome_uncounted tables S events.Abort = refl
 
--- an action that isn't refused finds room for its slot
-pub has_room : (tables : Tables) (limits : Limits) (S : State) (action : List Write) → refusal tables limits S (events.Write action) ≡ None → now_of S ≤ limits.slots → now_of S < limits.slots
-has_room tables limits S action accepted few = not_full (now_of S) limits.slots (none_of_an_action tables limits S action accepted).second few
+pub outcome_of-agrees : (tables : Tables) (G : TwoGenerations) (number : ℕ) (S : State) (event : Event) → Agrees G number S
+    → outcome_of tables (state_with G number) event ≡ outcome_of tables S event
+outcome_of-agrees tables G number S event h =
+    (λ i. outcome_of tables (record { slots = h.slots i; generation = h.generation i; events = 0; phase = h.phase i }) event) ∙ outcome_uncounted tables S event
 
--- without a fault
-pub has_no_fault : (fault : Option CheckError) → option_map errors.Statement fault ≡ None → fault ≡ None
-has_no_fault None h = refl
-has_no_fault (Some e) h = cc
+-- the catalog stays
+pub catalog-after : (G : TwoGenerations) (event : Event) → (generations_after G event).catalog ≡ G.catalog
+catalog-after G (events.Write action) = refl
+catalog-after G (events.Begin edits) = refl
+catalog-after G events.Step = refl
+catalog-after G events.Switch = refl
+catalog-after G events.Abort = refl
 
-pub of_no_fault : (tables : Tables) (limits : Limits) (S : State) (action : List Write) → refusal tables limits S (events.Write action) ≡ None → action_fault tables action ≡ None
-of_no_fault tables limits S action accepted = has_no_fault (action_fault tables action) (none_of_an_action tables limits S action accepted).first
+-- after an event that isn't refused there are no more slots than the limit
+length-edited : (phase : Phase) (W : Slots) → length (slots_edited_by phase W) ≡ length W
+length-edited Idle W = refl
+length-edited (Repairing edits n) W = edited_slots_are_as_many W edits
 
--- and has no more writes than it may have
-pub is_short : (tables : Tables) (limits : Limits) (S : State) (action : List Write) → refusal tables limits S (events.Write action) ≡ None → length action ≤ max_writes
-is_short tables limits S action accepted = by (nat_lt max_writes (length action)) refl (of_no_fault tables limits S action accepted)
-  where
-    by : (b : Bool) → nat_lt max_writes (length action) ≡ b → (if b then Some faults.TooManyWrites else first_write_fault tables action) ≡ None → length action ≤ max_writes
-    by true e none = cc
-    by false e none = grind (arith, nat_tests)
+few_slots-next : (tables : Tables) (limits : Limits) (S : State) (event : Event) → refusal tables limits S event ≡ None → now_of S ≤ limits.slots → now_of (next_state S event) ≤ limits.slots
+few_slots-next tables limits S (events.Write action) accepted few =
+    omega (arith, has_room_for_slot tables limits S action accepted few, length-append S.slots (Some action ∷ []))
+few_slots-next tables limits S (events.Begin edits) accepted few = few
+few_slots-next tables limits S events.Step accepted few = few
+few_slots-next tables limits S events.Switch accepted few = omega (arith, few, length-edited S.phase S.slots)
+few_slots-next tables limits S events.Abort accepted few = few
 
--- an action that isn't refused leads to a consistent database
-pub IsConsistent-push : (tables : Tables) (limits : Limits) (history : List Entry) (slots : Slots) (generation worker : ℕ) (action : List Write)
-    → IsConsistent tables limits history slots generation → refusal tables limits (after history) (events.Write action) ≡ None
-    → IsConsistent tables limits (history ++ action_entry worker action ∷ []) (slots ++ Some action ∷ []) generation
-IsConsistent-push tables limits history slots generation worker action is accepted = record {
-  catalog = is.catalog;
+-- and no more generations than entries
+few_generations-next : (S : State) (event : Event) → S.generation ≤ S.events → (next_state S event).generation ≤ S.events + 1
+few_generations-next S (events.Write action) few = omega (arith, few)
+few_generations-next S (events.Begin edits) few = omega (arith, few)
+few_generations-next S events.Step few = omega (arith, few)
+few_generations-next S events.Switch few = omega (arith, few)
+few_generations-next S events.Abort few = omega (arith, few)
+
+-- and the repair has done no more slots than there are
+IsWithin-action : (phase : Phase) (W : Slots) (action : List Write) → IsWithin phase W → IsWithin phase (W ++ Some action ∷ [])
+IsWithin-action Idle W action h = tt
+IsWithin-action (Repairing edits n) W action h = omega (arith, h, length-append W (Some action ∷ []))
+
+IsWithin-step : (phase : Phase) (W : Slots) → 0 < left_of phase W → IsWithin (phase_after_step phase) W
+IsWithin-step Idle W h = tt
+IsWithin-step (Repairing edits n) W h = omega (arith, h)
+
+IsWithin-next : (G : TwoGenerations) (event : Event) → Allows G event → IsWithin G.phase G.slots → IsWithin (generations_after G event).phase (generations_after G event).slots
+IsWithin-next G (events.Write action) allowed h = IsWithin-action G.phase G.slots action h
+IsWithin-next G (events.Begin edits) allowed h = omega arith
+IsWithin-next G events.Step allowed h = IsWithin-step G.phase G.slots allowed
+IsWithin-next G events.Switch allowed h = tt
+IsWithin-next G events.Abort allowed h = tt
+
+-- tables of two generations allow each event that isn't refused
+allows : (limits : Limits) (G : TwoGenerations) (number : ℕ) (S : State) (event : Event) → Agrees G number S → Fits limits → now_of S ≤ limits.slots
+    → refusal G.catalog limits S event ≡ None → Allows G event
+allows limits G number S (events.Write action) h fits few accepted =
+    let room = has_room_for_slot G.catalog limits S action accepted few in
+    ((accepted_action G.catalog limits S action accepted).no_fault, omega (arith, room, fits.slots, ap length h.slots))
+allows limits G number S (events.Begin edits) h fits few accepted =
+    let begin = accepted_begin G.catalog limits S edits accepted in (
+      h.phase ∙ is_idle S.phase begin.idle,
+      All-names G.slots edits (rw (h.slots) begin.there),
+      All-accepted G.catalog edits begin.no_fault,
+    )
+allows limits G number S events.Step h fits few accepted =
+    subst (λ n. 0 < n) (λ i. left_of (sym h.phase i) (sym h.slots i)) (step_finds_slot G.catalog limits S accepted)
+allows limits G number S events.Switch h fits few accepted =
+    (λ i. left_of (h.phase i) (h.slots i)) ∙ switch_finds_none G.catalog limits S accepted
+allows limits G number S events.Abort h fits few accepted = tt
+
+pub Allows-consistent : (limits : Limits) (history : List Entry) (G : TwoGenerations) (number : ℕ) (event : Event) → IsConsistent limits history G number
+    → refusal G.catalog limits (after history) event ≡ None → Allows G event
+Allows-consistent limits history G number event is accepted =
+    allows limits G number (after history) event (Agrees-consistent limits history G number is) is.fits is.few_slots accepted
+
+-- and the number of generations is below the largest limit of entries
+pub few_generations : (limits : Limits) (history : List Entry) (G : TwoGenerations) (number : ℕ) (event : Event) → IsConsistent limits history G number
+    → refusal G.catalog limits (after history) event ≡ None → number < max_limits.events
+few_generations limits history G number event is accepted =
+    omega (arith, is.generation, is.few_generations, has_room_for_entry G.catalog limits (after history) event accepted is.few_events, is.fits.events)
+
+-- an event that isn't refused leads to a consistent database
+pub IsConsistent-push : (limits : Limits) (history : List Entry) (G : TwoGenerations) (number : ℕ) (e : Entry) → IsConsistent limits history G number
+    → refusal G.catalog limits (after history) e.event ≡ None
+    → IsConsistent limits (history ++ e ∷ []) (generations_after G e.event) (number_after number e.event)
+IsConsistent-push limits history G number e is accepted = record {
+  catalog = subst IsCatalog (sym (catalog-after G e.event)) is.catalog;
   fits = is.fits;
-  legal = IsLegalFrom-push tables limits start history entry is.legal accepted;
-  events = ap (λ T. T.events) next ∙ omega (arith, is.events, length-append history (entry ∷ []));
-  few_slots = subst (λ T. now_of T ≤ limits.slots) (sym next) (omega (arith, room, length-append S.slots (Some action ∷ [])));
-  slots = ap (λ W. W ++ Some action ∷ []) is.slots ∙ sym (ap (λ T. T.slots) next);
-  generation = is.generation ∙ sym (ap (λ T. T.generation) next);
+  legal = subst (λ tables. IsLegal tables limits (history ++ e ∷ [])) (sym (catalog-after G e.event)) (IsLegalFrom-push G.catalog limits start history e is.legal accepted);
+  events = ap (λ T. T.events) next ∙ omega (arith, is.events, length-append history (e ∷ []));
+  few_slots = subst (λ T. now_of T ≤ limits.slots) (sym next) (few_slots-next G.catalog limits S e.event accepted is.few_slots);
+  few_events = subst (λ T. T.events ≤ limits.events) (sym next) (omega (arith, has_room_for_entry G.catalog limits S e.event accepted is.few_events));
+  few_generations = subst (λ T. T.generation ≤ T.events) (sym next) (few_generations-next S e.event is.few_generations);
+  within = IsWithin-next G e.event (Allows-consistent limits history G number e.event is accepted) is.within;
+  slots = agree.slots ∙ sym (ap (λ T. T.slots) next);
+  phase = agree.phase ∙ sym (ap (λ T. T.phase) next);
+  generation = agree.generation ∙ sym (ap (λ T. T.generation) next);
 }
   where
     S : State
     S = after history
 
-    entry : Entry
-    entry = action_entry worker action
+    next : after (history ++ e ∷ []) ≡ next_state S e.event
+    next = after-push history e
 
-    next : after (history ++ entry ∷ []) ≡ next_state S (events.Write action)
-    next = after-push history entry
-
-    room : now_of S < limits.slots
-    room = has_room tables limits S action accepted is.few_slots
+    agree : Agrees (generations_after G e.event) (number_after number e.event) (next_state S e.event)
+    agree = Agrees-next G number S e.event (Agrees-consistent limits history G number is)

@@ -23,9 +23,9 @@ use Rattle.tt_values.specs.Limits.{max_writes}
 use Rattle.tt_values.specs.Check.{write_fault, first_write_fault, action_fault}
 use Rattle.tt_values.specs.Change.{changed}
 use Rattle.tt_values.specs.Matches.{matches}
-use Rattle.tt_values.specs.Content.{RowsByKey, Content, row_at, with_row_at, with_row_write, content_at}
+use Rattle.tt_values.specs.Content.{RowsByKey, Content, RowWrite, row_at, with_row_at, with_row_write, content_at}
 use Rattle.tt_values.specs.Effect.{table_of, matching_rows, effect_on, effect, answer_of}
-use Rattle.tt_values.specs.Action.{content_after_write, content_after_action}
+use Rattle.tt_values.specs.Action.{with_rows_at, content_after_write, content_after_action}
 use Rattle.tt_values.specs.ActionLaws.{IsByRisingKey}
 use Rattle.tt_values.specs.RowWrites.{Slots, row_writes, slot_writes, slot_after, content_of}
 use Rattle.tt_values.proofs.LawProofs.{rows_rise, next_content, past_stays, last_content_stays, action_leaves_its_last_content, accepted_inserts_have_keys, accepted_updates_keep_keys}
@@ -33,10 +33,14 @@ use Rattle.tt_db.specs.declared.limits.Limits.{Limits}
 use Rattle.tt_db.specs.declared.event.Event.{Event}
 use Rattle.tt_db.specs.declared.event.Event.TheVariants as events
 use Rattle.tt_db.specs.declared.event.Entry.{Entry}
-use Rattle.tt_db.specs.State.{State, start, after, current_at, next_state, refusal, IsLegal, IsLegalFrom}
+use Rattle.tt_repair_laws.specs.declared.edit.Edit.{Edit}
+use Rattle.tt_repair_laws.specs.declared.edit.Edit.TheVariants.{Cancel, Replace}
+use Rattle.tt_repair_laws.specs.Edits.{edit_of, slot_with_edit, edited_slots_from, edited_slots}
+use Rattle.tt_generations.specs.KeptSlots.{IsAccepted}
+use Rattle.tt_generations.specs.TwoGenerations.{Phase, Idle, Repairing, phase_after_step, slots_edited_by, done_of}
+use Rattle.tt_db.specs.State.{State, start, after, current_at, next_in, next_at, next_state, edits_fault, refusal, IsLegal, IsLegalFrom}
 use Rattle.tt_db.specs.RightAnswers.{RowsHaveRisingKeys}
-use Rattle.tt_db.proofs.ActionStepsLemmas.{content-after_row_writes}
-use Rattle.tt_db.proofs.DatabaseLemmas.{of_no_fault}
+use Rattle.tt_db.proofs.RefusalLemmas.{accepted_action, accepted_begin}
 
 both_true-left : (a b : Bool) → (a && b) ≡ true → a ≡ true
 both_true-left true b h = refl
@@ -103,15 +107,16 @@ AllKeyed-row_at (x ∷ es) key row h e = by (int_cmp key x.0) refl (AllKeyed-row
 abbrev pub IsKeyedContent : Content → Type 0
 IsKeyedContent X = (table : ℕ) → AllKeyed (X table)
 
-pub IsKeyedContent-fold : (pairs : List (ℤ × Option Row)) (time table : ℕ) (X : Content) → IsKeyedContent X → AllPairsKeyed pairs
-    → IsKeyedContent (fold with_row_write X (map (λ e. record { time = time; table = table; key = e.0; row = e.1 }) pairs))
-IsKeyedContent-fold [] time table X h k = h
-IsKeyedContent-fold (e ∷ es) time table X h k =
-    IsKeyedContent-fold es time table (with_row_write X (record { time = time; table = table; key = e.0; row = e.1 })) (λ t. by t (t == table)) k.1
+AllKeyed-fold : (pairs : List (ℤ × Option Row)) (rows : RowsByKey) → AllKeyed rows → AllPairsKeyed pairs → AllKeyed (fold (λ rs e. with_row_at rs e.0 e.1) rows pairs)
+AllKeyed-fold [] rows h k = h
+AllKeyed-fold (e ∷ es) rows h k = AllKeyed-fold es (with_row_at rows e.0 e.1) (AllKeyed-with_row_at rows e.0 e.1 h k.0) k.1
+
+IsKeyedContent-with_rows_at : (table : ℕ) (pairs : List (ℤ × Option Row)) (X : Content) → IsKeyedContent X → AllPairsKeyed pairs → IsKeyedContent (with_rows_at table pairs X)
+IsKeyedContent-with_rows_at table pairs X h k t = by (t == table)
   where
-    by : (t : ℕ) (b : Bool) → AllKeyed (if b then with_row_at (X t) e.0 e.1 else X t)
-    by t true = AllKeyed-with_row_at (X t) e.0 e.1 (h t) k.0
-    by t false = h t
+    by : (b : Bool) → AllKeyed (if b then fold (λ rs e. with_row_at rs e.0 e.1) (X t) pairs else X t)
+    by true = AllKeyed-fold pairs (X t) (h t) k
+    by false = h t
 
 key_of-first_int : (row : Row) → IsSome (first_int row.values) → first_int row.values ≡ Some (key_of row)
 key_of-first_int row h = by (first_int row.values) h
@@ -144,8 +149,7 @@ AllPairsKeyed-effect_on tables (Delete table equals) rows catalog none h = AllPa
 -- a content after a write without a fault, and after an action without one
 IsKeyedContent-after_write : (tables : Tables) (w : Write) (X : Content) → IsCatalog tables → write_fault tables w ≡ None → IsKeyedContent X → IsKeyedContent (content_after_write w X)
 IsKeyedContent-after_write tables w X catalog none h =
-    subst IsKeyedContent (content-after_row_writes 0 w X)
-    (IsKeyedContent-fold (effect w X) 0 (table_of w) X h (AllPairsKeyed-effect_on tables w (X (table_of w)) catalog none (h (table_of w))))
+    IsKeyedContent-with_rows_at (table_of w) (effect w X) X h (AllPairsKeyed-effect_on tables w (X (table_of w)) catalog none (h (table_of w)))
 
 abbrev HaveNoFaults : Tables → List Write → Type 0
 HaveNoFaults tables [] = Unit {0}
@@ -171,11 +175,7 @@ IsKeyedContent-after_action tables [] X catalog none h = h
 IsKeyedContent-after_action tables (w ∷ ws) X catalog none h =
     IsKeyedContent-after_action tables ws (content_after_write w X) catalog none.1 (IsKeyedContent-after_write tables w X catalog none.0 h)
 
--- a slot's action, where it has one, has no fault
-abbrev IsAccepted : Tables → Option (List Write) → Type 0
-IsAccepted tables None = Unit {0}
-IsAccepted tables (Some action) = action_fault tables action ≡ None
-
+-- the actions of slots have no faults
 abbrev AllAccepted : Tables → Slots → Type 0
 AllAccepted tables [] = Unit {0}
 AllAccepted tables (s ∷ W) = IsAccepted tables s × AllAccepted tables W
@@ -189,15 +189,65 @@ slot_after-AllAccepted tables [] n h = tt
 slot_after-AllAccepted tables (s ∷ W) zero h = h.0
 slot_after-AllAccepted tables (s ∷ W) (suc n) h = slot_after-AllAccepted tables W n h.1
 
--- the actions of a legal history have no faults
-AllAccepted-legal : (tables : Tables) (limits : Limits) (S : State) (history : List Entry) → IsLegalFrom tables limits S history → AllAccepted tables S.slots
-    → AllAccepted tables (fold (λ T e. next_state T e.event) S history).slots
-AllAccepted-legal tables limits S [] legal h = h
-AllAccepted-legal tables limits S (e ∷ history) legal h =
-    AllAccepted-legal tables limits (next_state S e.event) history legal.1 (of_event e.event legal.0)
+-- slots stay so with edits whose actions have no faults
+IsAccepted-edit : (tables : Tables) (E : List Edit) (t : ℕ) (s : Option (List Write)) → edits_fault tables E ≡ None → IsAccepted tables s → IsAccepted tables (slot_with_edit (edit_of E t) s)
+IsAccepted-edit tables [] t s none h = h
+IsAccepted-edit tables (Cancel k ∷ E) t s none h = by (k == t) (IsAccepted-edit tables E t s none h)
   where
-    of_event : (event : Event) → refusal tables limits S event ≡ None → AllAccepted tables (next_state S event).slots
-    of_event (events.Write action) accepted = AllAccepted-push tables S.slots (Some action) h (of_no_fault tables limits S action accepted)
+    by : (b : Bool) → IsAccepted tables (slot_with_edit (edit_of E t) s) → IsAccepted tables (slot_with_edit (if b then Some (Cancel k) else edit_of E t) s)
+    by true rest = tt
+    by false rest = rest
+IsAccepted-edit tables (Replace k action ∷ E) t s none h = by (action_fault tables action) refl none (λ rest. IsAccepted-edit tables E t s rest h)
+  where
+    at : (b : Bool) → action_fault tables action ≡ None → IsAccepted tables (slot_with_edit (edit_of E t) s) → IsAccepted tables (slot_with_edit (if b then Some (Replace k action) else edit_of E t) s)
+    at true is others = is
+    at false is others = others
+
+    by : (fault : Option CheckError) → action_fault tables action ≡ fault → option_or fault (edits_fault tables E) ≡ None
+        → (edits_fault tables E ≡ None → IsAccepted tables (slot_with_edit (edit_of E t) s))
+        → IsAccepted tables (slot_with_edit (if k == t then Some (Replace k action) else edit_of E t) s)
+    by None is rest others = at (k == t) is (others rest)
+    by (Some e) is rest others = cc
+
+AllAccepted-edits : (tables : Tables) (E : List Edit) (t : ℕ) (W : Slots) → edits_fault tables E ≡ None → AllAccepted tables W → AllAccepted tables (edited_slots_from t W E)
+AllAccepted-edits tables E t [] none h = tt
+AllAccepted-edits tables E t (s ∷ W) none h = (IsAccepted-edit tables E t s none h.0, AllAccepted-edits tables E (suc t) W none h.1)
+
+-- the actions of a legal history have no faults, nor have those of the edits
+abbrev HasAcceptedEdits : Tables → Phase → Type 0
+HasAcceptedEdits tables Idle = Unit {0}
+HasAcceptedEdits tables (Repairing edits n) = edits_fault tables edits ≡ None
+
+record IsAcceptedState (tables : Tables) (S : State) : Type 0 where
+  slots : AllAccepted tables S.slots
+  edits : HasAcceptedEdits tables S.phase
+
+edits-step : (tables : Tables) (phase : Phase) → HasAcceptedEdits tables phase → HasAcceptedEdits tables (phase_after_step phase)
+edits-step tables Idle h = tt
+edits-step tables (Repairing edits n) h = h
+
+slots-switch : (tables : Tables) (phase : Phase) (W : Slots) → HasAcceptedEdits tables phase → AllAccepted tables W → AllAccepted tables (slots_edited_by phase W)
+slots-switch tables Idle W edits h = h
+slots-switch tables (Repairing E n) W edits h = AllAccepted-edits tables E 1 W edits h
+
+IsAcceptedState-next : (tables : Tables) (limits : Limits) (S : State) (event : Event) → refusal tables limits S event ≡ None → IsAcceptedState tables S → IsAcceptedState tables (next_state S event)
+IsAcceptedState-next tables limits S (events.Write action) accepted h = record {
+  slots = AllAccepted-push tables S.slots (Some action) h.slots (accepted_action tables limits S action accepted).no_fault;
+  edits = h.edits;
+}
+IsAcceptedState-next tables limits S (events.Begin edits) accepted h = record { slots = h.slots; edits = (accepted_begin tables limits S edits accepted).no_fault }
+IsAcceptedState-next tables limits S events.Step accepted h = record { slots = h.slots; edits = edits-step tables S.phase h.edits }
+IsAcceptedState-next tables limits S events.Switch accepted h = record { slots = slots-switch tables S.phase S.slots h.edits h.slots; edits = tt }
+IsAcceptedState-next tables limits S events.Abort accepted h = record { slots = h.slots; edits = tt }
+
+IsAcceptedState-legal : (tables : Tables) (limits : Limits) (S : State) (history : List Entry) → IsLegalFrom tables limits S history → IsAcceptedState tables S
+    → IsAcceptedState tables (fold (λ T e. next_state T e.event) S history)
+IsAcceptedState-legal tables limits S [] legal h = h
+IsAcceptedState-legal tables limits S (e ∷ history) legal h =
+    IsAcceptedState-legal tables limits (next_state S e.event) history legal.1 (IsAcceptedState-next tables limits S e.event legal.0 h)
+
+IsAcceptedState-after : (tables : Tables) (limits : Limits) (history : List Entry) → IsLegal tables limits history → IsAcceptedState tables (after history)
+IsAcceptedState-after tables limits history legal = IsAcceptedState-legal tables limits start history legal (record { slots = tt; edits = tt })
 
 IsKeyedContent-slot : (tables : Tables) (s : Option (List Write)) (time : ℕ) (X : Content) → IsCatalog tables → IsAccepted tables s → IsByRisingKey X → IsKeyedContent X
     → IsKeyedContent (fold with_row_write X (slot_writes time s X))
@@ -227,7 +277,7 @@ IsKeyedContent-content_of tables W time catalog h = by (nat_le time (length W)) 
 
 pub IsKeyedContent-legal : (tables : Tables) (limits : Limits) (history : List Entry) (time : ℕ) → IsCatalog tables → IsLegal tables limits history → IsKeyedContent (current_at (after history) time)
 IsKeyedContent-legal tables limits history time catalog legal =
-    IsKeyedContent-content_of tables (after history).slots time catalog (AllAccepted-legal tables limits start history legal tt)
+    IsKeyedContent-content_of tables (after history).slots time catalog (IsAcceptedState-after tables limits history legal).slots
 
 -- the rows of a list that match have rising keys, where the list is by rising key
 all_above : (p : ℤ × Row → Bool) (key : ℤ) (es : RowsByKey) → sorted.below_all int_cmp key es ≡ true → AllKeyed es
@@ -262,14 +312,33 @@ have_keys : (es : RowsByKey) → AllKeyed es → AllByRecursion (λ r. IsSome (f
 have_keys [] h = tt
 have_keys (e ∷ es) h = (subst IsSome (sym h.0) refl, have_keys es h.1)
 
-pub RowsHaveRisingKeys-answer_of : (tables : Tables) (limits : Limits) (history : List Entry) (q : Select) (time : ℕ)
-    → IsCatalog tables → IsLegal tables limits history → RowsHaveRisingKeys (answer_of q (current_at (after history) time))
-RowsHaveRisingKeys-answer_of tables limits history q time catalog legal =
-    let W = (after history).slots in
-    let rows = content_of W time q.table in
-    let h = IsKeyedContent-legal tables limits history time catalog legal q.table in
+RowsHaveRisingKeys-content : (q : Select) (ws : List RowWrite) (time : ℕ) → IsKeyedContent (content_at ws time) → RowsHaveRisingKeys (answer_of q (content_at ws time))
+RowsHaveRisingKeys-content q ws time keyed =
+    let rows = content_at ws time q.table in
     let p : ℤ × Row → Bool = λ e. matches q.equals e.1 in
     record {
-      keyed = All-from_recursion (λ r. IsSome (first_int r.values)) (map (λ e. e.1) (filter p rows)) (have_keys (filter p rows) (AllKeyed-filter p rows h));
-      rising = keys_rise p rows (rows_rise (row_writes W (length W)) time q.table) h;
+      keyed = All-from_recursion (λ r. IsSome (first_int r.values)) (map (λ e. e.1) (filter p rows)) (have_keys (filter p rows) (AllKeyed-filter p rows (keyed q.table)));
+      rising = keys_rise p rows (rows_rise ws time q.table) (keyed q.table);
     }
+
+-- the reply to a select has rising keys, at each time
+pub RowsHaveRisingKeys-current : (tables : Tables) (limits : Limits) (history : List Entry) (q : Select) (time : ℕ)
+    → IsCatalog tables → IsLegal tables limits history → RowsHaveRisingKeys (answer_of q (current_at (after history) time))
+RowsHaveRisingKeys-current tables limits history q time catalog legal =
+    let W = (after history).slots in
+    RowsHaveRisingKeys-content q (row_writes W (length W)) time (IsKeyedContent-legal tables limits history time catalog legal)
+
+-- and in the next generation
+of_next : (tables : Tables) (phase : Phase) (W : Slots) (q : Select) → IsCatalog tables → AllAccepted tables W → HasAcceptedEdits tables phase
+    → RowsHaveRisingKeys (answer_of q (next_in phase W (done_of phase)))
+of_next tables Idle W q catalog slots edits = RowsHaveRisingKeys-content q (row_writes W (length W)) 0 (IsKeyedContent-content_of tables W 0 catalog slots)
+of_next tables (Repairing E n) W q catalog slots edits =
+    let V = edited_slots W E in
+    RowsHaveRisingKeys-content q (row_writes V n) n (IsKeyedContent-slots tables V n catalog (AllAccepted-edits tables E 1 W edits slots))
+
+pub RowsHaveRisingKeys-next : (tables : Tables) (limits : Limits) (history : List Entry) (q : Select) → IsCatalog tables → IsLegal tables limits history
+    → RowsHaveRisingKeys (answer_of q (next_at (after history) (done_of (after history).phase)))
+RowsHaveRisingKeys-next tables limits history q catalog legal =
+    let S = after history in
+    let accepted = IsAcceptedState-after tables limits history legal in
+    of_next tables S.phase S.slots q catalog accepted.slots accepted.edits

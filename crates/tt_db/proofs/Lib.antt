@@ -1,9 +1,6 @@
-pub mod ListLemmas
-pub mod RowsLemmas
-pub mod ActionStepsLemmas
-pub mod FewRowsLemmas
-pub mod SlotListLemmas
+pub mod RefusalLemmas
 pub mod DatabaseLemmas
+pub mod CurrentLemmas
 pub mod KeyLemmas
 pub mod LawProofs
 mod worked_rows

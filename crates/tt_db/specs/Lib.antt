@@ -1,11 +1,8 @@
 pub mod Limits
 pub mod State
 pub mod Errors
-pub mod Rows
-pub mod Effect
-pub mod ActionRun
-pub mod SlotList
 pub mod RightAnswers
 pub mod Database
+pub mod Transition
 pub mod Run
 pub mod Laws

@@ -14,7 +14,8 @@ use Rattle.tt_values.specs.Content.{Content}
 use Rattle.tt_values.specs.Effect.{answer_of}
 use Rattle.tt_db.specs.declared.errors.ReadError.{ReadError}
 use Rattle.tt_db.specs.declared.errors.ReadError.TheVariants as read_errors
-use Rattle.tt_db.specs.State.{State, now_of, current_at}
+use Rattle.tt_generations.specs.TwoGenerations.{Phase, is_repairing, done_of}
+use Rattle.tt_db.specs.State.{State, now_of, current_at, next_at}
 
 -- an answer, or the fault of the statement where it has one
 abbrev pub unless_fault : Option CheckError → Result Reply ReadError → Result Reply ReadError
@@ -33,6 +34,15 @@ right_select tables X q = unless_fault (select_fault tables q) (Ok (answer_of q 
 abbrev pub right_select_at : Tables → State → Select → ℕ → Result Reply ReadError
 right_select_at tables S q time =
     unless_fault (select_fault tables q) (unless_later time (now_of S) (answer_of q (current_at S time)))
+
+-- an answer, or not repairing while no repair is under way
+abbrev pub unless_idle : Phase → Result Reply ReadError → Result Reply ReadError
+unless_idle phase answer = if is_repairing phase then answer else Err read_errors.NotRepairing
+
+-- the right answer to a select of the next generation, at the last slot that the repair has done
+abbrev pub right_preview : Tables → State → Select → Result Reply ReadError
+right_preview tables S q =
+    unless_fault (select_fault tables q) (unless_idle S.phase (Ok (answer_of q (next_at S (done_of S.phase)))))
 
 -- a read gives the right answer. It may run out of memory only where that is no refusal
 abbrev pub Answers : Result Reply ReadError → Result Reply ReadError → Type 0

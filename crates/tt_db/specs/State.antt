@@ -1,24 +1,25 @@
--- The sequential table: its states, its refusals, its next states and its outcomes.
-use Rattle.std.specs.Prelude.{◌≡◌, ℕ, ◌+◌, ◌==◌, List, [], ◌∷◌, ◌++◌, length, fold, Option, None, Some, if◌then◌else◌}
-use Rattle.std.specs.List.{All}
-use Rattle.std.specs.Option.{option_map}
+-- The sequential table of two generations: its states, its refusals, its next states and its outcomes.
+use Rattle.std.specs.Prelude.{◌≡◌, ℕ, suc, ◌+◌, ◌-◌, ◌==◌, ◌||◌, not, nat_lt, Bool, List, [], ◌∷◌, ◌++◌, length, fold, Option, None, Some, if◌then◌else◌}
+use Rattle.std.specs.List.{All, list_any}
+use Rattle.std.specs.Option.{option_map, option_or}
 use Rattle.tt_values.specs.Tables.{Tables}
+use Rattle.tt_values.specs.declared.checking.CheckError.{CheckError}
 use Rattle.tt_values.specs.Check.{action_fault, HasKey}
-use Rattle.tt_values.specs.Content.{Content}
+use Rattle.tt_values.specs.Content.{Content, content_at}
 use Rattle.tt_values.specs.Action.{replies_of}
-use Rattle.tt_values.specs.RowWrites.{Slots, content_of}
+use Rattle.tt_values.specs.RowWrites.{Slots, row_writes, content_of}
+use Rattle.tt_repair_laws.specs.declared.edit.Edit.{Edit}
+use Rattle.tt_repair_laws.specs.declared.edit.Edit.TheVariants.{Cancel, Replace}
+use Rattle.tt_repair_laws.specs.Edits.{slot_number, edited_slots}
+use Rattle.tt_generations.specs.TwoGenerations.{Phase, Idle, Repairing, TwoGenerations, is_repairing, done_of, left_of, rerun_of, is_due_in, phase_after_step, slots_edited_by}
 use Rattle.tt_db.specs.declared.limits.Limits.{Limits}
 use Rattle.tt_db.specs.declared.event.Event.{Event}
 use Rattle.tt_db.specs.declared.event.Event.TheVariants as events
 use Rattle.tt_db.specs.declared.event.Entry.{Entry}
 use Rattle.tt_db.specs.declared.outcome.Outcome.{Outcome}
-use Rattle.tt_db.specs.declared.outcome.Outcome.TheVariants.{Written}
+use Rattle.tt_db.specs.declared.outcome.Outcome.TheVariants.{Written, Begun, Stepped, Switched, Aborted}
 use Rattle.tt_db.specs.declared.errors.DbError.{DbError}
 use Rattle.tt_db.specs.declared.errors.DbError.TheVariants as errors
-
--- what is under way
-pub data Phase : Type 0 where
-  Idle : Phase
 
 -- the slots of the current generation, its number, how many events were accepted, and what is under way
 pub record State : Type 0 where
@@ -39,15 +40,56 @@ now_of S = length S.slots
 abbrev pub current_at : State → ℕ → Content
 current_at S time = content_of S.slots time
 
+-- the next content at a time, by the slots that the repair has done. Without a repair it is the current one
+abbrev pub next_in : Phase → Slots → ℕ → Content
+next_in Idle W time = content_of W time
+next_in (Repairing edits n) W time = content_at (row_writes (edited_slots W edits) n) time
+
+abbrev pub next_at : State → ℕ → Content
+next_at S time = next_in S.phase S.slots time
+
+-- how many slots the repair has left
+abbrev pub slots_left : State → ℕ
+slots_left S = left_of S.phase S.slots
+
+-- the fault of the first edit whose action has one
+abbrev pub edits_fault : Tables → List Edit → Option CheckError
+edits_fault tables [] = None
+edits_fault tables (Cancel t ∷ E) = edits_fault tables E
+edits_fault tables (Replace t action ∷ E) = option_or (action_fault tables action) (edits_fault tables E)
+
+-- the slot of the first edit whose slot isn't there, of so many slots
+abbrev pub missing_slot : ℕ → List Edit → Option ℕ
+missing_slot slots [] = None
+missing_slot slots (e ∷ E) = if (slot_number e == 0) || nat_lt slots (slot_number e) then Some (slot_number e) else missing_slot slots E
+
+-- the slot of the first edit whose slot an earlier edit has, where these edits are earlier
+abbrev pub slot_edited_twice : List Edit → List Edit → Option ℕ
+slot_edited_twice earlier [] = None
+slot_edited_twice earlier (e ∷ E) =
+    if list_any (λ d. slot_number e == slot_number d) earlier then Some (slot_number e) else slot_edited_twice (earlier ++ e ∷ []) E
+
 -- the first refusal of a list
 abbrev pub first_refusal : List (Option DbError) → Option DbError
 first_refusal [] = None
 first_refusal (None ∷ refusals) = first_refusal refusals
 first_refusal (Some e ∷ refusals) = Some e
 
+-- a refusal where something holds
+abbrev pub refused_if : Bool → DbError → Option DbError
+refused_if b e = if b then Some e else None
+
 -- full where a count has reached its limit
 abbrev pub full_at : ℕ → ℕ → Option DbError
-full_at count limit = if count == limit then Some (errors.Full limit) else None
+full_at count limit = refused_if (count == limit) (errors.Full limit)
+
+-- not repairing, while no repair is under way
+abbrev pub unless_repairing : Phase → Option DbError
+unless_repairing phase = refused_if (not (is_repairing phase)) errors.NotRepairing
+
+-- not caught up, while the repair has slots left
+abbrev pub unless_caught_up : ℕ → Option DbError
+unless_caught_up left = refused_if (nat_lt 0 left) (errors.NotCaughtUp left)
 
 -- why the table refuses an event, if it does
 abbrev pub refusal : Tables → Limits → State → Event → Option DbError
@@ -56,18 +98,48 @@ refusal tables limits S (events.Write action) = first_refusal
     ∷ full_at (now_of S) limits.slots
     ∷ full_at S.events limits.events
     ∷ [])
+refusal tables limits S (events.Begin edits) = first_refusal
+    (option_map errors.Statement (edits_fault tables edits)
+    ∷ refused_if (is_repairing S.phase) errors.Repairing
+    ∷ option_map errors.NoSlot (missing_slot (now_of S) edits)
+    ∷ option_map errors.EditTwice (slot_edited_twice [] edits)
+    ∷ refused_if (nat_lt limits.edits (length edits)) errors.TooManyEdits
+    ∷ full_at S.events limits.events
+    ∷ [])
+refusal tables limits S events.Step = first_refusal
+    (unless_repairing S.phase
+    ∷ refused_if (slots_left S == 0) errors.NothingLeft
+    ∷ full_at S.events limits.events
+    ∷ [])
+refusal tables limits S events.Switch = first_refusal
+    (unless_repairing S.phase
+    ∷ unless_caught_up (slots_left S)
+    ∷ full_at S.events limits.events
+    ∷ [])
+refusal tables limits S events.Abort = first_refusal
+    (unless_repairing S.phase
+    ∷ full_at S.events limits.events
+    ∷ [])
 
--- the rows that an event inserts have keys
-abbrev pub HasKeys : Event → Type 0
-HasKeys (events.Write action) = All HasKey action
+-- the slots, the generation and what is under way after an event that isn't refused
+abbrev pub changed_state : State → Event → State
+changed_state S (events.Write action) = record S { slots = S.slots ++ Some action ∷ [] }
+changed_state S (events.Begin edits) = record S { phase = Repairing edits 0 }
+changed_state S events.Step = record S { phase = phase_after_step S.phase }
+changed_state S events.Switch = record S { slots = slots_edited_by S.phase S.slots; generation = S.generation + 1; phase = Idle }
+changed_state S events.Abort = record S { phase = Idle }
 
 -- the state after an event that isn't refused
 abbrev pub next_state : State → Event → State
-next_state S (events.Write action) = record S { slots = S.slots ++ Some action ∷ []; events = S.events + 1 }
+next_state S event = record (changed_state S event) { events = S.events + 1 }
 
 -- the outcome of an event that isn't refused
-abbrev pub outcome_of : State → Event → Outcome
-outcome_of S (events.Write action) = Written (now_of S + 1) (replies_of action (current_at S (now_of S)))
+abbrev pub outcome_of : Tables → State → Event → Outcome
+outcome_of tables S (events.Write action) = Written (now_of S + 1) (replies_of action (current_at S (now_of S)))
+outcome_of tables S (events.Begin edits) = Begun
+outcome_of tables S events.Step = Stepped (done_of S.phase + 1) (is_due_in tables S.phase S.slots)
+outcome_of tables S events.Switch = Switched (S.generation + 1) (now_of S) (rerun_of tables S.phase S.slots)
+outcome_of tables S events.Abort = Aborted
 
 -- the state after a history
 abbrev pub after : List Entry → State

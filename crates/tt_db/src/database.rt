@@ -1,35 +1,34 @@
-ghost use Rattle.std.specs.List.{All};
-ghost use Rattle.std.specs.Prelude.{◌≡◌, ◌<◌, ◌↔◌, IsSome, IfSome, [], ◌∷◌, ◌++◌, length, None, OnOk, OnErr, IfOk, IfErr, IfNone};
+ghost use Rattle.std.specs.Prelude.{◌≡◌, ◌<◌, ◌↔◌, IsSome, IfSome, [], length, None, Some, OnOk, OnErr, IfOk, IfErr};
 ghost use Rattle.std.specs.Option.{option_copied};
-ghost use Rattle.tt_values.specs.Check.{HasKey};
-ghost use Rattle.tt_versions.specs.Sides.{side_of, is_split, none_split};
+ghost use Rattle.tt_versions.specs.Sides.{current_of, next_of, is_split};
 ghost use Rattle.tt_db.specs.Limits.{Fits};
 ghost use Rattle.tt_db.specs.Errors.{refusal_of_error};
-ghost use Rattle.tt_db.specs.State.{HasKeys, IsLegal};
-ghost use Rattle.tt_db.specs.Database.{state_of, time_of, with_entry, action_entry, refusal_of, outcome_for, right_answer, right_answer_at, answer_for, slot_of, current_rows_of, nth_item};
+ghost use Rattle.tt_db.specs.State.{IsLegal, full_at};
+ghost use Rattle.tt_db.specs.Database.{state_of, time_of, with_entry, refusal_of, outcome_for, right_answer, right_answer_at, right_preview_of, answer_for, preview_for, slot_of, repair_of, current_rows_of, ShowsNextRows, dirty_rows_in, MissesNoSlot, ShowsCurrent, nth_item};
 ghost use Rattle.tt_db.specs.RightAnswers.{Answers, RowsHaveRisingKeys};
 ghost use Rattle.tt_db.specs.Run.{IsRun};
 
 use crate::errors::{DbError, ReadError};
 use crate::event::{Entry, Event};
 use crate::limits::Limits;
-use crate::outcome::{Outcome, Slot};
-use crate::slot_list::SlotList;
+use crate::outcome::Outcome;
+use crate::refusals::{edits_fault, missing_slot, slot_edited_twice};
+use crate::transition::Transition;
 use std::alloc::{AllocError, Global};
 use std::marker::Model;
 use std::sync::Arc;
+use tt_generations::{Edit, Generations, Progress, Slot};
 use tt_pages::PagedLog;
-use tt_values::{Catalog, Items, Reply, Select, Shared, Write, check_action, check_select};
-use tt_versions::{Side, Table};
+use tt_values::{Catalog, Reply, Select, Shared, Write, check_action, check_select};
+use tt_versions::Table;
 
 /// A database: a catalog, limits, and the history of the accepted events.
 #[derive(Drop)]
 pub struct Db {
     alloc: Global,
-    catalog: Shared<Catalog>,
     limits: Limits,
     history: PagedLog<Entry>,
-    slots: SlotList,
+    generations: Generations,
     generation: u64,
 }
 
@@ -39,17 +38,17 @@ impl Model for Db {
     ghost Value = { Database };
 
     ghost view = { λ d. record {
-      catalog = d.catalog;
+      catalog = d.generations.catalog;
       limits = d.limits;
       history = d.history;
     } };
 
     ghost invariant = { λ d.
-        IsConsistent d.catalog d.limits d.history d.slots d.generation };
+        IsConsistent d.limits d.history d.generations d.generation };
 }
 
 impl Db {
-    /// A database without rows. Takes no memory; what events take comes from this allocator.
+    /// A database without rows. Takes no memory; what later calls take comes from this allocator.
     pub fn new(alloc: Global, catalog: Arc<Catalog>, limits: Limits) -> Db
         requires { Fits limits }
         ensures { result ≡ record { catalog = catalog.value; limits = limits; history = [] } }
@@ -59,10 +58,9 @@ impl Db {
         let _ = catalog.get().len();
         Db {
             alloc,
-            catalog,
             limits,
             history: PagedLog::new(alloc),
-            slots: SlotList::new(alloc),
+            generations: Generations::new(alloc, catalog),
             generation: 0,
         }
     }
@@ -71,17 +69,17 @@ impl Db {
     pub fn catalog(&self) -> &Catalog
         ensures { result.now ≡ self.now.catalog }
     {
-        self.catalog.get()
+        self.generations.catalog()
     }
 
     /// The current time: the number of slots.
     pub fn now(&self) -> u64
         ensures { result ≡ time_of self.now }
     {
-        self.slots.len()
+        self.generations.len()
     }
 
-    /// The number of the current generation.
+    /// The number of the current generation: 0 at first, and one more after each switch.
     pub fn generation(&self) -> u64
         ensures { result ≡ (state_of self.now).generation }
     {
@@ -104,21 +102,35 @@ impl Db {
         self.history.get(position as usize)
     }
 
-    /// The slot of a number, counted from 1.
+    /// The slot of a number, counted from 1, in the current generation.
     pub fn slot(&self, number: u64) -> Option<&Slot>
         ensures { option_copied result ≡ slot_of self.now number }
     {
-        self.slots.slot(number)
+        self.generations.slot(number)
+    }
+
+    /// How far the repair is; None where none is under way. Takes no memory.
+    pub fn repair(&self) -> Option<Progress>
+        ensures { result ≡ repair_of self.now }
+    {
+        self.generations.progress()
     }
 
     /// Applies an event: answers the next database and the outcome, or why the event is refused.
     /// This database stays as it is, and shares with the next one what they have in common.
+    ///
+    /// A step passes over a slot only where it does the same in both generations. Beginning a
+    /// repair, its steps and giving it up change no current answer. After the switch the current
+    /// answers are those of the slots as edited, with each action that was carried out during the
+    /// repair.
     pub fn apply(&self, entry: Entry) -> Result<(Db, Outcome), DbError>
         ensures state { IfOk result (λ r. r.0 ≡ with_entry self.now entry) }
         ensures outcome { IfOk result (λ r. r.1 ≡ outcome_for self.now entry.event) }
         ensures accepted { OnOk result (refusal_of self.now entry.event ≡ None) }
         ensures refused { IfErr result (λ e.
             refusal_of self.now entry.event ≡ refusal_of_error e) }
+        ensures repaired { OnOk result (MissesNoSlot self.now entry.event) }
+        ensures current { IfOk result (λ r. ShowsCurrent self.now entry.event r.0) }
     {
         if let Some(refusal) = self.refusal(&entry.event) {
             return Err(refusal);
@@ -131,8 +143,8 @@ impl Db {
 
     /// Applies an event to a database whose earlier state isn't needed any more: answers the next
     /// database and the outcome, or this database and why the event is refused. What no other
-    /// database shares is changed in place. Without memory nothing is left: use
-    /// [`apply`](Db::apply) where the database has to survive that.
+    /// database shares is changed in place. Without memory for an event that isn't refused nothing
+    /// is left: use [`apply`](Db::apply) where the database has to survive that.
     pub fn advanced(self, entry: Entry) -> Result<(Db, Result<Outcome, DbError>), AllocError>
         ensures state { IfOk result (λ r. OnOk r.1 (r.0 ≡ with_entry self entry)) }
         ensures outcome { IfOk result (λ r. IfOk r.1 (λ o. o ≡ outcome_for self entry.event)) }
@@ -140,6 +152,7 @@ impl Db {
         ensures refused { IfOk result (λ r. IfErr r.1 (λ e.
             refusal_of self entry.event ≡ Some e)) }
         ensures unchanged { IfOk result (λ r. OnErr r.1 (r.0 ≡ self)) }
+        ensures memory { OnErr result (refusal_of self entry.event ≡ None) }
     {
         if let Some(refusal) = self.refusal(&entry.event) {
             return Ok((self, Err(refusal)));
@@ -150,33 +163,106 @@ impl Db {
 
     /// Why the event is refused, memory aside.
     fn refusal(&self, event: &Event) -> Option<DbError>
-        ensures refusal { result ≡ refusal_of self.now event.now }
-        ensures keyed { IfNone result (HasKeys event.now) }
+        ensures { result ≡ refusal_of self.now event.now }
     {
         match event {
-            Event::Write(action) => {
-                if let Err(fault) = check_action(self.catalog.get(), action.as_slice()) {
-                    return Some(DbError::Statement(fault));
-                }
-                if self.now() == self.limits.slots {
-                    return Some(DbError::Full {
-                        limit: self.limits.slots,
-                    });
-                }
-                if self.events() == self.limits.events {
-                    return Some(DbError::Full {
-                        limit: self.limits.events,
-                    });
-                }
-                None
-            }
+            Event::Write(action) => self.action_refusal(action.as_slice()),
+            Event::Begin(edits) => self.begin_refusal(edits.as_slice()),
+            Event::Step => self.step_refusal(),
+            Event::Switch => self.switch_refusal(),
+            Event::Abort => self.abort_refusal(),
         }
+    }
+
+    /// Why an action is refused.
+    fn action_refusal(&self, action: &[Write]) -> Option<DbError>
+        ensures { result ≡ refusal_of self.now (Event.Write action.now) }
+    {
+        if let Err(fault) = check_action(self.catalog(), action) {
+            return Some(DbError::Statement(fault));
+        }
+        if self.now() == self.limits.slots {
+            return Some(DbError::Full {
+                limit: self.limits.slots,
+            });
+        }
+        self.full_refusal()
+    }
+
+    /// Why a repair with these edits is refused.
+    fn begin_refusal(&self, edits: &[Edit]) -> Option<DbError>
+        ensures { result ≡ refusal_of self.now (Event.Begin edits.now) }
+    {
+        if let Some(fault) = edits_fault(self.catalog(), edits) {
+            return Some(DbError::Statement(fault));
+        }
+        if self.generations.is_repairing() {
+            return Some(DbError::Repairing);
+        }
+        if let Some(t) = missing_slot(self.now(), edits) {
+            return Some(DbError::NoSlot { t });
+        }
+        if let Some(t) = slot_edited_twice(edits) {
+            return Some(DbError::EditTwice { t });
+        }
+        if edits.len() > self.limits.edits as usize {
+            return Some(DbError::TooManyEdits);
+        }
+        self.full_refusal()
+    }
+
+    /// Why a step of the repair is refused.
+    fn step_refusal(&self) -> Option<DbError>
+        ensures { result ≡ refusal_of self.now Event.Step }
+    {
+        if !self.generations.is_repairing() {
+            return Some(DbError::NotRepairing);
+        }
+        if self.generations.left() == 0 {
+            return Some(DbError::NothingLeft);
+        }
+        self.full_refusal()
+    }
+
+    /// Why a switch is refused.
+    fn switch_refusal(&self) -> Option<DbError>
+        ensures { result ≡ refusal_of self.now Event.Switch }
+    {
+        if !self.generations.is_repairing() {
+            return Some(DbError::NotRepairing);
+        }
+        let left = self.generations.left();
+        if left > 0 {
+            return Some(DbError::NotCaughtUp { left });
+        }
+        self.full_refusal()
+    }
+
+    /// Why the repair can't be given up.
+    fn abort_refusal(&self) -> Option<DbError>
+        ensures { result ≡ refusal_of self.now Event.Abort }
+    {
+        if !self.generations.is_repairing() {
+            return Some(DbError::NotRepairing);
+        }
+        self.full_refusal()
+    }
+
+    /// Full, where the history has as many entries as the limit allows.
+    fn full_refusal(&self) -> Option<DbError>
+        ensures { result ≡ full_at (state_of self.now).events self.now.limits.events }
+    {
+        if self.events() == self.limits.events {
+            return Some(DbError::Full {
+                limit: self.limits.events,
+            });
+        }
+        None
     }
 
     /// The next database after an event that isn't refused, beside this one.
     fn apply_shared(&self, entry: Entry) -> Result<(Db, Outcome), AllocError>
-        requires accepted { refusal_of self.now entry.event ≡ None }
-        requires keyed { HasKeys entry.event }
+        requires { refusal_of self.now entry.event ≡ None }
         ensures state { IfOk result (λ r. r.0 ≡ with_entry self.now entry) }
         ensures outcome { IfOk result (λ r. r.1 ≡ outcome_for self.now entry.event) }
     {
@@ -189,66 +275,45 @@ impl Db {
     fn share(&self) -> Result<Db, AllocError>
         ensures { IfOk result (λ db. db ≡ self.now) }
     {
-        let catalog = self.catalog.clone()?;
         let history = self.history.share()?;
-        let slots = self.slots.share()?;
+        let generations = self.generations.share()?;
         Ok(Db {
             alloc: self.alloc,
-            catalog,
             limits: self.limits,
             history,
-            slots,
+            generations,
             generation: self.generation,
         })
     }
 
     /// The database after an event that isn't refused.
     fn apply_event(self, entry: Entry) -> Result<(Db, Outcome), AllocError>
-        requires accepted { refusal_of self entry.event ≡ None }
-        requires keyed { HasKeys entry.event }
+        requires { refusal_of self entry.event ≡ None }
         ensures state { IfOk result (λ r. r.0 ≡ with_entry self entry) }
         ensures outcome { IfOk result (λ r. r.1 ≡ outcome_for self entry.event) }
     {
-        let Entry { worker, event } = entry;
-        match event {
-            Event::Write(action) => {
-                let next = self.apply_action(worker, action)?;
-                Ok(next)
-            }
-        }
-    }
-
-    /// The database after an action that isn't refused.
-    fn apply_action(self, worker: u32, action: Items<Write>) -> Result<(Db, Outcome), AllocError>
-        requires accepted { refusal_of self (Event.Write action) ≡ None }
-        requires keyed { All HasKey action }
-        ensures state { IfOk result (λ r. r.0 ≡ with_entry self (action_entry worker action)) }
-        ensures outcome { IfOk result (λ r. r.1 ≡ outcome_for self (Event.Write action)) }
-    {
         let Db {
             alloc,
-            catalog,
             limits,
             mut history,
-            slots,
+            generations,
             generation,
         } = self;
-        let (slots, replies) = slots.with_action(catalog.get(), action.clone()?)?;
-        let entry = Entry {
-            worker,
-            event: Event::Write(action),
-        };
+        let transition = Transition::by_event(generations, generation, &entry.event)?;
+        let Transition {
+            generations,
+            generation,
+            outcome,
+        } = transition;
         history.push(entry)?;
         let db = Db {
             alloc,
-            catalog,
             limits,
             history,
-            slots,
+            generations,
             generation,
         };
-        let slot = db.now();
-        Ok((db, Outcome::Written { slot, replies }))
+        Ok((db, outcome))
     }
 
     /// Applies entries in order, and answers each: one that is refused, or that runs out of memory,
@@ -296,9 +361,9 @@ impl Db {
         }
     }
 
+    /// The next database after an entry that isn't refused, beside this one.
     fn apply_copy(&self, entry: &Entry) -> Result<(Db, Outcome), AllocError>
-        requires accepted { refusal_of self.now entry.now.event ≡ None }
-        requires keyed { HasKeys entry.now.event }
+        requires { refusal_of self.now entry.now.event ≡ None }
         ensures state { IfOk result (λ r. r.0 ≡ with_entry self.now entry.now) }
         ensures outcome { IfOk result (λ r. r.1 ≡ outcome_for self.now entry.now.event) }
     {
@@ -312,7 +377,7 @@ impl Db {
         ensures right { Answers (right_answer self.now select.now) result }
         ensures keyed { IfOk result (λ reply. RowsHaveRisingKeys reply) }
     {
-        if let Err(fault) = check_select(self.catalog.get(), select) {
+        if let Err(fault) = check_select(self.catalog(), select) {
             return Err(ReadError::Statement(fault));
         }
         match self.answer_at(select, self.now()) {
@@ -327,7 +392,7 @@ impl Db {
         ensures right { Answers (right_answer_at self.now select.now time) result }
         ensures keyed { IfOk result (λ reply. RowsHaveRisingKeys reply) }
     {
-        if let Err(fault) = check_select(self.catalog.get(), select) {
+        if let Err(fault) = check_select(self.catalog(), select) {
             return Err(ReadError::Statement(fault));
         }
         let now = self.now();
@@ -340,23 +405,54 @@ impl Db {
         }
     }
 
+    /// The rows that match in the next generation, by rising key, at the last slot that the repair
+    /// has done.
+    pub fn preview(&self, select: &Select) -> Result<Reply, ReadError>
+        ensures right { Answers (right_preview_of self.now select.now) result }
+        ensures keyed { IfOk result (λ reply. RowsHaveRisingKeys reply) }
+    {
+        if let Err(fault) = check_select(self.catalog(), select) {
+            return Err(ReadError::Statement(fault));
+        }
+        if !self.generations.is_repairing() {
+            return Err(ReadError::NotRepairing);
+        }
+        match self.next_answer(select) {
+            Ok(reply) => Ok(reply),
+            Err(AllocError) => Err(ReadError::Memory),
+        }
+    }
+
+    /// The reply to a select at a time.
     fn answer_at(&self, select: &Select, time: u64) -> Result<Reply, AllocError>
         ensures right { IfOk result (λ reply. reply ≡ answer_for self.now select.now time) }
         ensures keyed { IfOk result (λ reply. RowsHaveRisingKeys reply) }
     {
-        let reply = self.slots.answer_at(select, time)?;
+        let reply = self.generations.answer_at(select, time)?;
         Ok(reply)
     }
 
-    /// The versions of the rows of a table; None past the last table. Takes no memory.
+    /// The reply to a select in the next generation, at the last slot that the repair has done.
+    fn next_answer(&self, select: &Select) -> Result<Reply, AllocError>
+        ensures right { IfOk result (λ reply. reply ≡ preview_for self.now select.now) }
+        ensures keyed { IfOk result (λ reply. RowsHaveRisingKeys reply) }
+    {
+        let reply = self.generations.preview(select)?;
+        Ok(reply)
+    }
+
+    /// The versions of the rows of a table; None past the last table. The current side shows the
+    /// current generation, and the next side, up to the last slot that a repair has done, the next
+    /// one. The split rows are the dirty ones: none while no repair is under way. Takes no memory.
     pub fn versions(&self, table: u16) -> Option<&Table>
         ensures there { IsSome result ↔ (table < length self.now.catalog) }
-        ensures current { IfSome result (λ t. side_of t.now Side.Current
-            ≡ current_rows_of self.now table) }
-        ensures whole { IfSome result (λ t. is_split t.now ≡ none_split) }
+        ensures current { IfSome result
+            (λ t. current_of t.now ≡ current_rows_of self.now table) }
+        ensures next { IfSome result (λ t. ShowsNextRows self.now table (next_of t.now)) }
+        ensures split { IfSome result (λ t. is_split t.now ≡ dirty_rows_in self.now table) }
     {
         if usize::from(table) < self.catalog().len() {
-            Some(self.slots.table(table))
+            Some(self.generations.table(table))
         } else {
             None
         }

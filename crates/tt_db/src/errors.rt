@@ -5,9 +5,30 @@ use tt_values::CheckError;
 /// stays as it was.
 #[derive(Clone, Copy, Debug, PartialEq, Eq, Error)]
 pub enum DbError {
-    /// The action has a fault: it can't be executed on the catalog.
+    /// The action, or that of an edit, has a fault.
     #[error("{0}")]
     Statement(CheckError),
+    /// A repair is under way already.
+    #[error("a repair is under way")]
+    Repairing,
+    /// No repair is under way.
+    #[error("no repair is under way")]
+    NotRepairing,
+    /// The repair has this many slots left to do.
+    #[error("{left} slots are left to do")]
+    NotCaughtUp { left: u64 },
+    /// The repair has done all slots.
+    #[error("no slot is left to do")]
+    NothingLeft,
+    /// An edit is for slot t, which isn't there.
+    #[error("no slot {t}")]
+    NoSlot { t: u64 },
+    /// Two edits are for slot t.
+    #[error("slot {t} is edited twice")]
+    EditTwice { t: u64 },
+    /// The repair has more edits than the limit allows.
+    #[error("too many edits")]
+    TooManyEdits,
     /// The history has as many slots as the limit allows, or as many entries.
     #[error("full at {limit}")]
     Full { limit: u64 },
@@ -22,6 +43,9 @@ pub enum ReadError {
     /// The select has a fault: it can't be answered on the catalog.
     #[error("{0}")]
     Statement(CheckError),
+    /// No repair is under way, so there is no next generation to read.
+    #[error("no repair is under way")]
+    NotRepairing,
     /// The time is later than `now`, the current time.
     #[error("later than {now}")]
     Later { now: u64 },

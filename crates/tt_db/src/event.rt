@@ -1,15 +1,24 @@
 use std::alloc::AllocError;
+use tt_generations::Edit;
 use tt_pages::Kept;
 use tt_values::{Items, Write};
 
-/// What a history consists of.
+/// What a worker asks the database to do.
 #[derive(Debug, PartialEq, Drop)]
 pub enum Event {
     /// An action: writes that are carried out in order, as one slot of the current generation.
     Write(Items<Write>),
+    /// A repair begins, with these edits of slots.
+    Begin(Items<Edit>),
+    /// The repair does its next slot, and re-executes it if it is due.
+    Step,
+    /// The next generation becomes the current one.
+    Switch,
+    /// The repair is given up.
+    Abort,
 }
 
-/// An event with the number of the worker that asked for it.
+/// An event with the number of the worker that asked for it. Accepted entries make up the history.
 #[derive(Debug, PartialEq, Drop)]
 pub struct Entry {
     pub worker: u32,
@@ -27,6 +36,13 @@ impl Clone for Event {
                 let action = action.clone()?;
                 Ok(Event::Write(action))
             }
+            Event::Begin(edits) => {
+                let edits = edits.clone()?;
+                Ok(Event::Begin(edits))
+            }
+            Event::Step => Ok(Event::Step),
+            Event::Switch => Ok(Event::Switch),
+            Event::Abort => Ok(Event::Abort),
         }
     }
 }

@@ -1,13 +1,20 @@
 //! What no clause says: that ample memory is enough for each call, that earlier databases stay
-//! usable, and limits at small numbers.
+//! usable, limits at small numbers, and what repairs lead to.
 mod calls;
 mod history;
+mod incident;
 mod limits;
+mod random;
+mod random_repairs;
+mod repair_refusals;
+mod repairs;
+mod repeated_repairs;
 mod runs;
 mod sharing;
+mod unfinished_repairs;
 mod versions;
 
-use crate::{Db, Entry, Event, Limits, MAX_EDITS, Outcome};
+use crate::{Db, DbError, Entry, Event, Limits, MAX_EDITS, Outcome};
 use std::alloc::Global;
 use std::process::Abort;
 use std::sync::Arc;
@@ -96,19 +103,66 @@ fn insert(rt: &impl Abort, alloc: Global, table: u16, account: Account) -> Write
     }
 }
 
-/// An update of the balance of the account with this id.
-fn add_to_balance(rt: &impl Abort, alloc: Global, id: i64, by: i64) -> Write {
-    let change = Vec::from_array(alloc, [Change::Add { column: 2, by }]).expect(rt, "memory");
-    let of_id = Equal {
-        column: 0,
-        value: Value::Int(id),
-    };
-    let equals = Vec::from_array(alloc, [of_id]).expect(rt, "memory");
+/// The condition that a column has a value.
+fn equal(rt: &impl Abort, alloc: Global, column: u16, value: Value) -> Items<Equal> {
+    let equals = Vec::from_array(alloc, [Equal { column, value }]).expect(rt, "memory");
+    Items::new(alloc, equals).expect(rt, "memory")
+}
+
+/// The condition that an account has this id.
+fn id_is(rt: &impl Abort, alloc: Global, id: i64) -> Items<Equal> {
+    equal(rt, alloc, 0, Value::Int(id))
+}
+
+/// The condition that an account has this owner.
+fn owner_is(rt: &impl Abort, alloc: Global, owner: &str) -> Items<Equal> {
+    equal(rt, alloc, 1, Value::Text(text(rt, alloc, owner)))
+}
+
+/// The condition that every account meets.
+fn any_account(rt: &impl Abort, alloc: Global) -> Items<Equal> {
+    Items::new(alloc, Vec::new(alloc)).expect(rt, "memory")
+}
+
+fn set_owner(rt: &impl Abort, alloc: Global, owner: &str) -> Change {
+    Change::Set {
+        column: 1,
+        value: Value::Text(text(rt, alloc, owner)),
+    }
+}
+
+fn set_balance(balance: i64) -> Change {
+    Change::Set {
+        column: 2,
+        value: Value::Int(balance),
+    }
+}
+
+fn add(by: i64) -> Change {
+    Change::Add { column: 2, by }
+}
+
+/// An update of the accounts that meet a condition, by one change.
+fn update(rt: &impl Abort, alloc: Global, change: Change, equals: Items<Equal>) -> Write {
+    let changes = Vec::from_array(alloc, [change]).expect(rt, "memory");
     Write::Update {
         table: ACCT,
-        changes: Items::new(alloc, change).expect(rt, "memory"),
-        equals: Items::new(alloc, equals).expect(rt, "memory"),
+        changes: Items::new(alloc, changes).expect(rt, "memory"),
+        equals,
     }
+}
+
+/// A delete of the accounts that meet a condition.
+fn delete(equals: Items<Equal>) -> Write {
+    Write::Delete {
+        table: ACCT,
+        equals,
+    }
+}
+
+/// An update of the balance of the account with this id.
+fn add_to_balance(rt: &impl Abort, alloc: Global, id: i64, by: i64) -> Write {
+    update(rt, alloc, add(by), id_is(rt, alloc, id))
 }
 
 /// An action of these writes.
@@ -146,10 +200,42 @@ fn after(rt: &impl Abort, alloc: Global, db: &Db, entry: Entry, reply: Reply) ->
     next
 }
 
+/// Applies an event, and answers what the database answers.
+fn answer_to(rt: &impl Abort, db: &mut Db, event: Event) -> Result<Outcome, DbError> {
+    let entry = Entry { worker: 1, event };
+    let mut answers = db.apply_all(&[entry]).expect(rt, "memory");
+    answers.pop().expect(rt, "an answer")
+}
+
+/// Applies an event that is accepted.
+fn made(rt: &impl Abort, db: &mut Db, event: Event) -> Outcome {
+    answer_to(rt, db, event).expect(rt, "an accepted event")
+}
+
+/// Applies an action of these writes, with these replies.
+fn write<const N: usize>(
+    rt: &impl Abort,
+    alloc: Global,
+    db: &mut Db,
+    writes: [Write; N],
+    wants: [Reply; N],
+) {
+    let slot = db.now().saturating_add(1);
+    let replies = replies(rt, alloc, wants);
+    let outcome = made(rt, db, Event::Write(action(rt, alloc, writes)));
+    assert_eq!(rt; outcome, Outcome::Written { slot, replies });
+}
+
+/// Inserts an account that isn't there.
+fn open(rt: &impl Abort, alloc: Global, db: &mut Db, account: Account) {
+    let insert = insert(rt, alloc, ACCT, account);
+    write(rt, alloc, db, [insert], [Reply::Inserted]);
+}
+
 fn select_all(rt: &impl Abort, alloc: Global, table: u16) -> Select {
     Select {
         table,
-        equals: Items::new(alloc, Vec::new(alloc)).expect(rt, "memory"),
+        equals: any_account(rt, alloc),
     }
 }
 
@@ -162,10 +248,29 @@ fn rows(rt: &impl Abort, alloc: Global, accounts: &[Account]) -> Reply {
     Reply::Rows(Items::new(alloc, rows).expect(rt, "memory"))
 }
 
+/// The end of a test's use of a database. A test that drops one itself takes longer to prove.
+fn done(_db: Db) {}
+
 /// Asserts that these are the accounts now, in this order.
 fn has(rt: &impl Abort, alloc: Global, db: &Db, accounts: &[Account]) {
     let reply = db
         .select(&select_all(rt, alloc, ACCT))
+        .expect(rt, "a reply");
+    assert_eq!(rt; reply, rows(rt, alloc, accounts));
+}
+
+/// Asserts that these were the accounts at a time, in this order.
+fn had(rt: &impl Abort, alloc: Global, db: &Db, time: u64, accounts: &[Account]) {
+    let reply = db
+        .select_at(&select_all(rt, alloc, ACCT), time)
+        .expect(rt, "a reply");
+    assert_eq!(rt; reply, rows(rt, alloc, accounts), "at {time}");
+}
+
+/// Asserts that these are the accounts of the next generation, in this order.
+fn previews(rt: &impl Abort, alloc: Global, db: &Db, accounts: &[Account]) {
+    let reply = db
+        .preview(&select_all(rt, alloc, ACCT))
         .expect(rt, "a reply");
     assert_eq!(rt; reply, rows(rt, alloc, accounts));
 }

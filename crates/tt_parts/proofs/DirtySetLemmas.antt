@@ -1,13 +1,15 @@
 -- Dirty sets by their members.
-use Rattle.std.proofs.Common.{◌≡◌, ℕ, ℤ, Bool, true, false, not, ◌||◌, ◌&&◌, ◌==◌, List, [], ◌∷◌, ◌++◌, refl, sym, ap, ◌∙◌, arith}
+use Rattle.std.proofs.Common.{◌≡◌, ℕ, ℤ, Bool, true, false, not, ◌||◌, ◌&&◌, ◌==◌, List, [], ◌∷◌, ◌++◌, map, filter, if◌then◌else◌, refl, sym, ap, ◌∙◌, arith}
 use Rattle.std.specs.List.{list_any}
 use Rattle.std.specs.Ordering.{int_eq}
 use Rattle.std.proofs.lemmas.Bool.Decides.{Decides-int_eq}
 use Rattle.std.proofs.lemmas.List.Folds.{list_any-append}
 use Rattle.tt_parts.specs.declared.partition.Partition.{Partition}
 use Rattle.tt_parts.specs.declared.partition.Reads.TheVariants.{All, Equated}
-use Rattle.tt_parts.specs.Partitions.{key_partition, is_same_partition}
-use Rattle.tt_parts.specs.Dirty.{is_row_in, is_table_in, has_row_of, SameRows, SamePartitions, parts_if}
+use Rattle.tt_values.specs.declared.table.Column.{Column}
+use Rattle.tt_values.specs.declared.statement.Equal.{Equal}
+use Rattle.tt_parts.specs.Partitions.{key_partition, is_partition_position, partition_of, equated_partitions, is_same_partition, is_partition_in}
+use Rattle.tt_parts.specs.Dirty.{DirtySet, is_row_in, is_table_in, has_row_of, has_other_partition, is_clear, SameRows, SamePartitions, parts_if}
 use Rattle.tt_parts.specs.Laws.{SameMembersWithRow, ClearDependsOnMembers, ReadsDecideClear}
 
 -- a partition and two lists that are put before a list, one after another
@@ -31,7 +33,7 @@ same_members_with_row D E table columns key before after h = record {
         list_any-append same parts D.partitions ∙ ap (λ b. list_any same parts || b) (h.partitions p) ∙ sym (list_any-append same parts E.partitions)
 
 -- a row of a list is of its table
-is_table_in-row : (rs : List (ℕ × ℤ)) (table : ℕ) (key : ℤ) → is_row_in rs table key ≡ true → is_table_in rs table ≡ true
+pub is_table_in-row : (rs : List (ℕ × ℤ)) (table : ℕ) (key : ℤ) → is_row_in rs table key ≡ true → is_table_in rs table ≡ true
 is_table_in-row [] table key h = h
 is_table_in-row (r ∷ rs) table key h = by (table == r.0) (int_eq key r.1) h (is_table_in-row rs table key)
   where
@@ -40,7 +42,7 @@ is_table_in-row (r ∷ rs) table key h = by (table == r.0) (int_eq key r.1) h (i
     by false b g rest = rest g
 
 -- a list with a row of a table has a row with some key of it
-row_of_table : (rs : List (ℕ × ℤ)) (table : ℕ) → is_table_in rs table ≡ true → (key : ℤ) × (is_row_in rs table key ≡ true)
+pub row_of_table : (rs : List (ℕ × ℤ)) (table : ℕ) → is_table_in rs table ≡ true → (key : ℤ) × (is_row_in rs table key ≡ true)
 row_of_table [] table h = cc
 row_of_table (r ∷ rs) table h = by (table == r.0) refl h (row_of_table rs table)
   where
@@ -49,7 +51,7 @@ row_of_table (r ∷ rs) table h = by (table == r.0) refl h (row_of_table rs tabl
     by false e g rest = ((rest g).0, (λ j. (e j && int_eq (rest g).0 r.1) || (rest g).1 j))
 
 -- two tests agree where each holds with the other
-agree : (a b : Bool) → (a ≡ true → b ≡ true) → (b ≡ true → a ≡ true) → a ≡ b
+pub agree : (a b : Bool) → (a ≡ true → b ≡ true) → (b ≡ true → a ≡ true) → a ≡ b
 agree true b h g = sym (h refl)
 agree false true h g = g refl
 agree false false h g = refl
@@ -67,3 +69,46 @@ clear_depends_on_members D E (Equated ps) h = λ j. list_any (λ p. not (h.parti
 pub reads_decide_clear : ReadsDecideClear
 reads_decide_clear D table [] = refl
 reads_decide_clear D table (p ∷ ps) = refl
+
+-- the partitions of the equalities, one by one
+any_equated : (test : Partition → Bool) (table : ℕ) (columns : List Column) (qs : List Equal) →
+    list_any test (equated_partitions table columns qs) ≡ list_any (λ q. is_partition_position columns q.column && test (partition_of table q)) qs
+any_equated test table columns [] = refl
+any_equated test table columns (q ∷ qs) = by (is_partition_position columns q.column) (any_equated test table columns qs)
+  where
+    by : (b : Bool) → list_any test (equated_partitions table columns qs) ≡ list_any (λ q. is_partition_position columns q.column && test (partition_of table q)) qs
+        → list_any test (map (partition_of table) (if b then q ∷ filter (λ q. is_partition_position columns q.column) qs else filter (λ q. is_partition_position columns q.column) qs))
+        ≡ ((b && test (partition_of table q)) || list_any (λ q. is_partition_position columns q.column && test (partition_of table q)) qs)
+    by true same = ap (λ b. test (partition_of table q) || b) same
+    by false same = same
+
+-- where an equality is on a partition column, one partition that isn't dirty makes the statement clear
+pub clear_where_equated : (D : DirtySet) (table : ℕ) (columns : List Column) (qs : List Equal) → list_any (λ q. is_partition_position columns q.column) qs ≡ true →
+    is_clear D table (equated_partitions table columns qs) ≡ list_any (λ q. is_partition_position columns q.column && not (is_partition_in D.partitions (partition_of table q))) qs
+clear_where_equated D table columns qs some = by (equated_partitions table columns qs) (any_equated (λ p. true) table columns qs ∙ always qs ∙ some) ∙ any_equated (λ p. not (is_partition_in D.partitions p)) table columns qs
+  where
+    both : (b : Bool) → (b && true) ≡ b
+    both true = refl
+    both false = refl
+
+    always : (rs : List Equal) → list_any (λ q. is_partition_position columns q.column && true) rs ≡ list_any (λ q. is_partition_position columns q.column) rs
+    always [] = refl
+    always (r ∷ rs) = λ i. both (is_partition_position columns r.column) i || always rs i
+
+    by : (ps : List Partition) → list_any (λ p. true) ps ≡ true → is_clear D table ps ≡ has_other_partition D.partitions ps
+    by [] e = cc
+    by (p ∷ ps) e = refl
+
+-- where none is, the statement reads the whole table
+pub clear_where_none : (D : DirtySet) (table : ℕ) (columns : List Column) (qs : List Equal) → list_any (λ q. is_partition_position columns q.column) qs ≡ false →
+    is_clear D table (equated_partitions table columns qs) ≡ not (has_row_of D table)
+clear_where_none D table columns qs none = ap (is_clear D table) (no_partitions qs none)
+  where
+    no_partitions : (rs : List Equal) → list_any (λ q. is_partition_position columns q.column) rs ≡ false → equated_partitions table columns rs ≡ []
+    no_partitions [] e = refl
+    no_partitions (r ∷ rs) e = by (is_partition_position columns r.column) e (no_partitions rs)
+      where
+        by : (b : Bool) → (b || list_any (λ q. is_partition_position columns q.column) rs) ≡ false → (list_any (λ q. is_partition_position columns q.column) rs ≡ false → equated_partitions table columns rs ≡ [])
+            → map (partition_of table) (if b then r ∷ filter (λ q. is_partition_position columns q.column) rs else filter (λ q. is_partition_position columns q.column) rs) ≡ []
+        by true h rest = cc
+        by false h rest = rest h

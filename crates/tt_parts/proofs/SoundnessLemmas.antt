@@ -24,13 +24,13 @@ use Rattle.tt_parts.specs.Soundness.{LiesIn, CoversMatches}
 use Rattle.tt_parts.specs.Laws.{SamePartitionsAreEqual, EachPartitionIsInItsList, MatchedRowsLieInEquatedPartitions, RowsLieInTheirKeyPartition}
 
 -- values that are the same are equal
-equal_values : (v w : Value) → is_same v w ≡ true → v ≡ w
+pub equal_values : (v w : Value) → is_same v w ≡ true → v ≡ w
 equal_values (values.Int m) (values.Int n) h = ap values.Int ((Decides-int_eq m n).0 h)
 equal_values (values.Int m) (values.Text t) h = cc
 equal_values (values.Text s) (values.Int n) h = cc
 equal_values (values.Text s) (values.Text t) h = ap values.Text ((bytes_eq-Decides s t).0 h)
 
-is_same-itself : (v : Value) → is_same v v ≡ true
+pub is_same-itself : (v : Value) → is_same v v ≡ true
 is_same-itself (values.Int n) = (Decides-int_eq n n).1 refl
 is_same-itself (values.Text t) = (bytes_eq-Decides t t).1 refl
 

@@ -1,20 +1,27 @@
-ghost use Rattle.std.specs.Prelude.{◌≡◌, ◌<◌, ◌≤◌, ◌^◌, ◌∷◌, length, IfOk};
+ghost use Rattle.std.specs.Prelude.{◌≡◌, ◌<◌, ◌≤◌, ◌^◌, length, IfOk, OnOk};
 ghost use Rattle.std.specs.Option.{option_copied};
+ghost use Rattle.tt_values.specs.Check.{HasKey};
+ghost use Rattle.tt_values.specs.Effect.{table_of};
+ghost use Rattle.tt_parts.specs.Partitions.{equated_partitions, partitions_read};
+ghost use Rattle.tt_parts.specs.Dirty.{columns_in};
 
-use crate::members::{add_key, add_parts, add_row, has_other_partition, is_row_in, is_table_in};
-use crate::partition::{Partition, Reads};
+use crate::dirty_partitions::DirtyPartitions;
+use crate::dirty_rows::DirtyRows;
+use crate::members::{add_row_partitions, has_other_equated, has_other_partition, reads_partition};
+use crate::partition::Reads;
 use std::alloc::{AllocError, Global};
 use std::marker::Model;
 use std::sync::Arc;
-use tt_values::{Catalog, Row, Shared, TableDef};
+use tt_values::{Catalog, Column, Equal, Row, Shared, TableDef, Value, Write};
 
 /// A set of dirty rows and partitions, of the tables of one catalog. Contracts speak only of its
-/// members. Making a row dirty answers a new set, and leaves this one as it is.
+/// members. Sets that come from one another share pages.
 #[derive(Debug, Drop)]
 pub struct Dirty {
+    alloc: Global,
     catalog: Shared<Catalog>,
-    rows: Vec<(u16, i64)>,
-    partitions: Vec<Partition>,
+    rows: DirtyRows,
+    partitions: DirtyPartitions,
 }
 
 impl Model for Dirty {
@@ -24,23 +31,24 @@ impl Model for Dirty {
 
     ghost view = { λ d. record {
       catalog = d.catalog;
-      dirty = record { rows = d.rows.items; partitions = d.partitions.items };
+      dirty = record { rows = d.rows; partitions = d.partitions };
     } };
 }
 
 impl Dirty {
-    ghost use Rattle.tt_parts.specs.Dirty.{SameRows, SamePartitions, SameMembers, nothing_dirty, columns_in, has_row, is_clear_of, with_row_in};
+    ghost use Rattle.tt_parts.specs.Dirty.{SameMembers, nothing_dirty, has_row, is_clear, is_clear_of, with_row_in};
 
     /// A set without members, for the tables of the catalog. Allocates nothing; this allocator is
-    /// for `with_row`.
+    /// for `with_row` and `add_row`.
     pub fn new(alloc: Global, catalog: Arc<Catalog>) -> Dirty
         ensures catalog { result.catalog ≡ catalog.value }
         ensures nothing_dirty { SameMembers result.dirty nothing_dirty }
     {
         Dirty {
+            alloc,
             catalog: Shared::from_arc(catalog),
-            rows: Vec::new(alloc),
-            partitions: Vec::new(alloc),
+            rows: DirtyRows::new(alloc),
+            partitions: DirtyPartitions::new(alloc),
         }
     }
 
@@ -49,6 +57,21 @@ impl Dirty {
         ensures { result.now ≡ self.now.catalog }
     {
         self.catalog.get()
+    }
+
+    /// A further owner of the same members. Copies no page.
+    pub fn share(&self) -> Result<Dirty, AllocError>
+        ensures { IfOk result (λ d. d ≡ self.now) }
+    {
+        let catalog = self.catalog.clone()?;
+        let rows = self.rows.share()?;
+        let partitions = self.partitions.share()?;
+        Ok(Dirty {
+            alloc: self.alloc,
+            catalog,
+            rows,
+            partitions,
+        })
     }
 
     /// The set after a row gets dirty too: the row with that key, the partition of the key, and the
@@ -65,21 +88,37 @@ impl Dirty {
         ensures dirty { IfOk result (λ d. SameMembers d.dirty (with_row_in self.now table key
             (option_copied before.entry) (option_copied after.entry))) }
     {
-        let catalog = self.catalog.clone()?;
-        let rows = self.rows_with(table, key)?;
-        let partitions = self.partitions_with(table, key, before, after)?;
-        Ok(Dirty {
-            catalog,
-            rows,
-            partitions,
-        })
+        let mut dirty = self.share()?;
+        dirty.add_row(table, key, before, after)?;
+        Ok(dirty)
+    }
+
+    /// Makes a row dirty in this set, as `with_row` does in a new one. Sets that share pages with
+    /// this one stay as they are. Without memory nothing is promised of the members.
+    pub fn add_row(
+        &mut self,
+        table: u16,
+        key: i64,
+        before: Option<&Row>,
+        after: Option<&Row>,
+    ) -> Result<(), AllocError>
+        requires { table < length self.old.catalog }
+        ensures catalog { self.new.catalog ≡ self.old.catalog }
+        ensures dirty { OnOk result (SameMembers self.new.dirty (with_row_in self.old table key
+            (option_copied before.entry) (option_copied after.entry))) }
+    {
+        let alloc = self.alloc;
+        self.rows.add(alloc, table, key)?;
+        let def = table_in(self.catalog.get(), table);
+        add_row_partitions(alloc, &mut self.partitions, table, def, key, before, after)?;
+        Ok(())
     }
 
     /// Whether the row with the key is dirty. Allocates nothing.
     pub fn has_row(&self, table: u16, key: i64) -> bool
         ensures { result ≡ has_row self.now.dirty table key }
     {
-        is_row_in(&self.rows, table, key)
+        self.rows.has(table, key)
     }
 
     /// Whether a statement that reads this is clear: one of its partitions isn't dirty, or, if it
@@ -88,51 +127,63 @@ impl Dirty {
         ensures { result ≡ is_clear_of self.now.dirty reads.now }
     {
         match reads {
-            Reads::All { table } => !is_table_in(&self.rows, *table),
+            Reads::All { table } => !self.rows.has_table(*table),
             Reads::Equated(partitions) => {
                 has_other_partition(&self.partitions, partitions.as_slice())
             }
         }
     }
 
-    /// The table at a position.
-    fn table(&self, table: u16) -> &TableDef
-        requires { table < length self.now.catalog }
-        ensures columns { columns_in self.now.catalog table ≡ result.now.columns }
-        ensures few { length result.now.columns ≤ 2 ^ 16 }
+    /// Whether a write is clear: one of the partitions that it reads isn't dirty, or, if it reads a
+    /// whole table, no row of the table is. Allocates nothing.
+    pub fn is_clear(&self, write: &Write) -> bool
+        requires { HasKey write.now }
+        ensures { result ≡ is_clear self.now.dirty (table_of write.now)
+            (partitions_read (columns_in self.now.catalog (table_of write.now)) write.now) }
     {
-        match self.catalog.get().table(table) {
-            Some(def) => def,
-            None => unreachable!(),
+        match write {
+            Write::Insert { table, row } => {
+                let key = Value::Int(row.key());
+                !self.partitions.has_value_in(*table, 0, &key)
+            }
+            Write::Update { table, equals, .. } | Write::Delete { table, equals } => {
+                self.is_clear_where(*table, equals.as_slice())
+            }
         }
     }
 
-    /// The dirty rows with one row more.
-    fn rows_with(&self, table: u16, key: i64) -> Result<Vec<(u16, i64)>, AllocError>
-        ensures { IfOk result (λ rs. SameRows rs.items ((table, key) ∷ self.now.dirty.rows)) }
+    /// Whether a write with these equalities is clear.
+    fn is_clear_where(&self, table: u16, equals: &[Equal]) -> bool
+        ensures { result ≡ is_clear self.now.dirty table
+            (equated_partitions table (columns_in self.now.catalog table) equals.now) }
     {
-        let mut rows = self.rows.clone()?;
-        add_row(&mut rows, table, key)?;
-        Ok(rows)
+        let columns = columns_in(self.catalog.get(), table);
+        if reads_partition(columns, equals) {
+            has_other_equated(&self.partitions, table, columns, equals)
+        } else {
+            !self.rows.has_table(table)
+        }
     }
+}
 
-    /// The dirty partitions with those of a row.
-    fn partitions_with(
-        &self,
-        table: u16,
-        key: i64,
-        before: Option<&Row>,
-        after: Option<&Row>,
-    ) -> Result<Vec<Partition>, AllocError>
-        requires { table < length self.now.catalog }
-        ensures { IfOk result (λ ps. SamePartitions ps.items (with_row_in self.now table key
-            (option_copied before.entry) (option_copied after.entry)).partitions) }
-    {
-        let def = self.table(table);
-        let mut partitions = self.partitions.clone()?;
-        add_key(&mut partitions, table, key)?;
-        add_parts(&mut partitions, table, def, before)?;
-        add_parts(&mut partitions, table, def, after)?;
-        Ok(partitions)
+/// The table at a position.
+fn table_in(catalog: &Catalog, table: u16) -> &TableDef
+    requires { table < length catalog.now }
+    ensures columns { columns_in catalog.now table ≡ result.now.columns }
+    ensures few { length result.now.columns ≤ 2 ^ 16 }
+{
+    match catalog.table(table) {
+        Some(def) => def,
+        None => unreachable!(),
+    }
+}
+
+/// The columns of the table at a position, and none where there is no table.
+fn columns_in(catalog: &Catalog, table: u16) -> &[Column]
+    ensures { result.now ≡ columns_in catalog.now table }
+{
+    match catalog.table(table) {
+        Some(def) => def.columns.as_slice(),
+        None => &[],
     }
 }

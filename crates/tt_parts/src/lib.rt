@@ -2,11 +2,15 @@
 //! are dirty during a repair.
 #![tactic(auto)]
 
+mod by_position;
 mod dirty;
+mod dirty_partitions;
+mod dirty_rows;
 pub mod laws;
 mod members;
 mod partition;
 mod parts;
+mod same_digest;
 mod statement_reads;
 #[cfg(test)]
 mod tests;

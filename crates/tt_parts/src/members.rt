@@ -1,97 +1,116 @@
-//! Lists of dirty rows and partitions as sets: adding a member that is there already changes
-//! nothing.
-ghost use Rattle.std.specs.Prelude.{◌≡◌, ◌==◌, ◌≤◌, ◌^◌, not, ◌∷◌, ◌++◌, length, OnOk};
+//! Partitions of rows and of equalities as members of the set of dirty partitions.
+ghost use Rattle.std.specs.Prelude.{◌≡◌, ◌≤◌, ◌^◌, ◌&&◌, not, ◌∷◌, ◌++◌, length, OnOk};
+ghost use Rattle.std.specs.List.{list_any};
 ghost use Rattle.std.specs.Option.{option_copied};
-ghost use Rattle.tt_parts.specs.Partitions.{key_partition, is_partition_in};
-ghost use Rattle.tt_parts.specs.Dirty.{is_row_in, is_table_in, has_other_partition, parts_if, SameRows, SamePartitions};
+ghost use Rattle.tt_parts.specs.Partitions.{key_partition, is_partition_position, partition_of, is_partition_in};
+ghost use Rattle.tt_parts.specs.Dirty.{has_other_partition, parts_if, SamePartitions};
 
+use crate::dirty_partitions::DirtyPartitions;
 use crate::partition::Partition;
 use crate::parts::parts_of;
-use std::alloc::AllocError;
-use tt_values::{Row, TableDef, Value};
-
-pub(crate) fn is_row_in(rows: &[(u16, i64)], table: u16, key: i64) -> bool
-    ensures { result ≡ is_row_in rows.now table key }
-{
-    rows.iter().any(|row| table == row.0 && key == row.1)
-}
-
-/// Whether one of the rows is of the table.
-pub(crate) fn is_table_in(rows: &[(u16, i64)], table: u16) -> bool
-    ensures { result ≡ is_table_in rows.now table }
-{
-    rows.iter().any(|row| table == row.0)
-}
-
-pub(crate) fn add_row(rows: &mut Vec<(u16, i64)>, table: u16, key: i64) -> Result<(), AllocError>
-    ensures { OnOk result (SameRows rows.new.items ((table, key) ∷ rows.old.items)) }
-{
-    if !is_row_in(rows, table, key) {
-        rows.push((table, key))?;
-    }
-    Ok(())
-}
-
-fn is_partition_in(members: &[Partition], partition: &Partition) -> bool
-    ensures { result ≡ is_partition_in members.now partition.now }
-{
-    members.iter().any(|member| partition.is_same(member))
-}
+use crate::statement_reads::is_partition_position;
+use std::alloc::{AllocError, Global};
+use tt_values::{Column, Equal, Row, TableDef, Value};
 
 /// Whether one of the partitions isn't a member.
-pub(crate) fn has_other_partition(members: &[Partition], partitions: &[Partition]) -> bool
+pub(crate) fn has_other_partition(members: &DirtyPartitions, partitions: &[Partition]) -> bool
     ensures { result ≡ has_other_partition members.now partitions.now }
 {
-    partitions
-        .iter()
-        .any(|partition| !is_partition_in(members, partition))
+    partitions.iter().any(|partition| !members.has(partition))
 }
 
-fn add_partition(members: &mut Vec<Partition>, partition: &Partition) -> Result<(), AllocError>
-    ensures { OnOk result (SamePartitions members.new.items (partition.now ∷ members.old.items)) }
+/// Adds the partition of the key of a row, and those that the row lies in by its contents before
+/// and after, where it has any.
+pub(crate) fn add_row_partitions(
+    alloc: Global,
+    members: &mut DirtyPartitions,
+    table: u16,
+    def: &TableDef,
+    key: i64,
+    before: Option<&Row>,
+    after: Option<&Row>,
+) -> Result<(), AllocError>
+    requires { length def.now.columns ≤ 2 ^ 16 }
+    ensures { OnOk result (SamePartitions members.new (key_partition table key
+        ∷ parts_if table def.now.columns (option_copied before.entry)
+        ++ parts_if table def.now.columns (option_copied after.entry) ++ members.old)) }
 {
-    if !is_partition_in(members, partition) {
-        members.push(partition.clone()?)?;
-    }
+    add_key(alloc, members, table, key)?;
+    add_parts(alloc, members, table, def, before)?;
+    add_parts(alloc, members, table, def, after)?;
     Ok(())
 }
 
 /// Adds the partition of a key.
-pub(crate) fn add_key(members: &mut Vec<Partition>, table: u16, key: i64) -> Result<(), AllocError>
-    ensures { OnOk result (SamePartitions members.new.items
-        (key_partition table key ∷ members.old.items)) }
+fn add_key(
+    alloc: Global,
+    members: &mut DirtyPartitions,
+    table: u16,
+    key: i64,
+) -> Result<(), AllocError>
+    ensures { OnOk result (SamePartitions members.new (key_partition table key ∷ members.old)) }
 {
     let partition = Partition {
         table,
         column: 0,
         value: Value::Int(key),
     };
-    add_partition(members, &partition)
+    members.add(alloc, &partition)
 }
 
 /// Adds the partitions that a row lies in, if there is a row.
-pub(crate) fn add_parts(
-    members: &mut Vec<Partition>,
+fn add_parts(
+    alloc: Global,
+    members: &mut DirtyPartitions,
     table: u16,
     def: &TableDef,
     row: Option<&Row>,
 ) -> Result<(), AllocError>
     requires { length def.now.columns ≤ 2 ^ 16 }
-    ensures { OnOk result (SamePartitions members.new.items
-        (parts_if table def.now.columns (option_copied row.entry) ++ members.old.items)) }
+    ensures { OnOk result (SamePartitions members.new
+        (parts_if table def.now.columns (option_copied row.entry) ++ members.old)) }
 {
     let Some(row) = row else {
         return Ok(());
     };
-    let parts = parts_of(*members.allocator(), table, def, row)?;
-    add_partitions(members, parts.as_slice())
+    let parts = parts_of(alloc, table, def, row)?;
+    add_partitions(alloc, members, parts.as_slice())
 }
 
-fn add_partitions(members: &mut Vec<Partition>, partitions: &[Partition]) -> Result<(), AllocError>
-    ensures { OnOk result (SamePartitions members.new.items (partitions.now ++ members.old.items)) }
+fn add_partitions(
+    alloc: Global,
+    members: &mut DirtyPartitions,
+    partitions: &[Partition],
+) -> Result<(), AllocError>
+    ensures { OnOk result (SamePartitions members.new (partitions.now ++ members.old)) }
 {
     for partition in partitions {
-        add_partition(members, partition)?;
+        members.add(alloc, partition)?;
     }
     Ok(())
+}
+
+/// Whether one of the equalities is on a partition column.
+pub(crate) fn reads_partition(columns: &[Column], equals: &[Equal]) -> bool
+    ensures { result ≡ list_any (λ q. is_partition_position columns.now q.column) equals.now }
+{
+    equals
+        .iter()
+        .any(|equal| is_partition_position(columns, equal.column))
+}
+
+/// Whether the partition of one of the equalities isn't a member.
+pub(crate) fn has_other_equated(
+    members: &DirtyPartitions,
+    table: u16,
+    columns: &[Column],
+    equals: &[Equal],
+) -> bool
+    ensures { result ≡ list_any (λ q. is_partition_position columns.now q.column
+        && not (is_partition_in members.now (partition_of table q))) equals.now }
+{
+    equals.iter().any(|equal| {
+        is_partition_position(columns, equal.column)
+            && !members.has_value_in(table, equal.column, &equal.value)
+    })
 }

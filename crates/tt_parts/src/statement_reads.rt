@@ -82,7 +82,7 @@ fn equated_partitions(
 }
 
 /// Whether there is a column at the position, and it is a partition column.
-fn is_partition_position(columns: &[Column], position: u16) -> bool
+pub(crate) fn is_partition_position(columns: &[Column], position: u16) -> bool
     ensures { result ≡ is_partition_position columns.now position }
 {
     match columns.get(usize::from(position)) {

@@ -6,8 +6,8 @@ mod parts_and_reads;
 
 use crate::{Dirty, Partition, Reads};
 use std::alloc::{AllocError, Global};
+use std::process::Abort;
 use std::sync::Arc;
-use std::test::Fail;
 use tt_values::{Catalog, Column, Equal, Items, Kind, Row, TableDef, Text, Value, Write};
 
 /// A value as a case writes it down.
@@ -131,12 +131,24 @@ fn parcel(alloc: Global) -> Result<TableDef, AllocError> {
     )
 }
 
-/// A set without members, for a catalog with `acct` at 0 and `parcel` at 1.
-fn nothing_dirty(alloc: Global) -> Result<Dirty, Fail>
-    ensures { IfOk result (λ dirty. length dirty.catalog ≡ 2) }
+/// A catalog with `acct` at 0 and `parcel` at 1.
+fn tables(rt: &impl Abort, alloc: Global) -> Arc<Catalog>
+    ensures { length result.value ≡ 2 }
 {
     let mut catalog = Catalog::new(alloc);
-    catalog.add("acct", acct(alloc)?)?;
-    catalog.add("parcel", parcel(alloc)?)?;
-    Ok(Dirty::new(alloc, Arc::new(alloc, catalog)?))
+    let acct = acct(alloc).expect(rt, "memory");
+    catalog.add("acct", acct).expect(rt, "a table");
+    let parcel = parcel(alloc).expect(rt, "memory");
+    catalog.add("parcel", parcel).expect(rt, "a table");
+    Arc::new(alloc, catalog).expect(rt, "memory")
 }
+
+/// A set without members, for that catalog.
+fn nothing_dirty(rt: &impl Abort, alloc: Global) -> Dirty
+    ensures { length result.catalog ≡ 2 }
+{
+    Dirty::new(alloc, tables(rt, alloc))
+}
+
+/// The end of a test's use of a set. A test that drops one itself takes longer to prove.
+fn done(_dirty: Dirty) {}

@@ -15,6 +15,7 @@ use Rattle.tt_parts.specs.Partitions.{parts_of, equated_partitions, is_same_part
 use Rattle.tt_parts.specs.Dirty.{columns_in, DirtySet, has_row, has_row_of, has_partition, parts_if, with_row, is_clear}
 use Rattle.tt_parts.proofs.LawProofs.{same_partitions_are_equal, each_partition_is_in_its_list, matched_rows_lie_in_equated_partitions}
 use Rattle.tt_repair_laws.specs.Due.{with_row_of}
+use Rattle.tt_repair_laws.specs.Steps.{DirtyRowsGrow}
 use Rattle.tt_repair_laws.proofs.RowListsLemmas.{list_all_if, list_any_if, none_fails, same_key}
 
 -- whether a row is that of a key of a table
@@ -110,3 +111,6 @@ module _ (tables : Tables) (before after : Content) where
           ∙ list_all_if (has_partition next) (has_partition (with_rows next rs)) (λ p. has_partition-with_rows rs next p) _
           (parts_after_are_dirty D r.0 (columns_in tables r.0) r.1 (row_at (before r.0) r.1) (row_at (after r.0) r.1))
       by false e g rest = rest g
+
+pub dirty_rows_grow : DirtyRowsGrow
+dirty_rows_grow tables X Y rs D table key = has_row-with_rows tables X Y rs D table key

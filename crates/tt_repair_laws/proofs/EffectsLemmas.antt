@@ -1,5 +1,5 @@
 -- The rows that a slot doesn't write.
-use Rattle.std.proofs.Common.{◌≡◌, ℕ, ℤ, Bool, true, false, cond, ◌||◌, List, [], ◌∷◌, ◌++◌, map, fold, Option, None, Some, is_some, if◌then◌else◌, refl, sym, ap, ◌∙◌}
+use Rattle.std.proofs.Common.{◌≡◌, ℕ, ℤ, Bool, true, false, cond, ◌||◌, List, [], ◌∷◌, ◌++◌, map, fold, Option, None, Some, is_some, if◌then◌else◌, refl, sym, ap, ◌∙◌, true≢false}
 use Rattle.std.specs.List.{list_any}
 use Rattle.std.proofs.lemmas.Bool.{or_parts}
 use Rattle.std.proofs.lemmas.List.{map-append}
@@ -16,6 +16,7 @@ use Rattle.tt_values.specs.Action.{RowId, content_after_write, rows_of_write, ro
 use Rattle.tt_values.specs.RowWrites.{slot_writes}
 use Rattle.tt_values.proofs.LawProofs.{last_row_write_counts, action_writes_each_row_once}
 use Rattle.tt_repair_laws.specs.Due.{rows_written, rows_matched, row_pair, action_rows_written, action_rows_matched, slot_rows_written, slot_rows_matched}
+use Rattle.tt_repair_laws.specs.Steps.{WrittenRowsAreMatched, UpdatesAndDeletesWriteWhatTheyMatch}
 use Rattle.tt_repair_laws.proofs.RowListsLemmas.{list_any-map, list_none-append}
 use Rattle.tt_repair_laws.proofs.DirtyLemmas.{is_row}
 
@@ -60,6 +61,19 @@ unmatched_unwritten : (w : Write) (X : Content) (table : ℕ) (key : ℤ) → li
 unmatched_unwritten (Insert of row) X table key h = unmatched_unwritten-insert (is_some (row_at (X of) (key_of row))) of (key_of row) row table key h
 unmatched_unwritten (Update of cs qs) X table key h = ap (list_any (is_row table key)) (map-map (λ e. (of, e.0)) (λ e. (e.0, Some (changed e.1 cs))) (matching_rows qs (X of))) ∙ h
 unmatched_unwritten (Delete of qs) X table key h = ap (list_any (is_row table key)) (map-map (λ e. (of, e.0)) (λ e. (e.0, None)) (matching_rows qs (X of))) ∙ h
+
+pub written_rows_are_matched : WrittenRowsAreMatched
+written_rows_are_matched w X table key h = by (list_any (is_row table key) (rows_matched w X)) refl
+  where
+    by : (b : Bool) → list_any (is_row table key) (rows_matched w X) ≡ b → list_any (is_row table key) (rows_matched w X) ≡ true
+    by true e = e
+    by false e = absurd (true≢false (sym h ∙ unmatched_unwritten w X table key e))
+
+pub updates_and_deletes_write_what_they_match : UpdatesAndDeletesWriteWhatTheyMatch
+updates_and_deletes_write_what_they_match of cs qs X = (
+  sym (map-map (λ e. (of, e.0)) (λ e. (e.0, Some (changed e.1 cs))) (matching_rows qs (X of))),
+  sym (map-map (λ e. (of, e.0)) (λ e. (e.0, None)) (matching_rows qs (X of))),
+)
 
 -- an action doesn't write a row that none of its writes matches in its turn
 action_unmatched_unwritten : (ws : List Write) (X : Content) (table : ℕ) (key : ℤ) → list_any (is_row table key) (action_rows_matched ws X) ≡ false → list_any (is_row table key) (action_rows_written ws X) ≡ false

@@ -6,6 +6,7 @@ pub mod AffectedLemmas
 pub mod TrackingLemmas
 pub mod UnaffectedLemmas
 pub mod DueLemmas
+pub mod MembersLemmas
 pub mod StepsLemmas
 pub mod LaterSlotsLemmas
 pub mod NextSideLemmas

@@ -11,14 +11,13 @@ use Rattle.tt_parts.specs.Dirty.{has_row, is_row_in}
 use Rattle.tt_repair_laws.specs.declared.edit.Edit.{Edit}
 use Rattle.tt_repair_laws.specs.Edits.{edited_slots}
 use Rattle.tt_repair_laws.specs.Due.{content_after, is_due, dirty_after, rows_reexecuted}
-use Rattle.tt_repair_laws.specs.NextSide.{current_side, edited_side, next_side, NextSideBeginsAsCurrent, NextSideShowsEditedSlots, UndueSlotsLeaveNextSide, DueSlotsChangeReexecutedRows, LaterSlotsLeaveDirtyRows, NextSideEndsAsEditedSlots}
+use Rattle.tt_repair_laws.specs.NextSide.{current_side, edited_side, next_side, LastRowsStay, LastEditedRowsStay, DirtyRowsAreAsEdited, CleanRowsAreAsCurrent, NextSideBeginsAsCurrent, NextSideShowsEditedSlots, UndueSlotsLeaveNextSide, DueSlotsChangeReexecutedRows, LaterSlotsLeaveDirtyRows, NextSideEndsAsEditedSlots}
 use Rattle.tt_repair_laws.proofs.DueLemmas.{clean_rows_agree}
-use Rattle.tt_repair_laws.proofs.StepsLemmas.{undue_adds_nothing, due_adds_rows, others_stay, dirty_rows_stay}
+use Rattle.tt_repair_laws.proofs.StepsLemmas.{undue_slots_dirty_nothing, due_adds_rows, others_stay, dirty_rows_stay}
 use Rattle.tt_repair_laws.proofs.LaterSlotsLemmas.{later_slots_change_no_repair}
 
--- after the last slot a row stays the same
-last_row_stays : (W : Slots) (n table : ℕ) (key : ℤ) (time : ℕ) → n ≤ time → rows_by table (row_writes W n) key time ≡ row_at (content_after W n table) key
-last_row_stays W n table key time late = ap (λ X. row_at (X table) key) (last_content_stays W n time late)
+pub last_rows_stay : LastRowsStay
+last_rows_stay W n table key time late = ap (λ X. row_at (X table) key) (last_content_stays W n time late)
 
 -- further slots don't change a row at an earlier time
 past_row_stays : (W : Slots) (n m table : ℕ) (key : ℤ) (time : ℕ) → time ≤ n → n ≤ m → rows_by table (row_writes W m) key time ≡ rows_by table (row_writes W n) key time
@@ -34,7 +33,16 @@ same_row_over_time W n table key same = λ i time. by time (nat_le time n) refl 
         past_row_stays W n (suc n) table key time early (omega arith)
     by time false e =
         let late : suc n ≤ time = grind (arith, nat_tests) in
-        last_row_stays W (suc n) table key time late ∙ same ∙ sym (last_row_stays W n table key time (omega (arith, late)))
+        last_rows_stay W (suc n) table key time late ∙ same ∙ sym (last_rows_stay W n table key time (omega (arith, late)))
+
+pub last_edited_rows_stay : LastEditedRowsStay
+last_edited_rows_stay W E n table key time late = last_rows_stay (edited_slots W E) n table key time late
+
+pub dirty_rows_are_as_edited : DirtyRowsAreAsEdited
+dirty_rows_are_as_edited tables W E n table key h = ap (λ b. if b then edited_side W E n table key else current_side W table key) h
+
+pub clean_rows_are_as_current : CleanRowsAreAsCurrent
+clean_rows_are_as_current tables W E n table key h = ap (λ b. if b then edited_side W E n table key else current_side W table key) h
 
 pub next_side_begins_as_current : NextSideBeginsAsCurrent
 unfolding dirty_after
@@ -56,7 +64,7 @@ module _ (tables : Tables) (W : Slots) (E : List Edit) (n table : ℕ) (key : �
   next_side-undue : is_due tables W E n ≡ false → next_side tables W E (suc n) table key ≡ next_side tables W E n table key
   next_side-undue h =
       let rows = edited_side W E (suc n) table key in
-      ap (λ D. side_if (has_row D table key) rows) (undue_adds_nothing tables W E n h) ∙ by (has_row (dirty_after tables W E n) table key) refl
+      ap (λ D. side_if (has_row D table key) rows) (undue_slots_dirty_nothing tables W E n h) ∙ by (has_row (dirty_after tables W E n) table key) refl
     where
       by : (b : Bool) → has_row (dirty_after tables W E n) table key ≡ b → side_if b (edited_side W E (suc n) table key) ≡ side_if b (edited_side W E n table key)
       by true e = same_row_over_time (edited_slots W E) n table key (dirty_rows_stay tables W E n h table key e).0
@@ -85,7 +93,7 @@ module _ (tables : Tables) (W : Slots) (E : List Edit) (n table : ℕ) (key : �
       by : (b : Bool) → nat_le (suc n) time ≡ b → rows time ≡ (if b then row_at (content_after (edited_slots W E) (suc n) table) key else next_side tables W E n table key time)
       by true e =
           let late : suc n ≤ time = grind (arith, nat_tests) in
-          last_row_stays (edited_slots W E) (suc n) table key time late
+          last_rows_stay (edited_slots W E) (suc n) table key time late
       by false e =
           let early : time ≤ n = grind (arith, nat_tests) in
           past_row_stays (edited_slots W E) n (suc n) table key time early (omega arith) ∙ sym (next_side_shows_edited_slots tables W E n time table key within early)
@@ -125,9 +133,9 @@ next_side_ends_as_edited_slots tables W E table = λ i key time. by key time (na
         → (if b then edited_side W E n table key else rows_by table (row_writes W n) key) time ≡ edited_side W E n table key time
     late key time true after e = refl
     late key time false after e =
-        last_row_stays W n table key time after
+        last_rows_stay W n table key time after
         ∙ sym (clean_rows_agree tables W E n n table key (omega arith) e)
-        ∙ sym (last_row_stays (edited_slots W E) n table key time after)
+        ∙ sym (last_rows_stay (edited_slots W E) n table key time after)
 
     by : (key : ℤ) (time : ℕ) (b : Bool) → nat_le time n ≡ b → next_side tables W E n table key time ≡ edited_side W E n table key time
     by key time true e =

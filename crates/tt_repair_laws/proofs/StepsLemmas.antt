@@ -1,15 +1,16 @@
 -- The rows that get dirty with one slot of a repair, and the rows that it doesn't change.
-use Rattle.std.proofs.Common.{◌≡◌, ℕ, suc, ℤ, true, false, ◌||◌, List, fold, is_some, if◌then◌else◌, ap, ◌∙◌}
+use Rattle.std.proofs.Common.{◌≡◌, ℕ, suc, ℤ, Bool, true, false, ◌||◌, List, length, fold, is_some, if◌then◌else◌, refl, ap, ◌∙◌, arith}
 use Rattle.std.specs.List.{list_any}
 use Rattle.std.proofs.lemmas.Bool.{or_parts}
 use Rattle.tt_values.specs.Tables.{Tables}
 use Rattle.tt_values.specs.Content.{row_at, with_row_write}
 use Rattle.tt_values.specs.RowWrites.{Slots, slot_after, slot_writes}
-use Rattle.tt_values.proofs.LawProofs.{next_content}
-use Rattle.tt_parts.specs.Dirty.{has_row}
+use Rattle.tt_values.proofs.LawProofs.{past_stays, next_content}
+use Rattle.tt_parts.specs.Dirty.{DirtySet, has_row}
 use Rattle.tt_repair_laws.specs.declared.edit.Edit.{Edit}
 use Rattle.tt_repair_laws.specs.Edits.{edit_of, edited_slots}
-use Rattle.tt_repair_laws.specs.Due.{content_after, is_slot_affected, slot_rows_written, slot_rows_matched, is_due, rows_reexecuted, with_row_of, dirty_after}
+use Rattle.tt_repair_laws.specs.Due.{content_after, is_slot_affected, slot_rows_written, slot_rows_matched, is_due, rows_reexecuted, with_row_of, dirty_after, rerun_count}
+use Rattle.tt_repair_laws.specs.Steps.{NothingIsDirtyAtFirst, UndueSlotsDirtyNothing, DueSlotsDirtyReexecutedRows, NoSlotIsRerunAtFirst, DueSlotsAreRerun, UndueSlotsAreNotRerun, UnwrittenRowsStay, ContentAfterIsKept}
 use Rattle.tt_repair_laws.proofs.RowListsLemmas.{list_none-append}
 use Rattle.tt_repair_laws.proofs.DirtyLemmas.{is_row, clean_rows_differ, has_row-with_rows}
 use Rattle.tt_repair_laws.proofs.EffectsLemmas.{row_at-unwritten, slot_unmatched_unwritten}
@@ -17,20 +18,49 @@ use Rattle.tt_repair_laws.proofs.UnaffectedLemmas.{slot_rows_written-unaffected,
 use Rattle.tt_repair_laws.proofs.EditsLemmas.{unedited_slots_stay}
 use Rattle.tt_repair_laws.proofs.DueLemmas.{content_rises, no_edit, Tracks-dirty_after}
 
-module _ (tables : Tables) (W : Slots) (E : List Edit) (n : ℕ) where
-  -- nothing gets dirty with a slot that isn't due
-  pub undue_adds_nothing : is_due tables W E n ≡ false → dirty_after tables W E (suc n) ≡ dirty_after tables W E n
-  unfolding dirty_after
-  undue_adds_nothing h =
-      let D = dirty_after tables W E n in
-      ap (λ b. if b then fold (with_row_of tables (content_after (edited_slots W E) n) (content_after (edited_slots W E) (suc n))) D (rows_reexecuted W E n) else D) h
+pub nothing_is_dirty_at_first : NothingIsDirtyAtFirst
+unfolding dirty_after
+nothing_is_dirty_at_first tables W E = refl
 
+-- the dirty set after a slot, by whether it is due
+abbrev dirty_if : Tables → Slots → List Edit → ℕ → Bool → DirtySet
+dirty_if tables W E n due =
+    let D = dirty_after tables W E n in
+    if due then fold (with_row_of tables (content_after (edited_slots W E) n) (content_after (edited_slots W E) (suc n))) D (rows_reexecuted W E n) else D
+
+pub undue_slots_dirty_nothing : UndueSlotsDirtyNothing
+unfolding dirty_after
+undue_slots_dirty_nothing tables W E n h = ap (dirty_if tables W E n) h
+
+pub due_slots_dirty_reexecuted_rows : DueSlotsDirtyReexecutedRows
+unfolding dirty_after
+due_slots_dirty_reexecuted_rows tables W E n h = ap (dirty_if tables W E n) h
+
+pub no_slot_is_rerun_at_first : NoSlotIsRerunAtFirst
+unfolding rerun_count
+no_slot_is_rerun_at_first tables W E = refl
+
+pub due_slots_are_rerun : DueSlotsAreRerun
+unfolding rerun_count
+due_slots_are_rerun tables W E n h = let count = rerun_count tables W E n in ap (λ b. if b then suc count else count) h
+
+pub undue_slots_are_not_rerun : UndueSlotsAreNotRerun
+unfolding rerun_count
+undue_slots_are_not_rerun tables W E n h = let count = rerun_count tables W E n in ap (λ b. if b then suc count else count) h
+
+pub unwritten_rows_stay : UnwrittenRowsStay
+unwritten_rows_stay W n table key h =
+    ap (λ Z. row_at (Z table) key) (next_content W n) ∙ row_at-unwritten (suc n) (slot_after W n) (content_after W n) table key h
+
+pub content_after_is_kept : ContentAfterIsKept
+content_after_is_kept W n h = past_stays W n (length W) n (omega arith) h
+
+module _ (tables : Tables) (W : Slots) (E : List Edit) (n : ℕ) where
   -- with a slot that is due the re-executed rows get dirty, and no other row
   pub due_adds_rows : is_due tables W E n ≡ true → (table : ℕ) (key : ℤ) → has_row (dirty_after tables W E (suc n)) table key ≡ (list_any (is_row table key) (rows_reexecuted W E n) || has_row (dirty_after tables W E n) table key)
-  unfolding dirty_after
   due_adds_rows h table key =
       let D = dirty_after tables W E n in
-      ap (λ b. has_row (if b then fold (with_row_of tables (content_after (edited_slots W E) n) (content_after (edited_slots W E) (suc n))) D (rows_reexecuted W E n) else D) table key) h
+      ap (λ C. has_row C table key) (due_slots_dirty_reexecuted_rows tables W E n h)
       ∙ has_row-with_rows tables (content_after (edited_slots W E) n) (content_after (edited_slots W E) (suc n)) (rows_reexecuted W E n) D table key
 
   -- the rows that aren't re-executed stay the same, by the edited slots and by the old ones
@@ -41,7 +71,7 @@ module _ (tables : Tables) (W : Slots) (E : List Edit) (n : ℕ) where
       let none = list_none-append (is_row table key) (slot_rows_written (slot_after W n) (content_after W n)) (slot_rows_matched (slot_after V n) (content_after V n)) h in (
         ap (λ Z. row_at (Z table) key) (next_content V n)
             ∙ row_at-unwritten (suc n) (slot_after V n) (content_after V n) table key (slot_unmatched_unwritten (slot_after V n) (content_after V n) table key none.1),
-        ap (λ Z. row_at (Z table) key) (next_content W n) ∙ row_at-unwritten (suc n) (slot_after W n) (content_after W n) table key none.0,
+        unwritten_rows_stay W n table key none.0,
       )
 
   -- a slot that isn't due leaves each dirty row as it is, by the edited slots and by the old ones
@@ -58,5 +88,5 @@ module _ (tables : Tables) (W : Slots) (E : List Edit) (n : ℕ) where
       let old = clean_rows_differ D (slot_rows_written s X) table key dirty (unaffected_writes_clean_rows tables D X Y (Tracks-dirty_after tables W E n) (content_rises W n) (content_rises V n) s both.1) in
       let new = ap (list_any (is_row table key)) (slot_rows_written-unaffected tables D X Y (Tracks-dirty_after tables W E n) (content_rises W n) (content_rises V n) s both.1) ∙ old in (
         ap (λ Z. row_at (Z table) key) (next_content V n) ∙ ap (λ v. row_at (fold with_row_write Y (slot_writes (suc n) v Y) table) key) unedited ∙ row_at-unwritten (suc n) s Y table key new,
-        ap (λ Z. row_at (Z table) key) (next_content W n) ∙ row_at-unwritten (suc n) s X table key old,
+        unwritten_rows_stay W n table key old,
       )

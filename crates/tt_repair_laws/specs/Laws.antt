@@ -10,8 +10,8 @@ use Rattle.tt_values.specs.RowWrites.{Slots, slot_after, slot_writes, slot_repli
 use Rattle.tt_parts.specs.Partitions.{parts_of}
 use Rattle.tt_parts.specs.Dirty.{columns_in, DirtySet, has_row, has_partition}
 use Rattle.tt_repair_laws.specs.declared.edit.Edit.{Edit}
-use Rattle.tt_repair_laws.specs.Edits.{edit_of, edited_slots}
-use Rattle.tt_repair_laws.specs.Due.{content_after, is_write_affected, is_affected, is_due, dirty_after, rerun_count}
+use Rattle.tt_repair_laws.specs.Edits.{edit_of, slot_with_edit, edited_slots}
+use Rattle.tt_repair_laws.specs.Due.{content_after, slot_rows_written, is_write_affected, is_affected, is_due, dirty_after, rerun_count}
 
 -- an action is affected exactly where its first write is, or the others are on the content that this write leaves
 abbrev pub ActionsAreAffectedByTheirWrites : Type 0
@@ -19,13 +19,14 @@ ActionsAreAffectedByTheirWrites = (tables : Tables) (D : DirtySet) (X : Content)
     (is_affected tables D [] X ≡ false)
     × ((w : Write) (ws : List Write) → is_affected tables D (w ∷ ws) X ≡ (is_write_affected tables D w X || is_affected tables D ws (content_after_write w X)))
 
--- slot n + 1 is the same in two lists of slots, and in each has the same row writes and the same replies after the slots before it
+-- slot n + 1 is the same in two lists of slots, and in each, after the slots before it, has the same row writes and the same replies, and writes the same rows, in turn
 pub record IsSameSlot (W V : Slots) (n : ℕ) : Type 0 where
   pub slot : slot_after V n ≡ slot_after W n
   pub writes : slot_writes (suc n) (slot_after V n) (content_after V n) ≡ slot_writes (suc n) (slot_after W n) (content_after W n)
   pub replies : slot_replies (slot_after V n) (content_after V n) ≡ slot_replies (slot_after W n) (content_after W n)
+  pub rows : slot_rows_written (slot_after V n) (content_after V n) ≡ slot_rows_written (slot_after W n) (content_after W n)
 
--- a slot that isn't due is the same among the edited slots, with the same row writes and the same replies
+-- a slot that isn't due is the same among the edited slots, with the same row writes and the same replies, and writes the same rows, in turn
 abbrev pub NoAffectedSlotIsMissed : Type 0
 NoAffectedSlotIsMissed = (tables : Tables) (W : Slots) (E : List Edit) (n : ℕ) → is_due tables W E n ≡ false → IsSameSlot W (edited_slots W E) n
 
@@ -50,6 +51,15 @@ pub record IsSameRepair (tables : Tables) (W V : Slots) (E : List Edit) (n : ℕ
 -- slots that are added during a repair change nothing of the repair so far
 abbrev pub LaterSlotsChangeNoRepair : Type 0
 LaterSlotsChangeNoRepair = (tables : Tables) (W X : Slots) (E : List Edit) (n : ℕ) → n ≤ length W → IsSameRepair tables W (W ++ X) E n
+
+-- there are as many edited slots as slots
+abbrev pub EditedSlotsAreAsMany : Type 0
+EditedSlotsAreAsMany = (W : Slots) (E : List Edit) → length (edited_slots W E) ≡ length W
+
+-- an edited slot is the slot with its edit
+abbrev pub EditedSlotIsNext : Type 0
+EditedSlotIsNext = (W : Slots) (E : List Edit) (n : ℕ) → n < length W →
+    slot_after (edited_slots W E) n ≡ slot_with_edit (edit_of E (suc n)) (slot_after W n)
 
 -- a slot without an edit stays the same
 abbrev pub UneditedSlotsStay : Type 0

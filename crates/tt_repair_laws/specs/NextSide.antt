@@ -23,7 +23,27 @@ edited_side W E n table = rows_by table (row_writes (edited_slots W E) n)
 abbrev pub next_side : Tables → Slots → List Edit → ℕ → ℕ → RowsOverTime
 next_side tables W E n table key = if has_row (dirty_after tables W E n) table key then edited_side W E n table key else current_side W table key
 
--- at first it is the current side
+-- after the last of the first n slots each row stays the same
+abbrev pub LastRowsStay : Type 0
+LastRowsStay = (W : Slots) (n table : ℕ) (key : ℤ) (time : ℕ) → n ≤ time →
+    rows_by table (row_writes W n) key time ≡ row_at (content_after W n table) key
+
+-- the same by the edited slots
+abbrev pub LastEditedRowsStay : Type 0
+LastEditedRowsStay = (W : Slots) (E : List Edit) (n table : ℕ) (key : ℤ) (time : ℕ) → n ≤ time →
+    edited_side W E n table key time ≡ row_at (content_after (edited_slots W E) n table) key
+
+-- a dirty row is on the next side as the first n edited slots leave it
+abbrev pub DirtyRowsAreAsEdited : Type 0
+DirtyRowsAreAsEdited = (tables : Tables) (W : Slots) (E : List Edit) (n table : ℕ) (key : ℤ) →
+    has_row (dirty_after tables W E n) table key ≡ true → next_side tables W E n table key ≡ edited_side W E n table key
+
+-- any other row is on the next side as on the current side
+abbrev pub CleanRowsAreAsCurrent : Type 0
+CleanRowsAreAsCurrent = (tables : Tables) (W : Slots) (E : List Edit) (n table : ℕ) (key : ℤ) →
+    has_row (dirty_after tables W E n) table key ≡ false → next_side tables W E n table key ≡ current_side W table key
+
+-- at first the next side is the current side
 abbrev pub NextSideBeginsAsCurrent : Type 0
 NextSideBeginsAsCurrent = (tables : Tables) (W : Slots) (E : List Edit) (table : ℕ) → next_side tables W E 0 table ≡ current_side W table
 

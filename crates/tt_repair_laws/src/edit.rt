@@ -1,3 +1,5 @@
+ghost use Rattle.std.specs.Prelude.{◌≡◌};
+
 use tt_values::{Items, Write};
 
 /// An edit of a slot. Slots go by number, from 1.
@@ -7,4 +9,18 @@ pub enum Edit {
     Cancel(u64),
     /// The slot has these writes in place of its own.
     Replace(u64, Items<Write>),
+}
+
+impl Edit {
+    ghost use Rattle.tt_repair_laws.specs.Edits.{slot_number};
+
+    /// The number of the slot that the edit is for.
+    pub fn number(&self) -> u64
+        ensures { result ≡ slot_number self.now }
+    {
+        match self {
+            Edit::Cancel(number) => *number,
+            Edit::Replace(number, _) => *number,
+        }
+    }
 }

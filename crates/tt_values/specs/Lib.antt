@@ -1,6 +1,7 @@
 pub mod Limits
 pub mod Faults
 pub mod Value
+pub mod Digest
 pub mod Row
 pub mod Matches
 pub mod Tables

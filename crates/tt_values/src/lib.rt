@@ -4,6 +4,7 @@
 mod catalog;
 mod changing;
 mod checking;
+mod digests;
 mod items;
 pub mod laws;
 mod matching;
@@ -21,6 +22,7 @@ mod value;
 pub use catalog::{Catalog, CatalogError};
 pub use changing::changed;
 pub use checking::{CheckError, check, check_action, check_select};
+pub use digests::digest;
 pub use items::Items;
 pub use matching::matches;
 pub use reply::Reply;

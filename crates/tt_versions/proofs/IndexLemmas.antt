@@ -22,7 +22,7 @@ use Rattle.tt_versions.specs.declared.indexed_column.IndexedColumn.{IndexedColum
 use Rattle.tt_versions.specs.Versions.{started_by, started_before, visible_row, with_write}
 use Rattle.tt_versions.specs.Lineage.{unwritten, chain_on, with_write_on, split_back}
 use Rattle.tt_versions.specs.Sides.{LineagesByKey, lineage_at, side_of, unsplit_if, UnsplitsKeys}
-use Rattle.tt_versions.specs.Digest.{digest_of}
+use Rattle.tt_values.specs.Digest.{digest_of}
 use Rattle.tt_versions.specs.Index.{KeySet, has_key, keys_under, KeepsKeys, ColumnLists, ColumnsList, IndexState, ListsRow, KeepsRows, IsStored, CoversEqual, CoversMatches, IsKeyOfMatches, ChainHas, LineageHas, ListsTable, ListsTableBut, HaveKeysIn, HaveKey}
 use Rattle.tt_versions.proofs.EntriesLemmas.{first, second}
 use Rattle.tt_versions.proofs.SidesLemmas.{same_key, lineage_at-put, is_split-write}

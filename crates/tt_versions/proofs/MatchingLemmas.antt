@@ -8,9 +8,8 @@ use Rattle.std.specs.FinMap.Entries as sorted
 use Rattle.tt_values.specs.declared.row.Row.{Row}
 use Rattle.tt_values.specs.declared.statement.Equal.{Equal}
 use Rattle.tt_values.specs.Matches.{matches}
-use Rattle.tt_values.specs.Content.{RowsByKey, content_at, row_at}
+use Rattle.tt_values.specs.Content.{RowsByKey, row_at}
 use Rattle.tt_values.specs.Effect.{matching_rows}
-use Rattle.tt_values.proofs.LawProofs.{rows_rise}
 use Rattle.tt_versions.specs.declared.side.Side.{Side}
 use Rattle.tt_versions.specs.Versions.{visible_row}
 use Rattle.tt_versions.specs.Lineage.{chain_on}
@@ -177,10 +176,6 @@ lists_matches-of_key equals es t key time side only is = subst (λ rows. ListsMa
 -- ---- and what they are of a content
 
 pub lists_matching_rows-of : (es : RowsByKey) (equals : List Equal) (rows : RowsOverTime) (time : ℕ) → ListsMatches es equals rows time → ListsMatchingRows es equals rows time
-lists_matching_rows-of es equals rows time l table ws follows =
-    let X = content_at ws time table in
-    let rise : sorted.is_sorted int_cmp X ≡ true = rows_rise ws time table in
-    sorted.same_entries int_cmp int_cmp_total int_cmp-IsAntisymmetric es (matching_rows equals X) (subst T (sym l.sorted) tt) (subst T (sym (is_sorted-matching equals X rise)) tt)
-    (λ q. l.finds q ∙ ap (if_matching equals) (λ i. follows i q time) ∙ sym (row_at-matching equals X q rise))
-
-pub ruleset lists_matching_rows = (lists_matching_rows-of)
+lists_matching_rows-of es equals rows time l all lists =
+    sorted.same_entries int_cmp int_cmp_total int_cmp-IsAntisymmetric es (matching_rows equals all) (subst T (sym l.sorted) tt) (subst T (sym (is_sorted-matching equals all lists.sorted)) tt)
+    (λ q. l.finds q ∙ ap (if_matching equals) (sym (lists.finds q)) ∙ sym (row_at-matching equals all q lists.sorted))

@@ -11,7 +11,7 @@ use Rattle.tt_versions.specs.declared.indexed_column.IndexedColumn.{IndexedColum
 use Rattle.tt_versions.specs.declared.side.Side.{Side}
 use Rattle.tt_versions.specs.declared.version.Version.{Version}
 use Rattle.tt_versions.specs.declared.lineage.Lineage.{Lineage}
-use Rattle.tt_versions.specs.Digest.{digest_of}
+use Rattle.tt_values.specs.Digest.{digest_of}
 use Rattle.tt_versions.specs.Sides.{LineagesByKey, lineage_at, side_of, HasSplitKeys}
 
 -- a set of keys

@@ -3,6 +3,5 @@ pub mod Lineage
 pub mod Sides
 pub mod RowsByWrites
 pub mod Matching
-pub mod Digest
 pub mod Index
 pub mod Laws

@@ -5,10 +5,9 @@ use Rattle.std.specs.FinMap.Entries as sorted
 use Rattle.tt_values.specs.declared.row.Row.{Row}
 use Rattle.tt_values.specs.declared.statement.Equal.{Equal}
 use Rattle.tt_values.specs.Matches.{matches}
-use Rattle.tt_values.specs.Content.{RowsByKey, RowWrite, content_at, row_at}
+use Rattle.tt_values.specs.Content.{RowsByKey, row_at}
 use Rattle.tt_values.specs.Effect.{matching_rows}
-use Rattle.tt_versions.specs.Sides.{RowsOverTime}
-use Rattle.tt_versions.specs.RowsByWrites.{rows_by}
+use Rattle.tt_versions.specs.Sides.{RowsOverTime, ListsRows}
 
 -- a row, if it's there and matches
 abbrev pub if_matching : List Equal → Option Row → Option Row
@@ -20,6 +19,6 @@ pub record ListsMatches (es : RowsByKey) (equals : List Equal) (rows : RowsOverT
   pub sorted : IsTrue (sorted.is_sorted int_cmp es)
   pub finds : (key : ℤ) → row_at es key ≡ if_matching equals (rows key time)
 
--- if the rows over time are those by some row writes, a list of rows are those that match of the content that these leave in the table at a time
+-- of whatever list has the rows of a side at a time, a list of rows are those that match
 abbrev pub ListsMatchingRows : RowsByKey → List Equal → RowsOverTime → ℕ → Type 0
-ListsMatchingRows es equals rows time = (table : ℕ) (ws : List RowWrite) → rows ≡ rows_by table ws → es ≡ matching_rows equals (content_at ws time table)
+ListsMatchingRows es equals rows time = (all : RowsByKey) → ListsRows all rows time → es ≡ matching_rows equals all

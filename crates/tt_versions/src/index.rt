@@ -3,12 +3,11 @@ ghost use Rattle.tt_values.specs.Row.{first_int};
 ghost use Rattle.tt_values.specs.Matches.{holds};
 ghost use Rattle.tt_versions.specs.Index.{ColumnsList, ListsRow, KeepsRows, CoversEqual, CoversMatches, IsKeyOfMatches};
 
-use crate::digest::digest;
 use crate::indexed_column::{IndexedColumn, KeySet};
 use std::alloc::{AllocError, Global};
 use std::marker::Model;
 use tt_pages::PagedMap;
-use tt_values::{Equal, Row, Value};
+use tt_values::{Equal, Row, Value, digest};
 
 /// Where the rows of a table are to be found, by their values. It lists each row that the table
 /// ever had on either side, and forgets none.

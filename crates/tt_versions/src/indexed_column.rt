@@ -3,11 +3,10 @@ ghost use Rattle.std.specs.Ordering.{int_cmp};
 ghost use Rattle.std.specs.FinMap.Entries.{put};
 ghost use Rattle.tt_versions.specs.Index.{has_key, keys_under, KeepsKeys, ColumnLists};
 
-use crate::digest::digest;
 use crate::taking::{put_value, take_value};
 use std::alloc::{AllocError, Global};
 use tt_pages::PagedMap;
-use tt_values::Row;
+use tt_values::{Row, digest};
 
 /// A set of keys.
 pub(crate) type KeySet = PagedMap<()>;

@@ -3,7 +3,6 @@
 //! which is rolled back and rewritten row by row while the current one stays.
 #![tactic(auto)]
 
-mod digest;
 mod index;
 mod indexed_column;
 pub mod laws;

@@ -107,7 +107,6 @@ impl Table {
     /// The rows of that side as of the time that match all equalities, each with its key, by rising
     /// key. An equality on the first column, or on a column that the table was created with, spares
     /// it from reading the other rows.
-    #[tactic(auto, using(crate::proofs::MatchingLemmas::lists_matching_rows))]
     pub fn rows_matching(
         &self,
         equals: &[Equal],

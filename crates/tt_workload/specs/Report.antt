@@ -6,11 +6,10 @@ use Rattle.tt_values.specs.declared.statement.Select.{Select}
 use Rattle.tt_values.specs.declared.reply.Reply.{Reply}
 use Rattle.tt_values.specs.Tables.{Tables}
 use Rattle.tt_values.specs.Effect.{answer_of}
+use Rattle.tt_values.specs.Action.{replies_of}
 use Rattle.tt_db.specs.declared.event.Event.TheVariants as events
 use Rattle.tt_db.specs.declared.event.Entry.{Entry}
-use Rattle.tt_db.specs.declared.outcome.Outcome.{Outcome}
-use Rattle.tt_db.specs.declared.outcome.Outcome.TheVariants.{Written}
-use Rattle.tt_db.specs.State.{State, after, outcome_of, now_of, current_at}
+use Rattle.tt_db.specs.State.{State, after, now_of, current_at}
 use Rattle.tt_db.specs.Limits.{max_limits}
 use Rattle.tt_db.specs.Database.{Database, state_of}
 use Rattle.tt_document.specs.declared.document.Document.{Document}
@@ -21,8 +20,8 @@ use Rattle.tt_document.specs.Document.{ask_fault}
 use Rattle.tt_workload.specs.Printing.{reply_text, replies_text}
 
 -- the end of the line of an action: its slot and its replies
-abbrev pub outcome_text : Outcome → List ℕ
-outcome_text (Written slot replies) = codes " slot " ++ (decimal slot ++ (codes " " ++ (replies_text replies ++ codes "\n")))
+abbrev pub written_text : ℕ → List Reply → List ℕ
+written_text slot replies = codes " slot " ++ (decimal slot ++ (codes " " ++ (replies_text replies ++ codes "\n")))
 
 -- the end of a select's line: the time that its reply is right at, and the reply
 abbrev pub answer_text : ℕ → Reply → List ℕ
@@ -39,7 +38,7 @@ read_text S q (Some time) = if nat_lt (now_of S) time then later_text (now_of S)
 
 -- the end of a call's line, in a state: the outcome of an action, or the answer of a select
 abbrev pub ask_text : State → Ask → List ℕ
-ask_text S (asks.Write action) = outcome_text (outcome_of S (events.Write action))
+ask_text S (asks.Write action) = written_text (now_of S + 1) (replies_of action (current_at S (now_of S)))
 ask_text S (asks.Read q at) = read_text S q at
 
 -- the beginning of a call's line: its number and its worker's

@@ -5,7 +5,7 @@ ghost use Rattle.tt_values.specs.Check.{action_fault, select_fault};
 ghost use Rattle.tt_db.specs.Limits.{max_limits};
 ghost use Rattle.tt_db.specs.Database.{Database, state_of};
 ghost use Rattle.tt_document.specs.Document.{ask_fault, IsValidDocument};
-ghost use Rattle.tt_workload.specs.Report.{outcome_text, answer_text, later_text, read_text, ask_text, caller_text, call_line, entries_of_ask, entries_of, call_lines, all_rows, table_text, table_line, table_lines, end_text, end_line, history_of, report_of, database_after, with_entries, HasRoom, AreAccepted};
+ghost use Rattle.tt_workload.specs.Report.{written_text, answer_text, later_text, read_text, ask_text, caller_text, call_line, entries_of_ask, entries_of, call_lines, all_rows, table_text, table_line, table_lines, end_text, end_line, history_of, report_of, database_after, with_entries, HasRoom, AreAccepted};
 
 use crate::printing::{push_decimal, push_labelled, push_replies, push_reply};
 use crate::run_fault::RunFault;
@@ -15,14 +15,13 @@ use tt_document::{Ask, Call, Document};
 use tt_values::{Items, Reply, Select, Write};
 
 /// Pushes the end of the line of an action.
-fn push_outcome(out: &mut Vec<u8>, outcome: &Outcome) -> Result<(), AllocError>
-    ensures { OnOk result (out.new.items ≡ out.old.items ++ outcome_text outcome.now) }
+fn push_written(out: &mut Vec<u8>, slot: u64, replies: &[Reply]) -> Result<(), AllocError>
+    ensures { OnOk result (out.new.items ≡ out.old.items ++ written_text slot replies.now) }
 {
-    let Outcome::Written { slot, replies } = outcome;
     out.extend_from_slice(b" slot ")?;
-    push_decimal(out, *slot)?;
+    push_decimal(out, slot)?;
     out.push(b' ')?;
-    push_replies(out, replies.as_slice())?;
+    push_replies(out, replies)?;
     out.push(b'\n')?;
     Ok(())
 }
@@ -60,10 +59,11 @@ fn push_action(
     };
     let (next, answer) = db.advanced(entry)?;
     match answer {
-        Ok(outcome) => {
-            push_outcome(out, &outcome)?;
+        Ok(Outcome::Written { slot, replies }) => {
+            push_written(out, slot, replies.as_slice())?;
             Ok(next)
         }
+        Ok(_) => unreachable!(),
         Err(error) => Err(RunFault::of_event(alloc, error)),
     }
 }

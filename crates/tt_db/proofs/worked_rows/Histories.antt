@@ -15,16 +15,19 @@ use Rattle.tt_values.proofs.worked_rows.Accounts.{tables, ann, bob, zed, min_int
 use Rattle.tt_db.specs.declared.limits.Limits.{Limits}
 use Rattle.tt_db.specs.declared.event.Event.TheVariants as events
 use Rattle.tt_db.specs.declared.event.Entry.{Entry}
-use Rattle.tt_db.specs.declared.slot_rows.RowKey.{RowKey}
 use Rattle.tt_db.specs.declared.outcome.Outcome.TheVariants.{Written}
 use Rattle.tt_db.specs.declared.errors.DbError.TheVariants as errors
 use Rattle.tt_db.specs.declared.errors.ReadError.TheVariants as read_errors
 use Rattle.tt_db.specs.Limits.{max_limits}
 use Rattle.tt_db.specs.State.{State, after, now_of, current_at, refusal, outcome_of}
-use Rattle.tt_db.specs.SlotList.{slot_at, rows_at_slot}
-use Rattle.tt_db.specs.Database.{nth_item, action_entry}
+use Rattle.tt_generations.specs.KeptSlots.{slot_at}
+use Rattle.tt_db.specs.Database.{nth_item}
 use Rattle.tt_db.specs.RightAnswers.{right_select, right_select_at}
 use Rattle.tt_db.specs.Run.{IsRun}
+
+-- an entry of an action
+abbrev action_entry : ℕ → List Write → Entry
+action_entry worker action = record { worker = worker; event = events.Write action }
 
 -- the history of actions by worker 1, and the state after it
 abbrev history_of_actions : List (List Write) → List Entry
@@ -43,10 +46,7 @@ history_of writes = history_of_actions (map only writes)
 abbrev state_after : List Write → State
 state_after writes = after (history_of writes)
 
--- the row with key 1, as the rows that a slot wrote have it
-abbrev key_1 : RowKey
-key_1 = record { table = 0; key = pos 1 }
-
+-- the first account of Ann
 abbrev ann_first : Row
 ann_first = account 1 ann 10
 
@@ -77,7 +77,7 @@ empty_select = refl
 first_accepted : refusal tables max_limits (after []) (events.Write (only (insert 1 ann 10))) ≡ None
 first_accepted = refl
 
-first_outcome : outcome_of (after []) (events.Write (only (insert 1 ann 10))) ≡ Written 1 (Inserted ∷ [])
+first_outcome : outcome_of tables (after []) (events.Write (only (insert 1 ann 10))) ≡ Written 1 (Inserted ∷ [])
 unfolding row_writes
 first_outcome = refl
 
@@ -97,7 +97,7 @@ unfolding row_writes
 select_now = (refl, refl)
 
 -- a second insert of the key takes a slot, answers Duplicate and changes no row
-second_outcome : outcome_of (state_after (insert 1 ann 10 ∷ [])) (events.Write (only (insert 1 bob 20))) ≡ Written 2 (Duplicate ∷ [])
+second_outcome : outcome_of tables (state_after (insert 1 ann 10 ∷ [])) (events.Write (only (insert 1 bob 20))) ≡ Written 2 (Duplicate ∷ [])
 unfolding row_writes
 second_outcome = refl
 
@@ -169,7 +169,7 @@ unfolding row_writes
 no_table_before_later = refl
 
 -- outcomes of an update without matching rows and of a delete, and the row after an addition
-update_outcome : outcome_of (state_after (insert 1 ann 10 ∷ [])) (events.Write (only (update (balance_to 0) (of_owner zed)))) ≡ Written 2 (Updated 0 ∷ [])
+update_outcome : outcome_of tables (state_after (insert 1 ann 10 ∷ [])) (events.Write (only (update (balance_to 0) (of_owner zed)))) ≡ Written 2 (Updated 0 ∷ [])
 unfolding row_writes
 update_outcome = refl
 
@@ -177,7 +177,7 @@ row_after_addition : right_select_at tables (state_after (insert 1 ann 10 ∷ up
 unfolding row_writes
 row_after_addition = refl
 
-delete_outcome : outcome_of (state_after (insert 2 bob 20 ∷ insert 1 ann 10 ∷ [])) (events.Write (only (delete []))) ≡ Written 3 (Deleted 2 ∷ [])
+delete_outcome : outcome_of tables (state_after (insert 2 bob 20 ∷ insert 1 ann 10 ∷ [])) (events.Write (only (delete []))) ≡ Written 3 (Deleted 2 ∷ [])
 unfolding row_writes
 delete_outcome = refl
 
@@ -203,7 +203,7 @@ insert_sum_insert = insert 1 ann 10 ∷ update (balance_by 5) (of_id 1) ∷ inse
 action_accepted : refusal tables max_limits (after []) (events.Write insert_sum_insert) ≡ None
 action_accepted = refl
 
-action_outcome : outcome_of (after []) (events.Write insert_sum_insert) ≡ Written 1 (Inserted ∷ Updated 1 ∷ Duplicate ∷ [])
+action_outcome : outcome_of tables (after []) (events.Write insert_sum_insert) ≡ Written 1 (Inserted ∷ Updated 1 ∷ Duplicate ∷ [])
 unfolding row_writes
 action_outcome = refl
 
@@ -221,30 +221,23 @@ reads_around_an_action :
 unfolding row_writes
 reads_around_an_action = (refl, refl)
 
--- the row that it wrote, each time that it did
-rows_that_an_action_wrote : rows_at_slot (state_after_actions (insert_sum_insert ∷ [])).slots 1 ≡ Some (key_1 ∷ key_1 ∷ [])
-unfolding row_writes
-rows_that_an_action_wrote = refl
-
 -- an action without writes takes a slot too
 empty_action :
     (refusal tables max_limits (after []) (events.Write []) ≡ None)
-    × (outcome_of (after []) (events.Write []) ≡ Written 1 [])
+    × (outcome_of tables (after []) (events.Write []) ≡ Written 1 [])
     × (slot_at (state_after_actions ([] ∷ [])).slots 1 ≡ Some (record { action = Some []; replies = Some [] }))
-    × (rows_at_slot (state_after_actions ([] ∷ [])).slots 1 ≡ Some [])
 unfolding row_writes
-empty_action = (refl, refl, refl, refl)
+empty_action = (refl, refl, refl)
 
--- a row that an action inserts and deletes is at no time, and is one that the action wrote
+-- a row that an action inserts and deletes is at no time
 abbrev insert_delete : List Write
 insert_delete = insert 1 ann 1 ∷ delete (of_id 1) ∷ []
 
 insert_and_delete :
-    (outcome_of (after []) (events.Write insert_delete) ≡ Written 1 (Inserted ∷ Deleted 1 ∷ []))
+    (outcome_of tables (after []) (events.Write insert_delete) ≡ Written 1 (Inserted ∷ Deleted 1 ∷ []))
     × (right_select_at tables (state_after_actions (insert_delete ∷ [])) all 1 ≡ Ok (Rows []))
-    × (rows_at_slot (state_after_actions (insert_delete ∷ [])).slots 1 ≡ Some (key_1 ∷ key_1 ∷ []))
 unfolding row_writes
-insert_and_delete = (refl, refl, refl)
+insert_and_delete = (refl, refl)
 
 -- an action is refused where a later write of it has a fault, or where it has too many. Nothing of it is carried out
 abbrev insert_set_key : List Write

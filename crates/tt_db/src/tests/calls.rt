@@ -1,4 +1,4 @@
-use super::{ACCT, ANN, BOB, action, entry, has, insert, new_db, replies, rows, select_all};
+use super::{ACCT, ANN, BOB, action, done, entry, has, insert, new_db, replies, rows, select_all};
 use crate::{Db, Limits, Outcome, Slot};
 use std::alloc::Global;
 use std::process::Abort;
@@ -52,4 +52,5 @@ fn each_call_has_enough_memory(rt: HostRuntime) {
         .select_at(&select_all(&rt, alloc, ACCT), 1)
         .expect(&rt, "a reply");
     assert_eq!(rt; before, rows(&rt, alloc, &[ANN]));
+    done(db);
 }

@@ -1,4 +1,4 @@
-use super::{ANN, Account, BOB, after, entry, has, small_db};
+use super::{ANN, Account, BOB, after, done, entry, has, small_db};
 use crate::{Db, DbError, Limits, MAX_EVENTS};
 use std::alloc::Global;
 use std::process::Abort;
@@ -39,15 +39,24 @@ const FILLINGS: [Filling; 3] = [
 fn full_db(rt: &impl Abort, alloc: Global, filling: &Filling) -> Db {
     let mut db = small_db(rt, alloc, filling.slots, filling.events);
     for account in filling.accounts {
-        db = after(
-            rt,
-            alloc,
-            &db,
-            entry(rt, alloc, 1, *account),
-            Reply::Inserted,
-        );
+        let entry = entry(rt, alloc, 1, *account);
+        let next = after(rt, alloc, &db, entry, Reply::Inserted);
+        done(db);
+        db = next;
     }
     db
+}
+
+/// Asserts that a further insert meets this limit.
+fn refuses(rt: &impl Abort, alloc: Global, db: &Db, limit: u64) {
+    let next = entry(rt, alloc, 1, (3, "cat", 30));
+    match db.apply(next) {
+        Ok((next, _)) => {
+            done(next);
+            panic!(rt; "an insert past the limit {limit}");
+        }
+        Err(error) => assert_eq!(rt; error, DbError::Full { limit }),
+    }
 }
 
 #[test]
@@ -56,12 +65,12 @@ fn a_full_database_refuses(rt: HostRuntime) {
     for filling in &FILLINGS {
         let limit = filling.limit;
         let db = full_db(&rt, alloc, filling);
-        let next = entry(&rt, alloc, 1, (3, "cat", 30));
-        assert_eq!(rt; db.apply(next).err(), Some(DbError::Full { limit }));
+        refuses(&rt, alloc, &db, limit);
         let next = entry(&rt, alloc, 1, (3, "cat", 30));
         let (db, answer) = db.advanced(next).expect(&rt, "memory");
         assert_eq!(rt; answer.err(), Some(DbError::Full { limit }));
         has(&rt, alloc, &db, filling.accounts);
+        done(db);
     }
 }
 

@@ -1,6 +1,6 @@
 use super::{
-    ACCT, ANN, Account, BOB, LOAN, SAME_KEY, action, add_to_balance, bad_entry, entry, has, insert,
-    replies, small_db,
+    ACCT, ANN, Account, BOB, LOAN, SAME_KEY, action, add_to_balance, bad_entry, done, entry, has,
+    insert, replies, small_db,
 };
 use crate::{DbError, Entry, Event, MAX_EVENTS, Outcome};
 use std::alloc::Global;
@@ -88,4 +88,5 @@ fn a_run_answers_each_entry(rt: HostRuntime) {
     assert!(rt; db.entry(4).is_none());
     let answers = db.apply_all(&[]).expect(&rt, "memory");
     assert_eq!(rt; answers.len(), 0);
+    done(db);
 }

@@ -1,4 +1,4 @@
-use super::{ACCT, ANN, BOB, LOAN, after, bank, entry, row};
+use super::{ACCT, ANN, BOB, LOAN, after, bank, done, entry, row};
 use crate::{Db, Limits};
 use std::alloc::Global;
 use std::process::Abort;
@@ -7,17 +7,17 @@ use tt_versions::Side;
 
 /// A database of `acct` and `loan`, with two accounts and no loan.
 fn accounts(rt: &impl Abort, alloc: Global) -> Db {
-    let db = Db::new(alloc, bank(rt, alloc, &["acct", "loan"]), Limits::usual());
-    let db = after(rt, alloc, &db, entry(rt, alloc, 1, ANN), Reply::Inserted);
-    after(rt, alloc, &db, entry(rt, alloc, 1, BOB), Reply::Inserted)
+    let empty = Db::new(alloc, bank(rt, alloc, &["acct", "loan"]), Limits::usual());
+    let first = after(rt, alloc, &empty, entry(rt, alloc, 1, ANN), Reply::Inserted);
+    done(empty);
+    let second = after(rt, alloc, &first, entry(rt, alloc, 1, BOB), Reply::Inserted);
+    done(first);
+    second
 }
 
-#[test]
-fn each_table_has_its_versions(rt: HostRuntime) {
-    let alloc = rt.alloc();
-    let db = accounts(&rt, alloc);
-    let versions = db.versions(ACCT).expect(&rt, "a table");
-    let bob = row(&rt, alloc, BOB);
+fn has_its_versions(rt: &impl Abort, alloc: Global, db: &Db) {
+    let versions = db.versions(ACCT).expect(rt, "a table");
+    let bob = row(rt, alloc, BOB);
     for side in [Side::Current, Side::Next] {
         let wants: [(u64, Option<&Row>); 4] = [
             (0, None),
@@ -30,10 +30,18 @@ fn each_table_has_its_versions(rt: HostRuntime) {
         }
     }
     assert!(rt; !versions.is_split(1) && !versions.is_split(2));
-    let loans = db.versions(LOAN).expect(&rt, "a table");
-    let rows = loans.rows_at(2, Side::Current).expect(&rt, "memory");
+    let loans = db.versions(LOAN).expect(rt, "a table");
+    let rows = loans.rows_at(2, Side::Current).expect(rt, "memory");
     assert_eq!(rt; rows.len(), 0);
     for table in [2, u16::MAX] {
         assert!(rt; db.versions(table).is_none(), "table {table}");
     }
+}
+
+#[test]
+fn each_table_has_its_versions(rt: HostRuntime) {
+    let alloc = rt.alloc();
+    let db = accounts(&rt, alloc);
+    has_its_versions(&rt, alloc, &db);
+    done(db);
 }

@@ -1,7 +1,6 @@
 use super::Plain::{self, Number, Words};
 use super::{
-    ANN, PlainPartition, acct, delete, insert, nothing_dirty, parcel, partition_reads, partitions,
-    row,
+    ANN, PlainPartition, acct, delete, insert, parcel, partition_reads, partitions, row, tables,
 };
 use crate::{Reads, parts_of, reads_of};
 use std::test::Fail;
@@ -51,9 +50,9 @@ const ROWS: &[RowCase] = &[
 #[test]
 fn a_row_lies_in_one_partition_for_each_partition_column(rt: HostRuntime) -> Result<(), Fail> {
     let alloc = rt.alloc();
-    let nothing = nothing_dirty(alloc)?;
+    let catalog = tables(&rt, alloc);
     for (table, plains, want) in ROWS {
-        let Some(def) = nothing.catalog().table(*table) else {
+        let Some(def) = catalog.table(*table) else {
             return Err("no table".into());
         };
         let parts = parts_of(alloc, *table, def, &row(alloc, plains)?)?;

@@ -4,4 +4,4 @@ use Rattle.tt_parts.specs.Dirty.{SamePartitions}
 use Rattle.tt_parts.proofs.members.add_partitions.Given as goal
 
 abbrev pub invariant-loop-partition : goal.invariant-loop-partition
-invariant-loop-partition l = SamePartitions (drop l.partition-index l.partitions ++ l.members.items) (l.partitions ++ l.fn.members.items)
+invariant-loop-partition l = SamePartitions (drop l.partition-index l.partitions ++ l.members) (l.partitions ++ l.fn.members)

@@ -8,8 +8,8 @@ use Rattle.tt_db.specs.Database.{refusal_of}
 use Rattle.tt_workload.proofs.ReportLemmas.{is_memory, is_accepted}
 use Rattle.tt_workload.proofs.report.push_action.Goals as goal
 
-pub returns-in_err-push_outcome-in-Ok-clause-err : goal.returns-in_err-push_outcome-in-Ok-clause-err
-returns-in_err-push_outcome-in-Ok-clause-err c = let gives = c.from_residual-in_err-push_outcome-in-Ok in is_memory gives.result gives.ensures.1
+pub returns-in_err-push_written-in-Ok-Written-clause-err : goal.returns-in_err-push_written-in-Ok-Written-clause-err
+returns-in_err-push_written-in-Ok-Written-clause-err c = let gives = c.from_residual-in_err-push_written-in-Ok-Written in is_memory gives.result gives.ensures.1
 
 pub returns-in-Err-clause-err : goal.returns-in-Err-clause-err
 returns-in-Err-clause-err c =

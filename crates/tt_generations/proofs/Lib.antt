@@ -1,0 +1,14 @@
+pub mod ListLemmas
+pub mod ContentLemmas
+pub mod RowsLemmas
+pub mod ActionStepsLemmas
+pub mod FewRowsLemmas
+pub mod SplitRowsLemmas
+pub mod UnsplitLemmas
+pub mod ReexecutionLemmas
+pub mod EditsLemmas
+pub mod RepairLemmas
+pub mod KeptSlotsLemmas
+pub mod BothSidesLemmas
+pub mod RepairStepsLemmas
+pub mod GenerationsLemmas

@@ -1,0 +1,229 @@
+-- What a repair needs to know of the next slot's action, and what is dirty once it is re-executed.
+use Rattle.std.proofs.Common.{◌≡◌, ℕ, zero, suc, ◌+◌, ◌-◌, ◌<◌, ◌≤◌, ℤ, Bool, true, false, ◌&&◌, nat_le, nat_lt, ◌==◌, List, [], ◌∷◌, ◌++◌, map, fold, length, get_or, drop, slice_get, slice_set, Option, Some, None, if◌then◌else◌, refl, sym, ap, subst, ◌∙◌, arith, drop-cons}
+use Rattle.std.specs.List.{All}
+use Rattle.std.specs.Option.{option_map, option_or}
+use Rattle.std.specs.Ordering.{int_eq}
+use Rattle.std.proofs.lemmas.Bool.{or_left, or_right}
+use Rattle.std.proofs.lemmas.Bool.Decides.{nat_tests, Decides-int_eq}
+use Rattle.std.proofs.lemmas.Option.{slice_get_within}
+use Rattle.std.proofs.lemmas.List.Elements.{All-nil, All-cons, All-head, All-tail, All-append, All-map}
+use Rattle.tt_values.specs.declared.row.Row.{Row}
+use Rattle.tt_values.specs.declared.statement.Write.{Write}
+use Rattle.tt_values.specs.declared.statement.Write.TheVariants.{Insert, Update, Delete}
+use Rattle.tt_values.specs.declared.table.Column.{Column}
+use Rattle.tt_values.specs.declared.table.TableDef.{TableDef}
+use Rattle.tt_values.specs.declared.checking.CheckError.{CheckError}
+use Rattle.tt_values.specs.declared.checking.CheckError.TheVariants as errors
+use Rattle.tt_values.specs.Row.{key_of}
+use Rattle.tt_values.specs.Limits.{max_writes}
+use Rattle.tt_values.specs.Tables.{Tables, IsCatalog, columns_at}
+use Rattle.tt_values.specs.Check.{HasKey, fault_on, write_fault, first_write_fault, action_fault}
+use Rattle.tt_values.specs.Content.{RowsByKey, Content, row_at}
+use Rattle.tt_values.specs.Effect.{matching_rows}
+use Rattle.tt_values.specs.Action.{content_after_write, content_after_action, replies_of, rows_of_action}
+use Rattle.tt_values.specs.RowWrites.{slot_replies}
+use Rattle.tt_values.proofs.LawProofs.{accepted_actions_have_keys}
+use Rattle.tt_versions.specs.declared.side.Side.TheVariants.{Next}
+use Rattle.tt_versions.specs.Sides.{LineagesByKey, side_of, next_of}
+use Rattle.tt_parts.specs.Dirty.{DirtySet, DirtyTables, SameMembers, columns_in, is_row_in, with_row, with_row_in}
+use Rattle.tt_parts.proofs.LawProofs.{same_members_with_row}
+use Rattle.tt_repair_laws.specs.Due.{rows_matched, action_rows_matched, slot_rows_matched, with_row_of}
+use Rattle.tt_generations.specs.declared.slot.RowKey.{RowKey}
+use Rattle.tt_generations.specs.declared.slot.KeptSlot.{KeptSlot}
+use Rattle.tt_generations.specs.declared.reexecution.Reexecution.{Reexecution}
+use Rattle.tt_generations.specs.declared.repair.Repair.{Repair}
+use Rattle.tt_generations.specs.Rows.{TablesByPosition, versions_at, as_pairs}
+use Rattle.tt_generations.specs.ActionRun.{as_row_keys}
+use Rattle.tt_generations.specs.KeptSlots.{IsAccepted, keys_of_slot}
+use Rattle.tt_generations.specs.Replies.{replies_if}
+use Rattle.tt_generations.specs.Reexecution.{ShowsContentBefore, AreReexecuted, Reexecutes, ShowsFewBefore}
+use Rattle.tt_generations.specs.Repair.{next_action, writes_of, with_rows_shown, ReexecutesSlot}
+
+itself : (n : ℕ) → (n == n) ≡ true
+itself n = grind (arith, nat_tests)
+
+-- ---- the writes of a slot, and of none where it is cancelled
+
+replies-of_writes : (action : Option (List Write)) (X : Content) → replies_if action (replies_of (writes_of action) X) ≡ slot_replies action X
+replies-of_writes None X = refl
+replies-of_writes (Some action) X = refl
+
+keys-of_writes : (action : Option (List Write)) (X : Content) → as_row_keys (rows_of_action (writes_of action) X) ≡ keys_of_slot action X
+keys-of_writes None X = refl
+keys-of_writes (Some action) X = refl
+
+matched-of_writes : (action : Option (List Write)) (X : Content) → action_rows_matched (writes_of action) X ≡ slot_rows_matched action X
+matched-of_writes None X = refl
+matched-of_writes (Some action) X = refl
+
+-- ---- an action without a fault
+
+-- whose writes are few
+pub first_fault-accepted : (tables : Tables) (ws : List Write) → action_fault tables ws ≡ None → (length ws ≤ max_writes) × (first_write_fault tables ws ≡ None)
+first_fault-accepted tables ws h = by (nat_lt max_writes (length ws)) refl h
+  where
+    by : (b : Bool) → nat_lt max_writes (length ws) ≡ b → (if b then Some errors.TooManyWrites else first_write_fault tables ws) ≡ None
+        → (length ws ≤ max_writes) × (first_write_fault tables ws ≡ None)
+    by true many g = cc
+    by false few g = (grind (arith, nat_tests), g)
+
+pub few_writes-accepted : (tables : Tables) (action : Option (List Write)) → IsAccepted tables action → length (writes_of action) ≤ max_writes
+few_writes-accepted tables None h = omega arith
+few_writes-accepted tables (Some action) h = (first_fault-accepted tables action h).0
+
+-- each of whose inserts has a key
+pub keyed-accepted : (tables : Tables) (action : Option (List Write)) → IsCatalog tables → IsAccepted tables action → All HasKey (writes_of action)
+keyed-accepted tables None catalog h = All-nil HasKey
+keyed-accepted tables (Some action) catalog h = accepted_actions_have_keys tables action catalog h
+
+-- and whose tables are there
+abbrev IsInTables : Tables → ℕ × ℤ → Type 0
+IsInTables tables r = r.0 < length tables
+
+pub table-faultless : (tables : Tables) (table : ℕ) (tests : List Column → List (Bool × CheckError)) → fault_on (columns_at tables table) tests ≡ None → table < length tables
+table-faultless tables table tests h = by (slice_get tables table) refl h
+  where
+    by : (o : Option (List ℕ × TableDef)) → slice_get tables table ≡ o → fault_on (option_map (λ t. t.1.columns) o) tests ≡ None → table < length tables
+    by None at g = cc
+    by (Some t) at g = slice_get_within tables table t at
+
+tables-of_rows : (tables : Tables) (table : ℕ) (rows : RowsByKey) → table < length tables → All (IsInTables tables) (map (λ e. (table, e.0)) rows)
+tables-of_rows tables table [] h = All-nil (IsInTables tables)
+tables-of_rows tables table (e ∷ es) h = All-cons (IsInTables tables) (table, e.0) _ h (tables-of_rows tables table es h)
+
+tables-matched : (tables : Tables) (w : Write) (X : Content) → write_fault tables w ≡ None → All (IsInTables tables) (rows_matched w X)
+tables-matched tables (Insert table row) X h =
+    All-cons (IsInTables tables) (table, key_of row) [] (table-faultless tables table _ h) (All-nil (IsInTables tables))
+tables-matched tables (Update table changes equals) X h = tables-of_rows tables table (matching_rows equals (X table)) (table-faultless tables table _ h)
+tables-matched tables (Delete table equals) X h = tables-of_rows tables table (matching_rows equals (X table)) (table-faultless tables table _ h)
+
+tables-all_matched : (tables : Tables) (ws : List Write) (X : Content) → first_write_fault tables ws ≡ None → All (IsInTables tables) (action_rows_matched ws X)
+tables-all_matched tables [] X h = All-nil (IsInTables tables)
+tables-all_matched tables (w ∷ ws) X h = by (write_fault tables w) refl h (tables-all_matched tables ws (content_after_write w X))
+  where
+    by : (o : Option CheckError) → write_fault tables w ≡ o → option_or o (first_write_fault tables ws) ≡ None
+        → (first_write_fault tables ws ≡ None → All (IsInTables tables) (action_rows_matched ws (content_after_write w X)))
+        → All (IsInTables tables) (action_rows_matched (w ∷ ws) X)
+    by None at g rest = All-append (IsInTables tables) (rows_matched w X) _ (tables-matched tables w X at) (rest g)
+    by (Some e) at g rest = cc
+
+tables-accepted : (tables : Tables) (action : Option (List Write)) (X : Content) → IsAccepted tables action → All (IsInTables tables) (action_rows_matched (writes_of action) X)
+tables-accepted tables None X h = All-nil (IsInTables tables)
+tables-accepted tables (Some action) X h = tables-all_matched tables action X (first_fault-accepted tables action h).1
+
+-- what holds of the pairs of rows holds of the rows
+All-of_pairs : (P : ℕ × ℤ → Type 0) (rows : List RowKey) → All P (as_pairs rows) → All (λ r. P (r.table, r.key)) rows
+All-of_pairs P [] h = All-nil (λ r. P (r.table, r.key))
+All-of_pairs P (r ∷ rs) h = All-cons (λ r. P (r.table, r.key)) r rs (All-head P (r.table, r.key) (as_pairs rs) h) (All-of_pairs P rs (All-tail P (r.table, r.key) (as_pairs rs) h))
+
+-- so the tables of all rows are that a slot wrote and that its action matches
+tables-redone : (tables : Tables) (written redone : List RowKey) (action : Option (List Write)) (X : Content) → All (λ r. r.table < length tables) written → IsAccepted tables action
+    → as_pairs redone ≡ as_pairs written ++ action_rows_matched (writes_of action) X → All (λ r. r.table < length tables) redone
+tables-redone tables written redone action X there h is =
+    All-of_pairs (IsInTables tables) redone (subst (All (IsInTables tables)) (sym is)
+    (All-append (IsInTables tables) (as_pairs written) _ (All-map (IsInTables tables) (λ r. (r.table, r.key)) written there) (tables-accepted tables action X h)))
+
+-- ---- the rows that get dirty
+
+pub SameMembers-then : (C D E : DirtySet) → SameMembers C D → SameMembers D E → SameMembers C E
+SameMembers-then C D E one two = record { rows = λ t key. one.rows t key ∙ two.rows t key; partitions = λ p. one.partitions p ∙ two.partitions p }
+
+-- one row that tables show on the next side before a time and at it
+abbrev with_row_shown : Tables → TablesByPosition → ℕ → DirtySet → RowKey → DirtySet
+with_row_shown tables versions time D r =
+    let side = next_of (versions_at versions r.table) r.key in
+    with_row D r.table (columns_in tables r.table) r.key (side (time - 1)) (side time)
+
+-- sets with the same members have the same members after the same rows get dirty
+shown-same : (tables : Tables) (versions : TablesByPosition) (time : ℕ) (rows : List RowKey) (C D : DirtySet) → SameMembers C D
+    → SameMembers (fold (with_row_shown tables versions time) C rows) (fold (with_row_shown tables versions time) D rows)
+shown-same tables versions time [] C D same = same
+shown-same tables versions time (r ∷ rs) C D same =
+    let side = next_of (versions_at versions r.table) r.key in
+    shown-same tables versions time rs _ _ (same_members_with_row C D r.table (columns_in tables r.table) r.key (side (time - 1)) (side time) same)
+
+module _ (before after : TablesByPosition) (n : ℕ) (X Y : Content) (written all : List (ℕ × ℤ)) (start : ShowsContentBefore before (suc n) X written)
+    (redone : AreReexecuted before after all (suc n) Y) where
+  -- a re-executed row shows the content before just before the slot, and the one after at its time
+  shows_before : (t : ℕ) (key : ℤ) → next_of (versions_at after t) key n ≡ row_at (X t) key
+  shows_before t key = redone.next t key n ∙ by (is_row_in all t key)
+    where
+      earlier : nat_le (suc n) n ≡ false
+      earlier = grind (arith, nat_tests)
+
+      by : (b : Bool) → (if b && nat_le (suc n) n then row_at (Y t) key else next_of (versions_at before t) key n) ≡ row_at (X t) key
+      by true = ap (λ l. if l then row_at (Y t) key else next_of (versions_at before t) key n) earlier ∙ start.before t key
+      by false = start.before t key
+
+  shows_after : (t : ℕ) (key : ℤ) → is_row_in all t key ≡ true → next_of (versions_at after t) key (suc n) ≡ row_at (Y t) key
+  shows_after t key is =
+      let now : nat_le (suc n) (suc n) ≡ true = grind (arith, nat_tests) in
+      redone.next t key (suc n) ∙ (λ i. if is i && now i then row_at (Y t) key else next_of (versions_at before t) key (suc n))
+
+  -- so by what the tables show, the re-executed rows get dirty with both contents
+  shown-contents : (tables : Tables) (rows : List RowKey) (D : DirtySet) → ((t : ℕ) (key : ℤ) → is_row_in (as_pairs rows) t key ≡ true → is_row_in all t key ≡ true)
+      → fold (with_row_shown tables after (suc n)) D rows ≡ fold (with_row_of tables X Y) D (as_pairs rows)
+  shown-contents tables [] D within = refl
+  shown-contents tables (r ∷ rs) D within =
+      let t = r.table in
+      let key = r.key in
+      let here : ((t == t) && int_eq key key) ≡ true = (λ i. itself t i && (Decides-int_eq key key).1 refl i) in
+      let is : is_row_in all t key ≡ true = within t key (or_left _ _ here) in
+      let earlier : suc n - 1 ≡ n = omega arith in
+      let first : next_of (versions_at after t) key (suc n - 1) ≡ row_at (X t) key = ap (next_of (versions_at after t) key) earlier ∙ shows_before t key in
+      ap (λ C. fold (with_row_shown tables after (suc n)) C rs) (λ i. with_row D t (columns_in tables t) key (first i) (shows_after t key is i))
+      ∙ shown-contents tables rs (with_row_of tables X Y D (t, key)) (λ u k later. within u k (or_right _ _ later))
+
+dirty-shown : (d : DirtyTables) (before after : TablesByPosition) (time : ℕ) (X Y : Content) (written all : List (ℕ × ℤ)) (redone : List RowKey) → 0 < time
+    → ShowsContentBefore before time X written → AreReexecuted before after all time Y → as_pairs redone ≡ all
+    → with_rows_shown d after redone time ≡ fold (with_row_of d.catalog X Y) d.dirty all
+dirty-shown d before after zero X Y written all redone h start rows is = let none : ⊥ = omega (arith, h) in absurd none
+dirty-shown d before after (suc n) X Y written all redone h start rows is =
+    shown-contents before after n X Y written all start rows d.catalog redone d.dirty (λ t key in_rows. ap (λ rs. is_row_in rs t key) (sym is) ∙ in_rows)
+    ∙ ap (fold (with_row_of d.catalog X Y) d.dirty) is
+
+-- a row of a list gets dirty with what tables show, and then those behind it
+pub shown-step : (before after : DirtyTables) (versions : TablesByPosition) (rows : List RowKey) (n : ℕ) (none : RowKey) (table : LineagesByKey) (key : ℤ) (first last : Option Row) (time : ℕ)
+    → n < length rows → after.catalog ≡ before.catalog → key ≡ (get_or rows n none).key → table ≡ versions_at versions (get_or rows n none).table
+    → first ≡ side_of table Next key (time - 1) → last ≡ side_of table Next key time → SameMembers after.dirty (with_row_in before (get_or rows n none).table key first last)
+    → SameMembers (with_rows_shown after versions (drop (n + 1) rows) time) (with_rows_shown before versions (drop n rows) time)
+shown-step before after versions rows n none table key first last time room catalog same on earlier later h =
+    let r = get_or rows n none in
+    let before_it : first ≡ next_of (versions_at versions r.table) r.key (time - 1) = earlier ∙ (λ i. side_of (on i) Next (same i) (time - 1)) in
+    let at_it : last ≡ next_of (versions_at versions r.table) r.key time = later ∙ (λ i. side_of (on i) Next (same i) time) in
+    let rest = drop (n + 1) rows in
+    let next : suc n ≡ n + 1 = omega arith in
+    let all : drop n rows ≡ r ∷ rest = drop-cons rows n none room ∙ (λ i. r ∷ drop (next i) rows) in
+    let dirty = shown-same before.catalog versions time rest after.dirty _
+    (subst (SameMembers after.dirty) (λ i. with_row before.dirty r.table (columns_in before.catalog r.table) (same i) (before_it i) (at_it i)) h) in
+    subst (λ (rs : List RowKey). SameMembers (with_rows_shown after versions rest time) (with_rows_shown before versions rs time)) (sym all)
+    (subst (λ (tables : Tables). SameMembers (fold (with_row_shown tables versions time) after.dirty rest) (with_rows_shown before versions (r ∷ rest) time)) (sym catalog) dirty)
+
+-- ---- the next slot is re-executed
+
+pub ReexecutesSlot-done : (r after : Repair) (kept new : KeptSlot) (before : TablesByPosition) (run : Reexecution) → Reexecutes (r.done + 1) (as_pairs kept.rows) (writes_of (next_action r kept)) before run
+    → new.slot.action ≡ next_action r kept → new.slot.replies ≡ replies_if (next_action r kept) run.replies.items → new.rows ≡ run.keys.items → after.slots ≡ slice_set r.slots r.done new
+    → SameMembers after.dirty.dirty (with_rows_shown r.dirty run.rows run.redone.items (r.done + 1)) → ReexecutesSlot r kept before after run.rows
+ReexecutesSlot-done r after kept new before run reexecutes action replies rows slots dirty X start =
+    let next = next_action r kept in
+    let Y = content_after_action (writes_of next) X in
+    let written = as_pairs kept.rows in
+    let has = reexecutes X start in
+    let matched = matched-of_writes next X in
+    let all = subst (λ (rs : List (ℕ × ℤ)). AreReexecuted before run.rows (written ++ rs) (r.done + 1) Y) matched has.rows in
+    let redone : as_pairs run.redone.items ≡ written ++ slot_rows_matched next X = has.redone ∙ ap (λ rs. written ++ rs) matched in
+    let answers : new.slot.replies ≡ slot_replies next X = replies ∙ ap (replies_if next) has.replies ∙ replies-of_writes next X in
+    let keys : new.rows ≡ keys_of_slot next X = rows ∙ has.keys ∙ keys-of_writes next X in
+    record {
+      rows = all;
+      slots = slots ∙ (λ i. slice_set r.slots r.done (record { slot = record { action = action i; replies = answers i }; rows = keys i }));
+      dirty = subst (SameMembers after.dirty.dirty)
+          (dirty-shown r.dirty before run.rows (r.done + 1) X Y written (written ++ slot_rows_matched next X) run.redone.items (omega arith) start all redone) dirty;
+    }
+
+-- the tables of the rows that it re-executes are there
+pub tables-of_run : (tables : Tables) (r : Repair) (kept : KeptSlot) (before : TablesByPosition) (run : Reexecution) → All (λ k. k.table < length tables) kept.rows → IsAccepted tables (next_action r kept)
+    → ShowsFewBefore before (r.done + 1) (as_pairs kept.rows) → Reexecutes (r.done + 1) (as_pairs kept.rows) (writes_of (next_action r kept)) before run
+    → All (λ k. k.table < length tables) run.redone.items
+tables-of_run tables r kept before run there accepted few reexecutes =
+    tables-redone tables kept.rows run.redone.items (next_action r kept) few.content there accepted (reexecutes few.content few.shows).redone

@@ -1,0 +1,52 @@
+-- What is kept of each slot: its replies, and the rows that it wrote.
+use Rattle.std.specs.Prelude.{◌≡◌, ℕ, zero, suc, ◌<◌, nat_lt, List, [], map, length, slice_get, Option, None, Some, if◌then◌else◌}
+use Rattle.std.specs.List.{All}
+use Rattle.tt_values.specs.declared.statement.Write.{Write}
+use Rattle.tt_values.specs.Tables.{Tables}
+use Rattle.tt_values.specs.Check.{action_fault}
+use Rattle.tt_values.specs.Content.{Content}
+use Rattle.tt_values.specs.Action.{rows_of_action}
+use Rattle.tt_values.specs.RowWrites.{Slots, slot_after, slot_replies, content_of}
+use Rattle.tt_generations.specs.declared.slot.Slot.{Slot}
+use Rattle.tt_generations.specs.declared.slot.RowKey.{RowKey}
+use Rattle.tt_generations.specs.declared.slot.KeptSlot.{KeptSlot}
+use Rattle.tt_generations.specs.ActionRun.{as_row_keys}
+
+-- the content that all slots leave
+abbrev pub last_content : Slots → Content
+last_content W = content_of W (length W)
+
+-- slot n + 1 with its replies: what its writes answer on the content just before it
+abbrev pub slot_with_replies : Slots → ℕ → Slot
+slot_with_replies W n = record { action = slot_after W n; replies = slot_replies (slot_after W n) (content_of W n) }
+
+-- the slot of a number, counted from 1, with its replies
+abbrev pub slot_at : Slots → ℕ → Option Slot
+slot_at W zero = None
+slot_at W (suc n) = if nat_lt n (length W) then Some (slot_with_replies W n) else None
+
+-- the rows that the writes of a slot write, in their turn. A cancelled slot writes none
+abbrev pub keys_of_slot : Option (List Write) → Content → List RowKey
+keys_of_slot None X = []
+keys_of_slot (Some action) X = as_row_keys (rows_of_action action X)
+
+-- what is kept of slot n + 1
+abbrev pub kept_slot : Slots → ℕ → KeptSlot
+kept_slot W n = record { slot = slot_with_replies W n; rows = keys_of_slot (slot_after W n) (content_of W n) }
+
+-- the actions of slots
+abbrev pub actions_of : List KeptSlot → Slots
+actions_of kept = map (λ k. k.slot.action) kept
+
+-- each slot is kept, with what belongs to it by its position
+pub record AreKept (kept : List KeptSlot) (at : ℕ → KeptSlot) (count : ℕ) : Type 0 where
+  pub as_many : length kept ≡ count
+  pub each : (n : ℕ) → n < count → slice_get kept n ≡ Some (at n)
+
+-- an action has no fault
+abbrev pub IsAccepted : Tables → Option (List Write) → Type 0
+IsAccepted tables None = Unit {0}
+IsAccepted tables (Some action) = action_fault tables action ≡ None
+
+abbrev pub AreAccepted : Tables → Slots → Type 0
+AreAccepted tables W = All (IsAccepted tables) W

@@ -1,0 +1,11 @@
+pub mod Limits
+pub mod Effect
+pub mod Rows
+pub mod ActionRun
+pub mod Reexecution
+pub mod Replies
+pub mod TwoGenerations
+pub mod KeptSlots
+pub mod EditsByNumber
+pub mod Repair
+pub mod Generations

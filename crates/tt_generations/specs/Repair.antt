@@ -1,0 +1,100 @@
+-- One step of a repair: whether the next slot is due, and what its re-execution leaves.
+use Rattle.std.specs.Prelude.{◌≡◌, ℕ, ◌-◌, ◌+◌, pos, Bool, true, false, not, ◌||◌, List, [], ◌∷◌, ◌++◌, fold, slice_set, Option, None, Some, is_some}
+use Rattle.std.specs.List.{All, list_any}
+use Rattle.std.specs.Ordering.{int_cmp}
+use Rattle.std.specs.FinMap.Entries as sorted
+use Rattle.tt_values.specs.declared.statement.Write.{Write}
+use Rattle.tt_values.specs.Check.{HasKey}
+use Rattle.tt_values.specs.Content.{Content}
+use Rattle.tt_values.specs.Action.{content_after_action}
+use Rattle.tt_values.specs.RowWrites.{slot_replies}
+use Rattle.tt_versions.specs.Sides.{next_of}
+use Rattle.tt_parts.specs.Dirty.{DirtySet, DirtyTables, SameMembers, columns_in, has_row, with_row}
+use Rattle.tt_repair_laws.specs.Due.{names_dirty_row, is_write_clear, slot_rows_matched, with_row_of}
+use Rattle.tt_generations.specs.declared.slot.RowKey.{RowKey}
+use Rattle.tt_generations.specs.declared.slot.KeptSlot.{KeptSlot}
+use Rattle.tt_generations.specs.declared.edits.Replacement.{Replacement}
+use Rattle.tt_generations.specs.declared.repair.Repair.{Repair}
+use Rattle.tt_generations.specs.Rows.{TablesByPosition, versions_at, as_pairs}
+use Rattle.tt_generations.specs.KeptSlots.{keys_of_slot}
+use Rattle.tt_generations.specs.Reexecution.{ShowsContentBefore, AreReexecuted}
+
+-- each insert of an action has a key
+abbrev pub HasKeysIfAny : Option (List Write) → Type 0
+HasKeysIfAny None = Unit {0}
+HasKeysIfAny (Some action) = All HasKey action
+
+-- whether what is dirty may affect an action that wrote these rows
+abbrev pub is_action_affected : DirtyTables → List RowKey → List Write → Bool
+is_action_affected d rows action =
+    list_any (λ r. has_row d.dirty r.table r.key) rows
+    || list_any (names_dirty_row d.dirty) action
+    || list_any (λ w. not (is_write_clear d.catalog d.dirty w)) action
+
+-- the same for a slot. A cancelled one isn't affected
+abbrev pub is_kept_affected : DirtyTables → List RowKey → Option (List Write) → Bool
+is_kept_affected d rows None = false
+is_kept_affected d rows (Some action) = is_action_affected d rows action
+
+-- the replacement of the next slot, if it has an edit
+abbrev pub next_replacement : Repair → Option Replacement
+next_replacement r = sorted.find int_cmp (pos (r.done + 1)) r.replacements
+
+-- whether the next slot is due, which is kept so
+abbrev pub is_kept_due : Repair → KeptSlot → Bool
+is_kept_due r kept = is_some (next_replacement r) || is_kept_affected r.dirty kept.rows kept.slot.action
+
+-- an action, unless it is replaced
+abbrev pub replaced_by : Option Replacement → Option (List Write) → Option (List Write)
+replaced_by None action = action
+replaced_by (Some replacement) action = replacement.action
+
+-- the action of the next slot, which is kept so, as the repair has it
+abbrev pub next_action : Repair → KeptSlot → Option (List Write)
+next_action r kept = replaced_by (next_replacement r) kept.slot.action
+
+-- the writes of a slot. A cancelled one has none
+abbrev pub writes_of : Option (List Write) → List Write
+writes_of None = []
+writes_of (Some action) = action
+
+-- the dirty set with rows that tables show on the next side before a time and at it
+abbrev pub with_rows_shown : DirtyTables → TablesByPosition → List RowKey → ℕ → DirtySet
+with_rows_shown d versions rows time =
+    fold (λ D r. let side = next_of (versions_at versions r.table) r.key in with_row D r.table (columns_in d.catalog r.table) r.key (side (time - 1)) (side time)) d.dirty rows
+
+-- what the re-execution of the next slot leaves, on tables that show a content before it
+pub record HasReexecutedSlot (r : Repair) (kept : KeptSlot) (versions : TablesByPosition) (after : Repair) (left : TablesByPosition) (X : Content) : Type 0 where
+  pub rows : AreReexecuted versions left (as_pairs kept.rows ++ slot_rows_matched (next_action r kept) X) (r.done + 1) (content_after_action (writes_of (next_action r kept)) X)
+  pub slots : after.slots ≡ slice_set r.slots r.done (record {
+    slot = record { action = next_action r kept; replies = slot_replies (next_action r kept) X };
+    rows = keys_of_slot (next_action r kept) X;
+  })
+  pub dirty : SameMembers after.dirty.dirty
+      (fold (with_row_of r.dirty.catalog X (content_after_action (writes_of (next_action r kept)) X)) r.dirty.dirty (as_pairs kept.rows ++ slot_rows_matched (next_action r kept) X))
+
+abbrev pub ReexecutesSlot : Repair → KeptSlot → TablesByPosition → Repair → TablesByPosition → Type 0
+ReexecutesSlot r kept versions after left = (X : Content) → ShowsContentBefore versions (r.done + 1) X (as_pairs kept.rows) → HasReexecutedSlot r kept versions after left X
+
+-- a repair has done one slot more, which was due
+pub record HasDoneDueSlot (before after : Repair) : Type 0 where
+  pub edits : after.edits ≡ before.edits
+  pub replacements : after.replacements ≡ before.replacements
+  pub done : after.done ≡ before.done + 1
+  pub rerun : after.rerun ≡ before.rerun + 1
+  pub catalog : after.dirty.catalog ≡ before.dirty.catalog
+
+-- the repair, if there is one, once a slot was added to the current generation
+abbrev pub repair_with_slot : KeptSlot → Option Repair → Option Repair
+repair_with_slot k None = None
+repair_with_slot k (Some r) = Some (record r { slots = r.slots ++ k ∷ [] })
+
+-- the slots of the next generation, or those of the current one where there is no repair
+abbrev pub next_slots : Option Repair → List KeptSlot → List KeptSlot
+next_slots None slots = slots
+next_slots (Some r) slots = r.slots
+
+-- a repair does a slot, which was due or not
+abbrev pub DoesSlot : Repair → KeptSlot → TablesByPosition → Bool → Repair → TablesByPosition → Type 0
+DoesSlot r kept versions false after left = (after ≡ record r { done = r.done + 1 }) × (left ≡ versions)
+DoesSlot r kept versions true after left = HasDoneDueSlot r after × ReexecutesSlot r kept versions after left

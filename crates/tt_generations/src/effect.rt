@@ -1,0 +1,163 @@
+//! The effect of a write on a side of its table, the rows it writes and matches, and its reply.
+ghost use Rattle.std.specs.Prelude.{◌≡◌, ◌<◌, ◌^◌, ◌++◌, map, length, IsSome, IfOk, OnOk};
+ghost use Rattle.tt_values.specs.Row.{first_int};
+ghost use Rattle.tt_values.specs.Check.{HasKey};
+ghost use Rattle.tt_values.specs.Content.{RowsByKey};
+ghost use Rattle.tt_values.specs.Effect.{effect_on, reply_on};
+ghost use Rattle.tt_versions.specs.Sides.{side_of, rows_behind};
+ghost use Rattle.tt_generations.specs.Effect.{IsEffect, insert_effect, update_effect, delete_effect, row_keys, matched_keys};
+
+use crate::slot::RowKey;
+use std::alloc::{AllocError, Global};
+use tt_values::{Change, Reply, Row, Write, changed};
+use tt_versions::{Side, Table};
+
+/// The effect of a write on a side of its table at a time: keys with the rows that they get, or
+/// with none where the row is deleted, by rising key.
+pub(crate) fn effect_of(
+    alloc: Global,
+    table: &Table,
+    write: &Write,
+    time: u64,
+    side: Side,
+) -> Result<Vec<(i64, Option<Row>)>, AllocError>
+    requires { HasKey write.now }
+    ensures { IfOk result (λ e. IsEffect e.items write.now (side_of table.now side) time) }
+{
+    match write {
+        Write::Insert { row, .. } => {
+            let live = table.at(row.key(), time, side);
+            let effect = effect_of_insert(alloc, live.is_some(), row)?;
+            Ok(effect)
+        }
+        Write::Update {
+            changes,
+            equals,
+            ..
+        } => {
+            let rows = table.rows_matching(equals.as_slice(), time, side)?;
+            let effect = effect_of_update(alloc, &rows, changes.as_slice())?;
+            Ok(effect)
+        }
+        Write::Delete { equals, .. } => {
+            let rows = table.rows_matching(equals.as_slice(), time, side)?;
+            let effect = effect_of_delete(alloc, &rows)?;
+            Ok(effect)
+        }
+    }
+}
+
+/// The effect of an insert, which has none where its key is live.
+fn effect_of_insert(
+    alloc: Global,
+    is_live: bool,
+    row: &Row,
+) -> Result<Vec<(i64, Option<Row>)>, AllocError>
+    requires { IsSome (first_int row.now.values) }
+    ensures { IfOk result (λ e. e.items ≡ insert_effect is_live row.now) }
+{
+    let mut effect = Vec::new(alloc);
+    if !is_live {
+        effect.push((row.key(), Some(row.copy()?)))?;
+    }
+    Ok(effect)
+}
+
+/// The effect of an update on the rows that match: each of them, changed.
+fn effect_of_update(
+    alloc: Global,
+    rows: &Vec<(i64, &Row)>,
+    changes: &[Change],
+) -> Result<Vec<(i64, Option<Row>)>, AllocError>
+    ensures { IfOk result (λ r. r.items
+        ≡ update_effect changes.now (rows_behind rows.now.items)) }
+{
+    let mut effect = Vec::with_capacity(alloc, rows.len())?;
+    for (key, old) in rows {
+        effect.push((*key, Some(changed(alloc, old, changes)?)))?;
+    }
+    Ok(effect)
+}
+
+/// The effect of a delete on the rows that match: the key of each, without a row.
+fn effect_of_delete(
+    alloc: Global,
+    rows: &Vec<(i64, &Row)>,
+) -> Result<Vec<(i64, Option<Row>)>, AllocError>
+    ensures { IfOk result (λ r. r.items
+        ≡ delete_effect (rows_behind rows.now.items)) }
+{
+    let mut effect = Vec::with_capacity(alloc, rows.len())?;
+    for (key, _) in rows {
+        effect.push((*key, None))?;
+    }
+    Ok(effect)
+}
+
+/// Adds the rows that an effect on a table writes.
+pub(crate) fn add_keys(
+    keys: &mut Vec<RowKey>,
+    table: u16,
+    effect: &[(i64, Option<Row>)],
+) -> Result<(), AllocError>
+    ensures { OnOk result (keys.new.items ≡ keys.old.items ++ row_keys table effect.now) }
+{
+    // An action seldom has further writes, so no more room is taken than this one needs.
+    keys.reserve_exact(effect.len())?;
+    for (key, _) in effect {
+        keys.push(RowKey { table, key: *key })?;
+    }
+    Ok(())
+}
+
+/// The rows that a write with that effect matches.
+pub(crate) fn matched_keys(
+    alloc: Global,
+    write: &Write,
+    effect: &[(i64, Option<Row>)],
+) -> Result<Vec<RowKey>, AllocError>
+    requires { HasKey write.now }
+    ensures { IfOk result (λ keys. keys.items ≡ matched_keys write.now effect.now) }
+{
+    let mut keys = Vec::new(alloc);
+    match write {
+        Write::Insert { table, row } => keys.push(RowKey {
+            table: *table,
+            key: row.key(),
+        })?,
+        Write::Update { table, .. } | Write::Delete { table, .. } => {
+            add_keys(&mut keys, *table, effect)?;
+        }
+    }
+    Ok(keys)
+}
+
+/// Further owners of the rows, in their order.
+pub(crate) fn copies_of(alloc: Global, rows: &Vec<(i64, &Row)>) -> Result<Vec<Row>, AllocError>
+    ensures { IfOk result (λ r. r.items ≡ map (λ e. e.1) (rows_behind rows.now.items)) }
+{
+    let mut copies = Vec::with_capacity(alloc, rows.len())?;
+    for (_, row) in rows {
+        copies.push(row.copy()?)?;
+    }
+    Ok(copies)
+}
+
+/// The reply to a write with that effect.
+pub(crate) fn reply_to(write: &Write, effect: &[(i64, Option<Row>)]) -> Reply
+    requires { length effect.now < 2 ^ 32 }
+    ensures { (rows : RowsByKey) → effect.now ≡ effect_on write.now rows
+        → result ≡ reply_on write.now rows }
+{
+    match write {
+        Write::Insert { .. } => {
+            if effect.is_empty() {
+                Reply::Duplicate
+            } else {
+                Reply::Inserted
+            }
+        }
+        Write::Update { .. } => Reply::Updated(effect.len() as u32),
+        Write::Delete { .. } => Reply::Deleted(effect.len() as u32),
+    }
+}

@@ -1,0 +1,363 @@
+ghost use Rattle.std.specs.Prelude.{◌≡◌, ◌<◌, ◌≤◌, ◌+◌, length, None, IfOk};
+ghost use Rattle.std.specs.List.{All};
+ghost use Rattle.std.specs.Option.{option_copied};
+ghost use Rattle.tt_values.specs.Check.{action_fault};
+ghost use Rattle.tt_values.specs.Effect.{answer_of};
+ghost use Rattle.tt_values.specs.Action.{replies_of};
+ghost use Rattle.tt_values.specs.RowWrites.{content_of};
+ghost use Rattle.tt_versions.specs.Sides.{current_of, next_of, is_split};
+ghost use Rattle.tt_repair_laws.specs.NextSide.{current_side};
+ghost use Rattle.tt_generations.specs.Limits.{max_slots};
+ghost use Rattle.tt_generations.specs.KeptSlots.{slot_at, last_content};
+ghost use Rattle.tt_generations.specs.Repair.{repair_with_slot, next_slots};
+ghost use Rattle.tt_generations.specs.TwoGenerations.{no_slots, with_action, with_repair, after_step, after_switch, after_abort, is_repairing, done_of, left_of, rerun_of, is_next_due, next_content_of, rows_on, AnswersOn, IsWithin, progress_of, next_side_of, dirty_rows_of, NamesSlot, HasNoFault, Phase};
+
+use crate::action_run::ActionRun;
+use crate::effect::copies_of;
+use crate::progress::Progress;
+use crate::repair::Repair;
+use crate::rows::Rows;
+use crate::slot::{KeptSlot, Slot};
+use std::alloc::{AllocError, Global};
+use std::marker::Model;
+use tt_pages::PagedLog;
+use tt_repair_laws::Edit;
+use tt_values::{Catalog, Items, Reply, Select, Shared, Write};
+use tt_versions::{Side, Table};
+
+/// The slots of the current generation with the rows that they leave, and a repair that builds the
+/// next one beside it, while one is under way.
+#[derive(Drop)]
+pub struct Generations {
+    alloc: Global,
+    catalog: Shared<Catalog>,
+    slots: PagedLog<KeptSlot>,
+    rows: Rows,
+    repair: Option<Repair>,
+}
+
+impl Model for Generations {
+    ghost use Rattle.tt_generations.specs.TwoGenerations.{TwoGenerations};
+    ghost use Rattle.tt_generations.specs.KeptSlots.{actions_of};
+    ghost use Rattle.tt_generations.specs.Generations.{phase_of, AreGenerations};
+
+    ghost Value = { TwoGenerations };
+
+    ghost view = { λ g. record {
+      catalog = g.catalog;
+      slots = actions_of g.slots;
+      phase = phase_of g.repair;
+    } };
+
+    ghost invariant = { λ g. AreGenerations g.catalog g.slots g.rows g.repair };
+}
+
+impl Generations {
+    /// No slots. Takes no memory.
+    pub fn new(alloc: Global, catalog: Shared<Catalog>) -> Generations
+        ensures { result ≡ no_slots catalog }
+    {
+        // For the proof: each catalog is sound.
+        let _ = catalog.get().len();
+        Generations {
+            alloc,
+            catalog,
+            slots: PagedLog::new(alloc),
+            rows: Rows::new(alloc),
+            repair: None,
+        }
+    }
+
+    /// The catalog of the tables.
+    pub fn catalog(&self) -> &Catalog
+        ensures { result.now ≡ self.now.catalog }
+    {
+        self.catalog.get()
+    }
+
+    /// How many slots there are.
+    pub fn len(&self) -> u64
+        ensures { result ≡ length self.now.slots }
+    {
+        self.slots.len() as u64
+    }
+
+    /// The slot of a number, counted from 1, in the current generation.
+    pub fn slot(&self, number: u64) -> Option<&Slot>
+        ensures { option_copied result ≡ slot_at self.now.slots number }
+    {
+        let position = number.checked_sub(1)?;
+        let kept = self.slots.get(position as usize)?;
+        Some(&kept.slot)
+    }
+
+    /// How far the repair is, if one is under way.
+    pub fn progress(&self) -> Option<Progress>
+        ensures { result ≡ progress_of self.now }
+    {
+        let repair = self.repair.as_ref()?;
+        Some(Progress {
+            done: repair.done,
+            left: self.len() - repair.done,
+            rerun: repair.rerun,
+        })
+    }
+
+    /// Whether a repair is under way.
+    pub fn is_repairing(&self) -> bool
+        ensures { result ≡ is_repairing self.now.phase }
+    {
+        match &self.repair {
+            Some(_) => true,
+            None => false,
+        }
+    }
+
+    /// How many slots the repair has done. 0 where none is under way.
+    pub fn done(&self) -> u64
+        ensures done { result ≡ done_of self.now.phase }
+        ensures within { IsWithin self.now.phase self.now.slots }
+    {
+        match &self.repair {
+            Some(repair) => repair.done,
+            None => 0,
+        }
+    }
+
+    /// How many slots the repair has left to do. 0 where none is under way.
+    pub fn left(&self) -> u64
+        ensures { result ≡ left_of self.now.phase self.now.slots }
+    {
+        match &self.repair {
+            Some(repair) => self.len() - repair.done,
+            None => 0,
+        }
+    }
+
+    /// How many of the slots done were re-executed. 0 where no repair is under way.
+    pub fn rerun(&self) -> u64
+        ensures { result ≡ rerun_of self.now.catalog self.now.phase self.now.slots }
+    {
+        match &self.repair {
+            Some(repair) => repair.rerun,
+            None => 0,
+        }
+    }
+
+    /// The versions of a table on both sides.
+    pub fn table(&self, table: u16) -> &Table
+        ensures current { current_of result.now ≡ current_side self.now.slots table }
+        ensures next { next_of result.now
+            ≡ next_side_of self.now.catalog self.now.phase self.now.slots table }
+        ensures split { is_split result.now
+            ≡ dirty_rows_of self.now.catalog self.now.phase self.now.slots table }
+    {
+        self.rows.table(table)
+    }
+
+    /// The reply to a select at a time, in the current generation.
+    pub fn answer_at(&self, select: &Select, time: u64) -> Result<Reply, AllocError>
+        ensures { IfOk result
+            (λ r. r ≡ answer_of select.now (content_of self.now.slots time)) }
+    {
+        let reply = self.answer_on(select, time, Side::Current)?;
+        Ok(reply)
+    }
+
+    /// The reply to a select in the next generation, at the last slot that the repair has done.
+    /// Where no repair is under way, that is the current one before its first slot.
+    pub fn preview(&self, select: &Select) -> Result<Reply, AllocError>
+        ensures { IfOk result (λ r. r ≡ answer_of select.now (next_content_of self.now)) }
+    {
+        let reply = self.answer_on(select, self.done(), Side::Next)?;
+        Ok(reply)
+    }
+
+    /// The reply to a select on a side at a time.
+    fn answer_on(&self, select: &Select, time: u64, side: Side) -> Result<Reply, AllocError>
+        ensures { IfOk result (λ r.
+            AnswersOn r select.now (rows_on side self.now select.now.table) time) }
+    {
+        let table = self.table(select.table);
+        let matching = table.rows_matching(select.equals.as_slice(), time, side)?;
+        let rows = copies_of(self.alloc, &matching)?;
+        let rows = Items::new(self.alloc, rows)?;
+        Ok(Reply::Rows(rows))
+    }
+
+    /// A further owner of the same slots and rows. Copies none of them.
+    pub fn share(&self) -> Result<Generations, AllocError>
+        ensures { IfOk result (λ g. g ≡ self.now) }
+    {
+        let catalog = self.catalog.clone()?;
+        let slots = self.slots.share()?;
+        let rows = self.rows.share()?;
+        let repair = shared_repair(&self.repair)?;
+        Ok(Generations {
+            alloc: self.alloc,
+            catalog,
+            slots,
+            rows,
+            repair,
+        })
+    }
+
+    /// The slots and one more, for this action, with the replies to its writes.
+    pub fn with_action(
+        self,
+        action: Items<Write>,
+    ) -> Result<(Generations, Items<Reply>), AllocError>
+        requires accepted { action_fault self.catalog action ≡ None }
+        requires room { length self.slots < max_slots }
+        ensures state { IfOk result (λ r. r.0 ≡ with_action self action) }
+        ensures replies { IfOk result (λ r. r.1 ≡ replies_of action (last_content self.slots)) }
+    {
+        let time = self.len() + 1;
+        let Generations {
+            alloc,
+            catalog,
+            mut slots,
+            rows,
+            repair,
+        } = self;
+        let run = ActionRun::of_writes(alloc, catalog.get(), rows, action.as_slice(), time)?;
+        let ActionRun {
+            rows,
+            replies,
+            keys,
+        } = run;
+        let replies = Items::new(alloc, replies)?;
+        let kept = KeptSlot::new(alloc, Some(action), &replies, keys)?;
+        let repair = repair_with_slot(repair, &kept)?;
+        slots.push(kept)?;
+        let generations = Generations {
+            alloc,
+            catalog,
+            slots,
+            rows,
+            repair,
+        };
+        Ok((generations, replies))
+    }
+
+    /// Begins a repair with these edits, where none is under way. It has done no slot yet.
+    pub fn with_repair(self, edits: Items<Edit>) -> Result<Generations, AllocError>
+        requires idle { self.phase ≡ Phase.Idle }
+        requires named { All (NamesSlot self.slots) edits }
+        requires accepted { All (HasNoFault self.catalog) edits }
+        ensures { IfOk result (λ g. g ≡ with_repair self edits) }
+    {
+        let repair = Repair::new(self.alloc, &self.catalog, edits, &self.slots)?;
+        Ok(Generations {
+            alloc: self.alloc,
+            catalog: self.catalog,
+            slots: self.slots,
+            rows: self.rows,
+            repair: Some(repair),
+        })
+    }
+
+    /// Does one slot of the repair: it is re-executed where it is due. Answers whether it was.
+    pub fn stepped(self) -> Result<(Generations, bool), AllocError>
+        requires { 0 < left_of self.phase self.slots }
+        ensures state { IfOk result (λ r. r.0 ≡ after_step self) }
+        ensures due { IfOk result (λ r. r.1 ≡ is_next_due self) }
+    {
+        let Generations {
+            alloc,
+            catalog,
+            slots,
+            rows,
+            repair,
+        } = self;
+        let Some(repair) = repair else {
+            unreachable!();
+        };
+        let Some(kept) = slots.get(repair.done as usize) else {
+            unreachable!();
+        };
+        let (repair, rows, is_due) = repair.stepped(alloc, catalog.get(), rows, kept)?;
+        let generations = Generations {
+            alloc,
+            catalog,
+            slots,
+            rows,
+            repair: Some(repair),
+        };
+        Ok((generations, is_due))
+    }
+
+    /// The next generation becomes the current one. Takes time for the split rows alone.
+    pub fn switched(self) -> Result<Generations, AllocError>
+        requires { left_of self.phase self.slots ≡ 0 }
+        ensures { IfOk result (λ g. g ≡ after_switch self) }
+    {
+        let Generations {
+            alloc,
+            catalog,
+            slots,
+            rows,
+            repair,
+        } = self;
+        let slots = next_slots(repair, slots);
+        let rows = rows.unsplit(Side::Next)?;
+        Ok(Generations {
+            alloc,
+            catalog,
+            slots,
+            rows,
+            repair: None,
+        })
+    }
+
+    /// The next generation is given up, and the current one stays. Takes time for the split rows
+    /// alone.
+    pub fn aborted(self) -> Result<Generations, AllocError>
+        ensures { IfOk result (λ g. g ≡ after_abort self) }
+    {
+        let rows = self.rows.unsplit(Side::Current)?;
+        Ok(Generations {
+            alloc: self.alloc,
+            catalog: self.catalog,
+            slots: self.slots,
+            rows,
+            repair: None,
+        })
+    }
+}
+
+/// A further owner of a repair, if there is one.
+fn shared_repair(repair: &Option<Repair>) -> Result<Option<Repair>, AllocError>
+    ensures { IfOk result (λ r. r ≡ repair.now) }
+{
+    match repair {
+        Some(repair) => {
+            let repair = repair.share()?;
+            Ok(Some(repair))
+        }
+        None => Ok(None),
+    }
+}
+
+/// The repair, if there is one, once a slot was added to the current generation.
+fn repair_with_slot(repair: Option<Repair>, kept: &KeptSlot) -> Result<Option<Repair>, AllocError>
+    ensures { IfOk result (λ r. r ≡ repair_with_slot kept.now repair) }
+{
+    match repair {
+        Some(repair) => {
+            let repair = repair.with_slot(kept)?;
+            Ok(Some(repair))
+        }
+        None => Ok(None),
+    }
+}
+
+/// The slots of the next generation, or those of the current one where there is no repair.
+fn next_slots(repair: Option<Repair>, slots: PagedLog<KeptSlot>) -> PagedLog<KeptSlot>
+    ensures { result ≡ next_slots repair slots }
+{
+    match repair {
+        Some(repair) => repair.slots,
+        None => slots,
+    }
+}

@@ -1,0 +1,22 @@
+//! The tables of two generations: the slots of the current one with the rows that they leave, and
+//! beside them, while a repair is under way, those that the next one is to have.
+#![tactic(auto)]
+
+mod action_run;
+mod affected;
+mod edits;
+mod effect;
+mod generations;
+mod progress;
+mod reexecution;
+mod repair;
+mod rows;
+mod slot;
+
+pub use generations::Generations;
+pub use progress::Progress;
+pub use slot::Slot;
+pub use tt_repair_laws::Edit;
+
+/// The largest number of slots.
+pub const MAX_SLOTS: u64 = 1_000_000;

@@ -1,0 +1,299 @@
+ghost use Rattle.std.specs.Prelude.{◌≡◌, ◌<◌, [], ◌∷◌, length, true, IfOk, OnOk};
+ghost use Rattle.std.specs.List.{All};
+ghost use Rattle.tt_versions.specs.Sides.{no_lineages, side_of, current_of, next_of, is_split, none_split, all_written_from};
+ghost use Rattle.tt_generations.specs.Rows.{versions_at, KeepsOthers, ShowsSide};
+
+use crate::slot::RowKey;
+use std::alloc::{AllocError, Global};
+use std::marker::Model;
+use std::mem;
+use tt_values::{Catalog, Row};
+use tt_versions::{Side, Table};
+
+/// The rows of all tables with their versions on both sides.
+#[derive(Drop)]
+pub(crate) struct Rows {
+    alloc: Global,
+    /// By position. A table past the end was never written.
+    tables: Vec<Table>,
+    /// Stands for each table past the end.
+    empty: Table,
+}
+
+impl Model for Rows {
+    ghost use Rattle.std.specs.Prelude.{◌≡◌};
+    ghost use Rattle.tt_versions.specs.Sides.{no_lineages};
+    ghost use Rattle.tt_generations.specs.Rows.{TablesByPosition};
+
+    ghost Value = { TablesByPosition };
+
+    ghost view = { λ r. r.tables.items };
+
+    ghost invariant = { λ r. r.empty ≡ no_lineages };
+}
+
+impl Rows {
+    ghost use Rattle.tt_generations.specs.Rows.{AddsEffect, WritesCurrent, KeepsSplitRows, SplitsRows, WritesNext, ShowsSide, as_pairs};
+
+    /// No rows. Takes no memory.
+    pub(crate) fn new(alloc: Global) -> Rows
+        ensures { result ≡ [] }
+    {
+        Rows {
+            alloc,
+            tables: Vec::new(alloc),
+            empty: Table::new(alloc),
+        }
+    }
+
+    /// The table at a position.
+    pub(crate) fn table(&self, table: u16) -> &Table
+        ensures { result.now ≡ versions_at self.now table }
+    {
+        let position = usize::from(table);
+        if position < self.tables.len() {
+            &self.tables[position]
+        } else {
+            &self.empty
+        }
+    }
+
+    /// A further owner of each table.
+    pub(crate) fn share(&self) -> Result<Rows, AllocError>
+        ensures { IfOk result (λ r. r ≡ self.now) }
+    {
+        let mut tables = Vec::with_capacity(self.alloc, self.tables.len())?;
+        for table in &self.tables {
+            tables.push(table.share()?)?;
+        }
+        Ok(Rows {
+            alloc: self.alloc,
+            tables,
+            empty: Table::new(self.alloc),
+        })
+    }
+
+    /// The rows once these keys of a table have those rows, or none, from the time on: on both
+    /// sides, or only on the current one where a row is split. The catalog says by which columns
+    /// the rows of a new table can be found.
+    pub(crate) fn with_row_writes(
+        self,
+        catalog: &Catalog,
+        table: u16,
+        effect: Vec<(i64, Option<Row>)>,
+        time: u64,
+    ) -> Result<Rows, AllocError>
+        ensures current { IfOk result (λ r. AddsEffect self r time table effect.items) }
+        ensures written { IfOk result (λ r. WritesCurrent self r time table effect.items) }
+        ensures split { IfOk result (λ r. KeepsSplitRows self r) }
+    {
+        let Rows {
+            alloc,
+            mut tables,
+            empty,
+        } = self;
+        let position = usize::from(table);
+        let old = take_table(alloc, catalog, &mut tables, position)?;
+        let new = old.into_all_written(effect, time)?;
+        tables[position] = new;
+        Ok(Rows {
+            alloc,
+            tables,
+            empty,
+        })
+    }
+
+    /// The rows once each of these is split. One that wasn't is rolled back on its next side to
+    /// before the time.
+    pub(crate) fn with_rows_split(
+        self,
+        catalog: &Catalog,
+        keys: &[RowKey],
+        time: u64,
+    ) -> Result<Rows, AllocError>
+        ensures { IfOk result (λ r. SplitsRows self r (as_pairs keys.now) time) }
+    {
+        let mut rows = self;
+        for key in keys {
+            rows = rows.with_row_split(catalog, *key, time)?;
+        }
+        Ok(rows)
+    }
+
+    fn with_row_split(self, catalog: &Catalog, row: RowKey, time: u64) -> Result<Rows, AllocError>
+        ensures { IfOk result (λ r. SplitsRows self r ((row.table, row.key) ∷ []) time) }
+    {
+        if self.table(row.table).is_split(row.key) {
+            return Ok(self);
+        }
+        let Rows {
+            alloc,
+            mut tables,
+            empty,
+        } = self;
+        let position = usize::from(row.table);
+        let old = take_table(alloc, catalog, &mut tables, position)?;
+        let new = old.into_split_back(row.key, time)?;
+        tables[position] = new;
+        Ok(Rows {
+            alloc,
+            tables,
+            empty,
+        })
+    }
+
+    /// The rows once these keys of a table, whose rows are split, have those rows, or none, from
+    /// the time on, only on the next side.
+    pub(crate) fn with_next_writes(
+        self,
+        catalog: &Catalog,
+        table: u16,
+        effect: Vec<(i64, Option<Row>)>,
+        time: u64,
+    ) -> Result<Rows, AllocError>
+        requires { All (λ e. is_split (versions_at self table) e.0 ≡ true) effect.items }
+        ensures { IfOk result (λ r. WritesNext self r time table effect.items) }
+    {
+        let Rows {
+            alloc,
+            mut tables,
+            empty,
+        } = self;
+        let position = usize::from(table);
+        let old = take_table(alloc, catalog, &mut tables, position)?;
+        let new = with_all_next_written(old, effect, time)?;
+        tables[position] = new;
+        Ok(Rows {
+            alloc,
+            tables,
+            empty,
+        })
+    }
+
+    /// The rows once both sides of each table show what this one shows.
+    pub(crate) fn unsplit(self, side: Side) -> Result<Rows, AllocError>
+        ensures { IfOk result (λ r. ShowsSide side self r) }
+    {
+        let Rows {
+            alloc,
+            tables,
+            empty,
+        } = self;
+        let tables = tables_unsplit(alloc, tables, side)?;
+        Ok(Rows {
+            alloc,
+            tables,
+            empty,
+        })
+    }
+}
+
+/// The tables once both sides of each show what this one shows.
+fn tables_unsplit(alloc: Global, tables: Vec<Table>, side: Side) -> Result<Vec<Table>, AllocError>
+    ensures { IfOk result (λ r. ShowsSide side tables.items r.items) }
+{
+    let mut shown = Vec::with_capacity(alloc, tables.len())?;
+    for table in tables {
+        shown.push(table_unsplit(table, side)?)?;
+    }
+    Ok(shown)
+}
+
+/// A table once both its sides show what this one shows.
+fn table_unsplit(table: Table, side: Side) -> Result<Table, AllocError>
+    ensures rows { IfOk result (λ t. (either : Side) → side_of t either ≡ side_of table side) }
+    ensures whole { IfOk result (λ t. is_split t ≡ none_split) }
+{
+    match side {
+        Side::Current => table.into_aborted(),
+        Side::Next => table.into_switched(),
+    }
+}
+
+/// A table once these keys, whose rows are split, have those rows, or none, from the time on, only
+/// on the next side.
+fn with_all_next_written(
+    table: Table,
+    effect: Vec<(i64, Option<Row>)>,
+    time: u64,
+) -> Result<Table, AllocError>
+    requires { All (λ e. is_split table e.0 ≡ true) effect.items }
+    ensures current { IfOk result (λ t. current_of t ≡ current_of table) }
+    ensures next { IfOk result (λ t.
+        next_of t ≡ all_written_from effect.items time (next_of table)) }
+    ensures split { IfOk result (λ t. is_split t ≡ is_split table) }
+{
+    let mut table = table;
+    for (key, row) in effect {
+        table = table.into_next_written(key, row, time)?;
+    }
+    Ok(table)
+}
+
+/// Takes a table out, and leaves an empty one. There are tables up to its position then.
+#[tactic(auto, using(crate::proofs::RowsLemmas::sets_table))]
+fn take_table(
+    alloc: Global,
+    catalog: &Catalog,
+    tables: &mut Vec<Table>,
+    position: usize,
+) -> Result<Table, AllocError>
+    ensures table { IfOk result (λ table. table ≡ versions_at tables.old.items position) }
+    ensures room { OnOk result (position < length tables.new.items) }
+    ensures others { OnOk result (KeepsOthers position tables.old.items tables.new.items) }
+{
+    add_tables(alloc, catalog, tables, position)?;
+    let table = mem::replace(&mut tables[position], Table::new(alloc));
+    Ok(table)
+}
+
+/// Adds empty tables, until there is one at the position.
+#[tactic(auto, using(crate::proofs::RowsLemmas::adds_tables))]
+fn add_tables(
+    alloc: Global,
+    catalog: &Catalog,
+    tables: &mut Vec<Table>,
+    position: usize,
+) -> Result<(), AllocError>
+    ensures room { OnOk result (position < length tables.new.items) }
+    ensures same { versions_at tables.new.items ≡ versions_at tables.old.items }
+{
+    while tables.len() <= position {
+        let table = empty_table(alloc, catalog, tables.len())?;
+        tables.push(table)?;
+    }
+    Ok(())
+}
+
+/// A table without rows, whose rows can be found by the partition columns of the one at that
+/// position of the catalog.
+fn empty_table(alloc: Global, catalog: &Catalog, position: usize) -> Result<Table, AllocError>
+    ensures { IfOk result (λ table. table ≡ no_lineages) }
+{
+    let columns = partition_columns(alloc, catalog, position)?;
+    let table = Table::with_columns(alloc, &columns)?;
+    Ok(table)
+}
+
+/// The positions of a table's partition columns but the first, which is the key.
+fn partition_columns(
+    alloc: Global,
+    catalog: &Catalog,
+    position: usize,
+) -> Result<Vec<u16>, AllocError> {
+    let mut columns = Vec::new(alloc);
+    let Ok(position) = u16::try_from(position) else {
+        return Ok(columns);
+    };
+    let Some(table) = catalog.table(position) else {
+        return Ok(columns);
+    };
+    let mut place: u16 = 0;
+    for column in table.columns.as_slice() {
+        if column.partition && place > 0 {
+            columns.push(place)?;
+        }
+        place = place.saturating_add(1);
+    }
+    Ok(columns)
+}

@@ -1,0 +1,81 @@
+ghost use Rattle.std.specs.Prelude.{◌≡◌, IfOk};
+ghost use Rattle.tt_generations.specs.Replies.{replies_if};
+
+use std::alloc::{AllocError, Global};
+use tt_pages::Kept;
+use tt_values::{Items, Reply, Write};
+
+/// A slot: an action, and a reply to each of its writes. Both are None where the slot was
+/// cancelled.
+#[derive(Debug, PartialEq, Drop)]
+pub struct Slot {
+    pub action: Option<Items<Write>>,
+    pub replies: Option<Items<Reply>>,
+}
+
+impl Clone for Slot {
+    ghost use Rattle.std.specs.Prelude.{◌≡◌};
+
+    ghost is_clone = { λ source copy. copy ≡ source };
+
+    fn clone(&self) -> Result<Self, AllocError> {
+        let action = match &self.action {
+            Some(action) => Some(action.clone()?),
+            None => None,
+        };
+        let replies = match &self.replies {
+            Some(replies) => Some(replies.clone()?),
+            None => None,
+        };
+        Ok(Slot { action, replies })
+    }
+}
+
+/// A row: the position of its table, and its key.
+#[derive(Clone, Copy, Debug, PartialEq, Eq)]
+pub(crate) struct RowKey {
+    pub(crate) table: u16,
+    pub(crate) key: i64,
+}
+
+/// A slot with the rows that it wrote, in the order of its writes. One that was written twice is
+/// there twice. A repair asks for them, and needn't carry the slot out again to know them.
+#[derive(Drop)]
+pub(crate) struct KeptSlot {
+    pub(crate) slot: Slot,
+    pub(crate) rows: Items<RowKey>,
+}
+
+impl KeptSlot {
+    /// A slot of this action, with the replies to its writes and the rows that they wrote. A
+    /// cancelled slot has no replies.
+    pub(crate) fn new(
+        alloc: Global,
+        action: Option<Items<Write>>,
+        replies: &Items<Reply>,
+        rows: Vec<RowKey>,
+    ) -> Result<KeptSlot, AllocError>
+        ensures action { IfOk result (λ kept. kept.slot.action ≡ action) }
+        ensures replies { IfOk result
+            (λ kept. kept.slot.replies ≡ replies_if action replies.now) }
+        ensures rows { IfOk result (λ kept. kept.rows ≡ rows.items) }
+    {
+        let replies = match &action {
+            Some(_) => Some(replies.clone()?),
+            None => None,
+        };
+        let rows = Items::new(alloc, rows)?;
+        Ok(KeptSlot {
+            slot: Slot { action, replies },
+            rows,
+        })
+    }
+}
+
+impl Kept for KeptSlot {
+    fn kept(&self) -> Result<Self, AllocError> {
+        let slot = self.slot.clone()?;
+        let rows = self.rows.clone()?;
+        Ok(KeptSlot { slot, rows })
+    }
+}

@@ -1,0 +1,165 @@
+ghost use Rattle.std.specs.Prelude.{◌≡◌, [], ◌∷◌, ◌++◌, IfOk, OnOk};
+ghost use Rattle.std.specs.Option.{option_copied};
+ghost use Rattle.std.specs.Ordering.{int_cmp};
+ghost use Rattle.std.specs.FinMap.Entries.{find};
+ghost use Rattle.tt_values.specs.Digest.{digest_of};
+ghost use Rattle.tt_parts.specs.Sets.{under, finds_value, finds_in_column, finds_partition, AddsValue, AddsInColumn, AddsPartition};
+
+use crate::by_position::{put_value, take_value, value_at};
+use crate::partition::Partition;
+use crate::same_digest::SameDigest;
+use std::alloc::{AllocError, Global};
+use std::marker::Model;
+use tt_pages::PagedMap;
+use tt_values::{Value, digest};
+
+/// Values by their digests.
+type Values = PagedMap<SameDigest>;
+
+/// The values of partitions, by column.
+type Columns = PagedMap<Values>;
+
+/// The set of dirty partitions. Contracts see them as a list.
+#[derive(Debug, Drop)]
+pub(crate) struct DirtyPartitions {
+    /// The values of the partitions, by table.
+    tables: PagedMap<Columns>,
+}
+
+impl Model for DirtyPartitions {
+    ghost use Rattle.std.specs.Prelude.{List};
+    ghost use Rattle.tt_parts.specs.declared.partition.Partition.{Partition};
+    ghost use Rattle.tt_parts.specs.Sets.{partitions_found};
+
+    ghost Value = { List Partition };
+
+    ghost view = { λ p. partitions_found p.tables };
+}
+
+impl DirtyPartitions {
+    ghost use Rattle.tt_parts.specs.Partitions.{is_partition_in};
+    ghost use Rattle.tt_parts.specs.Dirty.{SamePartitions};
+
+    pub(crate) fn new(alloc: Global) -> DirtyPartitions
+        ensures { result ≡ [] }
+    {
+        DirtyPartitions {
+            tables: PagedMap::new(alloc),
+        }
+    }
+
+    /// A further owner of the same partitions.
+    pub(crate) fn share(&self) -> Result<DirtyPartitions, AllocError>
+        ensures { IfOk result (λ partitions. partitions ≡ self.now) }
+    {
+        let tables = self.tables.share()?;
+        Ok(DirtyPartitions { tables })
+    }
+
+    pub(crate) fn has(&self, partition: &Partition) -> bool
+        ensures { result ≡ is_partition_in self.now partition.now }
+    {
+        self.has_value_in(partition.table, partition.column, &partition.value)
+    }
+
+    /// Whether it has the partition of a value in a column of a table.
+    #[tactic(auto, using(crate::proofs::SearchLemmas::partitions_found_are))]
+    pub(crate) fn has_value_in(&self, table: u16, column: u16, value: &Value) -> bool
+        ensures { result ≡ is_partition_in self.now
+            (record { table = table; column = column; value = value.now }) }
+    {
+        has_partition(&self.tables, table, column, value)
+    }
+
+    pub(crate) fn add(&mut self, alloc: Global, partition: &Partition) -> Result<(), AllocError>
+        ensures { OnOk result (SamePartitions self.new (partition.now ∷ self.old)) }
+    {
+        add_partition(alloc, &mut self.tables, partition)?;
+        Ok(())
+    }
+}
+
+fn has_partition(tables: &PagedMap<Columns>, table: u16, column: u16, value: &Value) -> bool
+    ensures { result ≡ finds_partition tables.now
+        (record { table = table; column = column; value = value.now }) }
+{
+    match value_at(tables, table) {
+        Some(columns) => has_in_column(columns, column, value),
+        None => false,
+    }
+}
+
+fn has_in_column(columns: &Columns, column: u16, value: &Value) -> bool
+    ensures { result ≡ finds_in_column columns.now column value.now }
+{
+    match value_at(columns, column) {
+        Some(values) => has_value(values, value),
+        None => false,
+    }
+}
+
+fn has_value(values: &Values, value: &Value) -> bool
+    ensures { result ≡ finds_value values.now value.now }
+{
+    match same_digest(values, value) {
+        Some(others) => others.has(value),
+        None => false,
+    }
+}
+
+/// Adds a partition. One that is there already stays there once.
+fn add_partition(
+    alloc: Global,
+    tables: &mut PagedMap<Columns>,
+    partition: &Partition,
+) -> Result<(), AllocError>
+    ensures { OnOk result (AddsPartition tables.old partition.now tables.new) }
+{
+    if has_partition(tables, partition.table, partition.column, &partition.value) {
+        return Ok(());
+    }
+    let mut columns = take_value(tables, partition.table, PagedMap::new(alloc))?;
+    add_in_column(alloc, &mut columns, partition.column, &partition.value)?;
+    put_value(tables, partition.table, columns)?;
+    Ok(())
+}
+
+fn add_in_column(
+    alloc: Global,
+    columns: &mut Columns,
+    column: u16,
+    value: &Value,
+) -> Result<(), AllocError>
+    ensures { OnOk result (AddsInColumn columns.old column value.now columns.new) }
+{
+    let mut values = take_value(columns, column, PagedMap::new(alloc))?;
+    add_value(alloc, &mut values, value)?;
+    put_value(columns, column, values)?;
+    Ok(())
+}
+
+fn add_value(alloc: Global, values: &mut Values, value: &Value) -> Result<(), AllocError>
+    ensures { OnOk result (AddsValue values.old value.now values.new) }
+{
+    let same_digest = same_digest_with(alloc, values, value)?;
+    values.put(digest(value), same_digest)?;
+    Ok(())
+}
+
+/// The values with the digest of this one, and this one.
+fn same_digest_with(alloc: Global, values: &Values, value: &Value) -> Result<SameDigest, AllocError>
+    ensures { IfOk result
+        (λ vs. vs ≡ under (digest_of value.now) values.now ++ value.now ∷ []) }
+{
+    match same_digest(values, value) {
+        Some(others) => others.with(alloc, value),
+        None => SameDigest::of(alloc, value),
+    }
+}
+
+/// The values with the digest of this one.
+fn same_digest<'a>(values: &'a Values, value: &Value) -> Option<&'a SameDigest>
+    ensures { option_copied result ≡ find int_cmp (digest_of value.now) values.now }
+{
+    values.get(digest(value))
+}

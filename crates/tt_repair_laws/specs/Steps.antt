@@ -1,0 +1,79 @@
+-- One slot of a repair: when it is due, what gets dirty with it, and which rows it changes.
+use Rattle.std.specs.Prelude.{◌≡◌, ℕ, suc, ◌≤◌, ℤ, true, false, ◌||◌, List, fold, length}
+use Rattle.tt_values.specs.declared.statement.Equal.{Equal}
+use Rattle.tt_values.specs.declared.statement.Change.{Change}
+use Rattle.tt_values.specs.declared.statement.Write.{Write}
+use Rattle.tt_values.specs.declared.statement.Write.TheVariants.{Update, Delete}
+use Rattle.tt_values.specs.Tables.{Tables}
+use Rattle.tt_values.specs.Content.{Content, row_at}
+use Rattle.tt_values.specs.RowWrites.{Slots, slot_after, content_of}
+use Rattle.tt_parts.specs.Dirty.{DirtySet, SameMembers, nothing_dirty, has_row, is_row_in}
+use Rattle.tt_repair_laws.specs.declared.edit.Edit.{Edit}
+use Rattle.tt_repair_laws.specs.Edits.{edited_slots}
+use Rattle.tt_repair_laws.specs.Due.{content_after, rows_written, rows_matched, slot_rows_written, with_row_of, is_due_by, is_due, rows_reexecuted, dirty_after, rerun_count}
+
+-- whether a slot is due depends only on the members of the dirty set
+abbrev pub DueDependsOnMembers : Type 0
+DueDependsOnMembers = (tables : Tables) (W : Slots) (E : List Edit) (n : ℕ) (C D : DirtySet) → SameMembers C D →
+    is_due_by tables W E n C ≡ is_due_by tables W E n D
+
+-- sets with the same members have the same members after the same rows get dirty in both
+abbrev pub DirtyRowsDependOnMembers : Type 0
+DirtyRowsDependOnMembers = (tables : Tables) (X Y : Content) (rs : List (ℕ × ℤ)) (C D : DirtySet) → SameMembers C D →
+    SameMembers (fold (with_row_of tables X Y) C rs) (fold (with_row_of tables X Y) D rs)
+
+-- after rows get dirty, these rows are dirty and those that were before, and no others
+abbrev pub DirtyRowsGrow : Type 0
+DirtyRowsGrow = (tables : Tables) (X Y : Content) (rs : List (ℕ × ℤ)) (D : DirtySet) (table : ℕ) (key : ℤ) →
+    has_row (fold (with_row_of tables X Y) D rs) table key ≡ (is_row_in rs table key || has_row D table key)
+
+-- at first nothing is dirty
+abbrev pub NothingIsDirtyAtFirst : Type 0
+NothingIsDirtyAtFirst = (tables : Tables) (W : Slots) (E : List Edit) → dirty_after tables W E 0 ≡ nothing_dirty
+
+-- nothing gets dirty with a slot that isn't due
+abbrev pub UndueSlotsDirtyNothing : Type 0
+UndueSlotsDirtyNothing = (tables : Tables) (W : Slots) (E : List Edit) (n : ℕ) → is_due tables W E n ≡ false →
+    dirty_after tables W E (suc n) ≡ dirty_after tables W E n
+
+-- with a slot that is due the re-executed rows get dirty, one after another
+abbrev pub DueSlotsDirtyReexecutedRows : Type 0
+DueSlotsDirtyReexecutedRows = (tables : Tables) (W : Slots) (E : List Edit) (n : ℕ) → is_due tables W E n ≡ true →
+    let X = content_after (edited_slots W E) n in
+    let Y = content_after (edited_slots W E) (suc n) in
+    dirty_after tables W E (suc n) ≡ fold (with_row_of tables X Y) (dirty_after tables W E n) (rows_reexecuted W E n)
+
+-- at first no slot is re-executed
+abbrev pub NoSlotIsRerunAtFirst : Type 0
+NoSlotIsRerunAtFirst = (tables : Tables) (W : Slots) (E : List Edit) → rerun_count tables W E 0 ≡ 0
+
+-- a slot that is due is one more to be re-executed
+abbrev pub DueSlotsAreRerun : Type 0
+DueSlotsAreRerun = (tables : Tables) (W : Slots) (E : List Edit) (n : ℕ) → is_due tables W E n ≡ true →
+    rerun_count tables W E (suc n) ≡ suc (rerun_count tables W E n)
+
+-- a slot that isn't due is not re-executed
+abbrev pub UndueSlotsAreNotRerun : Type 0
+UndueSlotsAreNotRerun = (tables : Tables) (W : Slots) (E : List Edit) (n : ℕ) → is_due tables W E n ≡ false →
+    rerun_count tables W E (suc n) ≡ rerun_count tables W E n
+
+-- a slot leaves the rows as they are that it doesn't write
+abbrev pub UnwrittenRowsStay : Type 0
+UnwrittenRowsStay = (W : Slots) (n table : ℕ) (key : ℤ) →
+    is_row_in (slot_rows_written (slot_after W n) (content_after W n)) table key ≡ false →
+    row_at (content_after W (suc n) table) key ≡ row_at (content_after W n table) key
+
+-- a write matches each row that it writes
+abbrev pub WrittenRowsAreMatched : Type 0
+WrittenRowsAreMatched = (w : Write) (X : Content) (table : ℕ) (key : ℤ) →
+    is_row_in (rows_written w X) table key ≡ true → is_row_in (rows_matched w X) table key ≡ true
+
+-- an update and a delete write the rows that they match, and no others
+abbrev pub UpdatesAndDeletesWriteWhatTheyMatch : Type 0
+UpdatesAndDeletesWriteWhatTheyMatch = (table : ℕ) (changes : List Change) (equals : List Equal) (X : Content) →
+    (rows_matched (Update table changes equals) X ≡ rows_written (Update table changes equals) X)
+    × (rows_matched (Delete table equals) X ≡ rows_written (Delete table equals) X)
+
+-- the content after the first n slots is that of all slots at time n
+abbrev pub ContentAfterIsKept : Type 0
+ContentAfterIsKept = (W : Slots) (n : ℕ) → n ≤ length W → content_of W n ≡ content_after W n
