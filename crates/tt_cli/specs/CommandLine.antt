@@ -1,11 +1,48 @@
--- The command line: `timetravel`, with the subcommand `replay` and no arguments.
-use Rattle.std.specs.Prelude.{codes, true}
-use Rattle.clap.specs.Words.{App, new_app, with_subcommand}
+-- The command line: `timetravel`, with its version and the subcommand `replay`, which takes
+-- `--batch`.
+use Rattle.std.specs.Prelude.{◌≡◌, ℕ, ◌∷◌, [], List, Option, Some, None, Ok, IsSomeAnd, codes, pos}
+use Rattle.std.specs.Prelude.{if◌then◌else◌, true}
+use Rattle.std.specs.Str.Parse.{ParsesUnsigned}
+use Rattle.std.specs.declared.num.ParseIntError.{ParseIntError}
+use Rattle.clap.specs.Words.{App, Row, Rule, Text, first_of, new_app, new_rule, subcommand_of}
+use Rattle.clap.specs.Words.{with_rule, with_subcommand}
+use Rattle.clap.specs.Takes.{is_given}
+use Rattle.clap.specs.declared.builder.action.ArgAction.TheVariants.{Set}
+use Rattle.clap.specs.declared.builder.value_parser.ValueParser.TheVariants as parser
 
 abbrev pub requiring_subcommand : App → App
 requiring_subcommand app = record app { top = record app.top { subcommand_required = true } }
 
+abbrev pub with_version : App → App
+with_version app = record app { top = record app.top { has_version = true } }
+
+-- `--batch N`, from 1 to 10,000, and 16 where it isn't given
+abbrev pub batch : Rule
+batch = record (new_rule (codes "batch")) {
+  long = Some (codes "batch");
+  action = Some Set;
+  value_names = 1;
+  defaults = codes "16" ∷ [];
+  parser = Some (parser.Signed (pos 1) (pos 10000));
+}
+
+abbrev pub replay : App
+replay = with_rule (new_app (codes "replay")) batch
+
 abbrev pub command_line : App
 command_line =
-    with_subcommand (requiring_subcommand (new_app (codes "timetravel")))
-    (new_app (codes "replay")).top
+    with_subcommand (requiring_subcommand (with_version (new_app (codes "timetravel")))) replay.top
+
+-- the text that the words give for an option; a default is none
+abbrev pub given_text : Text → List Row → Option Text
+given_text id rows = if is_given id rows then first_of id rows else None
+
+-- the number that the text writes, or the fallback where there is no text
+abbrev pub IsNumberOr : ℕ → Option Text → ℕ → Type 0
+IsNumberOr fallback None n = n ≡ fallback
+IsNumberOr fallback (Some text) n = ParsesUnsigned {E = ParseIntError} 32 10 text (Ok n)
+
+-- the number that the words give for `--batch`, or 16 where they give none
+unfoldable pub IsBatchOf : List Text → ℕ → Type 0
+IsBatchOf words n = IsSomeAnd (subcommand_of command_line words) (λ sub.
+    IsNumberOr 16 (given_text (codes "batch") sub.1) n)

@@ -1,12 +1,14 @@
 //! The command line.
 ghost use Rattle.std.specs.Prelude.{◌≡◌, IfOk, map, string_bytes};
-ghost use Rattle.clap.specs.Words.{FailsBy, app_of, fault_of};
-ghost use Rattle.tt_cli.specs.CommandLine.{command_line};
-ghost use Rattle.tt_workload.specs.Options.{usual};
+ghost use Rattle.clap.specs.Words.{FailsBy, app_of, fault_of, rule_of};
+ghost use Rattle.tt_cli.specs.CommandLine.{IsBatchOf, batch, command_line, replay};
+ghost use Rattle.tt_workload.specs.Options.{AreWithin};
 
-use clap::{Command, Error};
+use clap::{Arg, ArgAction, Command, Error};
 use std::alloc::{AllocError, Global};
 use tt_workload::Options;
+
+const VERSION: &str = "0.1.0";
 
 const ABOUT: &str = "A time-travel database: runs a workload and prints its report";
 
@@ -28,11 +30,14 @@ that workers make, in order:
      {"worker":1,"delete":"acct","where":[]},
      {"worker":1,"do":[
        {"insert":"acct","row":[1,"ann",10]},
-       {"insert":"acct","row":[2,"bob",20]}]}]}
+       {"insert":"acct","row":[2,"bob",20]}]}],
+   "repair":{"edits":[{"cancel":2}]}}
 
 The second select reads the rows as they were at time 1, after the first write. The last call makes
-two writes as one action: they take one slot and one time.
-The report goes to standard output: a line for each call, one for each table, and a last line."#;
+two writes as one action: they take one slot and one time. The repair cancels call 2, the update;
+a member "by" beside "replace" would put another write in its place.
+The report goes to standard output: a line for each call, one for the repair and for each reply
+that it has changed, one for each table, and a last line."#;
 
 /// What the command line asks for.
 #[derive(Clone, Copy, Debug, PartialEq, Eq)]
@@ -41,15 +46,27 @@ pub struct Cli {
 }
 
 /// Reads the words of the command line, the program's name first. An error is a fault of usage,
-/// help that was asked for, or out of memory.
+/// help or the version that was asked for, or out of memory.
 pub fn command_of<'a>(alloc: Global, words: &'a [String]) -> Result<Cli, Error>
-    ensures usual { IfOk result (λ cli. cli.options ≡ usual) }
     ensures kinds { FailsBy (fault_of command_line (map string_bytes words.entry.now)) result }
+    ensures within { IfOk result (λ cli. AreWithin cli.options) }
+    ensures batch { IfOk result (λ cli.
+        IsBatchOf (map string_bytes words.entry.now) cli.options.batch) }
+    ensures rounds { IfOk result (λ cli. cli.options.rounds ≡ 8) }
 {
     let command = command(alloc)?;
-    command.try_get_matches_from(words)?;
+    let matches = command.try_get_matches_from(words)?;
+    let Some((_, replay)) = matches.subcommand() else {
+        unreachable!()
+    };
+    let Some(batch) = replay.get_one::<u32>("batch") else {
+        unreachable!()
+    };
     Ok(Cli {
-        options: Options::usual(),
+        options: Options {
+            batch,
+            rounds: Options::usual().rounds,
+        },
     })
 }
 
@@ -57,13 +74,34 @@ pub fn command_of<'a>(alloc: Global, words: &'a [String]) -> Result<Cli, Error>
 fn command<'a>(alloc: Global) -> Result<Command<'a>, AllocError>
     ensures { IfOk result (λ command. app_of command ≡ command_line) }
 {
-    let replay = Command::new(alloc, "replay")
-        .about("Runs the calls one after another, in one thread")
-        .after_help(DOCUMENT);
     Command::new(alloc, "timetravel")
         .bin_name("timetravel")?
+        .version(VERSION)
         .about(ABOUT)
         .after_help(DOCUMENT)
         .subcommand_required(true)
-        .subcommand(replay)
+        .subcommand(replay(alloc)?)
+}
+
+/// The subcommand that runs the calls in one thread.
+fn replay<'a>(alloc: Global) -> Result<Command<'a>, AllocError>
+    ensures { IfOk result (λ command. app_of command ≡ replay) }
+{
+    Command::new(alloc, "replay")
+        .about("Runs the calls one after another, in one thread")
+        .after_help(DOCUMENT)
+        .arg(batch(alloc))
+}
+
+/// The option `--batch`.
+fn batch<'a>(alloc: Global) -> Arg<'a>
+    ensures { rule_of result ≡ batch }
+{
+    Arg::new(alloc, "batch")
+        .long("batch")
+        .action(ArgAction::Set)
+        .value_name("N")
+        .value_parser(clap::value_parser!(u32).range(1..=10_000))
+        .default_value("16")
+        .help("The most steps of a repair that are done at once, 1 to 10,000")
 }

@@ -1,3 +1,5 @@
+mod command_line;
+
 use crate::ending::Ending;
 use crate::messages::print_line;
 use crate::status::{fault_line, status_of};

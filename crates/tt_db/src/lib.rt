@@ -9,8 +9,6 @@ pub mod laws;
 mod limits;
 mod outcome;
 mod refusals;
-#[cfg(test)]
-mod tests;
 mod transition;
 
 pub use database::Db;

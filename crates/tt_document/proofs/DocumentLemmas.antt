@@ -1,7 +1,7 @@
 -- A document that is read is within its limits, and each statement passed its check.
-use Rattle.std.proofs.Common.{◌≡◌, ℕ, suc, ◌≤◌, Bool, true, false, cond, nat_lt, ◌||◌, List, [], ◌∷◌, length, Option, None, Some, Result, Ok, Err, codes, refl, sym, ap, subst, ◌∙◌}
-use Rattle.std.specs.List.{AllByRecursion}
-use Rattle.std.specs.Option.{option_or}
+use Rattle.std.proofs.Common.{◌≡◌, ℕ, suc, ◌+◌, ◌≤◌, ◌==◌, Bool, true, false, not, cond, nat_lt, ◌||◌, List, [], ◌∷◌, ◌++◌, length, Option, None, Some, IfSome, Result, Ok, Err, codes, refl, sym, ap, subst, ◌∙◌, arith, append-nil, append_assoc, length-append}
+use Rattle.std.specs.List.{AllByRecursion, list_any}
+use Rattle.std.specs.Option.{option_or, unwrap_or}
 use Rattle.std.proofs.lemmas.Bool.{ltb-false}
 use Rattle.std.proofs.lemmas.List.Elements.{All-from_recursion}
 use Rattle.serde_json.specs.Data.{Data}
@@ -14,7 +14,10 @@ use Rattle.tt_values.specs.declared.statement.Write.TheVariants.{Insert, Update,
 use Rattle.tt_values.specs.Tables.{Tables}
 use Rattle.tt_values.specs.Check.{write_fault, first_write_fault, action_fault, select_fault}
 use Rattle.tt_values.specs.Limits.{max_writes}
+use Rattle.tt_repair_laws.specs.declared.edit.Edit.{Edit}
+use Rattle.tt_repair_laws.specs.Edits.{slot_number}
 use Rattle.tt_document.specs.declared.document.Document.{Document}
+use Rattle.tt_document.specs.declared.document.Plan.{Plan}
 use Rattle.tt_document.specs.declared.document.Call.{Call}
 use Rattle.tt_document.specs.declared.document.Ask.{Ask}
 use Rattle.tt_document.specs.declared.document.Ask.TheVariants as asks
@@ -22,22 +25,29 @@ use Rattle.tt_document.specs.declared.fault.DocFault.{DocFault}
 use Rattle.tt_document.specs.declared.statements.Place.{Place}
 use Rattle.tt_document.specs.declared.statements.Place.TheVariants as places
 use Rattle.tt_document.specs.declared.version.Version.{Version}
-use Rattle.tt_document.specs.Fault.{◌>>=◌, refuse, or_refuse, with_path, item_path}
-use Rattle.tt_document.specs.Decoder.{has, member, optional, read_member, within_limit, within, count, count_within, array, object}
-use Rattle.tt_document.specs.Taker.{each, array_of}
+use Rattle.tt_document.specs.Fault.{◌>>=◌, refuse, or_refuse, with_path, member_path, item_path}
+use Rattle.tt_document.specs.Decoder.{has, member, optional, read_member, read_optional, within_limit, within, count, count_within, array, object}
+use Rattle.tt_document.specs.Taker.{take_all, each, array_of}
 use Rattle.tt_document.specs.Members.{is_one_of, no_members_but}
 use Rattle.tt_document.specs.Tables.{catalog}
 use Rattle.tt_document.specs.Conditions.{table_named, value, condition}
 use Rattle.tt_document.specs.Changes.{change}
-use Rattle.tt_document.specs.Statements.{checked_statement, no_members_at, insert, update, delete, select}
-use Rattle.tt_document.specs.Actions.{write, item_of_action, writes, action}
+use Rattle.tt_document.specs.Statements.{checked_statement, no_members_at, insert, update, delete, select, preview}
+use Rattle.tt_document.specs.Actions.{has_action, write, item_of_action, writes, action}
 use Rattle.tt_document.specs.Version.{version}
-use Rattle.tt_document.specs.Calls.{max_calls, has_action, no_kind, ask_by, ask, call, calls}
+use Rattle.tt_document.specs.Calls.{max_calls, no_kind, ask_by, ask, call, calls}
+use Rattle.tt_document.specs.Repair.{max_edits, no_kind_of_write, replacement_by, replacement, cancel, replace, edit_by_kind, is_action_call, judge_edit, with_edit, edits, repair}
 use Rattle.tt_document.specs.Reading.{max_workers, members_of_document}
-use Rattle.tt_document.specs.Document.{ask_fault, IsValidCall, IsValidDocument}
+use Rattle.tt_document.specs.Document.{ask_fault, edit_fault, IsValidCall, IsValidEdit, AreForOtherCalls, IsValidPlan, IsValidDocument}
 
 ok_same : {T : Type 0} {x y : T} → ◌≡◌ {A = Result T DocFault} (Ok x) (Ok y) → x ≡ y
 ok_same e = cc
+
+some_same : {T : Type 0} {x y : T} → ◌≡◌ {A = Option T} (Some x) (Some y) → x ≡ y
+some_same e = cc
+
+length-push : {T : Type 0} (xs : List T) (x : T) → length (xs ++ x ∷ []) ≡ suc (length xs)
+length-push xs x = omega (arith, length-append xs (x ∷ []))
 
 -- what a chain that is read went through
 record Step {A B : Type 0} (r : Result A DocFault) (f : A → Result B DocFault) (y : B) : Type 0 where
@@ -152,6 +162,18 @@ select-ok tables v a e =
     let none : select_fault tables checked.value ≡ None = subst (λ s. select_fault tables s ≡ None) done.0 done.1 in
     subst (λ b. ask_fault tables b ≡ None) (ok_same checked.rest) none
 
+preview-ok : (tables : Tables) (v : Data) (a : Ask) → preview tables v ≡ Ok a → ask_fault tables a ≡ None
+unfolding preview
+preview-ok tables v a e =
+    let table = step (member (codes "preview") (table_named tables) v) _ a e in
+    let equals = step (member (codes "where") (array_of (condition tables table.value)) v) _ a table.rest in
+    let known = step (no_members_but (is_one_of (codes "preview" ∷ codes "where" ∷ codes "worker" ∷ [])) v) _ a equals.rest in
+    let statement : Select = record { table = table.value; equals = equals.value } in
+    let checked = step (checked_statement statement (select_fault tables statement)) _ a known.rest in
+    let done = checked-ok statement checked.value (select_fault tables statement) checked.is in
+    let none : select_fault tables checked.value ≡ None = subst (λ s. select_fault tables s ≡ None) done.0 done.1 in
+    subst (λ b. ask_fault tables b ≡ None) (ok_same checked.rest) none
+
 -- a write that may be there has no fault where it is there
 abbrev IsAccepted : Tables → Option Write → Type 0
 IsAccepted tables None = Unit {0}
@@ -215,11 +237,11 @@ writes-ok tables v ws e =
     let few = ap (nat_lt max_writes) same_length ∙ within_limit-ok _ _ limit.is in
     action_fault-none tables ws few (each-ok (λ w. write_fault tables w ≡ None) (item_of_action tables) (item_of_action-ok tables) 0 items.value ws limit.rest)
 
-action-ok : (tables : Tables) (v : Data) (ws : List Write) → action tables v ≡ Ok ws → action_fault tables ws ≡ None
+action-ok : (tables : Tables) (place : Place) (v : Data) (ws : List Write) → action tables place v ≡ Ok ws → action_fault tables ws ≡ None
 unfolding action
-action-ok tables v ws e =
+action-ok tables place v ws e =
     let items = step (member (codes "do") (writes tables) v) _ ws e in
-    let known = step (no_members_but (is_one_of (codes "do" ∷ codes "worker" ∷ [])) v) _ ws items.rest in
+    let known = step (no_members_at place (codes "do" ∷ []) v) _ ws items.rest in
     let read = member-ok (codes "do") (writes tables) v items.value items.is in
     subst (λ ws. action_fault tables ws ≡ None) (ok_same known.rest) (writes-ok tables read.value items.value read.is)
 
@@ -230,16 +252,21 @@ do-ok tables r a sound e =
     let action = step r _ a e in
     subst (λ b. ask_fault tables b ≡ None) (ok_same action.rest) (sound action.value action.is)
 
-other_ask-ok_by_kind : (tables : Tables) (v : Data) (first second : Bool) (a : Ask) (cause : List ℕ)
-    → cond first (select tables v) (cond second (action tables v >>= λ action. Ok (asks.Write action)) (refuse cause)) ≡ Ok a
+other_ask-ok_by_kind : (tables : Tables) (v : Data) (first second third : Bool) (a : Ask) (cause : List ℕ)
+    → cond first (select tables v) (cond second (preview tables v) (cond third (action tables places.Call v >>= λ action. Ok (asks.Write action)) (refuse cause))) ≡ Ok a
     → ask_fault tables a ≡ None
-other_ask-ok_by_kind tables v true second a cause e = select-ok tables v a e
-other_ask-ok_by_kind tables v false true a cause e = do-ok tables (action tables v) a (action-ok tables v) e
-other_ask-ok_by_kind tables v false false a cause e = cc
+other_ask-ok_by_kind tables v true second third a cause e = select-ok tables v a e
+other_ask-ok_by_kind tables v false true third a cause e = preview-ok tables v a e
+other_ask-ok_by_kind tables v false false true a cause e = do-ok tables (action tables places.Call v) a (action-ok tables places.Call v) e
+other_ask-ok_by_kind tables v false false false a cause e = cc
+
+action_of_one-none : (tables : Tables) (w : Write) → write_fault tables w ≡ None → action_fault tables (w ∷ []) ≡ None
+action_of_one-none tables w h = action_fault-none tables (w ∷ []) refl (h, tt)
 
 ask_by-ok : (version : Version) (tables : Tables) (v : Data) (o : Option Write) (a : Ask) → IsAccepted tables o → ask_by version tables v o ≡ Ok a → ask_fault tables a ≡ None
-ask_by-ok version tables v (Some w) a h e = subst (λ b. ask_fault tables b ≡ None) (ok_same e) (action_fault-none tables (w ∷ []) refl (h, tt))
-ask_by-ok version tables v None a h e = other_ask-ok_by_kind tables v (has (codes "select") v) (has_action version v) a (no_kind version) e
+ask_by-ok version tables v (Some w) a h e = subst (λ b. ask_fault tables b ≡ None) (ok_same e) (action_of_one-none tables w h)
+ask_by-ok version tables v None a h e =
+    other_ask-ok_by_kind tables v (has (codes "select") v) (has (codes "preview") v) (has_action version v) a (no_kind version) e
 
 ask-ok : (version : Version) (tables : Tables) (v : Data) (a : Ask) → ask version tables v ≡ Ok a → ask_fault tables a ≡ None
 unfolding ask
@@ -271,6 +298,156 @@ calls-ok version tables workers v cs e =
       each_is = each-ok (IsValidCall tables workers) (call version tables workers) (call-ok version tables workers) 0 items.value cs limit.rest;
     }
 
+-- the action of a replacement has no fault
+replacement_by_kind-ok : (tables : Tables) (v : Data) (first : Bool) (ws : List Write) (cause : List ℕ)
+    → cond first (action tables places.Item v) (refuse cause) ≡ Ok ws → action_fault tables ws ≡ None
+replacement_by_kind-ok tables v true ws cause e = action-ok tables places.Item v ws e
+replacement_by_kind-ok tables v false ws cause e = cc
+
+replacement_by-ok : (version : Version) (tables : Tables) (v : Data) (o : Option Write) (ws : List Write) → IsAccepted tables o → replacement_by version tables v o ≡ Ok ws → action_fault tables ws ≡ None
+replacement_by-ok version tables v (Some w) ws h e = subst (λ ws. action_fault tables ws ≡ None) (ok_same e) (action_of_one-none tables w h)
+replacement_by-ok version tables v None ws h e = replacement_by_kind-ok tables v (has_action version v) ws (no_kind_of_write version) e
+
+replacement-ok : (version : Version) (tables : Tables) (v : Data) (ws : List Write) → replacement version tables v ≡ Ok ws → action_fault tables ws ≡ None
+unfolding replacement
+replacement-ok version tables v ws e =
+    let members = step (object v) _ ws e in
+    let read = step (write tables places.Item v) _ ws members.rest in
+    replacement_by-ok version tables v read.value ws (write-ok tables places.Item v read.value read.is) read.rest
+
+-- an edit names one of so many calls, and its action has no fault
+record IsSound (tables : Tables) (calls : ℕ) (e : Edit) : Type 0 where
+  from_one : 1 ≤ slot_number e
+  to_last : slot_number e ≤ calls
+  is_accepted : edit_fault tables e ≡ None
+
+cancel-ok : (tables : Tables) (calls : ℕ) (v : Data) (edit : Edit) → cancel calls v ≡ Ok edit → IsSound tables calls edit
+unfolding cancel
+cancel-ok tables calls v edit e =
+    let number = step (member (codes "cancel") (count_within 1 calls) v) _ edit e in
+    let known = step (no_members_but (is_one_of (codes "cancel" ∷ [])) v) _ edit number.rest in
+    let bounds = member-within (codes "cancel") 1 calls v number.value number.is in
+    subst (IsSound tables calls) (ok_same known.rest) (record { from_one = bounds.from; to_last = bounds.to; is_accepted = refl })
+
+replace-ok : (version : Version) (tables : Tables) (calls : ℕ) (v : Data) (edit : Edit) → replace version tables calls v ≡ Ok edit → IsSound tables calls edit
+unfolding replace
+replace-ok version tables calls v edit e =
+    let number = step (member (codes "replace") (count_within 1 calls) v) _ edit e in
+    let by = step (member (codes "by") (replacement version tables) v) _ edit number.rest in
+    let known = step (no_members_but (is_one_of (codes "by" ∷ codes "replace" ∷ [])) v) _ edit by.rest in
+    let bounds = member-within (codes "replace") 1 calls v number.value number.is in
+    let read = member-ok (codes "by") (replacement version tables) v by.value by.is in
+    subst (IsSound tables calls) (ok_same known.rest)
+    (record { from_one = bounds.from; to_last = bounds.to; is_accepted = replacement-ok version tables read.value by.value read.is })
+
+edit-ok_by_kind : (version : Version) (tables : Tables) (calls : ℕ) (v : Data) (first second : Bool) (edit : Edit) (cause : List ℕ)
+    → cond first (cancel calls v) (cond second (replace version tables calls v) (refuse cause)) ≡ Ok edit → IsSound tables calls edit
+edit-ok_by_kind version tables calls v true second edit cause e = cancel-ok tables calls v edit e
+edit-ok_by_kind version tables calls v false true edit cause e = replace-ok version tables calls v edit e
+edit-ok_by_kind version tables calls v false false edit cause e = cc
+
+-- an edit that is taken is of an action, and of a call that no earlier edit is for
+judge-ok : (of_action twice : Bool) (first second : List ℕ) → cond (not of_action) (refuse {T = Unit {0}} first) (cond twice (refuse second) (Ok tt)) ≡ Ok tt → (of_action ≡ true) × (twice ≡ false)
+judge-ok true true first second e = cc
+judge-ok true false first second e = (refl, refl)
+judge-ok false twice first second e = cc
+
+other_calls-push : (earlier E : List Edit) (e : Edit) → AreForOtherCalls earlier E → list_any (λ d. slot_number e == slot_number d) (earlier ++ E) ≡ false → AreForOtherCalls earlier (E ++ e ∷ [])
+other_calls-push earlier [] e h new = (subst (λ ds. list_any (λ d. slot_number e == slot_number d) ds ≡ false) (append-nil earlier) new, tt)
+other_calls-push earlier (d ∷ E) e h new =
+    (h.0, other_calls-push (earlier ++ d ∷ []) E e h.1 (subst (λ ds. list_any (λ x. slot_number e == slot_number x) ds ≡ false) (sym (append_assoc earlier (d ∷ []) E)) new))
+
+-- what holds of the edits that are taken so far
+record AreEdits (tables : Tables) (cs : List Call) (edits : List Edit) : Type 0 where
+  each_is : AllByRecursion (IsValidEdit tables cs) edits
+  each_once : AreForOtherCalls [] edits
+
+AllByRecursion-push : {A : Type 0} (P : A → Type 0) (xs : List A) (x : A) → AllByRecursion P xs → P x → AllByRecursion P (xs ++ x ∷ [])
+AllByRecursion-push P [] x h p = (p, tt)
+AllByRecursion-push P (y ∷ ys) x h p = (h.0, AllByRecursion-push P ys x h.1 p)
+
+-- one edit more
+record IsOneMore (tables : Tables) (cs : List Call) (earlier edits : List Edit) : Type 0 where
+  are : AreEdits tables cs edits
+  count : length edits ≡ suc (length earlier)
+
+with_edit-ok : (version : Version) (tables : Tables) (cs : List Call) (earlier : List Edit) (v : Data) (edits : List Edit)
+    → AreEdits tables cs earlier → with_edit version tables cs earlier v ≡ Ok edits → IsOneMore tables cs earlier edits
+unfolding with_edit
+with_edit-ok version tables cs earlier v edits h e =
+    let members = step (object v) _ edits e in
+    let edit = step (edit_by_kind version tables (length cs) v) _ edits members.rest in
+    let judged = step (judge_edit cs earlier edit.value) _ edits edit.rest in
+    let sound = edit-ok_by_kind version tables (length cs) v (has (codes "cancel") v) (has (codes "replace") v) edit.value _ edit.is in
+    let right = judge-ok (is_action_call cs (slot_number edit.value)) (list_any (λ d. slot_number edit.value == slot_number d) earlier) _ _ judged.is in
+    let valid : IsValidEdit tables cs edit.value = record { from_one = sound.from_one; to_last = sound.to_last; of_action = right.0; is_accepted = sound.is_accepted } in
+    let are : AreEdits tables cs (earlier ++ edit.value ∷ []) = record {
+      each_is = AllByRecursion-push (IsValidEdit tables cs) earlier edit.value h.each_is valid;
+      each_once = other_calls-push [] earlier edit.value h.each_once right.1;
+    } in
+    subst (IsOneMore tables cs earlier) (ok_same judged.rest) (record { are = are; count = length-push earlier edit.value })
+
+take_all-ok : (version : Version) (tables : Tables) (cs : List Call) (i : ℕ) (earlier : List Edit) (ds : List Data) (edits : List Edit)
+    → AreEdits tables cs earlier → take_all (with_edit version tables cs) i earlier ds ≡ Ok edits → AreEdits tables cs edits × (length edits ≡ length earlier + length ds)
+take_all-ok version tables cs i earlier [] edits h e = (subst (AreEdits tables cs) (ok_same e) h, ap length (sym (ok_same e)) ∙ omega arith)
+take_all-ok version tables cs i earlier (d ∷ ds) edits h e =
+    let first = step (with_path (item_path i) (with_edit version tables cs earlier d)) _ edits e in
+    let one = with_edit-ok version tables cs earlier d first.value h (with_path-ok _ (with_edit version tables cs earlier d) first.value first.is) in
+    let rest = take_all-ok version tables cs (suc i) first.value ds edits one.are first.rest in
+    (rest.0, omega (arith, rest.1, one.count))
+
+record AreSomeEdits (tables : Tables) (cs : List Call) (edits : List Edit) : Type 0 where
+  few : length edits ≤ max_edits
+  are : AreEdits tables cs edits
+
+edits-ok : (version : Version) (tables : Tables) (cs : List Call) (v : Data) (es : List Edit) → edits version tables cs v ≡ Ok es → AreSomeEdits tables cs es
+edits-ok version tables cs v es e =
+    let items = step (array v) _ es e in
+    let limit = step (within_limit max_edits items.value) _ es items.rest in
+    let few = ltb-false max_edits (length items.value) (within_limit-ok _ _ limit.is) in
+    let taken = take_all-ok version tables cs 0 [] items.value es (record { each_is = tt; each_once = tt }) limit.rest in
+    record { few = omega (arith, few, taken.1); are = taken.0 }
+
+-- the calls that are made meanwhile
+optional-ok : {T : Type 0} (name : List ℕ) (decode : Data → Result T DocFault) (o : Option Data) (x : T) → read_optional name decode o ≡ Ok (Some x) → Meaning decode x
+optional-ok name decode None x e = cc
+optional-ok name decode (Some d) x e =
+    let read = step (with_path (member_path name) (decode d)) _ (Some x) e in
+    let same = some_same (ok_same read.rest) in
+    record { value = d; is = subst (λ y. decode d ≡ Ok y) same (with_path-ok _ (decode d) read.value read.is) }
+
+meanwhile-ok : (version : Version) (tables : Tables) (workers : ℕ) (o : Option Data) (cs : Option (List Call))
+    → read_optional (codes "meanwhile") (calls version tables workers) o ≡ Ok cs → AreCalls tables workers (unwrap_or cs [])
+meanwhile-ok version tables workers o None e = record { few = omega arith; each_is = tt }
+meanwhile-ok version tables workers o (Some cs) e =
+    let read = optional-ok (codes "meanwhile") (calls version tables workers) o cs e in
+    calls-ok version tables workers read.value cs read.is
+
+repair-ok : (version : Version) (tables : Tables) (workers : ℕ) (cs : List Call) (v : Data) (plan : Plan) → repair version tables workers cs v ≡ Ok plan → IsValidPlan tables workers cs plan
+unfolding repair
+repair-ok version tables workers cs v plan e =
+    let members = step (object v) _ plan e in
+    let es = step (member (codes "edits") (edits version tables cs) v) _ plan members.rest in
+    let later = step (optional (codes "meanwhile") (calls version tables workers) v) _ plan es.rest in
+    let known = step (no_members_but (is_one_of (codes "edits" ∷ codes "meanwhile" ∷ [])) v) _ plan later.rest in
+    let read = member-ok (codes "edits") (edits version tables cs) v es.value es.is in
+    let some = edits-ok version tables cs read.value es.value read.is in
+    let calls = meanwhile-ok version tables workers (get (codes "meanwhile") v) later.value later.is in
+    subst (IsValidPlan tables workers cs) (ok_same known.rest) (record {
+      few_edits = some.few;
+      valid_edits = All-from_recursion (IsValidEdit tables cs) es.value some.are.each_is;
+      each_once = some.are.each_once;
+      few_calls = calls.few;
+      valid_calls = All-from_recursion (IsValidCall tables workers) (unwrap_or later.value []) calls.each_is;
+    })
+
+valid_repair-ok : (version : Version) (tables : Tables) (workers : ℕ) (cs : List Call) (o : Option Data) (plan : Option Plan)
+    → read_optional (codes "repair") (repair version tables workers cs) o ≡ Ok plan → IfSome plan (IsValidPlan tables workers cs)
+valid_repair-ok version tables workers cs o None e = tt
+valid_repair-ok version tables workers cs o (Some plan) e =
+    let read = optional-ok (codes "repair") (repair version tables workers cs) o plan e in
+    repair-ok version tables workers cs read.value plan read.is
+
 -- each document that is read is valid
 pub valid-members_of_document : (v : Data) (d : Document) → members_of_document v ≡ Ok d → IsValidDocument d
 unfolding members_of_document
@@ -280,7 +457,8 @@ valid-members_of_document v d e =
     let tables = step (member (codes "tables") catalog v) _ d version.rest in
     let workers = step (member (codes "workers") (count_within 1 max_workers) v) _ d tables.rest in
     let cs = step (member (codes "calls") (calls version.value tables.value workers.value) v) _ d workers.rest in
-    let known = step (no_members_but (is_one_of (codes "calls" ∷ codes "tables" ∷ codes "version" ∷ codes "workers" ∷ [])) v) _ d cs.rest in
+    let plan = step (optional (codes "repair") (repair version.value tables.value workers.value cs.value) v) _ d cs.rest in
+    let known = step (no_members_but (is_one_of (codes "calls" ∷ codes "repair" ∷ codes "tables" ∷ codes "version" ∷ codes "workers" ∷ [])) v) _ d plan.rest in
     let bounds = member-within (codes "workers") 1 max_workers v workers.value workers.is in
     let read = member-ok (codes "calls") (calls version.value tables.value workers.value) v cs.value cs.is in
     let read = calls-ok version.value tables.value workers.value read.value cs.value read.is in
@@ -289,4 +467,5 @@ valid-members_of_document v d e =
       few_workers = bounds.to;
       few_calls = read.few;
       valid_calls = All-from_recursion (IsValidCall tables.value workers.value) cs.value read.each_is;
+      valid_repair = valid_repair-ok version.value tables.value workers.value cs.value (get (codes "repair") v) plan.value plan.is;
     })

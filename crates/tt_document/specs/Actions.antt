@@ -1,5 +1,5 @@
 -- Actions: lists of writes, each an insert, an update or a delete.
-use Rattle.std.specs.Prelude.{List, [], ◌∷◌, Option, Some, None, if◌then◌else◌, Result, Ok, codes}
+use Rattle.std.specs.Prelude.{Bool, false, List, [], ◌∷◌, Option, Some, None, if◌then◌else◌, Result, Ok, codes}
 use Rattle.serde_json.specs.Data.{Data}
 use Rattle.tt_values.specs.declared.statement.Write.{Write}
 use Rattle.tt_values.specs.Limits.{max_writes}
@@ -10,8 +10,9 @@ use Rattle.tt_document.specs.declared.statements.Place.TheVariants as places
 use Rattle.tt_document.specs.Fault.{◌>>=◌, or_refuse}
 use Rattle.tt_document.specs.Decoder.{object, array, within_limit, has, member}
 use Rattle.tt_document.specs.Taker.{each}
-use Rattle.tt_document.specs.Members.{is_one_of, no_members_but}
-use Rattle.tt_document.specs.Statements.{insert, update, delete}
+use Rattle.tt_document.specs.declared.version.Version.{Version}
+use Rattle.tt_document.specs.declared.version.Version.TheVariants as versions
+use Rattle.tt_document.specs.Statements.{no_members_at, insert, update, delete}
 
 -- the write of an object, by the first of the members insert, update and delete that it has; or None, where it has none of them
 unfoldable pub write : Tables → Place → Data → Result (Option Write) DocFault
@@ -36,8 +37,13 @@ writes tables v = do
   each (item_of_action tables) 0 ds
 
 -- the action of an object: the writes of its member do
-unfoldable pub action : Tables → Data → Result (List Write) DocFault
-action tables v = do
+unfoldable pub action : Tables → Place → Data → Result (List Write) DocFault
+action tables place v = do
   writes ← member (codes "do") (writes tables) v
-  _ ← no_members_but (is_one_of (codes "do" ∷ codes "worker" ∷ [])) v
+  _ ← no_members_at place (codes "do" ∷ []) v
   Ok writes
+
+-- whether an object has the kind do, which version 1 doesn't know
+abbrev pub has_action : Version → Data → Bool
+has_action versions.One v = false
+has_action versions.Two v = has (codes "do") v

@@ -1,5 +1,5 @@
 -- The calls of a document.
-use Rattle.std.specs.Prelude.{ℕ, Bool, false, if◌then◌else◌, List, [], ◌∷◌, Option, Some, None, Result, Ok, codes}
+use Rattle.std.specs.Prelude.{ℕ, if◌then◌else◌, List, [], ◌∷◌, Option, Some, None, Result, Ok, codes}
 use Rattle.serde_json.specs.Data.{Data}
 use Rattle.tt_values.specs.declared.statement.Write.{Write}
 use Rattle.tt_values.specs.Tables.{Tables}
@@ -13,32 +13,28 @@ use Rattle.tt_document.specs.declared.version.Version.TheVariants as versions
 use Rattle.tt_document.specs.Fault.{◌>>=◌, refuse}
 use Rattle.tt_document.specs.Decoder.{object, array, within_limit, count_within, has, member}
 use Rattle.tt_document.specs.Taker.{each}
-use Rattle.tt_document.specs.Statements.{select}
-use Rattle.tt_document.specs.Actions.{write, action}
+use Rattle.tt_document.specs.Statements.{select, preview}
+use Rattle.tt_document.specs.Actions.{has_action, write, action}
 
 -- the largest number of calls
 abbrev pub max_calls : ℕ
 max_calls = 100000
-
--- whether a call has the kind do, which version 1 doesn't know
-abbrev pub has_action : Version → Data → Bool
-has_action versions.One v = false
-has_action versions.Two v = has (codes "do") v
 
 -- why a call is refused that has none of the kinds of its version
 abbrev pub no_kind : Version → List ℕ
 no_kind versions.One = codes "missing one of insert, update, delete, select, preview"
 no_kind versions.Two = codes "missing one of insert, update, delete, select, preview, do"
 
--- what a call asks for: its write, if it has one, as an action of one; or else its select; or else its action
+-- what a call asks for: its write, if it has one, as an action of one; or else its select; or else its preview; or else its action
 abbrev pub ask_by : Version → Tables → Data → Option Write → Result Ask DocFault
 ask_by version tables v (Some write) = Ok (asks.Write (write ∷ []))
 ask_by version tables v None =
     if has (codes "select") v then select tables v else (
-    if has_action version v then (action tables v >>= λ action. Ok (asks.Write action)) else
-    refuse (no_kind version))
+    if has (codes "preview") v then preview tables v else (
+    if has_action version v then (action tables places.Call v >>= λ action. Ok (asks.Write action)) else
+    refuse (no_kind version)))
 
--- what a call asks for, by the first of the kinds that it has: insert, update, delete, select, and in version 2 do
+-- what a call asks for, by the first of the kinds that it has: insert, update, delete, select, preview, and in version 2 do
 unfoldable pub ask : Version → Tables → Data → Result Ask DocFault
 ask version tables v = do
   write ← write tables places.Call v

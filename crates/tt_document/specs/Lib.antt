@@ -11,5 +11,6 @@ pub mod Statements
 pub mod Actions
 pub mod Version
 pub mod Calls
+pub mod Repair
 pub mod Reading
 pub mod Document

@@ -74,3 +74,13 @@ select tables v = do
   let statement : Select = record { table = table; equals = equals }
   select ← checked_statement statement (select_fault tables statement)
   Ok (asks.Read select at)
+
+-- a select of the next generation: the table, and the conditions
+unfoldable pub preview : Tables → Data → Result Ask DocFault
+preview tables v = do
+  table ← member (codes "preview") (table_named tables) v
+  equals ← conditions tables table v
+  _ ← no_members_but (is_one_of (codes "preview" ∷ codes "where" ∷ codes "worker" ∷ [])) v
+  let statement : Select = record { table = table; equals = equals }
+  select ← checked_statement statement (select_fault tables statement)
+  Ok (asks.Preview select)

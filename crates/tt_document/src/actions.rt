@@ -1,14 +1,16 @@
 //! Reading of actions.
-ghost use Rattle.std.specs.Prelude.{◌≡◌, [], ◌∷◌, IfOk};
+ghost use Rattle.std.specs.Prelude.{◌≡◌, [], ◌∷◌, IfOk, codes};
 ghost use Rattle.serde_json.specs.View.{view};
 ghost use Rattle.tt_document.specs.Fault.{Gives};
-ghost use Rattle.tt_document.specs.Actions.{write, item_of_action, writes, action};
+ghost use Rattle.tt_document.specs.Statements.{no_members_at};
+ghost use Rattle.tt_document.specs.Actions.{write, item_of_action, writes, action, has_action};
 
 use crate::decoder::{Decoder, OUT_OF_RANGE, array, has, member, object};
 use crate::fault::DocFault;
 use crate::members::no_members_but;
 use crate::statements::{Place, delete, insert, update};
 use crate::taker::decode_items;
+use crate::version::Version;
 use serde_json::Value;
 use std::alloc::{AllocError, Global};
 use tt_values::{Catalog, Items, MAX_WRITES, Write};
@@ -53,13 +55,33 @@ pub(crate) fn action_of_one(alloc: Global, write: Write) -> Result<Items<Write>,
 pub(crate) fn action(
     alloc: Global,
     catalog: &Catalog,
+    place: Place,
     value: &Value,
 ) -> Result<Items<Write>, DocFault>
-    ensures { Gives result (action catalog.now (view value.now)) }
+    ensures { Gives result (action catalog.now place (view value.now)) }
 {
     let writes = member(alloc, value, "do", &WritesDecoder { catalog })?;
-    no_members_but(alloc, value, &["do", "worker"])?;
+    no_members_but_do(alloc, place, value)?;
     Ok(writes)
+}
+
+fn no_members_but_do(alloc: Global, place: Place, value: &Value) -> Result<(), DocFault>
+    ensures { Gives result (no_members_at place (codes "do" ∷ []) (view value.now)) }
+{
+    match place {
+        Place::Call => no_members_but(alloc, value, &["worker", "do"]),
+        Place::Item => no_members_but(alloc, value, &["do"]),
+    }
+}
+
+/// Whether an object has the kind `do`, which version 1 doesn't know.
+pub(crate) fn has_action(version: Version, object: &Value) -> bool
+    ensures { result ≡ has_action version (view object.now) }
+{
+    match version {
+        Version::One => false,
+        Version::Two => has(object, "do"),
+    }
 }
 
 /// The writes of an action, of which there may be too many.

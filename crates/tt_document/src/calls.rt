@@ -2,15 +2,15 @@
 ghost use Rattle.std.specs.Prelude.{◌≡◌, None};
 ghost use Rattle.serde_json.specs.View.{view};
 ghost use Rattle.tt_document.specs.Fault.{Gives};
-ghost use Rattle.tt_document.specs.Calls.{has_action, no_kind, ask_by, ask, call, calls};
+ghost use Rattle.tt_document.specs.Calls.{no_kind, ask_by, ask, call, calls};
 
 use crate::MAX_CALLS;
-use crate::actions::{action, action_of_one, write};
+use crate::actions::{action, action_of_one, has_action, write};
 use crate::decoder::{CountDecoder, Decoder, OUT_OF_RANGE, array, has, member, object};
 use crate::document::{Ask, Call};
 use crate::fault::DocFault;
 use crate::owned_items::OwnedItems;
-use crate::statements::{Place, select};
+use crate::statements::{Place, preview, select};
 use crate::taker::decode_owned;
 use crate::version::Version;
 use serde_json::Value;
@@ -95,20 +95,15 @@ fn ask_without_write(
         let read = select(alloc, catalog, value)?;
         return Ok(read);
     }
+    if has(value, "preview") {
+        let preview = preview(alloc, catalog, value)?;
+        return Ok(preview);
+    }
     if has_action(version, value) {
-        let action = action(alloc, catalog, value)?;
+        let action = action(alloc, catalog, Place::Call, value)?;
         return Ok(Ask::Write(action));
     }
     Err(DocFault::here(alloc, no_kind(version)))
-}
-
-fn has_action(version: Version, object: &Value) -> bool
-    ensures { result ≡ has_action version (view object.now) }
-{
-    match version {
-        Version::One => false,
-        Version::Two => has(object, "do"),
-    }
 }
 
 fn no_kind(version: Version) -> &'static str

@@ -3,6 +3,7 @@ use crate::owned_items::OwnedItems;
 use crate::reading::from_members;
 use serde_json::Value;
 use std::alloc::Global;
+use tt_repair_laws::Edit;
 use tt_values::{Catalog, Items, Select, Shared, Write};
 
 /// A workload: the tables, and the calls that the workers make.
@@ -13,6 +14,19 @@ pub struct Document {
     pub workers: u32,
     /// At most [`MAX_CALLS`](crate::MAX_CALLS).
     pub calls: OwnedItems<Call>,
+    /// The repair of these calls, if there is one.
+    pub repair: Option<Plan>,
+}
+
+/// A repair of the calls of a document.
+#[derive(Debug, Drop)]
+pub struct Plan {
+    /// The edits, which name calls by their numbers, from 1: at most
+    /// [`MAX_EDITS`](crate::MAX_EDITS), each of another call that asks for an action.
+    pub edits: Items<Edit>,
+    /// The calls that are made while the repair is under way: at most
+    /// [`MAX_CALLS`](crate::MAX_CALLS).
+    pub meanwhile: OwnedItems<Call>,
 }
 
 impl Document {
@@ -50,4 +64,6 @@ pub enum Ask {
     Write(Items<Write>),
     /// Rows of a table: as they were at a time, or as they are now where none is given.
     Read { select: Select, at: Option<u64> },
+    /// Rows of a table in the next generation, at the last slot that the repair has done.
+    Preview(Select),
 }

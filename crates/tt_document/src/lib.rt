@@ -13,20 +13,25 @@ mod members;
 mod owned_items;
 mod quoting;
 mod reading;
+mod repair;
 mod statements;
 mod tables;
 mod taker;
 mod version;
 
-pub use document::{Ask, Call, Document};
+pub use document::{Ask, Call, Document, Plan};
 pub use fault::DocFault;
 pub use owned_items::OwnedItems;
 pub use quoting::push_quoted;
+pub use tt_repair_laws::Edit;
 
 /// The largest number of workers of a document.
 pub const MAX_WORKERS: u32 = 15;
 
-/// The largest number of calls of a document.
+/// The largest number of edits of a repair.
+pub const MAX_EDITS: usize = 10_000;
+
+/// The largest number of calls of a document, and of those that are made meanwhile.
 pub const MAX_CALLS: usize = 100_000;
 
 #[cfg(test)]

@@ -5,10 +5,11 @@ ghost use Rattle.tt_document.specs.Reading.{members_of_document};
 
 use crate::MAX_WORKERS;
 use crate::calls::CallsDecoder;
-use crate::decoder::{CountDecoder, member, object};
+use crate::decoder::{CountDecoder, member, object, optional};
 use crate::document::Document;
 use crate::fault::DocFault;
 use crate::members::no_members_but;
+use crate::repair::RepairDecoder;
 use crate::tables::TablesDecoder;
 use crate::version::VersionDecoder;
 use serde_json::Value;
@@ -34,11 +35,23 @@ pub(crate) fn from_members(alloc: Global, value: &Value) -> Result<Document, Doc
         workers,
     };
     let calls = member(alloc, value, "calls", &decoder)?;
-    no_members_but(alloc, value, &["calls", "tables", "version", "workers"])?;
+    let decoder = RepairDecoder {
+        version,
+        catalog: &catalog,
+        workers,
+        calls: calls.as_slice(),
+    };
+    let repair = optional(alloc, value, "repair", &decoder)?;
+    no_members_but(
+        alloc,
+        value,
+        &["calls", "repair", "tables", "version", "workers"],
+    )?;
     let catalog = Shared::new(alloc, catalog)?;
     Ok(Document {
         catalog,
         workers,
         calls,
+        repair,
     })
 }

@@ -3,7 +3,7 @@ ghost use Rattle.std.specs.Prelude.{[], ◌∷◌, codes};
 ghost use Rattle.serde_json.specs.View.{view};
 ghost use Rattle.tt_values.specs.Check.{write_fault, select_fault};
 ghost use Rattle.tt_document.specs.Fault.{Gives};
-ghost use Rattle.tt_document.specs.Statements.{checked_statement, conditions, no_members_at, insert, update, delete, select};
+ghost use Rattle.tt_document.specs.Statements.{checked_statement, conditions, no_members_at, insert, update, delete, select, preview};
 
 use crate::causes::cause_of_check;
 use crate::changes::ChangeDecoder;
@@ -17,7 +17,8 @@ use serde_json::Value;
 use std::alloc::Global;
 use tt_values::{Catalog, Equal, Items, Row, Select, Write, check, check_select};
 
-/// Where a write stands: as a call, with a worker, or as an item of an action.
+/// Where a write or an action stands: in a call, which has a worker, or in an action or an edit,
+/// which have none.
 #[derive(Clone, Copy)]
 pub(crate) enum Place {
     Call,
@@ -96,6 +97,18 @@ pub(crate) fn select(alloc: Global, catalog: &Catalog, value: &Value) -> Result<
     no_members_but(alloc, value, &["at", "select", "where", "worker"])?;
     let select = checked_select(alloc, catalog, Select { table, equals })?;
     Ok(Ask::Read { select, at })
+}
+
+/// The preview of an object.
+#[tactic(auto, unfolding(crate::specs::Statements::preview))]
+pub(crate) fn preview(alloc: Global, catalog: &Catalog, value: &Value) -> Result<Ask, DocFault>
+    ensures { Gives result (preview catalog.now (view value.now)) }
+{
+    let table = member(alloc, value, "preview", &TableNameDecoder { catalog })?;
+    let equals = conditions(alloc, catalog, table, value)?;
+    no_members_but(alloc, value, &["preview", "where", "worker"])?;
+    let select = checked_select(alloc, catalog, Select { table, equals })?;
+    Ok(Ask::Preview(select))
 }
 
 fn no_members_but_insert(alloc: Global, place: Place, value: &Value) -> Result<(), DocFault>

@@ -7,8 +7,6 @@ mod log;
 mod map;
 mod map_iter;
 mod map_page;
-#[cfg(test)]
-mod map_tests;
 mod map_tree;
 
 pub use kept::Kept;

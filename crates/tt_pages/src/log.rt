@@ -5,8 +5,6 @@ ghost use Rattle.tt_pages.specs.LogSlice.{IsSlice};
 mod iter;
 mod page;
 mod parts;
-#[cfg(test)]
-mod tests;
 mod tree;
 
 use crate::kept::Kept;

@@ -12,8 +12,6 @@ mod partition;
 mod parts;
 mod same_digest;
 mod statement_reads;
-#[cfg(test)]
-mod tests;
 
 pub use dirty::Dirty;
 pub use partition::{Partition, Reads};

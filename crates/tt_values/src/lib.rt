@@ -14,8 +14,6 @@ mod row;
 mod shared;
 mod statement;
 mod table;
-#[cfg(test)]
-mod tests;
 mod text;
 mod value;
 

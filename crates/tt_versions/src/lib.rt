@@ -12,8 +12,6 @@ mod pace;
 mod side;
 mod table;
 mod taking;
-#[cfg(test)]
-mod tests;
 mod version;
 mod version_chain;
 

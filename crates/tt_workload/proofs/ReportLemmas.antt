@@ -1,5 +1,5 @@
 -- Lines of a report, one after another.
-use Rattle.std.proofs.Common.{◌≡◌, ℕ, zero, suc, ◌<◌, ◌+◌, ◌==◌, Bool, true, false, List, [], ◌∷◌, ◌++◌, drop, Option, Some, None, Result, Ok, Err, IsErrAnd, IfErr, if◌then◌else◌, slice_get, refl, sym, ap, ◌∙◌, arith, append_assoc}
+use Rattle.std.proofs.Common.{◌≡◌, ℕ, zero, suc, ◌<◌, ◌+◌, ◌==◌, Bool, true, false, List, [], ◌∷◌, ◌++◌, drop, Option, Some, None, Result, Ok, Err, IsErrAnd, IfErr, if◌then◌else◌, slice_get, refl, sym, ap, ◌∙◌, arith, append_assoc, codes}
 use Rattle.std.proofs.lemmas.Bool.Decides.{nat_tests}
 use Rattle.tt_values.specs.declared.statement.Write.{Write}
 use Rattle.tt_values.specs.Check.{action_fault}
@@ -19,7 +19,12 @@ use Rattle.std.specs.List.{AllByRecursion}
 use Rattle.std.proofs.lemmas.List.Elements.{recursion_from_All}
 use Rattle.tt_workload.specs.declared.run_fault.RunFault.{RunFault}
 use Rattle.tt_workload.specs.declared.run_fault.RunFault.TheVariants.{Memory}
-use Rattle.tt_workload.specs.Report.{AreAccepted, HasRoom, table_line, table_lines, call_lines, end_line, history_of, report_of}
+use Rattle.std.specs.Fmt.{decimal}
+use Rattle.tt_repair.specs.declared.changed.Changed.{Changed}
+use Rattle.tt_workload.specs.Printing.{replies_text}
+use Rattle.tt_workload.specs.Records.{after_text, text_of_change}
+use Rattle.tt_workload.specs.Room.{AreAccepted}
+use Rattle.tt_workload.specs.Report.{table_line, table_lines, end_line}
 
 drop-at : {X : Type 0} → (xs : List X) (i : ℕ) (x : X) → slice_get xs i ≡ Some x → drop i xs ≡ x ∷ drop (suc i) xs
 drop-at [] i x h = cc
@@ -47,21 +52,6 @@ table_lines-named S tables i name out all new there h text = by (slice_get table
         let same : name ≡ t.0 = cc in
         ap (λ ls. ls ++ table_lines S (i + 1) (drop (i + 1) tables)) (text ∙ ap (λ n. out ++ table_line S i n) same) ∙ table_lines-next S tables i t out all e h
 
--- the pieces of a report, one after another
-pub report-pieces : (document : Document) (new db : Database) (none calls all : List ℕ)
-    → new ≡ record { catalog = document.catalog; limits = max_limits; history = [] }
-    → none ≡ []
-    → db ≡ record new { history = history_of document.calls }
-    → calls ≡ none ++ call_lines 1 [] document.calls
-    → all ≡ calls ++ (table_lines (state_of db) 0 db.catalog ++ end_line (state_of db))
-    → all ≡ report_of document
-report-pieces document new db none calls all is_new empty state called ended =
-    let is : db ≡ record { catalog = document.catalog; limits = max_limits; history = history_of document.calls } =
-    state ∙ ap (λ (d : Database). record d { history = history_of document.calls }) is_new in
-    let lines = call_lines 1 [] document.calls in
-    ended ∙ ap (λ cs. cs ++ (table_lines (state_of db) 0 db.catalog ++ end_line (state_of db))) (called ∙ ap (λ n. n ++ lines) empty)
-    ∙ ap (λ (d : Database). lines ++ (table_lines (state_of d) 0 d.catalog ++ end_line (state_of d))) is
-
 -- a labelled number and an end, one after another
 pub labelled-once : (old first all label number end : List ℕ) → first ≡ old ++ (label ++ number) → all ≡ first ++ end → all ≡ old ++ (label ++ (number ++ end))
 labelled-once old first all label number end p q = q ∙ ap (λ f. f ++ end) p ∙ simp append_assoc
@@ -73,7 +63,7 @@ pub labelled-twice : (old first second all label_1 number_1 label_2 number_2 end
 labelled-twice old first second all label_1 number_1 label_2 number_2 end p q r =
     r ∙ ap (λ s. s ++ end) (q ∙ ap (λ f. f ++ (label_2 ++ number_2)) p) ∙ simp append_assoc
 
-AreAccepted-valid_calls : (tables : Tables) (workers : ℕ) (cs : List Call) → AllByRecursion (IsValidCall tables workers) cs → AreAccepted tables cs
+pub AreAccepted-valid_calls : (tables : Tables) (workers : ℕ) (cs : List Call) → AllByRecursion (IsValidCall tables workers) cs → AreAccepted tables cs
 AreAccepted-valid_calls tables workers [] h = tt
 AreAccepted-valid_calls tables workers (call ∷ cs) h = (h.0.is_accepted, AreAccepted-valid_calls tables workers cs h.1)
 
@@ -86,16 +76,11 @@ pub is_memory : {T : Type 0} (r : Result T RunFault) → IsErrAnd r (λ e. e ≡
 is_memory (Ok x) h = tt
 is_memory (Err e) h = h
 
-full_at-below : (count limit : ℕ) → count < limit → full_at count limit ≡ None
-full_at-below count limit below = by (count == limit) refl
-  where
-    by : (b : Bool) → (count == limit) ≡ b → (if b then Some (errors.Full limit) else None) ≡ None
-    by true e = let clash : count ≡ limit = grind (arith, nat_tests) in absurd (omega (arith, clash, below))
-    by false e = refl
-
--- where there is room, an action that the tables accept isn't refused
-pub is_accepted : (db : Database) (action : List Write) → action_fault db.catalog action ≡ None → HasRoom db → refusal_of db (events.Write action) ≡ None
-is_accepted db action accepted room =
-    let slots = full_at-below (now_of (state_of db)) db.limits.slots room.slots in
-    let entries = full_at-below (state_of db).events db.limits.events room.events in
-    rw (accepted, slots, entries) refl
+-- the pieces of the line of a changed reply, one after another
+pub change-pieces : (change : Changed) (out labelled spaced before arrow after all : List ℕ)
+    → labelled ≡ out ++ (codes "changed call " ++ decimal change.call) → spaced ≡ labelled ++ codes " " → before ≡ spaced ++ replies_text change.before
+    → arrow ≡ before ++ codes " -> " → after ≡ arrow ++ after_text change.after → all ≡ after ++ codes "\n" → all ≡ out ++ text_of_change change
+unfolding text_of_change
+change-pieces change out labelled spaced before arrow after all p q r s t u =
+    u ∙ ap (λ o. o ++ codes "\n") (t ∙ ap (λ o. o ++ after_text change.after) (s ∙ ap (λ o. o ++ codes " -> ") (r ∙ ap (λ o. o ++ replies_text change.before) (q ∙ ap (λ o. o ++ codes " ") p))))
+    ∙ simp append_assoc

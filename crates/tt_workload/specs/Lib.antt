@@ -2,5 +2,8 @@ pub mod RunFault
 pub mod Ends
 pub mod Options
 pub mod Printing
+pub mod Records
+pub mod History
+pub mod Room
 pub mod Report
 pub mod Run

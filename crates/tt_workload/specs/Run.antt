@@ -9,37 +9,37 @@ use Rattle.tt_workload.specs.Report.{report_of, database_after}
 use Rattle.tt_workload.specs.Ends.{AppendsFront, ReadsDocument, EndsReading, HasText, IsReadingFault}
 
 -- the report of the document that the remaining bytes of the reader spell was written, and nothing else
-pub record WritesReport (remaining : List ℕ) (old new : Option (List ℕ)) : Type 0 where
+pub record WritesReport (batch : ℕ) (remaining : List ℕ) (old new : Option (List ℕ)) : Type 0 where
   pub document : Document
   pub is_read : ReadsDocument remaining document
-  pub written : Appends old new (report_of document)
+  pub written : Appends old new (report_of batch document)
 
 -- the database is the one after the calls of that document
-pub record LeavesDatabase (remaining : List ℕ) (db : Database) : Type 0 where
+pub record LeavesDatabase (batch : ℕ) (remaining : List ℕ) (db : Database) : Type 0 where
   pub document : Document
   pub is_read : ReadsDocument remaining document
-  pub is_last : db ≡ database_after document
+  pub is_last : db ≡ database_after batch document
 
 -- the same, whatever was read: it is the one after the calls of some document
-pub record IsLeftByDocument (db : Database) : Type 0 where
+pub record IsLeftByDocument (batch : ℕ) (db : Database) : Type 0 where
   pub document : Document
   pub text : HasText document
-  pub is_last : db ≡ database_after document
+  pub is_last : db ≡ database_after batch document
 
 -- a front part of that report was written, and nothing else
-pub record WritesFront (remaining : List ℕ) (old new : Option (List ℕ)) : Type 0 where
+pub record WritesFront (batch : ℕ) (remaining : List ℕ) (old new : Option (List ℕ)) : Type 0 where
   pub document : Document
   pub is_read : ReadsDocument remaining document
-  pub written : AppendsFront old new (report_of document)
+  pub written : AppendsFront old new (report_of batch document)
 
 -- after a fault: where the writer failed, a front part of the report was written, and else nothing. A fault of the document is the
 -- one that the bytes have. The store is never at fault
-abbrev pub EndsEarly : RunFault → List ℕ → Option (List ℕ) → Option (List ℕ) → Type 0
-EndsEarly faults.Write remaining old new = WritesFront remaining old new
-EndsEarly faults.Read remaining old new = Keeps old new
-EndsEarly (faults.Document fault) remaining old new = EndsReading remaining (faults.Document fault) × Keeps old new
-EndsEarly (faults.Store text) remaining old new = ⊥
-EndsEarly faults.Memory remaining old new = Keeps old new
+abbrev pub EndsEarly : ℕ → RunFault → List ℕ → Option (List ℕ) → Option (List ℕ) → Type 0
+EndsEarly batch faults.Write remaining old new = WritesFront batch remaining old new
+EndsEarly batch faults.Read remaining old new = Keeps old new
+EndsEarly batch (faults.Document fault) remaining old new = EndsReading remaining (faults.Document fault) × Keeps old new
+EndsEarly batch (faults.Store text) remaining old new = ⊥
+EndsEarly batch faults.Memory remaining old new = Keeps old new
 
 -- the same, whatever was read
 abbrev pub IsFaultOfRun : RunFault → Type 0

@@ -2,19 +2,24 @@
 //! and their report is written.
 #![tactic(auto)]
 
+mod calls;
 mod ends;
 mod options;
 mod printing;
+mod record_text;
+mod repair;
 mod report;
 mod run;
 mod run_fault;
 
 pub use ends::{read_document, write_text};
 pub use options::Options;
+pub use record_text::{text_of, text_of_change};
 pub use run::{RunEnd, run_alone, run_to_end};
 pub use run_fault::RunFault;
 pub use tt_db::Db;
-pub use tt_document::{Ask, Call, DocFault, Document};
+pub use tt_document::{Ask, Call, DocFault, Document, Plan};
+pub use tt_repair::{After, Changed, Record, What};
 
 #[cfg(test)]
 mod tests;

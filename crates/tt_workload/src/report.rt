@@ -1,194 +1,27 @@
-//! The report of a document whose calls run one after another.
-ghost use Rattle.std.specs.Prelude.{◌≡◌, ◌+◌, ◌<◌, ◌≤◌, ◌++◌, [], length, OnOk, IfOk, IfErr, None, Some, codes};
-ghost use Rattle.std.specs.Fmt.{decimal};
-ghost use Rattle.tt_values.specs.Check.{action_fault, select_fault};
+//! The report of a document: the lines of its calls, of its repair and of its tables.
+ghost use Rattle.std.specs.Prelude.{◌≡◌, ◌+◌, ◌≤◌, ◌++◌, ◌∷◌, [], length, map, OnOk, IfOk, IfErr, None, Some};
+ghost use Rattle.tt_values.specs.Check.{select_fault};
 ghost use Rattle.tt_db.specs.Limits.{max_limits};
-ghost use Rattle.tt_db.specs.Database.{Database, state_of};
-ghost use Rattle.tt_document.specs.Document.{ask_fault, IsValidDocument};
-ghost use Rattle.tt_workload.specs.Report.{written_text, answer_text, later_text, read_text, ask_text, caller_text, call_line, entries_of_ask, entries_of, call_lines, all_rows, table_text, table_line, table_lines, end_text, end_line, history_of, report_of, database_after, with_entries, HasRoom, AreAccepted};
+ghost use Rattle.tt_db.specs.State.{after};
+ghost use Rattle.tt_db.specs.Database.{state_of, refusal_of};
+ghost use Rattle.tt_document.specs.Reading.{max_workers};
+ghost use Rattle.tt_document.specs.Document.{IsValidCall, IsValidPlan, IsValidDocument};
+ghost use Rattle.tt_repair.specs.Changes.{changes_of};
+ghost use Rattle.tt_workload.specs.Records.{text_of_records, text_of_changes};
+ghost use Rattle.tt_workload.specs.History.{edit_of_slot, begun, switched, history_of, records_of, records_meanwhile, records_if, history_if};
+ghost use Rattle.tt_workload.specs.Room.{AreAccepted, IsBefore};
+ghost use Rattle.tt_workload.specs.Report.{all_rows, table_text, table_line, table_lines, end_text, end_line, repair_lines, repair_lines_if, report_of, database_after};
 
-use crate::printing::{push_decimal, push_labelled, push_replies, push_reply};
+use crate::calls::make_calls;
+use crate::printing::{push_decimal, push_labelled, push_reply};
+use crate::record_text::push_changes;
+use crate::repair::{begin, edits_of_slots, finish, make_meanwhile};
 use crate::run_fault::RunFault;
 use std::alloc::{AllocError, Global};
-use tt_db::{Db, Entry, Event, Limits, Outcome, ReadError};
-use tt_document::{Ask, Call, Document};
-use tt_values::{Items, Reply, Select, Write};
-
-/// Pushes the end of the line of an action.
-fn push_written(out: &mut Vec<u8>, slot: u64, replies: &[Reply]) -> Result<(), AllocError>
-    ensures { OnOk result (out.new.items ≡ out.old.items ++ written_text slot replies.now) }
-{
-    out.extend_from_slice(b" slot ")?;
-    push_decimal(out, slot)?;
-    out.push(b' ')?;
-    push_replies(out, replies)?;
-    out.push(b'\n')?;
-    Ok(())
-}
-
-/// Pushes the beginning of a call's line.
-fn push_caller(out: &mut Vec<u8>, number: u64, worker: u32) -> Result<(), AllocError>
-    ensures { OnOk result (out.new.items ≡ out.old.items ++ caller_text number worker) }
-{
-    out.extend_from_slice(b"call ")?;
-    push_decimal(out, number)?;
-    out.extend_from_slice(b" worker ")?;
-    push_decimal(out, u64::from(worker))?;
-    Ok(())
-}
-
-/// Applies an action to the database, and pushes the end of its line. Answers the next database.
-fn push_action(
-    alloc: Global,
-    out: &mut Vec<u8>,
-    db: Db,
-    worker: u32,
-    action: Items<Write>,
-) -> Result<Db, RunFault>
-    requires accepted { action_fault db.catalog action ≡ None }
-    requires room { HasRoom db }
-    ensures text { OnOk result (out.new.items
-        ≡ out.old.items ++ ask_text (state_of db) (Ask.Write action)) }
-    ensures state { IfOk result (λ next. next
-        ≡ with_entries db (entries_of_ask worker (Ask.Write action))) }
-    ensures err { IfErr result (λ e. e ≡ RunFault.Memory) }
-{
-    let entry = Entry {
-        worker,
-        event: Event::Write(action),
-    };
-    let (next, answer) = db.advanced(entry)?;
-    match answer {
-        Ok(Outcome::Written { slot, replies }) => {
-            push_written(out, slot, replies.as_slice())?;
-            Ok(next)
-        }
-        Ok(_) => unreachable!(),
-        Err(error) => Err(RunFault::of_event(alloc, error)),
-    }
-}
-
-/// Reads the database, and pushes the end of a select's line.
-fn push_read(
-    alloc: Global,
-    out: &mut Vec<u8>,
-    db: &Db,
-    select: &Select,
-    at: Option<u64>,
-) -> Result<(), RunFault>
-    requires accepted { select_fault db.now.catalog select.now ≡ None }
-    ensures text { OnOk result (out.new.items
-        ≡ out.old.items ++ read_text (state_of db.now) select.now at) }
-    ensures err { IfErr result (λ e. e ≡ RunFault.Memory) }
-{
-    match at {
-        None => push_current(alloc, out, db, select),
-        Some(time) => push_past(alloc, out, db, select, time),
-    }
-}
-
-/// Reads rows as they are now.
-fn push_current(alloc: Global, out: &mut Vec<u8>, db: &Db, select: &Select) -> Result<(), RunFault>
-    requires accepted { select_fault db.now.catalog select.now ≡ None }
-    ensures text { OnOk result (out.new.items
-        ≡ out.old.items ++ read_text (state_of db.now) select.now None) }
-    ensures err { IfErr result (λ e. e ≡ RunFault.Memory) }
-{
-    let reply = match db.select(select) {
-        Ok(reply) => reply,
-        Err(error) => return Err(RunFault::of_read(alloc, error)),
-    };
-    push_answer(out, db.now(), &reply)?;
-    Ok(())
-}
-
-/// Reads rows as they were at a time, which may still be to come.
-fn push_past(
-    alloc: Global,
-    out: &mut Vec<u8>,
-    db: &Db,
-    select: &Select,
-    time: u64,
-) -> Result<(), RunFault>
-    requires accepted { select_fault db.now.catalog select.now ≡ None }
-    ensures text { OnOk result (out.new.items
-        ≡ out.old.items ++ read_text (state_of db.now) select.now (Some time)) }
-    ensures err { IfErr result (λ e. e ≡ RunFault.Memory) }
-{
-    match db.select_at(select, time) {
-        Ok(reply) => push_answer(out, time, &reply)?,
-        Err(error) => match error {
-            ReadError::Later { now } => push_later(out, now)?,
-            error => return Err(RunFault::of_read(alloc, error)),
-        },
-    }
-    Ok(())
-}
-
-fn push_later(out: &mut Vec<u8>, now: u64) -> Result<(), AllocError>
-    ensures { OnOk result (out.new.items ≡ out.old.items ++ later_text now) }
-{
-    push_labelled(out, b" refused later than ", now)?;
-    out.push(b'\n')?;
-    Ok(())
-}
-
-fn push_answer(out: &mut Vec<u8>, time: u64, reply: &Reply) -> Result<(), AllocError>
-    ensures { OnOk result (out.new.items ≡ out.old.items ++ answer_text time reply.now) }
-{
-    out.extend_from_slice(b" time ")?;
-    push_decimal(out, time)?;
-    out.push(b' ')?;
-    push_reply(out, reply)?;
-    out.push(b'\n')?;
-    Ok(())
-}
-
-/// Makes a call, and pushes its line. Answers the database after it.
-fn push_call(
-    alloc: Global,
-    out: &mut Vec<u8>,
-    db: Db,
-    number: u64,
-    call: Call,
-) -> Result<Db, RunFault>
-    requires accepted { ask_fault db.catalog call.ask ≡ None }
-    requires room { HasRoom db }
-    ensures line { OnOk result (out.new.items
-        ≡ out.old.items ++ call_line number (state_of db) call) }
-    ensures state { IfOk result (λ next. next ≡ with_entries db (entries_of call)) }
-    ensures err { IfErr result (λ e. e ≡ RunFault.Memory) }
-{
-    let Call { worker, ask } = call;
-    push_caller(out, number, worker)?;
-    match ask {
-        Ask::Write(action) => push_action(alloc, out, db, worker, action),
-        Ask::Read { select, at } => {
-            push_read(alloc, out, &db, &select, at)?;
-            Ok(db)
-        }
-    }
-}
-
-/// Makes the calls of a document, in order, and pushes their lines. Answers the last database.
-fn push_calls(alloc: Global, out: &mut Vec<u8>, db: Db, calls: Vec<Call>) -> Result<Db, RunFault>
-    requires empty { db.history ≡ [] }
-    requires limits { db.limits ≡ max_limits }
-    requires accepted { AreAccepted db.catalog calls.items }
-    requires few { length calls.items ≤ 100000 }
-    ensures lines { OnOk result (out.new.items ≡ out.old.items ++ call_lines 1 [] calls.items) }
-    ensures state { IfOk result (λ last.
-        last ≡ record db { history = history_of calls.items }) }
-    ensures err { IfErr result (λ e. e ≡ RunFault.Memory) }
-{
-    let mut db = db;
-    let mut number: u64 = 0;
-    for call in calls {
-        number += 1;
-        db = push_call(alloc, out, db, number, call)?;
-    }
-    Ok(db)
-}
+use tt_db::{Db, Event, Limits};
+use tt_document::{Document, Plan};
+use tt_repair::{Record, changes};
+use tt_values::{Items, Reply, Select};
 
 /// Pushes the line of a table.
 fn push_table(
@@ -272,17 +105,106 @@ fn push_state(alloc: Global, out: &mut Vec<u8>, db: &Db) -> Result<(), RunFault>
     Ok(())
 }
 
-/// The report of a document whose calls run one after another, and the database that they leave.
-pub(crate) fn report_of(alloc: Global, document: Document) -> Result<(Vec<u8>, Db), RunFault>
-    requires { IsValidDocument document }
-    ensures report { IfOk result (λ r. r.0.items ≡ report_of document) }
-    ensures database { IfOk result (λ r. r.1 ≡ database_after document) }
+/// Pushes a line for each record whose call is answered otherwise now.
+fn push_changed(
+    alloc: Global,
+    out: &mut Vec<u8>,
+    db: &Db,
+    records: &[Record],
+) -> Result<(), RunFault>
+    ensures text { OnOk result (out.new.items ≡ out.old.items
+        ++ text_of_changes (changes_of db.now.catalog (state_of db.now) records.now)) }
     ensures err { IfErr result (λ e. e ≡ RunFault.Memory) }
 {
-    let Document { catalog, calls, .. } = document;
+    let changes = changes(alloc, db, records)?;
+    push_changes(out, &changes)?;
+    Ok(())
+}
+
+/// Carries out the repair of a document, and pushes the lines of the calls that are made meanwhile
+/// and those of the repair. Answers the database after its switch.
+fn run_repair(
+    alloc: Global,
+    out: &mut Vec<u8>,
+    records: Vec<Record>,
+    db: Db,
+    workers: u32,
+    batch: u32,
+    plan: Plan,
+) -> Result<Db, RunFault>
+    requires begins { refusal_of db (Event.Begin (map (edit_of_slot records.items) plan.edits))
+        ≡ None }
+    requires before { IsBefore (length records.items) db }
+    requires accepted { AreAccepted db.catalog plan.meanwhile }
+    requires few { length records.items ≤ 100000 }
+    requires few_meanwhile { length plan.meanwhile ≤ 100000 }
+    requires workers { workers ≤ max_workers }
+    ensures lines { OnOk result (out.new.items ≡ out.old.items
+        ++ (text_of_records (records_meanwhile (workers + 1) batch (length records.items + 1)
+        (begun (workers + 1) records.items db.history plan) plan.meanwhile)
+        ++ repair_lines db.catalog (workers + 1) batch records.items db.history plan)) }
+    ensures state { IfOk result (λ last. last ≡ record db {
+      history = switched (workers + 1) batch records.items db.history plan;
+    }) }
+    ensures err { IfErr result (λ e. e ≡ RunFault.Memory) }
+{
+    let administrator = workers + 1;
+    let batch = u64::from(batch);
+    let mut records = records;
+    let made = records.len() as u64;
+    let Plan { edits, meanwhile } = plan;
+    let calls = meanwhile.into_vec();
+    let all = made + calls.len() as u64;
+    let edits = edits_of_slots(alloc, &records, edits.as_slice())?;
+    let db = begin(alloc, db, administrator, edits)?;
+    let db = make_meanwhile(
+        alloc,
+        out,
+        &mut records,
+        db,
+        administrator,
+        batch,
+        made,
+        calls,
+    )?;
+    let db = finish(alloc, out, db, administrator, all)?;
+    push_changed(alloc, out, &db, &records)?;
+    Ok(db)
+}
+
+/// The report of a document, and the database that its calls leave.
+pub(crate) fn report_of(
+    alloc: Global,
+    document: Document,
+    batch: u32,
+) -> Result<(Vec<u8>, Db), RunFault>
+    requires { IsValidDocument document }
+    ensures report { IfOk result (λ r. r.0.items ≡ report_of batch document) }
+    ensures database { IfOk result (λ r. r.1 ≡ database_after batch document) }
+    ensures err { IfErr result (λ e. e ≡ RunFault.Memory) }
+{
+    let Document {
+        catalog,
+        workers,
+        calls,
+        repair,
+    } = document;
     let db = Db::new(alloc, catalog.into_arc(), Limits::usual());
     let mut out = Vec::new(alloc);
-    let db = push_calls(alloc, &mut out, db, calls.into_vec())?;
+    let mut records = Vec::new(alloc);
+    let are_kept = repair.is_some();
+    let db = make_calls(
+        alloc,
+        &mut out,
+        &mut records,
+        are_kept,
+        db,
+        calls.into_vec(),
+    )?;
+    let db = match repair {
+        Some(plan) => run_repair(alloc, &mut out, records, db, workers, batch, plan)?,
+        None => db,
+    };
     push_state(alloc, &mut out, &db)?;
     Ok((out, db))
 }

@@ -26,9 +26,9 @@ pub fn run_alone<R: Read, W: Write>(
 
     // Of a reader and a writer whose bytes are known.
     ensures ok { OnOk result (IfSome (R.remaining reader.old) (λ xs.
-        WritesReport xs (W.contents writer.old) (W.contents writer.new))) }
+        WritesReport options.now.batch xs (W.contents writer.old) (W.contents writer.new))) }
     ensures err { IfErr result (λ e. IfSome (R.remaining reader.old) (λ xs.
-        EndsEarly e xs (W.contents writer.old) (W.contents writer.new))) }
+        EndsEarly options.now.batch e xs (W.contents writer.old) (W.contents writer.new))) }
     ensures unchanged { IfErr result (λ e.
         e ≢ RunFault.Write → Keeps (W.contents writer.old) (W.contents writer.new)) }
     ensures limit { ConsumesAtMost max_bytes_read
@@ -56,28 +56,28 @@ pub fn run_to_end<R: Read, W: Write>(
     alloc: Global,
     reader: &mut R,
     writer: &mut W,
-    _options: &Options,
+    options: &Options,
 ) -> Result<RunEnd, RunFault>
-    requires options { AreWithin _options.now }
+    requires options { AreWithin options.now }
 
     // Of a reader and a writer whose bytes are known.
     ensures ok { OnOk result (IfSome (R.remaining reader.old) (λ xs.
-        WritesReport xs (W.contents writer.old) (W.contents writer.new))) }
+        WritesReport options.now.batch xs (W.contents writer.old) (W.contents writer.new))) }
     ensures database { IfOk result (λ end. IfSome (R.remaining reader.old) (λ xs.
-        LeavesDatabase xs end.db)) }
+        LeavesDatabase options.now.batch xs end.db)) }
     ensures err { IfErr result (λ e. IfSome (R.remaining reader.old) (λ xs.
-        EndsEarly e xs (W.contents writer.old) (W.contents writer.new))) }
+        EndsEarly options.now.batch e xs (W.contents writer.old) (W.contents writer.new))) }
     ensures unchanged { IfErr result (λ e.
         e ≢ RunFault.Write → Keeps (W.contents writer.old) (W.contents writer.new)) }
     ensures limit { ConsumesAtMost max_bytes_read
         (R.remaining reader.old) (R.remaining reader.new) }
 
     // Of any reader and writer.
-    ensures left { IfOk result (λ end. IsLeftByDocument end.db) }
+    ensures left { IfOk result (λ end. IsLeftByDocument options.now.batch end.db) }
     ensures kind { IfErr result IsFaultOfRun }
 {
     let (document, json) = read_with_json(alloc, reader)?;
-    let (report, db) = report_of(alloc, document)?;
+    let (report, db) = report_of(alloc, document, options.batch)?;
     write_report(writer, &report, RunEnd { db, json })
 }
 

@@ -1,0 +1,4 @@
+pub mod BatchLemmas
+pub mod BuildLemmas
+pub mod CommandLemmas
+pub mod WalkLemmas

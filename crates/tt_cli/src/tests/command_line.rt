@@ -1,0 +1,114 @@
+use crate::command_line::{Cli, command_of};
+use clap::Error;
+use clap::error::ErrorKind;
+use std::alloc::{AllocError, Global};
+use std::process::Abort;
+use std::test::Fail;
+
+fn words_of(alloc: Global, words: &[&str]) -> Result<Vec<String>, AllocError> {
+    let mut texts = Vec::new(alloc);
+    for word in words {
+        texts.push(String::from_str(alloc, word)?)?;
+    }
+    Ok(texts)
+}
+
+/// What the words after the program's name ask for.
+fn command_line(alloc: Global, words: &[&str]) -> Result<Cli, Error> {
+    let mut texts = words_of(alloc, &["timetravel"])?;
+    for word in words {
+        texts.push(String::from_str(alloc, word)?)?;
+    }
+    command_of(alloc, texts.as_slice())
+}
+
+/// The words ask for this batch, and for the usual rounds.
+fn asks(rt: &impl Abort, alloc: Global, words: &[&str], batch: u32) {
+    let cli = command_line(alloc, words).expect(rt, "a command");
+    assert_eq!(rt; cli.options.batch, batch);
+    assert_eq!(rt; cli.options.rounds, 8);
+}
+
+/// The words give no command, for this reason.
+fn fails(rt: &impl Abort, alloc: Global, words: &[&str], kind: ErrorKind) {
+    match command_line(alloc, words) {
+        Ok(_) => panic!(rt; "a command"),
+        Err(error) => assert!(rt; error.kind() == kind),
+    }
+}
+
+#[test]
+fn batches(rt: HostRuntime) {
+    let alloc = rt.alloc();
+    asks(&rt, alloc, &["replay"], 16);
+    asks(&rt, alloc, &["replay", "--batch", "2"], 2);
+    asks(&rt, alloc, &["replay", "--batch=1"], 1);
+    asks(&rt, alloc, &["replay", "--batch", "10000"], 10_000);
+}
+
+#[test]
+fn refused_batches(rt: HostRuntime) {
+    let alloc = rt.alloc();
+    for text in ["0", "10001", "x", ""] {
+        fails(
+            &rt,
+            alloc,
+            &["replay", "--batch", text],
+            ErrorKind::ValueValidation,
+        );
+    }
+    fails(
+        &rt,
+        alloc,
+        &["replay", "--batch=-1"],
+        ErrorKind::ValueValidation,
+    );
+    fails(
+        &rt,
+        alloc,
+        &["replay", "--batch", "-1"],
+        ErrorKind::UnknownArgument,
+    );
+    fails(&rt, alloc, &["replay", "--batch"], ErrorKind::InvalidValue);
+    fails(
+        &rt,
+        alloc,
+        &["replay", "--batch", "2", "--batch", "2"],
+        ErrorKind::ArgumentConflict,
+    );
+}
+
+#[test]
+fn other_words(rt: HostRuntime) {
+    let alloc = rt.alloc();
+    fails(&rt, alloc, &[], ErrorKind::MissingSubcommand);
+    fails(&rt, alloc, &["--version"], ErrorKind::DisplayVersion);
+    fails(&rt, alloc, &["--help"], ErrorKind::DisplayHelp);
+    fails(&rt, alloc, &["replay", "--help"], ErrorKind::DisplayHelp);
+    fails(
+        &rt,
+        alloc,
+        &["replay", "--rounds", "2"],
+        ErrorKind::UnknownArgument,
+    );
+    fails(
+        &rt,
+        alloc,
+        &["--batch", "2", "replay"],
+        ErrorKind::UnknownArgument,
+    );
+}
+
+/// The version stands on a line of its own.
+#[test]
+fn version(rt: HostRuntime) -> Result<(), Fail> {
+    let alloc = rt.alloc();
+    match command_line(alloc, &["--version"]) {
+        Ok(_) => panic!(rt; "a command"),
+        Err(error) => {
+            let text = format!(in alloc; "{error}")?;
+            assert_eq!(rt; text.as_str(), "timetravel 0.1.0\n");
+        }
+    }
+    Ok(())
+}

@@ -1,0 +1,277 @@
+//! Reading of the repair of a document.
+ghost use Rattle.std.specs.Prelude.{◌≡◌, ◌==◌, None};
+ghost use Rattle.std.specs.List.{list_any};
+ghost use Rattle.serde_json.specs.View.{view};
+ghost use Rattle.tt_repair_laws.specs.Edits.{slot_number};
+ghost use Rattle.tt_document.specs.Fault.{Gives};
+ghost use Rattle.tt_document.specs.Decoder.{count_within};
+ghost use Rattle.tt_document.specs.Repair.{no_kind_of_write, replacement_by, replacement, cancel, replace, edit_by_kind, is_action, is_action_call, judge_edit, with_edit, edits, repair};
+
+use crate::MAX_EDITS;
+use crate::actions::{action, action_of_one, has_action, write};
+use crate::calls::CallsDecoder;
+use crate::decoder::{Decoder, OUT_OF_RANGE, array, count, has, member, object, optional};
+use crate::document::{Ask, Call, Plan};
+use crate::fault::DocFault;
+use crate::members::no_members_but;
+use crate::owned_items::OwnedItems;
+use crate::statements::Place;
+use crate::taker::{Taker, take_all};
+use crate::version::Version;
+use serde_json::Value;
+use std::alloc::Global;
+use tt_repair_laws::Edit;
+use tt_values::{Catalog, Items, Write};
+
+/// The repair of calls: its edits, and the calls that are made meanwhile.
+#[derive(Drop)]
+pub(crate) struct RepairDecoder<'a> {
+    pub(crate) version: Version,
+    pub(crate) catalog: &'a Catalog,
+    pub(crate) workers: u32,
+    pub(crate) calls: &'a [Call],
+}
+
+impl Decoder for RepairDecoder<'_> {
+    type Output = Plan;
+
+    ghost meaning = { λ r. repair r.version r.catalog.now r.workers r.calls.now };
+
+    #[tactic(auto, unfolding(crate::specs::Repair::repair))]
+    fn decode(&self, alloc: Global, value: &Value) -> Result<Plan, DocFault> {
+        object(alloc, value)?;
+        let decoder = EditsDecoder {
+            version: self.version,
+            catalog: self.catalog,
+            calls: self.calls,
+        };
+        let edits = member(alloc, value, "edits", &decoder)?;
+        let decoder = CallsDecoder {
+            version: self.version,
+            catalog: self.catalog,
+            workers: self.workers,
+        };
+        let meanwhile = optional(alloc, value, "meanwhile", &decoder)?;
+        no_members_but(alloc, value, &["edits", "meanwhile"])?;
+        let meanwhile = match meanwhile {
+            Some(calls) => calls,
+            None => OwnedItems::with_room(alloc, 0)?,
+        };
+        Ok(Plan { edits, meanwhile })
+    }
+}
+
+/// The edits of calls, of which there may be too many.
+#[derive(Drop)]
+struct EditsDecoder<'a> {
+    version: Version,
+    catalog: &'a Catalog,
+    calls: &'a [Call],
+}
+
+impl Decoder for EditsDecoder<'_> {
+    type Output = Items<Edit>;
+
+    ghost meaning = { λ r. edits r.version r.catalog.now r.calls.now };
+
+    fn decode(&self, alloc: Global, value: &Value) -> Result<Items<Edit>, DocFault> {
+        let items = array(alloc, value)?;
+        if items.len() > MAX_EDITS {
+            return Err(DocFault::here(alloc, OUT_OF_RANGE));
+        }
+        let taker = EditTaker {
+            version: self.version,
+            catalog: self.catalog,
+            calls: self.calls,
+        };
+        let start = OwnedItems::with_room(alloc, items.len())?;
+        let edits = take_all(alloc, &taker, start, items)?;
+        let edits = edits.into_items(alloc)?;
+        Ok(edits)
+    }
+}
+
+/// Collects edits, each of another call.
+#[derive(Drop)]
+struct EditTaker<'a> {
+    version: Version,
+    catalog: &'a Catalog,
+    calls: &'a [Call],
+}
+
+impl Taker for EditTaker<'_> {
+    type State = OwnedItems<Edit>;
+
+    ghost after = { λ t. with_edit t.version t.catalog.now t.calls.now };
+
+    #[tactic(auto, unfolding(crate::specs::Repair::with_edit))]
+    fn take(
+        &self,
+        alloc: Global,
+        state: OwnedItems<Edit>,
+        item: &Value,
+    ) -> Result<OwnedItems<Edit>, DocFault> {
+        object(alloc, item)?;
+        let edit = edit(alloc, self.version, self.catalog, self.calls.len(), item)?;
+        judge_edit(alloc, self.calls, state.as_slice(), &edit)?;
+        let edits = state.with_item(edit)?;
+        Ok(edits)
+    }
+}
+
+/// An edit is for a call that asks for an action, and that no earlier edit is for.
+fn judge_edit(alloc: Global, calls: &[Call], earlier: &[Edit], edit: &Edit) -> Result<(), DocFault>
+    ensures { Gives result (judge_edit calls.now earlier.now edit.now) }
+{
+    let number = edit.number();
+    if !is_action_call(calls, number) {
+        return Err(DocFault::here(alloc, "not a write"));
+    }
+    if is_edited(earlier, number) {
+        return Err(DocFault::here(alloc, "edited twice"));
+    }
+    Ok(())
+}
+
+/// Whether the call of a number, counted from 1, asks for an action.
+fn is_action_call(calls: &[Call], number: u64) -> bool
+    ensures { result ≡ is_action_call calls.now number }
+{
+    let position = number.saturating_sub(1);
+    match calls.get(position as usize) {
+        Some(call) => is_action(&call.ask),
+        None => false,
+    }
+}
+
+fn is_action(ask: &Ask) -> bool
+    ensures { result ≡ is_action ask.now }
+{
+    match ask {
+        Ask::Write(_) => true,
+        Ask::Read { .. } => false,
+        Ask::Preview(_) => false,
+    }
+}
+
+/// Whether one of the edits is for a call.
+fn is_edited(edits: &[Edit], number: u64) -> bool
+    ensures { result ≡ list_any (λ d. number == slot_number d) edits.now }
+{
+    edits.iter().any(|edit| number == edit.number())
+}
+
+/// The edit of an object, by the first of its kinds that's there.
+fn edit(
+    alloc: Global,
+    version: Version,
+    catalog: &Catalog,
+    calls: usize,
+    value: &Value,
+) -> Result<Edit, DocFault>
+    ensures { Gives result (edit_by_kind version catalog.now calls (view value.now)) }
+{
+    if has(value, "cancel") {
+        let edit = cancel(alloc, calls, value)?;
+        return Ok(edit);
+    }
+    if has(value, "replace") {
+        let edit = replace(alloc, version, catalog, calls, value)?;
+        return Ok(edit);
+    }
+    Err(DocFault::here(alloc, "missing one of cancel, replace"))
+}
+
+#[tactic(auto, unfolding(crate::specs::Repair::cancel))]
+fn cancel(alloc: Global, calls: usize, value: &Value) -> Result<Edit, DocFault>
+    ensures { Gives result (cancel calls (view value.now)) }
+{
+    let number = member(alloc, value, "cancel", &CallNumberDecoder { calls })?;
+    no_members_but(alloc, value, &["cancel"])?;
+    Ok(Edit::Cancel(number))
+}
+
+#[tactic(auto, unfolding(crate::specs::Repair::replace))]
+fn replace(
+    alloc: Global,
+    version: Version,
+    catalog: &Catalog,
+    calls: usize,
+    value: &Value,
+) -> Result<Edit, DocFault>
+    ensures { Gives result (replace version catalog.now calls (view value.now)) }
+{
+    let number = member(alloc, value, "replace", &CallNumberDecoder { calls })?;
+    let action = member(alloc, value, "by", &ReplacementDecoder { version, catalog })?;
+    no_members_but(alloc, value, &["by", "replace"])?;
+    Ok(Edit::Replace(number, action))
+}
+
+/// The number of one of so many calls, from 1.
+#[derive(Drop)]
+struct CallNumberDecoder {
+    calls: usize,
+}
+
+impl Decoder for CallNumberDecoder {
+    type Output = u64;
+
+    ghost meaning = { λ c. count_within 1 c.calls };
+
+    fn decode(&self, alloc: Global, value: &Value) -> Result<u64, DocFault> {
+        let number = count(alloc, value)?;
+        if number < 1 || number > self.calls as u64 {
+            return Err(DocFault::here(alloc, OUT_OF_RANGE));
+        }
+        Ok(number)
+    }
+}
+
+/// The action that replaces that of a call.
+#[derive(Drop)]
+struct ReplacementDecoder<'a> {
+    version: Version,
+    catalog: &'a Catalog,
+}
+
+impl Decoder for ReplacementDecoder<'_> {
+    type Output = Items<Write>;
+
+    ghost meaning = { λ r. replacement r.version r.catalog.now };
+
+    #[tactic(auto, unfolding(crate::specs::Repair::replacement))]
+    fn decode(&self, alloc: Global, value: &Value) -> Result<Items<Write>, DocFault> {
+        object(alloc, value)?;
+        match write(alloc, self.catalog, Place::Item, value)? {
+            Some(write) => {
+                let action = action_of_one(alloc, write)?;
+                Ok(action)
+            }
+            None => replacement_without_write(alloc, self.version, self.catalog, value),
+        }
+    }
+}
+
+fn replacement_without_write(
+    alloc: Global,
+    version: Version,
+    catalog: &Catalog,
+    value: &Value,
+) -> Result<Items<Write>, DocFault>
+    ensures { Gives result (replacement_by version catalog.now (view value.now) None) }
+{
+    if has_action(version, value) {
+        let action = action(alloc, catalog, Place::Item, value)?;
+        return Ok(action);
+    }
+    Err(DocFault::here(alloc, no_kind_of_write(version)))
+}
+
+fn no_kind_of_write(version: Version) -> &'static str
+    ensures { result.now ≡ no_kind_of_write version }
+{
+    match version {
+        Version::One => "missing one of insert, update, delete",
+        Version::Two => "missing one of insert, update, delete, do",
+    }
+}

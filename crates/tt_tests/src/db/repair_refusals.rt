@@ -1,0 +1,204 @@
+//! Why events of a repair are refused, in the order of the reasons, and limits in a repair.
+use super::repairs::{begin, begin_and_step, finish, five_slots, switched};
+use super::{
+    ACCT, ANN, BOB, LOAN, action, answer_to, bank, done, has, insert, made, new_db, open, previews,
+};
+use std::alloc::Global;
+use std::process::Abort;
+use tt_db::{Db, DbError, Edit, Event, Limits, MAX_EDITS, MAX_EVENTS, MAX_SLOTS, Outcome};
+use tt_values::{CheckError, Items, Write};
+
+/// Asserts that an event is refused, and changes nothing of the counts.
+fn refused(rt: &impl Abort, db: &mut Db, event: Event, want: DbError) {
+    let events = db.events();
+    let repair = db.repair();
+    assert_eq!(rt; answer_to(rt, db, event), Err(want));
+    assert_eq!(rt; db.events(), events);
+    assert_eq!(rt; db.repair(), repair);
+}
+
+/// A new database with the table `acct` and these limits.
+fn limited_db(rt: &impl Abort, alloc: Global, limits: Limits) -> Db {
+    assert!(rt; limits.fits());
+    Db::new(alloc, bank(rt, alloc, &["acct"]), limits)
+}
+
+#[test]
+fn an_edit_of_no_slot_and_a_second_edit_are_refused(rt: HostRuntime) {
+    let alloc = rt.alloc();
+    let mut db = five_slots(&rt, alloc);
+    let event = begin(&rt, alloc, [Edit::Cancel(0)]);
+    refused(&rt, &mut db, event, DbError::NoSlot { t: 0 });
+    let event = begin(&rt, alloc, [Edit::Cancel(9)]);
+    refused(&rt, &mut db, event, DbError::NoSlot { t: 9 });
+    let event = begin(&rt, alloc, [Edit::Cancel(3), Edit::Cancel(3)]);
+    refused(&rt, &mut db, event, DbError::EditTwice { t: 3 });
+    let event = begin(
+        &rt,
+        alloc,
+        [Edit::Cancel(3), Edit::Cancel(3), Edit::Cancel(9)],
+    );
+    refused(&rt, &mut db, event, DbError::NoSlot { t: 9 });
+    assert_eq!(rt; db.repair(), None);
+    has(&rt, alloc, &db, &[(3, "bob", 8)]);
+    done(db);
+}
+
+#[test]
+fn events_of_a_repair_need_one(rt: HostRuntime) {
+    let alloc = rt.alloc();
+    let mut db = new_db(&rt, alloc);
+    open(&rt, alloc, &mut db, ANN);
+    for event in [Event::Step, Event::Switch, Event::Abort] {
+        refused(&rt, &mut db, event, DbError::NotRepairing);
+    }
+    done(db);
+}
+
+#[test]
+fn a_repair_goes_in_order(rt: HostRuntime) {
+    let alloc = rt.alloc();
+    let mut db = new_db(&rt, alloc);
+    open(&rt, alloc, &mut db, ANN);
+    let event = begin(&rt, alloc, []);
+    assert_eq!(rt; made(&rt, &mut db, event), Outcome::Begun);
+    let event = begin(&rt, alloc, []);
+    refused(&rt, &mut db, event, DbError::Repairing);
+    refused(
+        &rt,
+        &mut db,
+        Event::Switch,
+        DbError::NotCaughtUp { left: 1 },
+    );
+    let stepped = Outcome::Stepped {
+        slot: 1,
+        rerun: false,
+    };
+    assert_eq!(rt; made(&rt, &mut db, Event::Step), stepped);
+    refused(&rt, &mut db, Event::Step, DbError::NothingLeft);
+    assert_eq!(rt; made(&rt, &mut db, Event::Switch), switched(1, 1, 0));
+    refused(&rt, &mut db, Event::Abort, DbError::NotRepairing);
+    done(db);
+}
+
+/// A replacement of slot 1 by an insert into a table that isn't there.
+fn bad_replacement(rt: &impl Abort, alloc: Global) -> Edit {
+    Edit::Replace(1, action(rt, alloc, [insert(rt, alloc, LOAN, ANN)]))
+}
+
+#[test]
+fn the_first_reason_decides_during_a_repair(rt: HostRuntime) {
+    let alloc = rt.alloc();
+    let mut db = new_db(&rt, alloc);
+    open(&rt, alloc, &mut db, ANN);
+    begin_and_step(&rt, alloc, &mut db, [Edit::Cancel(1)], 0);
+    let event = begin(&rt, alloc, [Edit::Cancel(9), bad_replacement(&rt, alloc)]);
+    refused(&rt, &mut db, event, DbError::Statement(CheckError::NoTable));
+    let event = begin(&rt, alloc, [Edit::Cancel(9)]);
+    refused(&rt, &mut db, event, DbError::Repairing);
+    let event = begin(&rt, alloc, [Edit::Cancel(1), Edit::Cancel(1)]);
+    refused(&rt, &mut db, event, DbError::Repairing);
+    done(db);
+}
+
+/// Seventeen inserts, one more than an action may have.
+fn seventeen_writes(rt: &impl Abort, alloc: Global) -> Items<Write> {
+    let mut writes = Vec::new(alloc);
+    for id in 0..17 {
+        let insert = insert(rt, alloc, ACCT, (id, "ann", 1));
+        writes.push(insert).expect(rt, "memory");
+    }
+    Items::new(alloc, writes).expect(rt, "memory")
+}
+
+#[test]
+fn a_replacement_has_sixteen_writes_at_most(rt: HostRuntime) {
+    let alloc = rt.alloc();
+    let mut db = new_db(&rt, alloc);
+    open(&rt, alloc, &mut db, ANN);
+    let edit = Edit::Replace(1, seventeen_writes(&rt, alloc));
+    let event = begin(&rt, alloc, [edit, bad_replacement(&rt, alloc)]);
+    let fault = DbError::Statement(CheckError::TooManyWrites);
+    refused(&rt, &mut db, event, fault);
+    assert_eq!(rt; db.repair(), None);
+    done(db);
+}
+
+#[test]
+fn a_repair_has_so_many_edits_at_most(rt: HostRuntime) {
+    let alloc = rt.alloc();
+    let limits = Limits {
+        slots: MAX_SLOTS,
+        events: MAX_EVENTS,
+        edits: 0,
+    };
+    let mut db = limited_db(&rt, alloc, limits);
+    open(&rt, alloc, &mut db, ANN);
+    assert_eq!(rt; db.now(), 1);
+    let event = begin(&rt, alloc, [Edit::Cancel(1)]);
+    refused(&rt, &mut db, event, DbError::TooManyEdits);
+    let event = begin(&rt, alloc, []);
+    assert_eq!(rt; made(&rt, &mut db, event), Outcome::Begun);
+    done(db);
+}
+
+#[test]
+fn bad_edits_come_before_too_many(rt: HostRuntime) {
+    let alloc = rt.alloc();
+    let limits = Limits {
+        slots: MAX_SLOTS,
+        events: MAX_EVENTS,
+        edits: 1,
+    };
+    let mut db = limited_db(&rt, alloc, limits);
+    open(&rt, alloc, &mut db, ANN);
+    open(&rt, alloc, &mut db, BOB);
+    let event = begin(&rt, alloc, [Edit::Cancel(1), Edit::Cancel(9)]);
+    refused(&rt, &mut db, event, DbError::NoSlot { t: 9 });
+    let event = begin(&rt, alloc, [Edit::Cancel(1), Edit::Cancel(1)]);
+    refused(&rt, &mut db, event, DbError::EditTwice { t: 1 });
+    let event = begin(&rt, alloc, [Edit::Cancel(1), Edit::Cancel(2)]);
+    refused(&rt, &mut db, event, DbError::TooManyEdits);
+    let event = begin(&rt, alloc, [Edit::Cancel(2)]);
+    assert_eq!(rt; made(&rt, &mut db, event), Outcome::Begun);
+    done(db);
+}
+
+#[test]
+fn a_full_history_takes_no_switch_and_no_abort(rt: HostRuntime) {
+    let alloc = rt.alloc();
+    let limits = Limits {
+        slots: MAX_SLOTS,
+        events: 3,
+        edits: MAX_EDITS,
+    };
+    let mut db = limited_db(&rt, alloc, limits);
+    open(&rt, alloc, &mut db, ANN);
+    begin_and_step(&rt, alloc, &mut db, [], 1);
+    refused(&rt, &mut db, Event::Switch, DbError::Full { limit: 3 });
+    refused(&rt, &mut db, Event::Abort, DbError::Full { limit: 3 });
+    previews(&rt, alloc, &db, &[ANN]);
+    has(&rt, alloc, &db, &[ANN]);
+    done(db);
+}
+
+#[test]
+fn a_repair_of_full_slots_can_be_finished(rt: HostRuntime) {
+    let alloc = rt.alloc();
+    let limits = Limits {
+        slots: 2,
+        events: MAX_EVENTS,
+        edits: MAX_EDITS,
+    };
+    let mut db = limited_db(&rt, alloc, limits);
+    open(&rt, alloc, &mut db, ANN);
+    begin_and_step(&rt, alloc, &mut db, [Edit::Cancel(1)], 1);
+    open(&rt, alloc, &mut db, BOB);
+    let event = Event::Write(action(&rt, alloc, [insert(&rt, alloc, ACCT, (3, "eve", 1))]));
+    refused(&rt, &mut db, event, DbError::Full { limit: 2 });
+    assert_eq!(rt; finish(&rt, &mut db), switched(1, 2, 1));
+    has(&rt, alloc, &db, &[BOB]);
+    let event = Event::Write(action(&rt, alloc, []));
+    refused(&rt, &mut db, event, DbError::Full { limit: 2 });
+    done(db);
+}

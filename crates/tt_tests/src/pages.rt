@@ -1,0 +1,3 @@
+//! Shared pages: lists and maps beside a plain `Vec` and a `BTreeMap`.
+mod log;
+mod map;

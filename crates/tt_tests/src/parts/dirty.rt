@@ -1,0 +1,137 @@
+use super::Plain::{self, Number, Words};
+use super::{ANN, PlainPartition, delete, done, insert, nothing_dirty, partition_reads, row};
+use std::alloc::Global;
+use std::process::Abort;
+use tt_parts::{Dirty, Reads};
+use tt_values::Row;
+
+/// The row (1, "eve", 10) of `acct`.
+const EVE: &[Plain] = &[Number(1), Words("eve"), Number(10)];
+
+/// Partitions that a statement reads, and whether it is clear.
+type Clear = &'static [(&'static [PlainPartition], bool)];
+
+fn check_clear(rt: &impl Abort, alloc: Global, dirty: &Dirty, cases: Clear) {
+    for (plains, want) in cases {
+        let reads = partition_reads(alloc, plains).expect(rt, "memory");
+        assert_eq!(rt; dirty.clear_of(&reads), *want, "{plains:?}");
+    }
+}
+
+/// The row of these values.
+fn made(rt: &impl Abort, alloc: Global, plains: &[Plain]) -> Row {
+    row(alloc, plains).expect(rt, "memory")
+}
+
+const BY_ANN_AND_EVE: Clear = &[
+    (&[(0, 1, Words("ann"))], false),
+    (&[(0, 1, Words("eve"))], false),
+    (&[(0, 1, Words("bob"))], true),
+    (&[(0, 0, Number(1))], false),
+    (&[(0, 0, Number(2)), (0, 1, Words("ann"))], true),
+    (&[(0, 1, Words("ann")), (0, 1, Words("eve"))], false),
+    (&[(1, 1, Words("ann"))], true),
+];
+
+#[test]
+fn a_row_gets_dirty_with_its_partitions(rt: HostRuntime) {
+    let alloc = rt.alloc();
+    let nothing = nothing_dirty(&rt, alloc);
+    assert_eq!(rt; nothing.catalog().len(), 2);
+    let (ann, eve) = (made(&rt, alloc, ANN), made(&rt, alloc, EVE));
+    let dirty = nothing.with_row(0, 1, Some(&ann), Some(&eve));
+    let dirty = dirty.expect(&rt, "memory");
+    assert!(rt; dirty.has_row(0, 1) && !dirty.has_row(0, 2) && !dirty.has_row(1, 1));
+    check_clear(&rt, alloc, &dirty, BY_ANN_AND_EVE);
+    assert!(rt; !dirty.clear_of(&Reads::All { table: 0 }));
+    assert!(rt; dirty.clear_of(&Reads::All { table: 1 }));
+    assert!(rt; !nothing.has_row(0, 1) && nothing.clear_of(&Reads::All { table: 0 }));
+    done(nothing);
+    done(dirty);
+}
+
+const BY_THREE_KEYS: Clear = &[
+    (&[(0, 0, Number(i64::MIN))], false),
+    (&[(0, 0, Number(i64::MAX))], false),
+    (&[(0, 0, Number(0))], false),
+    (&[(0, 0, Number(-1))], true),
+    (&[(0, 1, Words("ann"))], false),
+    (&[(0, 1, Words("eve"))], false),
+];
+
+#[test]
+fn a_row_may_have_one_content_or_none(rt: HostRuntime) {
+    let alloc = rt.alloc();
+    let lowest = made(&rt, alloc, &[Number(i64::MIN), Words("ann"), Number(0)]);
+    let highest = made(&rt, alloc, &[Number(i64::MAX), Words("eve"), Number(0)]);
+    let mut dirty = nothing_dirty(&rt, alloc);
+    let added = dirty.add_row(0, i64::MIN, Some(&lowest), None);
+    added.expect(&rt, "memory");
+    let added = dirty.add_row(0, i64::MAX, None, Some(&highest));
+    added.expect(&rt, "memory");
+    dirty.add_row(0, 0, None, None).expect(&rt, "memory");
+    assert!(rt; dirty.has_row(0, i64::MIN) && dirty.has_row(0, i64::MAX) && dirty.has_row(0, 0));
+    assert!(rt; !dirty.has_row(0, -1));
+    check_clear(&rt, alloc, &dirty, BY_THREE_KEYS);
+    done(dirty);
+}
+
+const A_IS_DIRTY: Clear = &[
+    (&[(0, 1, Words("a"))], false),
+    (&[(0, 1, Words("\0a"))], true),
+];
+
+const BOTH_ARE_DIRTY: Clear = &[
+    (&[(0, 1, Words("a"))], false),
+    (&[(0, 1, Words("\0a"))], false),
+    (&[(0, 1, Words("\0\0a"))], true),
+];
+
+/// A zero byte in front doesn't change the digest of a text.
+#[test]
+fn values_with_one_digest_are_told_apart(rt: HostRuntime) {
+    let alloc = rt.alloc();
+    let first = made(&rt, alloc, &[Number(1), Words("a"), Number(0)]);
+    let second = made(&rt, alloc, &[Number(2), Words("\0a"), Number(0)]);
+    let mut dirty = nothing_dirty(&rt, alloc);
+    let added = dirty.add_row(0, 1, Some(&first), None);
+    added.expect(&rt, "memory");
+    let before = dirty.share().expect(&rt, "memory");
+    let added = dirty.add_row(0, 2, None, Some(&second));
+    added.expect(&rt, "memory");
+    check_clear(&rt, alloc, &before, A_IS_DIRTY);
+    check_clear(&rt, alloc, &dirty, BOTH_ARE_DIRTY);
+    assert!(rt; dirty.has_row(0, 2) && !before.has_row(0, 2));
+    done(before);
+    done(dirty);
+}
+
+/// The equalities of a delete on accounts, and whether it is clear.
+const DELETES: &[(&[(u16, Plain)], bool)] = &[
+    (&[], false),
+    (&[(2, Number(10))], false),
+    (&[(9, Number(10))], false),
+    (&[(1, Words("ann"))], false),
+    (&[(1, Words("bob"))], true),
+    (&[(0, Number(1)), (1, Words("eve"))], false),
+    (&[(2, Number(10)), (0, Number(2)), (1, Words("eve"))], true),
+];
+
+#[test]
+fn a_write_is_clear_by_what_it_reads(rt: HostRuntime) {
+    let alloc = rt.alloc();
+    let (ann, eve) = (made(&rt, alloc, ANN), made(&rt, alloc, EVE));
+    let mut dirty = nothing_dirty(&rt, alloc);
+    let added = dirty.add_row(0, 1, Some(&ann), Some(&eve));
+    added.expect(&rt, "memory");
+    for (pairs, want) in DELETES {
+        let delete = delete(alloc, 0, pairs).expect(&rt, "memory");
+        assert_eq!(rt; dirty.is_clear(&delete), *want, "{pairs:?}");
+    }
+    let of_parcels = delete(alloc, 1, &[]).expect(&rt, "memory");
+    assert!(rt; dirty.is_clear(&of_parcels));
+    let first = insert(alloc, 1).expect(&rt, "memory");
+    let second = insert(alloc, 2).expect(&rt, "memory");
+    assert!(rt; dirty.is_clear(&second) && !dirty.is_clear(&first));
+    done(dirty);
+}

@@ -1,0 +1,138 @@
+//! Each public call once, with ample memory.
+use super::{catalog, def, items, owner_is, row, text};
+use std::sync::Arc;
+use tt_values::{
+    Catalog, CatalogError, Change, CheckError, Kind, Reply, Select, Shared, Value, Write, changed,
+    check, check_action, check_select, laws, matches,
+};
+
+#[test]
+fn texts(rt: HostRuntime) {
+    let alloc = rt.alloc();
+    let ann = text(&rt, alloc, "ann");
+    assert_eq!(rt; ann.len(), 3);
+    assert!(rt; !ann.is_empty());
+    assert!(rt; ann == ann.clone().expect(&rt, "memory"));
+    assert!(rt; ann != text(&rt, alloc, "Ann"));
+    assert_eq!(rt; ann.as_str(), "ann");
+}
+
+#[test]
+fn items_of_ints(rt: HostRuntime) {
+    let list = items(
+        &rt,
+        rt.alloc(),
+        vec![in rt.alloc(); 7, 8].expect(&rt, "memory"),
+    );
+    assert_eq!(rt; list.len(), 2);
+    assert!(rt; !list.is_empty());
+    assert_eq!(rt; list.get(1).copied(), Some(8));
+    assert!(rt; list == list.clone().expect(&rt, "memory"));
+    assert_eq!(rt; list.as_slice(), [7, 8].as_slice());
+}
+
+#[test]
+fn a_shared_int(rt: HostRuntime) {
+    let owner = Arc::new(rt.alloc(), 7).expect(&rt, "memory");
+    let shared = Shared::from_arc(owner);
+    let further = shared.clone().expect(&rt, "memory");
+    assert_eq!(rt; *shared.get(), *further.get());
+    let owner = Shared::new(rt.alloc(), 8).expect(&rt, "memory").into_arc();
+    assert_eq!(rt; *owner, 8);
+    let shared = Shared::new(rt.alloc(), 9_u64).expect(&rt, "memory");
+    let further = shared.clone().expect(&rt, "memory");
+    assert_eq!(rt; shared.into_value().expect(&rt, "memory"), 9);
+    assert_eq!(rt; further.into_value().expect(&rt, "memory"), 9);
+}
+
+#[test]
+fn values_and_rows(rt: HostRuntime) {
+    let alloc = rt.alloc();
+    let int = Value::Int(-7);
+    let ann = row(&rt, alloc, -7, "ann");
+    assert!(rt; int.is_of_kind(Kind::Int));
+    assert!(rt; int.is_same(&int.copy().expect(&rt, "memory")));
+    assert_eq!(rt; ann.key(), -7);
+    assert!(rt; ann == ann.copy().expect(&rt, "memory"));
+    assert!(rt; ann != row(&rt, alloc, -7, "eve"));
+}
+
+#[test]
+fn catalogs(rt: HostRuntime) {
+    let alloc = rt.alloc();
+    let mut catalog = catalog(&rt, alloc);
+    let same = catalog.add("acct", def(&rt, alloc));
+    assert_eq!(rt; same, Err(CatalogError::SameTable));
+    assert_eq!(rt; catalog.len(), 1);
+    assert!(rt; !catalog.is_empty());
+    assert_eq!(rt; catalog.find("acct"), Some(0));
+    assert_eq!(rt; catalog.name(0), Some("acct"));
+    let acct = catalog.table(0).expect(&rt, "a table");
+    assert_eq!(rt; acct.find("owner"), Some(1));
+}
+
+#[test]
+fn changes(rt: HostRuntime) {
+    let alloc = rt.alloc();
+    let ann = row(&rt, alloc, 1, "ann");
+    let to_eve = Change::Set {
+        column: 1,
+        value: Value::Text(text(&rt, alloc, "eve")),
+    };
+    let copy = to_eve.copy().expect(&rt, "memory");
+    let eves = changed(alloc, &ann, &[copy]).expect(&rt, "memory");
+    assert!(rt; eves == row(&rt, alloc, 1, "eve"));
+    assert!(rt; matches(&[owner_is(&rt, alloc, "eve")], &eves));
+    assert!(rt; !matches(&[owner_is(&rt, alloc, "ann")], &eves));
+}
+
+#[test]
+fn statements(rt: HostRuntime) {
+    let alloc = rt.alloc();
+    let catalog = catalog(&rt, alloc);
+    let equal = owner_is(&rt, alloc, "ann").copy().expect(&rt, "memory");
+    let select = Select {
+        table: 0,
+        equals: items(&rt, alloc, vec![in alloc; equal].expect(&rt, "memory")),
+    };
+    let insert = Write::Insert {
+        table: 0,
+        row: row(&rt, alloc, 1, "ann"),
+    };
+    let select = select.copy().expect(&rt, "memory");
+    let insert = insert.copy().expect(&rt, "memory");
+    assert_eq!(rt; insert.table(), 0);
+    assert_eq!(rt; check(&catalog, &insert), Ok(()));
+    let action = [insert.copy().expect(&rt, "memory"), insert];
+    assert_eq!(rt; check_action(&catalog, &action), Ok(()));
+    let no_table = Err(CheckError::NoTable);
+    assert_eq!(rt; check_action(&Catalog::new(alloc), &action), no_table);
+    assert_eq!(rt; check_select(&catalog, &select), Ok(()));
+    assert!(rt; check_select(&Catalog::new(alloc), &select).is_err());
+    assert_ne!(rt; Reply::Updated(1), Reply::Deleted(1));
+}
+
+#[test]
+fn all_laws() {
+    laws::shows_last_row_write();
+    laws::rows_rise();
+    laws::slots_follow();
+    laws::later_slots_change_nothing();
+    laws::past_stays();
+    laws::last_content_stays();
+    laws::next_content();
+    laws::one_key_changes();
+    laws::rows_stay_by_rising_key();
+    laws::row_write_changes_one_row();
+    laws::last_row_write_counts();
+    laws::earlier_slots_stay();
+    laws::added_slot_is_next();
+    laws::added_slot_leaves_past();
+    laws::accepted_inserts_have_keys();
+    laws::accepted_updates_keep_keys();
+    laws::action_leaves_its_last_content();
+    laws::action_of_one_write();
+    laws::action_writes_each_row_once();
+    laws::actions_follow();
+    laws::accepted_actions_have_keys();
+}

@@ -1,0 +1,224 @@
+use std::alloc::{AllocError, Global};
+use std::process::Abort;
+use std::test::Fail;
+use tt_values::{Equal, Items, Row, Value};
+use tt_versions::{Side, Table};
+
+const A: i64 = 1;
+
+const B: i64 = 2;
+
+const C: i64 = 3;
+
+const NONE: i64 = 0;
+
+/// A row with that key, and with a tag that differs from version to version.
+fn row(alloc: Global, key: i64, tag: i64) -> Result<Option<Row>, AllocError> {
+    let values = vec![in alloc; Value::Int(key), Value::Int(tag)]?;
+    Ok(Some(Row {
+        values: Items::new(alloc, values)?,
+    }))
+}
+
+fn tag(row: Option<&Row>) -> i64 {
+    let Some(row) = row else {
+        return NONE;
+    };
+    let value = row.values.get(1);
+    match value {
+        Some(value) => match value {
+            Value::Int(tag) => *tag,
+            Value::Text(_) => -1,
+        },
+        None => -1,
+    }
+}
+
+/// The side has key 1 with these tags, or not at all, at the times 1 to 5.
+fn expect_side(
+    rt: &impl Abort,
+    table: &Table,
+    side: Side,
+    wanted: [i64; 5],
+) -> Result<(), AllocError> {
+    for (index, want) in wanted.iter().enumerate() {
+        let time = index as u64 + 1;
+        assert_eq!(rt; tag(table.at(1, time, side)), *want);
+        let rows = table.rows_at(time, side)?;
+        assert_eq!(rt; rows.is_empty(), *want == NONE);
+        for (key, row) in &rows {
+            assert_eq!(rt; *key, 1);
+            assert_eq!(rt; tag(Some(*row)), *want);
+        }
+    }
+    Ok(())
+}
+
+fn expect_sides(
+    rt: &impl Abort,
+    table: &Table,
+    current: [i64; 5],
+    next: [i64; 5],
+) -> Result<(), AllocError> {
+    expect_side(rt, table, Side::Current, current)?;
+    expect_side(rt, table, Side::Next, next)
+}
+
+/// Key 1 has tag a from time 1 and tag b from time 3.
+fn a_then_b(alloc: Global) -> Result<Table, AllocError> {
+    Table::new(alloc)
+        .written(1, row(alloc, 1, A)?, 1)?
+        .written(1, row(alloc, 1, B)?, 3)
+}
+
+/// Then key 1 was rolled back to before time 2, and each side was written on.
+fn two_sides(rt: &impl Abort, alloc: Global) -> Result<Table, AllocError> {
+    let split = a_then_b(alloc)?.split_back(1, 2)?;
+    assert!(rt; split.is_split(1));
+    split
+        .next_written(1, row(alloc, 1, C)?, 4)?
+        .written(1, None, 5)
+}
+
+#[test]
+fn each_side_is_written_on_its_own(rt: HostRuntime) -> Result<(), Fail> {
+    let split = two_sides(&rt, rt.alloc())?;
+    expect_sides(&rt, &split, [A, A, B, B, NONE], [A, A, A, C, C])?;
+    Ok(())
+}
+
+#[test]
+fn rows_of_one_time_are_written_together(rt: HostRuntime) -> Result<(), Fail> {
+    let alloc = rt.alloc();
+    let rows = vec![in alloc; (1, row(alloc, 1, C)?), (2, row(alloc, 2, A)?)]?;
+    let table = a_then_b(alloc)?.split_back(1, 2)?;
+    let table = table.into_all_written(rows, 4)?;
+    for (key, side, before, after) in [
+        (1, Side::Current, B, C),
+        (1, Side::Next, A, A),
+        (2, Side::Current, NONE, A),
+        (2, Side::Next, NONE, A),
+    ] {
+        assert_eq!(rt; tag(table.at(key, 3, side)), before);
+        assert_eq!(rt; tag(table.at(key, 4, side)), after);
+    }
+    Ok(())
+}
+
+#[test]
+fn a_switch_leaves_the_next_side(rt: HostRuntime) -> Result<(), Fail> {
+    let table = two_sides(&rt, rt.alloc())?.switched()?;
+    assert!(rt; !table.is_split(1));
+    expect_sides(&rt, &table, [A, A, A, C, C], [A, A, A, C, C])?;
+    Ok(())
+}
+
+#[test]
+fn an_abort_leaves_the_current_side(rt: HostRuntime) -> Result<(), Fail> {
+    let table = two_sides(&rt, rt.alloc())?.aborted()?;
+    assert!(rt; !table.is_split(1));
+    expect_sides(&rt, &table, [A, A, B, B, NONE], [A, A, B, B, NONE])?;
+    let table = two_sides(&rt, rt.alloc())?.into_aborted()?;
+    expect_sides(&rt, &table, [A, A, B, B, NONE], [A, A, B, B, NONE])?;
+    Ok(())
+}
+
+#[test]
+fn keys_at_the_bounds_stand_in_order(rt: HostRuntime) -> Result<(), Fail> {
+    let alloc = rt.alloc();
+    let keys = [i64::MAX, 0, i64::MIN];
+    let mut table = Table::new(alloc);
+    for key in keys {
+        table = table.written(key, row(alloc, key, A)?, 1)?;
+    }
+    table = table.split_back(i64::MIN, 1)?;
+    assert!(rt; table.is_split(i64::MIN));
+    assert!(rt; !table.is_split(i64::MAX));
+    let current = keys_at(alloc, &table, Side::Current)?;
+    assert_eq!(rt; current.as_slice(), [i64::MIN, 0, i64::MAX].as_slice());
+    let next = keys_at(alloc, &table, Side::Next)?;
+    assert_eq!(rt; next.as_slice(), [0, i64::MAX].as_slice());
+    Ok(())
+}
+
+#[test]
+fn rows_are_found_by_key_by_value_and_among_all(rt: HostRuntime) -> Result<(), Fail> {
+    let alloc = rt.alloc();
+    let table = Table::with_columns(alloc, &[1])?
+        .into_written(1, row(alloc, 1, A)?, 1)?
+        .into_written(2, row(alloc, 2, A)?, 2)?
+        .into_written(1, row(alloc, 1, B)?, 3)?;
+    for (column, value, time, wanted) in [
+        (0, 1, 3, 1),
+        (0, 3, 3, 0),
+        (1, A, 2, 2),
+        (1, A, 3, 1),
+        (1, B, 3, 1),
+        (1, C, 3, 0),
+        (7, A, 3, 0),
+    ] {
+        let equals = vec![in alloc;
+            Equal {
+                column,
+                value: Value::Int(value)
+            },
+        ]?;
+        let rows = table.rows_matching(&equals, time, Side::Current)?;
+        assert_eq!(rt;
+            rows.len(),
+            wanted,
+            "column {column} value {value} time {time}"
+        );
+    }
+    assert_eq!(rt; table.rows_matching(&[], 3, Side::Next)?.len(), 2);
+    Ok(())
+}
+
+fn keys_at(alloc: Global, table: &Table, side: Side) -> Result<Vec<i64>, AllocError> {
+    let mut keys = Vec::new(alloc);
+    for (key, _) in &table.rows_at(1, side)? {
+        keys.push(*key)?;
+    }
+    Ok(keys)
+}
+
+/// Keys 0 to 29 have tag a at time 1 and b from time 2; every third one is split, with c from
+/// time 2.
+fn many_rows(rt: &impl Abort, alloc: Global) -> Result<Table, AllocError> {
+    let mut table = Table::new(alloc);
+    for key in 0..30 {
+        table = table
+            .into_written(key, row(alloc, key, A)?, 1)?
+            .into_written(key, row(alloc, key, B)?, 2)?;
+        if key % 3 == 0 {
+            table = table.into_split_back(key, 2)?;
+            assert!(rt; table.is_split(key));
+            table = table.into_next_written(key, row(alloc, key, C)?, 2)?;
+        }
+    }
+    Ok(table)
+}
+
+/// Both sides have keys 0 to 29 at time 2, every third one with tag c and the others with tag b.
+fn expect_many(rt: &impl Abort, table: &Table) -> Result<(), AllocError> {
+    for side in [Side::Current, Side::Next] {
+        let rows = table.rows_at(2, side)?;
+        assert_eq!(rt; rows.len(), 30);
+        let mut wanted = 0;
+        for (key, row) in &rows {
+            assert_eq!(rt; *key, wanted);
+            assert!(rt; wanted < 30);
+            assert!(rt; !table.is_split(*key));
+            let tag_wanted = if wanted % 3 == 0 { C } else { B };
+            assert_eq!(rt; tag(Some(*row)), tag_wanted);
+            wanted += 1;
+        }
+    }
+    Ok(())
+}
+
+#[test]
+fn many_rows_are_switched(rt: HostRuntime) -> Result<(), Fail> {
+    expect_many(&rt, &many_rows(&rt, rt.alloc())?.into_switched()?)?;
+    Ok(())
+}

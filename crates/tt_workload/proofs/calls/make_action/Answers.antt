@@ -1,0 +1,6 @@
+-- An action that is accepted isn't refused.
+use Rattle.tt_workload.proofs.RepairLemmas.{is_accepted}
+use Rattle.tt_workload.proofs.calls.make_action.Goals as goal
+
+pub carry_out-requires : goal.carry_out-requires
+carry_out-requires c = is_accepted c.args.db c.args.action c.requires.accepted c.requires.room

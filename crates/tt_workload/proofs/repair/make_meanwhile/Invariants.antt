@@ -1,0 +1,22 @@
+-- the lines so far and those of the calls that are left are all, and so are the records. The repair is still under way
+use Rattle.std.proofs.Common.{◌≡◌, ◌≤◌, ◌+◌, ◌++◌, length}
+use Rattle.tt_workload.specs.Records.{text_of_records}
+use Rattle.tt_workload.specs.History.{with_meanwhile, records_meanwhile}
+use Rattle.tt_workload.specs.Room.{AreAccepted, IsUnderWay}
+use Rattle.tt_workload.proofs.repair.make_meanwhile.Given as goal
+
+abbrev pub invariant-loop-call : goal.invariant-loop-call
+invariant-loop-call l =
+    let rest = l.call-iterator.rest.items in
+    let left = records_meanwhile l.fn.worker l.fn.batch (l.number + 1) l.db.history rest in
+    let all = records_meanwhile l.fn.worker l.fn.batch (l.fn.made + 1) l.fn.db.history l.fn.calls.items in
+    record {
+      lines : l.out.items ++ text_of_records left ≡ l.fn.out.items ++ text_of_records all;
+      records : l.records.items ++ left ≡ l.fn.records.items ++ all;
+      state : with_meanwhile l.fn.worker l.fn.batch l.db.history rest ≡ with_meanwhile l.fn.worker l.fn.batch l.fn.db.history l.fn.calls.items;
+      catalog : l.db.catalog ≡ l.fn.db.catalog;
+      limits : l.db.limits ≡ l.fn.db.limits;
+      under_way : IsUnderWay l.number l.db;
+      accepted : AreAccepted l.db.catalog rest;
+      number : l.number + length rest ≡ l.fn.made + length l.fn.calls.items;
+    }

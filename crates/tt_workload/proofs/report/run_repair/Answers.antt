@@ -1,0 +1,26 @@
+-- The beginning of the repair, the calls beside its steps, the switch and the changed replies, one after another.
+use Rattle.std.proofs.Common.{rules, ◌≡◌, ◌+◌, ◌++◌, List, map, ap, subst, ◌∙◌}
+use Rattle.std.specs.Prelude.{IsErrAnd}
+use Rattle.tt_workload.specs.declared.run_fault.RunFault.{RunFault}
+use Rattle.tt_workload.specs.History.{edit_of_slot}
+use Rattle.tt_workload.proofs.ReportLemmas.{is_memory}
+use Rattle.tt_workload.proofs.RepairReportLemmas.{repair-state, repair-pieces}
+use Rattle.tt_workload.proofs.report.run_repair.Goals as goal
+
+pub returns-in_err-push_changed-clause-err : goal.returns-in_err-push_changed-clause-err
+returns-in_err-push_changed-clause-err c =
+    let gives = c.from_residual-in_err-push_changed in
+    is_memory gives.result (subst (λ (fault : RunFault). IsErrAnd gives.result (λ e. e ≡ fault)) c.in_err-push_changed.ensures.err gives.ensures.1)
+
+pub returns-clause-lines : goal.returns-clause-lines
+returns-clause-lines c =
+    let edits_are = c.in_ok-edits.ensures ∙ ap (λ rs. map (edit_of_slot rs) c.as_slice.result.now) c.deref.ensures.value ∙ ap (map (edit_of_slot c.args.records.items)) c.as_slice.ensures in
+    repair-pieces (c.args.workers + 1) c.args.batch c.args.records.items c.make_meanwhile.new.records.items c.args.plan c.in_ok-edits.edits
+    c.args.db c.in_ok-db.db c.in_ok-db-2.db c.in_ok-db-3.db c.args.out.now.items c.make_meanwhile.new.out.items c.finish.new.out.items c.push_changed.new.out.items
+    c.in_ok-db.ensures.state edits_are (search rules) c.in_ok-db-3.ensures.state (search rules) (search rules) c.in_ok-db-3.ensures.line (search rules)
+
+pub returns-clause-state : goal.returns-clause-state
+returns-clause-state c =
+    let edits_are = c.in_ok-edits.ensures ∙ ap (λ rs. map (edit_of_slot rs) c.as_slice.result.now) c.deref.ensures.value ∙ ap (map (edit_of_slot c.args.records.items)) c.as_slice.ensures in
+    repair-state (c.args.workers + 1) c.args.batch c.args.records.items c.args.plan c.in_ok-edits.edits c.args.db c.in_ok-db.db c.in_ok-db-2.db c.in_ok-db-3.db
+    c.in_ok-db.ensures.state edits_are (search rules) c.in_ok-db-3.ensures.state

@@ -1,0 +1,118 @@
+-- The history that a document leaves, and the records of its calls.
+use Rattle.std.specs.Prelude.{ℕ, ◌+◌, ◌-◌, min, List, [], ◌∷◌, ◌++◌, length, slice_get, map, replicate, Option, Some, None}
+use Rattle.std.specs.List.{flat_map}
+use Rattle.tt_repair_laws.specs.declared.edit.Edit.{Edit}
+use Rattle.tt_repair_laws.specs.declared.edit.Edit.TheVariants.{Cancel, Replace}
+use Rattle.tt_db.specs.declared.event.Event.{Event}
+use Rattle.tt_db.specs.declared.event.Event.TheVariants as events
+use Rattle.tt_db.specs.declared.event.Entry.{Entry}
+use Rattle.tt_db.specs.State.{State, after, slots_left}
+use Rattle.tt_repair.specs.declared.record.Record.{Record}
+use Rattle.tt_repair.specs.declared.record.What.{What}
+use Rattle.tt_repair.specs.declared.record.What.TheVariants as whats
+use Rattle.tt_document.specs.declared.document.Document.{Document}
+use Rattle.tt_document.specs.declared.document.Plan.{Plan}
+use Rattle.tt_document.specs.declared.document.Call.{Call}
+use Rattle.tt_document.specs.declared.document.Ask.{Ask}
+use Rattle.tt_document.specs.declared.document.Ask.TheVariants as asks
+use Rattle.tt_workload.specs.Records.{record_in}
+
+-- the entries that a call adds to the history: that of an action, under its worker's number
+abbrev pub entries_of_ask : ℕ → Ask → List Entry
+entries_of_ask worker (asks.Write action) = record { worker = worker; event = events.Write action } ∷ []
+entries_of_ask worker (asks.Read q at) = []
+entries_of_ask worker (asks.Preview q) = []
+
+abbrev pub entries_of : Call → List Entry
+entries_of call = entries_of_ask call.worker call.ask
+
+-- the history that calls leave
+abbrev pub history_of : List Call → List Entry
+history_of calls = flat_map entries_of calls
+
+-- the records of calls, numbered from a number on, after a history
+abbrev pub records_of : ℕ → List Entry → List Call → List Record
+records_of number history [] = []
+records_of number history (call ∷ calls) = record_in number (after history) call ∷ records_of (number + 1) (history ++ entries_of call) calls
+
+-- the slot that an answer tells of, and 0 where it tells of none
+abbrev pub slot_in : What → ℕ
+slot_in (whats.Write slot replies) = slot
+slot_in (whats.Read select time reply) = 0
+slot_in (whats.Preview done reply) = 0
+slot_in (whats.Later now) = 0
+slot_in whats.NotRepairing = 0
+
+abbrev pub slot_in_record : Option Record → ℕ
+slot_in_record None = 0
+slot_in_record (Some r) = slot_in r.what
+
+-- the slot that the call of a number took, by its record
+abbrev pub slot_of_call : List Record → ℕ → ℕ
+slot_of_call records number = slot_in_record (slice_get records (number - 1))
+
+-- an edit of a call, as one of the slot that it took
+abbrev pub edit_of_slot : List Record → Edit → Edit
+edit_of_slot records (Cancel number) = Cancel (slot_of_call records number)
+edit_of_slot records (Replace number action) = Replace (slot_of_call records number) action
+
+-- an entry of the repair, by the worker of this number, and so many steps
+abbrev pub repair_entry : ℕ → Event → Entry
+repair_entry worker event = record { worker = worker; event = event }
+
+abbrev pub steps : ℕ → ℕ → List Entry
+steps worker count = replicate count (repair_entry worker events.Step)
+
+-- the history before a call that is made during the repair: with at most a batch of steps, and fewer where fewer slots are left
+abbrev pub with_batch : ℕ → ℕ → List Entry → List Entry
+with_batch worker batch history = history ++ steps worker (min batch (slots_left (after history)))
+
+-- the history with all steps that are left
+abbrev pub with_steps_left : ℕ → List Entry → List Entry
+with_steps_left worker history = history ++ steps worker (slots_left (after history))
+
+-- the history after calls that are made during the repair
+abbrev pub with_meanwhile : ℕ → ℕ → List Entry → List Call → List Entry
+with_meanwhile worker batch history [] = history
+with_meanwhile worker batch history (call ∷ calls) = with_meanwhile worker batch (with_batch worker batch history ++ entries_of call) calls
+
+-- the records of calls that are made during the repair
+abbrev pub records_meanwhile : ℕ → ℕ → ℕ → List Entry → List Call → List Record
+records_meanwhile worker batch number history [] = []
+records_meanwhile worker batch number history (call ∷ calls) =
+    let before = with_batch worker batch history in
+    record_in number (after before) call ∷ records_meanwhile worker batch (number + 1) (before ++ entries_of call) calls
+
+-- the history after the beginning of a repair of calls, of which these are the records, by the worker of this number
+abbrev pub begun : ℕ → List Record → List Entry → Plan → List Entry
+begun worker records history plan = history ++ repair_entry worker (events.Begin (map (edit_of_slot records) plan.edits)) ∷ []
+
+-- the history before the switch, with every slot done, where at most a batch of steps is made before each further call
+abbrev pub caught_up : ℕ → ℕ → List Record → List Entry → Plan → List Entry
+caught_up worker batch records history plan =
+    with_steps_left worker (with_meanwhile worker batch (begun worker records history plan) plan.meanwhile)
+
+-- the history after the switch
+abbrev pub switched : ℕ → ℕ → List Record → List Entry → Plan → List Entry
+switched worker batch records history plan = caught_up worker batch records history plan ++ repair_entry worker events.Switch ∷ []
+
+-- the records of the calls before the repair and of those that are made meanwhile
+abbrev pub with_records_meanwhile : ℕ → ℕ → List Record → List Entry → Plan → List Record
+with_records_meanwhile worker batch records history plan =
+    records ++ records_meanwhile worker batch (length records + 1) (begun worker records history plan) plan.meanwhile
+
+-- the worker of the repair: the one behind the last
+abbrev pub administrator : Document → ℕ
+administrator document = document.workers + 1
+
+-- the whole history of a document, with or without a repair
+abbrev pub history_if : ℕ → Document → Option Plan → List Entry
+history_if batch document None = history_of document.calls
+history_if batch document (Some plan) =
+    switched (administrator document) batch (records_of 1 [] document.calls) (history_of document.calls) plan
+
+-- the records of all its calls
+abbrev pub records_if : ℕ → Document → Option Plan → List Record
+records_if batch document None = records_of 1 [] document.calls
+records_if batch document (Some plan) =
+    with_records_meanwhile (administrator document) batch (records_of 1 [] document.calls) (history_of document.calls) plan

@@ -1,0 +1,225 @@
+//! Calls that are made one after another: their answers, their lines and their records.
+ghost use Rattle.std.specs.Prelude.{◌≡◌, ◌++◌, ◌∷◌, ◌≤◌, [], length, OnOk, IfOk, IfErr, None, Some};
+ghost use Rattle.tt_values.specs.Check.{action_fault, select_fault};
+ghost use Rattle.tt_generations.specs.TwoGenerations.{done_of};
+ghost use Rattle.tt_db.specs.Limits.{max_limits};
+ghost use Rattle.tt_db.specs.Database.{state_of, with_entry, refusal_of, outcome_for};
+ghost use Rattle.tt_document.specs.Document.{ask_fault};
+ghost use Rattle.tt_workload.specs.Records.{read_in, preview_in, answer_in, record_in, kept, text_of_record, text_of_records};
+ghost use Rattle.tt_workload.specs.History.{entries_of_ask, entries_of, history_of, records_of};
+ghost use Rattle.tt_workload.specs.Room.{with_entries, HasRoom, AreAccepted, IsBefore};
+
+use crate::record_text::push_record;
+use crate::run_fault::RunFault;
+use std::alloc::{AllocError, Global};
+use tt_db::{Db, Entry, Event, Outcome, ReadError};
+use tt_document::{Ask, Call};
+use tt_repair::{Record, What};
+use tt_values::{Items, Select, Write};
+
+/// Carries out an event that isn't refused. Answers the next database and the outcome.
+pub(crate) fn carry_out(alloc: Global, db: Db, entry: Entry) -> Result<(Db, Outcome), RunFault>
+    requires { refusal_of db entry.event ≡ None }
+    ensures state { IfOk result (λ r. r.0 ≡ with_entry db entry) }
+    ensures outcome { IfOk result (λ r. r.1 ≡ outcome_for db entry.event) }
+    ensures err { IfErr result (λ e. e ≡ RunFault.Memory) }
+{
+    let (next, answer) = db.advanced(entry)?;
+    match answer {
+        Ok(outcome) => Ok((next, outcome)),
+        Err(error) => Err(RunFault::of_event(alloc, error)),
+    }
+}
+
+/// Carries out an action. Answers the next database, and the slot with the replies.
+fn make_action(
+    alloc: Global,
+    db: Db,
+    worker: u32,
+    action: Items<Write>,
+) -> Result<(Db, What), RunFault>
+    requires accepted { action_fault db.catalog action ≡ None }
+    requires room { HasRoom db }
+    ensures state { IfOk result (λ r. r.0
+        ≡ with_entries db (entries_of_ask worker (Ask.Write action))) }
+    ensures answer { IfOk result (λ r. r.1 ≡ answer_in (state_of db) (Ask.Write action)) }
+    ensures err { IfErr result (λ e. e ≡ RunFault.Memory) }
+{
+    let entry = Entry {
+        worker,
+        event: Event::Write(action),
+    };
+    let (next, outcome) = carry_out(alloc, db, entry)?;
+    match outcome {
+        Outcome::Written { slot, replies } => Ok((next, What::Write { slot, replies })),
+        _ => unreachable!(),
+    }
+}
+
+/// Answers a select: at a time, or now where none is given.
+fn read(alloc: Global, db: &Db, select: Select, at: Option<u64>) -> Result<What, RunFault>
+    requires accepted { select_fault db.now.catalog select ≡ None }
+    ensures answer { IfOk result (λ what. what ≡ read_in (state_of db.now) select at) }
+    ensures err { IfErr result (λ e. e ≡ RunFault.Memory) }
+{
+    match at {
+        None => read_now(alloc, db, select),
+        Some(time) => read_at(alloc, db, select, time),
+    }
+}
+
+/// Reads rows as they are now.
+fn read_now(alloc: Global, db: &Db, select: Select) -> Result<What, RunFault>
+    requires accepted { select_fault db.now.catalog select ≡ None }
+    ensures answer { IfOk result (λ what. what ≡ read_in (state_of db.now) select None) }
+    ensures err { IfErr result (λ e. e ≡ RunFault.Memory) }
+{
+    match db.select(&select) {
+        Ok(reply) => Ok(What::Read {
+            select,
+            time: db.now(),
+            reply,
+        }),
+        Err(error) => Err(RunFault::of_read(alloc, error)),
+    }
+}
+
+/// Reads rows as they were at a time, which may still be to come.
+fn read_at(alloc: Global, db: &Db, select: Select, time: u64) -> Result<What, RunFault>
+    requires accepted { select_fault db.now.catalog select ≡ None }
+    ensures answer { IfOk result (λ what. what ≡ read_in (state_of db.now) select (Some time)) }
+    ensures err { IfErr result (λ e. e ≡ RunFault.Memory) }
+{
+    match db.select_at(&select, time) {
+        Ok(reply) => Ok(What::Read {
+            select,
+            time,
+            reply,
+        }),
+        Err(error) => match error {
+            ReadError::Later { now } => Ok(What::Later { now }),
+            error => Err(RunFault::of_read(alloc, error)),
+        },
+    }
+}
+
+/// Reads rows as they are in the next generation, which may not be there.
+fn preview(alloc: Global, db: &Db, select: &Select) -> Result<What, RunFault>
+    requires accepted { select_fault db.now.catalog select.now ≡ None }
+    ensures answer { IfOk result (λ what. what ≡ preview_in (state_of db.now) select.now) }
+    ensures err { IfErr result (λ e. e ≡ RunFault.Memory) }
+{
+    match db.preview(select) {
+        Ok(reply) => Ok(What::Preview {
+            done: slots_done(db),
+            reply,
+        }),
+        Err(error) => match error {
+            ReadError::NotRepairing => Ok(What::NotRepairing),
+            error => Err(RunFault::of_read(alloc, error)),
+        },
+    }
+}
+
+/// How many slots the repair has done: 0 where none is under way.
+fn slots_done(db: &Db) -> u64
+    ensures { result ≡ done_of (state_of db.now).phase }
+{
+    match db.repair() {
+        Some(progress) => progress.done,
+        None => 0,
+    }
+}
+
+/// Answers what a call asks for. Answers the database after it, too.
+fn answer(alloc: Global, db: Db, worker: u32, ask: Ask) -> Result<(Db, What), RunFault>
+    requires accepted { ask_fault db.catalog ask ≡ None }
+    requires room { HasRoom db }
+    ensures state { IfOk result (λ r. r.0 ≡ with_entries db (entries_of_ask worker ask)) }
+    ensures answer { IfOk result (λ r. r.1 ≡ answer_in (state_of db) ask) }
+    ensures err { IfErr result (λ e. e ≡ RunFault.Memory) }
+{
+    match ask {
+        Ask::Write(action) => make_action(alloc, db, worker, action),
+        Ask::Read { select, at } => {
+            let what = read(alloc, &db, select, at)?;
+            Ok((db, what))
+        }
+        Ask::Preview(select) => {
+            let what = preview(alloc, &db, &select)?;
+            Ok((db, what))
+        }
+    }
+}
+
+/// Makes a call, and pushes its line. Answers the database after it, and the record.
+pub(crate) fn make_call(
+    alloc: Global,
+    out: &mut Vec<u8>,
+    db: Db,
+    number: u64,
+    call: Call,
+) -> Result<(Db, Record), RunFault>
+    requires accepted { ask_fault db.catalog call.ask ≡ None }
+    requires room { HasRoom db }
+    ensures line { OnOk result (out.new.items
+        ≡ out.old.items ++ text_of_record (record_in number (state_of db) call)) }
+    ensures state { IfOk result (λ r. r.0 ≡ with_entries db (entries_of call)) }
+    ensures answer { IfOk result (λ r. r.1 ≡ record_in number (state_of db) call) }
+    ensures err { IfErr result (λ e. e ≡ RunFault.Memory) }
+{
+    let Call { worker, ask } = call;
+    let (db, what) = answer(alloc, db, worker, ask)?;
+    let record = Record {
+        call: number,
+        worker,
+        what,
+    };
+    push_record(out, &record)?;
+    Ok((db, record))
+}
+
+/// Keeps a record, if records are kept.
+fn keep(records: &mut Vec<Record>, are_kept: bool, latest: Record) -> Result<(), AllocError>
+    ensures { OnOk result (records.new.items
+        ≡ records.old.items ++ kept are_kept (latest ∷ [])) }
+{
+    if are_kept {
+        records.push(latest)?;
+    }
+    Ok(())
+}
+
+/// Makes the calls of a document, in order, pushes their lines, and keeps their records if these
+/// are wanted. Answers the last database.
+pub(crate) fn make_calls(
+    alloc: Global,
+    out: &mut Vec<u8>,
+    records: &mut Vec<Record>,
+    are_kept: bool,
+    db: Db,
+    calls: Vec<Call>,
+) -> Result<Db, RunFault>
+    requires empty { db.history ≡ [] }
+    requires limits { db.limits ≡ max_limits }
+    requires accepted { AreAccepted db.catalog calls.items }
+    requires few { length calls.items ≤ 100000 }
+    ensures lines { OnOk result (out.new.items
+        ≡ out.old.items ++ text_of_records (records_of 1 [] calls.items)) }
+    ensures records { OnOk result (records.new.items
+        ≡ records.old.items ++ kept are_kept (records_of 1 [] calls.items)) }
+    ensures state { IfOk result (λ last.
+        last ≡ record db { history = history_of calls.items }) }
+    ensures room { IfOk result (IsBefore (length calls.items)) }
+    ensures err { IfErr result (λ e. e ≡ RunFault.Memory) }
+{
+    let mut db = db;
+    let mut number: u64 = 0;
+    for call in calls {
+        number += 1;
+        let (next, record) = make_call(alloc, out, db, number, call)?;
+        db = next;
+        keep(records, are_kept, record)?;
+    }
+    Ok(db)
+}

@@ -1,0 +1,124 @@
+//! The lines of records and of changed replies.
+ghost use Rattle.std.specs.Prelude.{◌≡◌, ◌++◌, OnOk, IfOk};
+ghost use Rattle.std.specs.Fmt.{decimal};
+ghost use Rattle.tt_workload.specs.Records.{caller_text, answer_text, reply_at, after_text, text_of_record, text_of_change, text_of_changes};
+
+use crate::printing::{push_decimal, push_labelled, push_replies, push_reply};
+use std::alloc::{AllocError, Global};
+use tt_repair::{After, Changed, Record, What};
+use tt_values::Reply;
+
+/// The line of a call as it was answered, with its line feed.
+pub fn text_of(alloc: Global, answered: &Record) -> Result<Vec<u8>, AllocError>
+    ensures { IfOk result (λ text. text.items ≡ text_of_record answered.now) }
+{
+    let mut out = Vec::new(alloc);
+    push_record(&mut out, answered)?;
+    Ok(out)
+}
+
+/// The line of a changed reply, with its line feed.
+pub fn text_of_change(alloc: Global, change: &Changed) -> Result<Vec<u8>, AllocError>
+    ensures { IfOk result (λ text. text.items ≡ text_of_change change.now) }
+{
+    let mut out = Vec::new(alloc);
+    push_change(&mut out, change)?;
+    Ok(out)
+}
+
+/// Pushes the line of a record.
+pub(crate) fn push_record(out: &mut Vec<u8>, answered: &Record) -> Result<(), AllocError>
+    ensures { OnOk result (out.new.items ≡ out.old.items ++ text_of_record answered.now) }
+{
+    push_caller(out, answered.call, answered.worker)?;
+    push_answer(out, &answered.what)?;
+    out.push(b'\n')?;
+    Ok(())
+}
+
+/// Pushes the beginning of a call's line.
+fn push_caller(out: &mut Vec<u8>, number: u64, worker: u32) -> Result<(), AllocError>
+    ensures { OnOk result (out.new.items ≡ out.old.items ++ caller_text number worker) }
+{
+    out.extend_from_slice(b"call ")?;
+    push_decimal(out, number)?;
+    out.extend_from_slice(b" worker ")?;
+    push_decimal(out, u64::from(worker))?;
+    Ok(())
+}
+
+/// Pushes the rest of a call's line.
+fn push_answer(out: &mut Vec<u8>, what: &What) -> Result<(), AllocError>
+    ensures { OnOk result (out.new.items ≡ out.old.items ++ answer_text what.now) }
+{
+    match what {
+        What::Write { slot, replies } => push_written(out, *slot, replies.as_slice())?,
+        What::Read { time, reply, .. } => push_reply_at(out, b" time ", *time, reply)?,
+        What::Preview { done, reply } => push_reply_at(out, b" preview ", *done, reply)?,
+        What::Later { now } => push_labelled(out, b" refused later than ", *now)?,
+        What::NotRepairing => out.extend_from_slice(b" refused not repairing")?,
+    }
+    Ok(())
+}
+
+/// Pushes the slot and the replies of an action.
+fn push_written(out: &mut Vec<u8>, slot: u64, replies: &[Reply]) -> Result<(), AllocError>
+    ensures { OnOk result (out.new.items
+        ≡ out.old.items ++ answer_text (What.Write slot replies.now)) }
+{
+    out.extend_from_slice(b" slot ")?;
+    push_decimal(out, slot)?;
+    out.push(b' ')?;
+    push_replies(out, replies)?;
+    Ok(())
+}
+
+/// Pushes a labelled time and the reply that is right at it.
+fn push_reply_at(
+    out: &mut Vec<u8>,
+    label: &[u8],
+    time: u64,
+    reply: &Reply,
+) -> Result<(), AllocError>
+    ensures { OnOk result (out.new.items
+        ≡ out.old.items ++ reply_at label.now time reply.now) }
+{
+    push_labelled(out, label, time)?;
+    out.push(b' ')?;
+    push_reply(out, reply)?;
+    Ok(())
+}
+
+/// Pushes the lines of changed replies.
+pub(crate) fn push_changes(out: &mut Vec<u8>, changes: &[Changed]) -> Result<(), AllocError>
+    ensures { OnOk result (out.new.items ≡ out.old.items ++ text_of_changes changes.now) }
+{
+    for change in changes {
+        push_change(out, change)?;
+    }
+    Ok(())
+}
+
+/// Pushes the line of a changed reply.
+fn push_change(out: &mut Vec<u8>, change: &Changed) -> Result<(), AllocError>
+    ensures { OnOk result (out.new.items ≡ out.old.items ++ text_of_change change.now) }
+{
+    push_labelled(out, b"changed call ", change.call)?;
+    out.push(b' ')?;
+    push_replies(out, change.before.as_slice())?;
+    out.extend_from_slice(b" -> ")?;
+    push_after(out, &change.after)?;
+    out.push(b'\n')?;
+    Ok(())
+}
+
+/// Pushes what stands in the place of replies.
+fn push_after(out: &mut Vec<u8>, after: &After) -> Result<(), AllocError>
+    ensures { OnOk result (out.new.items ≡ out.old.items ++ after_text after.now) }
+{
+    match after {
+        After::Cancelled => out.extend_from_slice(b"cancelled")?,
+        After::Replies(replies) => push_replies(out, replies.as_slice())?,
+    }
+    Ok(())
+}

@@ -1,0 +1,230 @@
+//! The repair of a document: its edits, its steps beside further calls, and its switch.
+ghost use Rattle.std.specs.Prelude.{◌≡◌, ◌+◌, ◌++◌, ◌∷◌, ◌≤◌, true, [], length, map, min, OnOk, IfOk, IfErr, None};
+ghost use Rattle.tt_generations.specs.TwoGenerations.{is_repairing};
+ghost use Rattle.tt_db.specs.State.{after, slots_left};
+ghost use Rattle.tt_db.specs.Database.{state_of, with_entry, refusal_of};
+ghost use Rattle.tt_workload.specs.Records.{text_of_records};
+ghost use Rattle.tt_workload.specs.History.{slot_in, slot_of_call, edit_of_slot, repair_entry, steps, with_batch, with_steps_left, with_meanwhile, records_meanwhile};
+ghost use Rattle.tt_workload.specs.Report.{repair_line, repair_text};
+ghost use Rattle.tt_workload.specs.Room.{with_entries, AreAccepted, IsUnderWay};
+
+use crate::calls::{carry_out, make_call};
+use crate::printing::push_labelled;
+use crate::run_fault::RunFault;
+use std::alloc::{AllocError, Global};
+use tt_db::{Db, Edit, Entry, Event, Outcome};
+use tt_document::Call;
+use tt_repair::{Record, What};
+use tt_values::Items;
+
+/// The slot that the call of a number took, by its record: 0 where it took none.
+fn slot_of_call(records: &[Record], number: u64) -> u64
+    ensures { result ≡ slot_of_call records.now number }
+{
+    let position = number.saturating_sub(1);
+    match records.get(position as usize) {
+        Some(record) => slot_in(&record.what),
+        None => 0,
+    }
+}
+
+/// The slot that an answer tells of: 0 where it tells of none.
+fn slot_in(what: &What) -> u64
+    ensures { result ≡ slot_in what.now }
+{
+    match what {
+        What::Write { slot, .. } => *slot,
+        What::Read { .. } => 0,
+        What::Preview { .. } => 0,
+        What::Later { .. } => 0,
+        What::NotRepairing => 0,
+    }
+}
+
+/// An edit of a call, as one of the slot that it took.
+fn edit_of_slot(records: &[Record], edit: &Edit) -> Result<Edit, AllocError>
+    ensures { IfOk result (λ e. e ≡ edit_of_slot records.now edit.now) }
+{
+    match edit {
+        Edit::Cancel(number) => Ok(Edit::Cancel(slot_of_call(records, *number))),
+        Edit::Replace(number, action) => {
+            let slot = slot_of_call(records, *number);
+            let action = action.clone()?;
+            Ok(Edit::Replace(slot, action))
+        }
+    }
+}
+
+/// The edits of calls, as edits of their slots.
+pub(crate) fn edits_of_slots(
+    alloc: Global,
+    records: &[Record],
+    edits: &[Edit],
+) -> Result<Items<Edit>, AllocError>
+    ensures { IfOk result (λ list. list ≡ map (edit_of_slot records.now) edits.now) }
+{
+    let mut list = Vec::with_capacity(alloc, edits.len())?;
+    for edit in edits {
+        list.push(edit_of_slot(records, edit)?)?;
+    }
+    Items::new(alloc, list)
+}
+
+/// Carries out an entry of the repair that isn't refused.
+fn make_entry(alloc: Global, db: Db, worker: u32, event: Event) -> Result<Db, RunFault>
+    requires { refusal_of db event ≡ None }
+    ensures state { IfOk result (λ next. next ≡ with_entry db (repair_entry worker event)) }
+    ensures err { IfErr result (λ e. e ≡ RunFault.Memory) }
+{
+    let (next, _) = carry_out(alloc, db, Entry { worker, event })?;
+    Ok(next)
+}
+
+/// Begins the repair with these edits of slots.
+pub(crate) fn begin(alloc: Global, db: Db, worker: u32, edits: Items<Edit>) -> Result<Db, RunFault>
+    requires { refusal_of db (Event.Begin edits) ≡ None }
+    ensures state { IfOk result (λ next. next
+        ≡ with_entry db (repair_entry worker (Event.Begin edits))) }
+    ensures err { IfErr result (λ e. e ≡ RunFault.Memory) }
+{
+    make_entry(alloc, db, worker, Event::Begin(edits))
+}
+
+/// How many slots the repair has left: 0 where none is under way.
+fn slots_left(db: &Db) -> u64
+    ensures { result ≡ slots_left (state_of db.now) }
+{
+    match db.repair() {
+        Some(progress) => progress.left,
+        None => 0,
+    }
+}
+
+/// Makes steps of the repair, which has at least so many left.
+fn make_steps(alloc: Global, db: Db, worker: u32, count: u64, calls: u64) -> Result<Db, RunFault>
+    requires under_way { IsUnderWay calls db }
+    requires few { calls ≤ 200000 }
+    requires left { count ≤ slots_left (state_of db) }
+    ensures state { IfOk result (λ last. last ≡ with_entries db (steps worker count)) }
+    ensures under_way { IfOk result (IsUnderWay calls) }
+    ensures left { IfOk result (λ last.
+        slots_left (state_of last) + count ≡ slots_left (state_of db)) }
+    ensures err { IfErr result (λ e. e ≡ RunFault.Memory) }
+{
+    let mut db = db;
+    for _ in 0..count {
+        db = make_entry(alloc, db, worker, Event::Step)?;
+    }
+    Ok(db)
+}
+
+/// Makes a batch of steps, or as many as are left.
+fn make_batch(alloc: Global, db: Db, worker: u32, batch: u64, calls: u64) -> Result<Db, RunFault>
+    requires under_way { IsUnderWay calls db }
+    requires few { calls ≤ 200000 }
+    ensures state { IfOk result (λ last.
+        last ≡ record db { history = with_batch worker batch db.history }) }
+    ensures under_way { IfOk result (IsUnderWay calls) }
+    ensures err { IfErr result (λ e. e ≡ RunFault.Memory) }
+{
+    let count = batch.min(slots_left(&db));
+    make_steps(alloc, db, worker, count, calls)
+}
+
+/// Makes the calls of a document that are made while its repair is under way, with a batch of steps
+/// before each of them. Pushes their lines and their records. Answers the last database.
+pub(crate) fn make_meanwhile(
+    alloc: Global,
+    out: &mut Vec<u8>,
+    records: &mut Vec<Record>,
+    db: Db,
+    worker: u32,
+    batch: u64,
+    made: u64,
+    calls: Vec<Call>,
+) -> Result<Db, RunFault>
+    requires under_way { IsUnderWay made db }
+    requires accepted { AreAccepted db.catalog calls.items }
+    requires few { made + length calls.items ≤ 200000 }
+    ensures lines { OnOk result (out.new.items ≡ out.old.items
+        ++ text_of_records (records_meanwhile worker batch (made + 1) db.history calls.items)) }
+    ensures records { OnOk result (records.new.items ≡ records.old.items
+        ++ records_meanwhile worker batch (made + 1) db.history calls.items) }
+    ensures state { IfOk result (λ last. last
+        ≡ record db { history = with_meanwhile worker batch db.history calls.items }) }
+    ensures under_way { IfOk result (IsUnderWay (made + length calls.items)) }
+    ensures err { IfErr result (λ e. e ≡ RunFault.Memory) }
+{
+    let mut db = db;
+    let mut number = made;
+    for call in calls {
+        db = make_batch(alloc, db, worker, batch, number)?;
+        number += 1;
+        let (next, record) = make_call(alloc, out, db, number, call)?;
+        db = next;
+        records.push(record)?;
+    }
+    Ok(db)
+}
+
+/// Makes the steps that are left.
+fn catch_up(alloc: Global, db: Db, worker: u32, calls: u64) -> Result<Db, RunFault>
+    requires under_way { IsUnderWay calls db }
+    requires few { calls ≤ 200000 }
+    ensures state { IfOk result (λ last.
+        last ≡ record db { history = with_steps_left worker db.history }) }
+    ensures under_way { IfOk result (IsUnderWay calls) }
+    ensures none_left { IfOk result (λ last. slots_left (state_of last) ≡ 0) }
+    ensures err { IfErr result (λ e. e ≡ RunFault.Memory) }
+{
+    let count = slots_left(&db);
+    make_steps(alloc, db, worker, count, calls)
+}
+
+/// Makes the steps that are left, switches to the repaired generation, and pushes the line of the
+/// repair. Answers the database after the switch.
+pub(crate) fn finish(
+    alloc: Global,
+    out: &mut Vec<u8>,
+    db: Db,
+    worker: u32,
+    calls: u64,
+) -> Result<Db, RunFault>
+    requires under_way { IsUnderWay calls db }
+    requires few { calls ≤ 200000 }
+    ensures line { OnOk result (out.new.items ≡ out.old.items
+        ++ repair_line db.catalog (after (with_steps_left worker db.history))) }
+    ensures state { IfOk result (λ last. last ≡ record db {
+      history = with_steps_left worker db.history
+          ++ repair_entry worker Event.Switch ∷ [];
+    }) }
+    ensures err { IfErr result (λ e. e ≡ RunFault.Memory) }
+{
+    let db = catch_up(alloc, db, worker, calls)?;
+    let entry = Entry {
+        worker,
+        event: Event::Switch,
+    };
+    let (db, outcome) = carry_out(alloc, db, entry)?;
+    match outcome {
+        Outcome::Switched {
+            generation,
+            slots,
+            rerun,
+        } => push_repair(out, generation, slots, rerun)?,
+        _ => unreachable!(),
+    }
+    Ok(db)
+}
+
+/// Pushes the line of a repair.
+fn push_repair(out: &mut Vec<u8>, generation: u64, slots: u64, rerun: u64) -> Result<(), AllocError>
+    ensures { OnOk result (out.new.items
+        ≡ out.old.items ++ repair_text generation slots rerun) }
+{
+    push_labelled(out, b"repair generation ", generation)?;
+    push_labelled(out, b" slots ", slots)?;
+    push_labelled(out, b" rerun ", rerun)?;
+    out.push(b'\n')?;
+    Ok(())
+}
