@@ -33,6 +33,3 @@ pub const MAX_EDITS: usize = 10_000;
 
 /// The largest number of calls of a document, and of those that are made meanwhile.
 pub const MAX_CALLS: usize = 100_000;
-
-#[cfg(test)]
-mod tests;

@@ -1,11 +1,13 @@
 -- What a repair needs to know of the next slot's action, and what is dirty once it is re-executed.
-use Rattle.std.proofs.Common.{◌≡◌, ℕ, zero, suc, ◌+◌, ◌-◌, ◌<◌, ◌≤◌, ℤ, Bool, true, false, ◌&&◌, nat_le, nat_lt, ◌==◌, List, [], ◌∷◌, ◌++◌, map, fold, length, get_or, drop, slice_get, slice_set, Option, Some, None, if◌then◌else◌, refl, sym, ap, subst, ◌∙◌, arith, drop-cons}
-use Rattle.std.specs.List.{All}
+use Rattle.std.proofs.Common.{◌≡◌, ℕ, zero, suc, ◌+◌, ◌-◌, ◌<◌, ◌≤◌, ℤ, Bool, true, false, ◌&&◌, nat_le, nat_lt, ◌==◌, List, [], ◌∷◌, ◌++◌, map, fold, length, get_or, drop, slice_get, slice_set, Option, Some, None, if◌then◌else◌, refl, sym, ap, subst, ◌∙◌, arith, drop-cons, append_assoc, eqb-true}
+use Rattle.std.specs.List.{All, list_all, list_any, zip}
 use Rattle.std.specs.Option.{option_map, option_or}
 use Rattle.std.specs.Ordering.{int_eq}
-use Rattle.std.proofs.lemmas.Bool.{or_left, or_right}
+use Rattle.std.proofs.lemmas.Bool.{and_parts, or_left, or_right}
 use Rattle.std.proofs.lemmas.Bool.Decides.{nat_tests, Decides-int_eq}
 use Rattle.std.proofs.lemmas.Option.{slice_get_within}
+use Rattle.std.proofs.lemmas.List.Folds.{list_any-append}
+use Rattle.std.proofs.lemmas.List.Sums.{fold-append}
 use Rattle.std.proofs.lemmas.List.Elements.{All-nil, All-cons, All-head, All-tail, All-append, All-map}
 use Rattle.tt_values.specs.declared.row.Row.{Row}
 use Rattle.tt_values.specs.declared.statement.Write.{Write}
@@ -24,8 +26,10 @@ use Rattle.tt_values.specs.Action.{content_after_write, content_after_action, re
 use Rattle.tt_values.specs.RowWrites.{slot_replies}
 use Rattle.tt_values.proofs.LawProofs.{accepted_actions_have_keys}
 use Rattle.tt_versions.specs.declared.side.Side.TheVariants.{Next}
-use Rattle.tt_versions.specs.Sides.{LineagesByKey, side_of, next_of}
-use Rattle.tt_parts.specs.Dirty.{DirtySet, DirtyTables, SameMembers, columns_in, is_row_in, with_row, with_row_in}
+use Rattle.tt_versions.specs.Sides.{LineagesByKey, side_of, next_of, just_before}
+use Rattle.tt_parts.specs.declared.partition.Partition.{Partition}
+use Rattle.tt_parts.specs.Partitions.{key_partition, is_same_partition}
+use Rattle.tt_parts.specs.Dirty.{DirtySet, DirtyTables, SameMembers, columns_in, is_row_in, parts_if, with_row, with_row_in}
 use Rattle.tt_parts.proofs.LawProofs.{same_members_with_row}
 use Rattle.tt_repair_laws.specs.Due.{rows_matched, action_rows_matched, slot_rows_matched, with_row_of}
 use Rattle.tt_generations.specs.declared.slot.RowKey.{RowKey}
@@ -37,7 +41,7 @@ use Rattle.tt_generations.specs.ActionRun.{as_row_keys}
 use Rattle.tt_generations.specs.KeptSlots.{IsAccepted, keys_of_slot}
 use Rattle.tt_generations.specs.Replies.{replies_if}
 use Rattle.tt_generations.specs.Reexecution.{ShowsContentBefore, AreReexecuted, Reexecutes, ShowsFewBefore}
-use Rattle.tt_generations.specs.Repair.{next_action, writes_of, with_rows_shown, ReexecutesSlot}
+use Rattle.tt_generations.specs.Repair.{next_action, writes_of, is_same_row, IsWholeOrHalf, with_rows_shown, ReexecutesSlot}
 
 itself : (n : ℕ) → (n == n) ≡ true
 itself n = grind (arith, nat_tests)
@@ -142,6 +146,83 @@ shown-same tables versions time (r ∷ rs) C D same =
     let side = next_of (versions_at versions r.table) r.key in
     shown-same tables versions time rs _ _ (same_members_with_row C D r.table (columns_in tables r.table) r.key (side (time - 1)) (side time) same)
 
+-- ---- rows that stand in a list twice
+
+are_same-head : (r s : RowKey) → is_same_row r s ≡ true → r ≡ s
+are_same-head r s h =
+    let both = and_parts (r.table == s.table) (int_eq r.key s.key) h in
+    let table : r.table ≡ s.table = eqb-true r.table s.table both.0 in
+    let key : r.key ≡ s.key = (Decides-int_eq r.key s.key).0 both.1 in
+    λ i. record { table = table i; key = key i }
+
+-- lists of one length with the same rows in turn are the same
+pub same_lists : (rs ss : List RowKey) → length rs ≡ length ss → list_all (λ p. is_same_row p.0 p.1) (zip rs ss) ≡ true → rs ≡ ss
+same_lists [] [] many h = refl
+same_lists [] (s ∷ ss) many h = cc
+same_lists (r ∷ rs) [] many h = cc
+same_lists (r ∷ rs) (s ∷ ss) many h =
+    let both = and_parts (is_same_row r s) (list_all (λ p. is_same_row p.0 p.1) (zip rs ss)) h in
+    let fewer : length rs ≡ length ss = omega (arith, many) in
+    λ i. are_same-head r s both.0 i ∷ same_lists rs ss fewer both.1 i
+
+All-left : (P : RowKey → Type 0) (rs ss : List RowKey) → All P (rs ++ ss) → All P rs
+All-left P [] ss h = All-nil P
+All-left P (r ∷ rs) ss h = All-cons P r rs (All-head P r (rs ++ ss) h) (All-left P rs ss (All-tail P r (rs ++ ss) h))
+
+pub All-half : (P : RowKey → Type 0) (once all : List RowKey) → IsWholeOrHalf once all → All P all → All P once
+All-half P once all (true, is) h = All-left P once once (subst (All P) is h)
+All-half P once all (false, is) h = subst (All P) is h
+
+module _ (tables : Tables) (versions : TablesByPosition) (time : ℕ) where
+  -- what a row adds to the dirty rows and partitions, and what a list of rows does
+  abbrev parts_shown : RowKey → List Partition
+  parts_shown r =
+      let side = next_of (versions_at versions r.table) r.key in
+      let columns = columns_in tables r.table in
+      key_partition r.table r.key ∷ (parts_if r.table columns (side (time - 1)) ++ parts_if r.table columns (side time))
+
+  abbrev rows_added : List RowKey → List (ℕ × ℤ)
+  rows_added [] = []
+  rows_added (r ∷ rs) = rows_added rs ++ (r.table, r.key) ∷ []
+
+  abbrev parts_added : List RowKey → List Partition
+  parts_added [] = []
+  parts_added (r ∷ rs) = parts_added rs ++ parts_shown r
+
+  rows-shown : (rs : List RowKey) (D : DirtySet) → (fold (with_row_shown tables versions time) D rs).rows ≡ rows_added rs ++ D.rows
+  rows-shown [] D = refl
+  rows-shown (r ∷ rs) D = rows-shown rs (with_row_shown tables versions time D r) ∙ sym (append_assoc (rows_added rs) _ D.rows)
+
+  parts-shown : (rs : List RowKey) (D : DirtySet) → (fold (with_row_shown tables versions time) D rs).partitions ≡ parts_added rs ++ D.partitions
+  parts-shown [] D = refl
+  parts-shown (r ∷ rs) D = parts-shown rs (with_row_shown tables versions time D r) ∙ sym (append_assoc (parts_added rs) (parts_shown r) D.partitions)
+
+  any-twice : {X : Type 0} (test : X → Bool) (xs ys : List X) → list_any test (xs ++ (xs ++ ys)) ≡ list_any test (xs ++ ys)
+  any-twice test xs ys = grind (arith, list_any-append test xs (xs ++ ys), list_any-append test xs ys)
+
+  -- a list that gets dirty twice is as dirty as once
+  shown-twice : (rs : List RowKey) (D : DirtySet) → SameMembers (fold (with_row_shown tables versions time) D rs) (fold (with_row_shown tables versions time) D (rs ++ rs))
+  shown-twice rs D =
+      let E = fold (with_row_shown tables versions time) D rs in
+      let F = fold (with_row_shown tables versions time) E rs in
+      let rows : F.rows ≡ rows_added rs ++ (rows_added rs ++ D.rows) = rows-shown rs E ∙ ap (λ xs. rows_added rs ++ xs) (rows-shown rs D) in
+      let parts : F.partitions ≡ parts_added rs ++ (parts_added rs ++ D.partitions) = parts-shown rs E ∙ ap (λ ps. parts_added rs ++ ps) (parts-shown rs D) in
+      subst (SameMembers E) (sym (fold-append (with_row_shown tables versions time) D rs rs)) (record {
+        rows = λ t key.
+            let test = λ (r : ℕ × ℤ). (t == r.0) && int_eq key r.1 in
+            ap (list_any test) (rows-shown rs D) ∙ sym (any-twice test (rows_added rs) D.rows) ∙ ap (list_any test) (sym rows);
+        partitions = λ p.
+            let test = is_same_partition p in
+            ap (list_any test) (parts-shown rs D) ∙ sym (any-twice test (parts_added rs) D.partitions) ∙ ap (list_any test) (sym parts);
+      })
+
+pub shown-once : (d : DirtyTables) (versions : TablesByPosition) (once all : List RowKey) (time : ℕ) → IsWholeOrHalf once all
+    → SameMembers (with_rows_shown d versions once time) (with_rows_shown d versions all time)
+shown-once d versions once all time (true, is) = subst (λ (rs : List RowKey). SameMembers (with_rows_shown d versions once time) (with_rows_shown d versions rs time)) (sym is) (shown-twice d.catalog versions time once d.dirty)
+shown-once d versions once all time (false, is) = subst (λ (rs : List RowKey). SameMembers (with_rows_shown d versions once time) (with_rows_shown d versions rs time)) (sym is) (record { rows = λ t key. refl; partitions = λ p. refl })
+
+-- ---- what the tables show of a row
+
 module _ (before after : TablesByPosition) (n : ℕ) (X Y : Content) (written all : List (ℕ × ℤ)) (start : ShowsContentBefore before (suc n) X written)
     (redone : AreReexecuted before after all (suc n) Y) where
   -- a re-executed row shows the content before just before the slot, and the one after at its time
@@ -181,6 +262,10 @@ dirty-shown d before after zero X Y written all redone h start rows is = let non
 dirty-shown d before after (suc n) X Y written all redone h start rows is =
     shown-contents before after n X Y written all start rows d.catalog redone d.dirty (λ t key in_rows. ap (λ rs. is_row_in rs t key) (sym is) ∙ in_rows)
     ∙ ap (fold (with_row_of d.catalog X Y) d.dirty) is
+
+pub just_before-positive : (time : ℕ) (rows : ℕ → Option Row) → 0 < time → just_before time rows ≡ rows (time - 1)
+just_before-positive zero rows h = let none : ⊥ = omega (arith, h) in absurd none
+just_before-positive (suc n) rows h = let same : n ≡ suc n - 1 = omega arith in ap rows same
 
 -- a row of a list gets dirty with what tables show, and then those behind it
 pub shown-step : (before after : DirtyTables) (versions : TablesByPosition) (rows : List RowKey) (n : ℕ) (none : RowKey) (table : LineagesByKey) (key : ℤ) (first last : Option Row) (time : ℕ)

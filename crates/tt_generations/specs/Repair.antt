@@ -1,7 +1,7 @@
 -- One step of a repair: whether the next slot is due, and what its re-execution leaves.
-use Rattle.std.specs.Prelude.{◌≡◌, ℕ, ◌-◌, ◌+◌, pos, Bool, true, false, not, ◌||◌, List, [], ◌∷◌, ◌++◌, fold, slice_set, Option, None, Some, is_some}
+use Rattle.std.specs.Prelude.{◌≡◌, ℕ, ◌-◌, ◌+◌, pos, Bool, true, false, not, ◌||◌, ◌&&◌, ◌==◌, if◌then◌else◌, List, [], ◌∷◌, ◌++◌, fold, slice_set, Option, None, Some, is_some}
 use Rattle.std.specs.List.{All, list_any}
-use Rattle.std.specs.Ordering.{int_cmp}
+use Rattle.std.specs.Ordering.{int_cmp, int_eq}
 use Rattle.std.specs.FinMap.Entries as sorted
 use Rattle.tt_values.specs.declared.statement.Write.{Write}
 use Rattle.tt_values.specs.Check.{HasKey}
@@ -57,6 +57,14 @@ next_action r kept = replaced_by (next_replacement r) kept.slot.action
 abbrev pub writes_of : Option (List Write) → List Write
 writes_of None = []
 writes_of (Some action) = action
+
+-- whether two are the same row
+abbrev pub is_same_row : RowKey → RowKey → Bool
+is_same_row r s = (r.table == s.table) && int_eq r.key s.key
+
+-- a list of rows, or half of it, where that stands there twice
+abbrev pub IsWholeOrHalf : List RowKey → List RowKey → Type 0
+IsWholeOrHalf once all = (twice : Bool) × (all ≡ (if twice then once ++ once else once))
 
 -- the dirty set with rows that tables show on the next side before a time and at it
 abbrev pub with_rows_shown : DirtyTables → TablesByPosition → List RowKey → ℕ → DirtySet

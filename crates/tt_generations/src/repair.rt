@@ -1,7 +1,7 @@
 //! A repair under way: its edits, how far it is, what is dirty, and the slots of the next
 //! generation.
-ghost use Rattle.std.specs.Prelude.{◌≡◌, ◌<◌, ◌≤◌, ◌+◌, [], ◌∷◌, ◌++◌, length, IfOk};
-ghost use Rattle.std.specs.List.{All};
+ghost use Rattle.std.specs.Prelude.{◌≡◌, ◌<◌, ◌≤◌, ◌+◌, [], ◌∷◌, ◌++◌, length, IsTrue, IfOk};
+ghost use Rattle.std.specs.List.{All, list_all, zip};
 ghost use Rattle.std.specs.Option.{option_copied};
 ghost use Rattle.tt_parts.specs.Dirty.{SameMembers, nothing_dirty};
 ghost use Rattle.tt_repair_laws.specs.Edits.{slot_number};
@@ -10,7 +10,7 @@ ghost use Rattle.tt_generations.specs.Rows.{as_pairs};
 ghost use Rattle.tt_generations.specs.KeptSlots.{IsAccepted};
 ghost use Rattle.tt_generations.specs.EditsByNumber.{HasEdits};
 ghost use Rattle.tt_generations.specs.Reexecution.{ShowsFewBefore};
-ghost use Rattle.tt_generations.specs.Repair.{HasKeysIfAny, is_kept_affected, is_kept_due, next_replacement, next_action, writes_of, with_rows_shown, HasDoneDueSlot, ReexecutesSlot, DoesSlot};
+ghost use Rattle.tt_generations.specs.Repair.{HasKeysIfAny, is_kept_affected, is_kept_due, next_replacement, next_action, writes_of, is_same_row, IsWholeOrHalf, with_rows_shown, HasDoneDueSlot, ReexecutesSlot, DoesSlot};
 
 use crate::affected::is_affected;
 use crate::edits::{Replacement, replacements_of};
@@ -267,11 +267,49 @@ fn with_rows_shown(
     ensures dirty { IfOk result (λ d.
         SameMembers d.dirty (with_rows_shown dirty rows.now redone.now time)) }
 {
+    let dirty = with_each_row_shown(dirty, rows, once(redone), time)?;
+    Ok(dirty)
+}
+
+/// The first half of the rows, where the second half repeats it, else all of them. The writes of a
+/// slot mostly match the rows that it wrote before.
+fn once(rows: &[RowKey]) -> &[RowKey]
+    ensures { IsWholeOrHalf result.now rows.now }
+{
+    let (first, second) = rows.split_at(rows.len() / 2);
+    if are_same(first, second) { first } else { rows }
+}
+
+/// Whether two lists of rows are the same.
+fn are_same(first: &[RowKey], second: &[RowKey]) -> bool
+    ensures { IsTrue result → first.now ≡ second.now }
+{
+    first.len() == second.len() && are_same_pairwise(first, second)
+}
+
+fn are_same_pairwise(first: &[RowKey], second: &[RowKey]) -> bool
+    ensures { result ≡ list_all (λ p. is_same_row p.0 p.1) (zip first.now second.now) }
+{
+    first.iter().zip(second).all(|(one, other)| one.table == other.table && one.key == other.key)
+}
+
+/// The dirty set with each of the rows, one after another.
+fn with_each_row_shown(
+    dirty: Dirty,
+    rows: &Rows,
+    redone: &[RowKey],
+    time: u64,
+) -> Result<Dirty, AllocError>
+    requires room { 0 < time }
+    requires tables { All (λ r. r.table < length dirty.catalog) redone.now }
+    ensures catalog { IfOk result (λ d. d.catalog ≡ dirty.catalog) }
+    ensures dirty { IfOk result (λ d.
+        SameMembers d.dirty (with_rows_shown dirty rows.now redone.now time)) }
+{
     let mut dirty = dirty;
     for row in redone {
         let table = rows.table(row.table);
-        let before = table.at(row.key, time - 1, Side::Next);
-        let after = table.at(row.key, time, Side::Next);
+        let (before, after) = table.around(row.key, time, Side::Next);
         dirty.add_row(row.table, row.key, before, after)?;
     }
     Ok(dirty)

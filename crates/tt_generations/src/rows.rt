@@ -1,6 +1,6 @@
 ghost use Rattle.std.specs.Prelude.{◌≡◌, ◌<◌, [], ◌∷◌, length, true, IfOk, OnOk};
 ghost use Rattle.std.specs.List.{All};
-ghost use Rattle.tt_versions.specs.Sides.{no_lineages, side_of, current_of, next_of, is_split, none_split, all_written_from};
+ghost use Rattle.tt_versions.specs.Sides.{no_lineages, side_of, current_of, next_of, is_split, none_split};
 ghost use Rattle.tt_generations.specs.Rows.{versions_at, KeepsOthers, ShowsSide};
 
 use crate::slot::RowKey;
@@ -161,7 +161,7 @@ impl Rows {
         } = self;
         let position = usize::from(table);
         let old = take_table(alloc, catalog, &mut tables, position)?;
-        let new = with_all_next_written(old, effect, time)?;
+        let new = old.into_all_next_written(effect, time)?;
         tables[position] = new;
         Ok(Rows {
             alloc,
@@ -208,26 +208,6 @@ fn table_unsplit(table: Table, side: Side) -> Result<Table, AllocError>
         Side::Current => table.into_aborted(),
         Side::Next => table.into_switched(),
     }
-}
-
-/// A table once these keys, whose rows are split, have those rows, or none, from the time on, only
-/// on the next side.
-fn with_all_next_written(
-    table: Table,
-    effect: Vec<(i64, Option<Row>)>,
-    time: u64,
-) -> Result<Table, AllocError>
-    requires { All (λ e. is_split table e.0 ≡ true) effect.items }
-    ensures current { IfOk result (λ t. current_of t ≡ current_of table) }
-    ensures next { IfOk result (λ t.
-        next_of t ≡ all_written_from effect.items time (next_of table)) }
-    ensures split { IfOk result (λ t. is_split t ≡ is_split table) }
-{
-    let mut table = table;
-    for (key, row) in effect {
-        table = table.into_next_written(key, row, time)?;
-    }
-    Ok(table)
 }
 
 /// Takes a table out, and leaves an empty one. There are tables up to its position then.

@@ -1,16 +1,17 @@
 -- What `find`, `put` and a removal do to a list of entries: at a key's place, and where the list is two lists in a row.
-use Rattle.std.proofs.Common.{◌≡◌, ℕ, suc, ◌+◌, ◌<◌, ◌≤◌, Bool, true, false, cond, not, ℤ, List, [], ◌∷◌, ◌++◌, length, get_or, set, IsTrue, IsSome, Option, None, Some, Less, Equal, Greater, refl, sym, ap, ◌∙◌, subst, T, arith}
+use Rattle.std.proofs.Common.{◌≡◌, ℕ, zero, suc, ◌+◌, ◌<◌, ◌≤◌, Bool, true, false, cond, not, ℤ, List, [], ◌∷◌, ◌++◌, length, get_or, set, IsTrue, IsSome, Option, None, Some, Less, Equal, Greater, refl, sym, ap, ◌∙◌, subst, T, arith}
+use Rattle.std.specs.Prelude.{pos, ◌&&◌}
 use Rattle.std.specs.declared.cmp.Ordering.{Ordering}
 use Rattle.std.specs.Ordering.{int_cmp, int_eq, is_lt, is_eq, is_gt, ordering_reverse}
 use denote.Ref.{Bor}
-use Rattle.std.specs.Option.{is_some, option_copied}
+use Rattle.std.specs.Option.{is_some, option_copied, unwrap_or}
 use Rattle.std.specs.Cmp.{int_cmp_total}
 use Rattle.std.specs.List.{insert, remove}
 use Rattle.std.specs.FinMap.Entries.{by_order, find, put, is_sorted, below_all, is_sorted-put, is_sorted-where_key}
 use Rattle.std.proofs.lemmas.Bool.{false≢true, and_parts, and_from}
-use Rattle.std.proofs.lemmas.List.{length-set}
+use Rattle.std.proofs.lemmas.List.{length-map, length-set, map-append}
 use Rattle.std.proofs.lemmas.List.Elements.{filter-append}
-use Rattle.tt_pages.specs.MapEntries.{rank_of, first_key, entries_without, IsPlaceOf, IsGapFor}
+use Rattle.tt_pages.specs.MapEntries.{rank_of, first_key, entries_without, keys_of, ChangesAt, IsPlaceOf, IsGapFor}
 
 -- ---- the order of keys
 
@@ -206,6 +207,12 @@ module _ {V : Type 0} where
     pub put-place : (es : List (ℤ × V)) (v : V) (d : ℤ × V) (at : ℕ) → IsTrue (is_sorted int_cmp es) → IsPlaceOf key es at → set es at ((get_or es at d).0, v) ≡ put int_cmp key v es
     put-place es v d at sorted here = rw here.place (sym (put-at_rank es v d sorted here.present))
 
+    -- a change of the value at a place changes it at the key
+    pub ChangesAt-place : (es : List (ℤ × V)) (e : ℤ × V) (w : V) (at : ℕ) (f : V → V) → IsTrue (is_sorted int_cmp es) → IsPlaceOf key es at → e ≡ get_or es at e → w ≡ f e.1 → ChangesAt key f es (set es at (e.0, w))
+    ChangesAt-place es e w at f sorted here is changed v found =
+        let same : e.1 ≡ v = ap (λ (x : ℤ × V). x.1) is ∙ ap (λ o. unwrap_or o v) (find-place es e at sorted here ∙ found) in
+        ap (λ (x : ℤ × V). set es at (x.0, w)) is ∙ put-place es w e at sorted here ∙ ap (λ u. put int_cmp key u es) (changed ∙ ap f same)
+
     pub put-gap : (es : List (ℤ × V)) (v : V) (at : ℕ) → IsGapFor key es at → insert es at (key, v) ≡ put int_cmp key v es
     put-gap es v at gap = rw gap.place (sym (put-in_gap es v gap.absent))
 
@@ -385,6 +392,59 @@ module _ {V : Type 0} where
 
   pub sorted-without : (key : ℤ) (es : List (ℤ × V)) → IsTrue (is_sorted int_cmp es) → IsTrue (is_sorted int_cmp (entries_without key es))
   sorted-without key es h = from_T _ (is_sorted-where_key int_cmp (λ k. not (int_eq k key)) es (to_T _ h))
+
+-- ---- the keys
+
+below_keys : ℤ → List ℤ → Bool
+below_keys k [] = true
+below_keys k (x ∷ xs) = is_lt (int_cmp k x) && below_keys k xs
+
+sorted_keys : List ℤ → Bool
+sorted_keys [] = true
+sorted_keys (x ∷ xs) = below_keys x xs && sorted_keys xs
+
+first_of : List ℤ → ℤ
+first_of [] = pos 0
+first_of (x ∷ xs) = x
+
+module _ {V : Type 0} where
+  below_all-is : (k : ℤ) (es : List (ℤ × V)) → below_all int_cmp k es ≡ below_keys k (keys_of es)
+  unfolding below_keys
+  below_all-is k [] = refl
+  below_all-is k (e ∷ es) = ap (λ b. is_lt (int_cmp k e.0) && b) (below_all-is k es)
+
+  is_sorted-is : (es : List (ℤ × V)) → is_sorted int_cmp es ≡ sorted_keys (keys_of es)
+  unfolding sorted_keys
+  is_sorted-is [] = refl
+  is_sorted-is (e ∷ es) = ap (λ b. b && is_sorted int_cmp es) (below_all-is e.0 es) ∙ ap (λ b. below_keys e.0 (keys_of es) && b) (is_sorted-is es)
+
+  first_key-is : (es : List (ℤ × V)) → first_key es ≡ first_of (keys_of es)
+  unfolding first_of
+  first_key-is [] = refl
+  first_key-is (e ∷ es) = refl
+
+  keys-set : (es : List (ℤ × V)) (d : ℤ × V) (w : V) (at : ℕ) → keys_of (set es at ((get_or es at d).0, w)) ≡ keys_of es
+  keys-set [] d w at = refl
+  keys-set (e ∷ es) d w zero = refl
+  keys-set (e ∷ es) d w (suc at) = ap (λ ks. e.0 ∷ ks) (keys-set es d w at)
+
+  -- another value at a place leaves the keys
+  pub keys-place : (es : List (ℤ × V)) (e : ℤ × V) (w : V) (at : ℕ) → e ≡ get_or es at e → keys_of (set es at (e.0, w)) ≡ keys_of es
+  keys-place es e w at is = ap (λ (x : ℤ × V). keys_of (set es at (x.0, w))) is ∙ keys-set es e w at
+
+  pub keys-append : (es fs : List (ℤ × V)) → keys_of (es ++ fs) ≡ keys_of es ++ keys_of fs
+  keys-append es fs = map-append (λ e. e.0) es fs
+
+  -- what entries with the same keys have in common
+  module _ (es fs : List (ℤ × V)) (same : keys_of es ≡ keys_of fs) where
+    pub length-keys : length es ≡ length fs
+    length-keys = sym (length-map es (λ e. e.0)) ∙ ap length same ∙ length-map fs (λ e. e.0)
+
+    pub sorted-keys : IsTrue (is_sorted int_cmp fs) → IsTrue (is_sorted int_cmp es)
+    sorted-keys h = is_sorted-is es ∙ ap sorted_keys same ∙ sym (is_sorted-is fs) ∙ h
+
+    pub first_key-keys : first_key es ≡ first_key fs
+    first_key-keys = first_key-is es ∙ ap first_of same ∙ sym (first_key-is fs)
 
 -- ---- an answer that lends a value
 

@@ -6,9 +6,9 @@ use Rattle.std.specs.Bool.{if◌then◌else◌}
 use Rattle.std.specs.FinMap.Entries.{find, put, is_sorted}
 use Rattle.tt_pages.specs.declared.map_tree.Node.{Node}
 use Rattle.tt_pages.specs.declared.map_tree.Node.TheVariants.{Leaf, Fork}
-use Rattle.tt_pages.specs.MapEntries.{first_key, entries_without, IsPageAt}
+use Rattle.tt_pages.specs.MapEntries.{first_key, entries_without, keys_of, ChangesAt, IsPageAt}
 use Rattle.tt_pages.specs.MapTree.{entries_of, IsNode, IsPage, IsFork, IsNodeOf, HasMoreBeside, IsSideWithout, IsOtherOfLone}
-use Rattle.tt_pages.proofs.MapEntriesLemmas.{is_sorted-left, is_sorted-right, first_key-append, find-left, find-right, put-left, put-right, without-left, without-right, first_key-put, length-put_filled, length-without_ge, without-lone, sorted-put, sorted-without}
+use Rattle.tt_pages.proofs.MapEntriesLemmas.{is_sorted-left, is_sorted-right, first_key-append, find-left, find-right, put-left, put-right, without-left, without-right, first_key-put, length-put_filled, length-without_ge, without-lone, sorted-put, sorted-without, keys-append, length-keys, sorted-keys, first_key-keys}
 
 module _ {V : Type 0} where
   -- ---- rotations
@@ -68,6 +68,34 @@ module _ {V : Type 0} where
   on_ok (Ok x) new a f b ok same = ap f ok ∙ same
   on_ok (Err e) new a f b ok same = tt
 
+  pub keys-side_left : (l' l r : List (ℤ × V)) → keys_of l' ≡ keys_of l → keys_of (l' ++ r) ≡ keys_of (l ++ r)
+  keys-side_left l' l r same = keys-append l' r ∙ ap (λ ks. ks ++ keys_of r) same ∙ sym (keys-append l r)
+
+  pub keys-side_right : (l r' r : List (ℤ × V)) → keys_of r' ≡ keys_of r → keys_of (l ++ r') ≡ keys_of (l ++ r)
+  keys-side_right l r' r same = keys-append l r' ∙ ap (λ ks. keys_of l ++ ks) same ∙ sym (keys-append l r)
+
+  pub IsFork-keys_left : (l' l : List (ℤ × V)) (k : ℤ) (r : List (ℤ × V)) → keys_of l' ≡ keys_of l → IsFork l k r → IsFork l' k r
+  IsFork-keys_left l' l k r same fork = record {
+    left_filled = omega (arith, length-keys l' l same, fork.left_filled);
+    right_filled = fork.right_filled;
+    begins = fork.begins;
+    sorted = sorted-keys (l' ++ r) (l ++ r) (keys-side_left l' l r same) fork.sorted;
+  }
+
+  pub IsFork-keys_right : (l : List (ℤ × V)) (k : ℤ) (r' r : List (ℤ × V)) → keys_of r' ≡ keys_of r → IsFork l k r → IsFork l k r'
+  IsFork-keys_right l k r' r same fork = record {
+    left_filled = fork.left_filled;
+    right_filled = omega (arith, length-keys r' r same, fork.right_filled);
+    begins = fork.begins ∙ sym (first_key-keys r' r same);
+    sorted = sorted-keys (l ++ r') (l ++ r) (keys-side_right l r' r same) fork.sorted;
+  }
+
+  pub IsPage-keys : (es fs : List (ℤ × V)) → keys_of es ≡ keys_of fs → IsPage fs → IsPage es
+  IsPage-keys es fs same page = record {
+    filled = omega (arith, length-keys es fs same, page.filled);
+    sorted = sorted-keys es fs same page.sorted;
+  }
+
   module _ (key : ℤ) (l : List (ℤ × V)) (k : ℤ) (r : List (ℤ × V)) (fork : IsFork l k r) where
     is_left : IsTrue (is_lt (int_cmp key k)) → IsTrue (is_lt (int_cmp key (first_key r)))
     is_left lt = subst (λ x. IsTrue (is_lt (int_cmp key x))) fork.begins lt
@@ -81,6 +109,9 @@ module _ {V : Type 0} where
 
       pub fork_put-left : (v : V) → put int_cmp key v l ++ r ≡ put int_cmp key v (l ++ r)
       fork_put-left v = sym (put-left key l r fork.right_filled fork.sorted (is_left lt) v)
+
+      pub ChangesAt-left : (f : V → V) (l' : List (ℤ × V)) → ChangesAt key f l l' → ChangesAt key f (l ++ r) (l' ++ r)
+      ChangesAt-left f l' changes v found = ap (λ es. es ++ r) (changes v (sym fork_find-left ∙ found)) ∙ fork_put-left (f v)
 
       pub fork_without-left : entries_without key l ++ r ≡ entries_without key (l ++ r)
       fork_without-left = sym (without-left key l r fork.right_filled fork.sorted (is_left lt))
@@ -113,6 +144,9 @@ module _ {V : Type 0} where
 
       pub fork_put-right : (v : V) → l ++ put int_cmp key v r ≡ put int_cmp key v (l ++ r)
       fork_put-right v = sym (put-right key l r fork.right_filled fork.sorted (is_right not_lt) v)
+
+      pub ChangesAt-right : (f : V → V) (r' : List (ℤ × V)) → ChangesAt key f r r' → ChangesAt key f (l ++ r) (l ++ r')
+      ChangesAt-right f r' changes v found = ap (λ es. l ++ es) (changes v (sym fork_find-right ∙ found)) ∙ fork_put-right (f v)
 
       pub fork_without-right : l ++ entries_without key r ≡ entries_without key (l ++ r)
       fork_without-right = sym (without-right key l r fork.right_filled fork.sorted (is_right not_lt))

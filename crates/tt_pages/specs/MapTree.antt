@@ -7,7 +7,7 @@ use Rattle.std.specs.declared.sync.Arc.{Arc}
 use Rattle.tt_pages.specs.declared.map_tree.Tree.{Tree}
 use Rattle.tt_pages.specs.declared.map_tree.Node.{Node}
 use Rattle.tt_pages.specs.declared.map_tree.Node.TheVariants.{Leaf, Fork}
-use Rattle.tt_pages.specs.MapEntries.{first_key, entries_without}
+use Rattle.tt_pages.specs.MapEntries.{first_key, entries_without, ChangesAt}
 
 -- the entries of a node, by rising key
 abbrev pub entries_of : {V : Type 0} → Node V → List (ℤ × V)
@@ -38,6 +38,10 @@ pub record IsNodeOf {V : Type 0} (entries : List (ℤ × V)) (node : Node V) : T
 -- the new node has this entry at its key, and what the old one has at the others
 abbrev pub PutsEntry : {V : Type 0} → ℤ → V → Node V → Node V → Type 0
 PutsEntry key value old new = entries_of new ≡ put int_cmp key value (entries_of old)
+
+-- the new node has what the change makes of the value at the key, and what the old one has at the others
+abbrev pub ChangesEntry : {V : Type 0} → ℤ → (V → V) → Node V → Node V → Type 0
+ChangesEntry key change old new = ChangesAt key change (entries_of old) (entries_of new)
 
 -- the new node has what the old one has at the other keys
 abbrev pub RemovesKey : {V : Type 0} → ℤ → Node V → Node V → Type 0

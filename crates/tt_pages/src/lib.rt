@@ -2,6 +2,7 @@
 //! shares it, and copies it first where others do, so that theirs stays as it was.
 #![tactic(auto)]
 
+mod change;
 mod kept;
 mod log;
 mod map;
@@ -9,6 +10,7 @@ mod map_iter;
 mod map_page;
 mod map_tree;
 
+pub use change::Change;
 pub use kept::Kept;
 pub use log::{LogIter, PagedLog};
 pub use map::PagedMap;

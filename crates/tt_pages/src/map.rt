@@ -2,9 +2,10 @@ ghost use Rattle.std.specs.Prelude.{◌≡◌, ◌↔◌, [], length, IsTrue, Is
 ghost use Rattle.std.specs.Option.{option_copied};
 ghost use Rattle.std.specs.Ordering.{int_cmp};
 ghost use Rattle.std.specs.FinMap.Entries.{find, put, is_sorted};
-ghost use Rattle.tt_pages.specs.MapEntries.{entries_without};
+ghost use Rattle.tt_pages.specs.MapEntries.{entries_without, keys_of, ChangesAt};
 ghost use Rattle.tt_pages.specs.MapTree.{entries_of_root as entries};
 
+use crate::change::Change;
 use crate::kept::Kept;
 use crate::map_iter::MapIter;
 use crate::map_tree::{Tree, lone_entry, put_shared, remove_shared, swap_shared};
@@ -138,6 +139,16 @@ impl<V: Kept + Drop> PagedMap<V> {
         swap_in_root(self.alloc, &mut self.root, &key, value)
     }
 
+    /// Changes the value at a key that is there. Maps that share pages with this one stay as they
+    /// are. Without memory the value at the key may be any other, and the keys stay.
+    pub fn change<C: Change<V>>(&mut self, key: i64, change: C) -> Result<(), AllocError>
+        requires { IsSome (find int_cmp key self.old) }
+        ensures keys { keys_of self.new ≡ keys_of self.old }
+        ensures ok { OnOk result (ChangesAt key (C.after change) self.old self.new) }
+    {
+        change_in_root(self.alloc, &mut self.root, &key, change)
+    }
+
     /// Removes the key, if it is there. Maps that share pages with this one stay as they are, and
     /// so does this one when it is out of memory.
     pub fn remove(&mut self, key: i64) -> Result<(), AllocError>
@@ -203,6 +214,23 @@ fn swap_in_root<V: Kept + Drop>(
 {
     match root {
         Some(tree) => swap_shared(alloc, tree, key, value),
+        None => unreachable!(),
+    }
+}
+
+fn change_in_root<V: Kept + Drop, C: Change<V>>(
+    alloc: Global,
+    root: &mut Option<Arc<Tree<V>>>,
+    key: &i64,
+    change: C,
+) -> Result<(), AllocError>
+    requires { IsSome (find int_cmp key.now (entries root.old)) }
+    ensures keys { keys_of (entries root.new) ≡ keys_of (entries root.old) }
+    ensures ok { OnOk result
+        (ChangesAt key.now (C.after change) (entries root.old) (entries root.new)) }
+{
+    match root {
+        Some(tree) => Tree::change_shared(alloc, tree, key, change),
         None => unreachable!(),
     }
 }

@@ -4,14 +4,15 @@ ghost use Rattle.std.specs.Arc.{arc_value as entries};
 ghost use Rattle.std.specs.Option.{option_copied};
 ghost use Rattle.std.specs.Ordering.{int_cmp};
 ghost use Rattle.std.specs.FinMap.Entries.{find, put, is_sorted};
-ghost use Rattle.tt_pages.specs.MapEntries.{first_key, entries_without, IsPageAt};
-ghost use Rattle.tt_pages.specs.MapTree.{entries_of, IsPage, IsNode, IsFork, IsNodeOf, PutsEntry, RemovesKey, HasMoreBeside, IsSideWithout, IsOtherOfLone};
+ghost use Rattle.tt_pages.specs.MapEntries.{first_key, entries_without, keys_of, ChangesAt, IsPageAt};
+ghost use Rattle.tt_pages.specs.MapTree.{entries_of, IsPage, IsNode, IsFork, IsNodeOf, PutsEntry, ChangesEntry, RemovesKey, HasMoreBeside, IsSideWithout, IsOtherOfLone};
 ghost use Rattle.tt_pages.specs.declared.map_tree.Node.TheVariants.{Fork};
 
+use crate::change::Change;
 use crate::kept::Kept;
 use crate::map_page::{
-    FEW_ENTRIES, MAX_ENTRIES, Page, add_copies, copy_of, get_in, put_in, rank_in, remove_in,
-    swap_in,
+    FEW_ENTRIES, MAX_ENTRIES, Page, add_copies, change_in, copy_of, get_in, put_in, rank_in,
+    remove_in, swap_in,
 };
 use std::alloc::{AllocError, Global};
 use std::marker::Model;
@@ -151,6 +152,40 @@ impl<V: Kept + Drop> Tree<V> {
         ensures err_value { OnErr result (value.new ≡ value.old) }
     {
         self.node.swap(alloc, key, value)
+    }
+
+    // Changes the value at a key that is there. After an error its value may be any.
+    #[cycle(map_change)]
+    fn change<C: Change<V>>(
+        &mut self,
+        alloc: Global,
+        key: &i64,
+        change: C,
+    ) -> Result<(), AllocError>
+        requires { IsSome (find int_cmp key.now self.old) }
+        ensures keys { keys_of self.new ≡ keys_of self.old }
+        ensures ok { OnOk result (ChangesAt key.now (C.after change) self.old self.new) }
+    {
+        self.node.change(alloc, key, change)
+    }
+
+    #[cycle(map_change)]
+    pub(crate) fn change_shared<C: Change<V>>(
+        alloc: Global,
+        this: &mut Arc<Tree<V>>,
+        key: &i64,
+        change: C,
+    ) -> Result<(), AllocError>
+        requires { IsSome (find int_cmp key.now (entries this.old)) }
+        ensures keys { keys_of (entries this.new) ≡ keys_of (entries this.old) }
+        ensures ok { OnOk result
+            (ChangesAt key.now (C.after change) (entries this.old) (entries this.new)) }
+    {
+        unshare(alloc, this)?;
+        match Arc::get_mut(this) {
+            Some(tree) => tree.change(alloc, key, change),
+            None => Err(AllocError),
+        }
     }
 
     #[cycle(map_remove)]
@@ -429,6 +464,31 @@ impl<V: Kept + Drop> Node<V> {
                     swap_shared(alloc, left, key, value)
                 } else {
                     swap_shared(alloc, right, key, value)
+                }
+            }
+        }
+    }
+
+    #[cycle(map_change)]
+    fn change<C: Change<V>>(
+        &mut self,
+        alloc: Global,
+        key: &i64,
+        change: C,
+    ) -> Result<(), AllocError>
+        requires node { IsNode self.old }
+        requires present { IsSome (find int_cmp key.now (entries_of self.old)) }
+        ensures node { IsNode self.new }
+        ensures keys { keys_of (entries_of self.new) ≡ keys_of (entries_of self.old) }
+        ensures ok { OnOk result (ChangesEntry key.now (C.after change) self.old self.new) }
+    {
+        match self {
+            Node::Leaf(page) => change_in(page, key, change),
+            Node::Fork(left, split, right) => {
+                if key.cmp(&split.key).is_lt() {
+                    Tree::change_shared(alloc, left, key, change)
+                } else {
+                    Tree::change_shared(alloc, right, key, change)
                 }
             }
         }

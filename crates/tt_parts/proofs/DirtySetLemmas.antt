@@ -18,6 +18,12 @@ SamePartitions-three k bs cs ds one two three h i j p =
     let same = is_same_partition p in
     grind (arith, list_any-append same cs two, list_any-append same bs one, list_any-append same (bs ++ cs) ds, list_any-append same bs cs, h p, i p, j p)
 
+-- partitions that are put before a list instead of being left for later
+pub SamePartitions-moved : (ps rest members after all : List Partition) → SamePartitions after (ps ++ members) → SamePartitions ((ps ++ rest) ++ members) all → SamePartitions (rest ++ after) all
+SamePartitions-moved ps rest members after all h g p =
+    let same = is_same_partition p in
+    grind (arith, list_any-append same rest after, list_any-append same ps members, list_any-append same (ps ++ rest) members, list_any-append same ps rest, h p, g p)
+
 pub same_members_with_row : SameMembersWithRow
 same_members_with_row D E table columns key before after h = record {
   rows = λ t k. ap (λ b. ((t == table) && int_eq k key) || b) (h.rows t k);

@@ -238,3 +238,14 @@ AddsPartition-there tables p h q = by (is_same_partition q p) refl
     by : (b : Bool) → is_same_partition q p ≡ b → finds_partition tables q ≡ (b || finds_partition tables q)
     by true same = ap (finds_partition tables) (equal_partitions q p same) ∙ h
     by false other = refl
+
+-- a partition that is there already adds nothing
+pub SamePartitions-member : (p : Partition) (ps : List Partition) → is_partition_in ps p ≡ true → SamePartitions ps (p ∷ ps)
+SamePartitions-member p ps there q = by (is_same_partition q p) refl
+  where
+    by : (b : Bool) → is_same_partition q p ≡ b → is_partition_in ps q ≡ (b || is_partition_in ps q)
+    by true same = ap (is_partition_in ps) (equal_partitions q p same) ∙ there
+    by false same = refl
+
+-- what adding a partition rests on
+pub ruleset adds_partition = (SamePartitions-member)

@@ -1,5 +1,5 @@
 -- A set of dirty rows and partitions, and when a statement is clear of it.
-use Rattle.std.specs.Prelude.{◌≡◌, ℕ, ℤ, Bool, not, ◌&&◌, ◌==◌, List, [], ◌∷◌, ◌++◌, Option, None, Some}
+use Rattle.std.specs.Prelude.{◌≡◌, ℕ, ℤ, Bool, true, not, ◌&&◌, ◌==◌, List, [], ◌∷◌, ◌++◌, Option, None, Some}
 use Rattle.std.specs.List.{list_any}
 use Rattle.std.specs.Option.{unwrap_or}
 use Rattle.std.specs.Ordering.{int_eq}
@@ -44,6 +44,10 @@ has_row_of D = is_table_in D.rows
 -- whether a partition is dirty
 abbrev pub has_partition : DirtySet → Partition → Bool
 has_partition D = is_partition_in D.partitions
+
+-- the partition of the key of each row of a list is in a list of partitions
+abbrev pub HaveKeyPartitions : List (ℕ × ℤ) → List Partition → Type 0
+HaveKeyPartitions rows ps = (table : ℕ) (key : ℤ) → is_row_in rows table key ≡ true → is_partition_in ps (key_partition table key) ≡ true
 
 -- two lists have the same rows
 abbrev pub SameRows : List (ℕ × ℤ) → List (ℕ × ℤ) → Type 0

@@ -1,13 +1,13 @@
-ghost use Rattle.std.specs.Prelude.{◌≡◌, ◌<◌, ◌≤◌, ◌^◌, length, IfOk, OnOk};
+ghost use Rattle.std.specs.Prelude.{◌≡◌, ◌<◌, ◌≤◌, ◌^◌, ◌∷◌, ◌++◌, length, IfOk, OnOk};
 ghost use Rattle.std.specs.Option.{option_copied};
 ghost use Rattle.tt_values.specs.Check.{HasKey};
 ghost use Rattle.tt_values.specs.Effect.{table_of};
-ghost use Rattle.tt_parts.specs.Partitions.{equated_partitions, partitions_read};
-ghost use Rattle.tt_parts.specs.Dirty.{columns_in};
+ghost use Rattle.tt_parts.specs.Partitions.{key_partition, equated_partitions, partitions_read};
+ghost use Rattle.tt_parts.specs.Dirty.{columns_in, parts_if, SameRows, SamePartitions, HaveKeyPartitions};
 
 use crate::dirty_partitions::DirtyPartitions;
 use crate::dirty_rows::DirtyRows;
-use crate::members::{add_row_partitions, has_other_equated, has_other_partition, reads_partition};
+use crate::members::{add_key, add_parts, has_other_equated, has_other_partition, reads_partition};
 use crate::partition::Reads;
 use std::alloc::{AllocError, Global};
 use std::marker::Model;
@@ -25,7 +25,7 @@ pub struct Dirty {
 }
 
 impl Model for Dirty {
-    ghost use Rattle.tt_parts.specs.Dirty.{DirtyTables};
+    ghost use Rattle.tt_parts.specs.Dirty.{DirtyTables, HaveKeyPartitions};
 
     ghost Value = { DirtyTables };
 
@@ -33,6 +33,8 @@ impl Model for Dirty {
       catalog = d.catalog;
       dirty = record { rows = d.rows; partitions = d.partitions };
     } };
+
+    ghost invariant = { λ d. HaveKeyPartitions d.rows d.partitions };
 }
 
 impl Dirty {
@@ -108,10 +110,14 @@ impl Dirty {
             (option_copied before.entry) (option_copied after.entry))) }
     {
         let alloc = self.alloc;
-        self.rows.add(alloc, table, key)?;
         let def = table_in(self.catalog.get(), table);
-        add_row_partitions(alloc, &mut self.partitions, table, def, key, before, after)?;
-        Ok(())
+        let (rows, partitions) = (&mut self.rows, &mut self.partitions);
+        let added = add_row_to(alloc, rows, partitions, table, def, key, before, after);
+        if added.is_err() {
+            // A row must not stay without the partition of its key.
+            self.rows = DirtyRows::new(alloc);
+        }
+        added
     }
 
     /// Whether the row with the key is dirty. Allocates nothing.
@@ -164,6 +170,52 @@ impl Dirty {
             !self.rows.has_table(table)
         }
     }
+}
+
+/// Adds a row, the partition of its key, and the partitions that it lies in by its contents before
+/// and after, where it has any.
+fn add_row_to(
+    alloc: Global,
+    rows: &mut DirtyRows,
+    partitions: &mut DirtyPartitions,
+    table: u16,
+    def: &TableDef,
+    key: i64,
+    before: Option<&Row>,
+    after: Option<&Row>,
+) -> Result<(), AllocError>
+    requires few { length def.now.columns ≤ 2 ^ 16 }
+    requires keys { HaveKeyPartitions rows.old partitions.old }
+    ensures rows { OnOk result (SameRows rows.new ((table, key) ∷ rows.old)) }
+    ensures partitions { OnOk result (SamePartitions partitions.new (key_partition table key
+        ∷ parts_if table def.now.columns (option_copied before.entry)
+        ++ parts_if table def.now.columns (option_copied after.entry) ++ partitions.old)) }
+{
+    add_row_and_key(alloc, rows, partitions, table, key)?;
+    add_parts(alloc, partitions, table, def, before)?;
+    add_parts(alloc, partitions, table, def, after)?;
+    Ok(())
+}
+
+/// Adds a row and the partition of its key, which is there already where the row is.
+#[tactic(auto, using(crate::proofs::SearchLemmas::adds_partition))]
+fn add_row_and_key(
+    alloc: Global,
+    rows: &mut DirtyRows,
+    partitions: &mut DirtyPartitions,
+    table: u16,
+    key: i64,
+) -> Result<(), AllocError>
+    requires { HaveKeyPartitions rows.old partitions.old }
+    ensures rows { OnOk result (SameRows rows.new ((table, key) ∷ rows.old)) }
+    ensures partitions { OnOk result
+        (SamePartitions partitions.new (key_partition table key ∷ partitions.old)) }
+{
+    if rows.has(table, key) {
+        return Ok(());
+    }
+    add_key(alloc, partitions, table, key)?;
+    rows.add(alloc, table, key)
 }
 
 /// The table at a position.

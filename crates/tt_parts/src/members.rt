@@ -2,12 +2,12 @@
 ghost use Rattle.std.specs.Prelude.{◌≡◌, ◌≤◌, ◌^◌, ◌&&◌, not, ◌∷◌, ◌++◌, length, OnOk};
 ghost use Rattle.std.specs.List.{list_any};
 ghost use Rattle.std.specs.Option.{option_copied};
-ghost use Rattle.tt_parts.specs.Partitions.{key_partition, is_partition_position, partition_of, is_partition_in};
+ghost use Rattle.tt_parts.specs.Partitions.{key_partition, part_at, parts_of, is_partition_position, partition_of, is_partition_in};
 ghost use Rattle.tt_parts.specs.Dirty.{has_other_partition, parts_if, SamePartitions};
 
 use crate::dirty_partitions::DirtyPartitions;
 use crate::partition::Partition;
-use crate::parts::parts_of;
+use crate::parts::is_partition_column;
 use crate::statement_reads::is_partition_position;
 use std::alloc::{AllocError, Global};
 use tt_values::{Column, Equal, Row, TableDef, Value};
@@ -19,30 +19,8 @@ pub(crate) fn has_other_partition(members: &DirtyPartitions, partitions: &[Parti
     partitions.iter().any(|partition| !members.has(partition))
 }
 
-/// Adds the partition of the key of a row, and those that the row lies in by its contents before
-/// and after, where it has any.
-pub(crate) fn add_row_partitions(
-    alloc: Global,
-    members: &mut DirtyPartitions,
-    table: u16,
-    def: &TableDef,
-    key: i64,
-    before: Option<&Row>,
-    after: Option<&Row>,
-) -> Result<(), AllocError>
-    requires { length def.now.columns ≤ 2 ^ 16 }
-    ensures { OnOk result (SamePartitions members.new (key_partition table key
-        ∷ parts_if table def.now.columns (option_copied before.entry)
-        ++ parts_if table def.now.columns (option_copied after.entry) ++ members.old)) }
-{
-    add_key(alloc, members, table, key)?;
-    add_parts(alloc, members, table, def, before)?;
-    add_parts(alloc, members, table, def, after)?;
-    Ok(())
-}
-
 /// Adds the partition of a key.
-fn add_key(
+pub(crate) fn add_key(
     alloc: Global,
     members: &mut DirtyPartitions,
     table: u16,
@@ -50,16 +28,11 @@ fn add_key(
 ) -> Result<(), AllocError>
     ensures { OnOk result (SamePartitions members.new (key_partition table key ∷ members.old)) }
 {
-    let partition = Partition {
-        table,
-        column: 0,
-        value: Value::Int(key),
-    };
-    members.add(alloc, &partition)
+    ensure_member(alloc, members, table, 0, &Value::Int(key))
 }
 
 /// Adds the partitions that a row lies in, if there is a row.
-fn add_parts(
+pub(crate) fn add_parts(
     alloc: Global,
     members: &mut DirtyPartitions,
     table: u16,
@@ -70,24 +43,80 @@ fn add_parts(
     ensures { OnOk result (SamePartitions members.new
         (parts_if table def.now.columns (option_copied row.entry) ++ members.old)) }
 {
-    let Some(row) = row else {
-        return Ok(());
-    };
-    let parts = parts_of(alloc, table, def, row)?;
-    add_partitions(alloc, members, parts.as_slice())
+    match row {
+        Some(row) => add_parts_of(alloc, members, table, def.columns.as_slice(), row),
+        None => Ok(()),
+    }
 }
 
-fn add_partitions(
+/// Adds the partitions that a row lies in.
+fn add_parts_of(
     alloc: Global,
     members: &mut DirtyPartitions,
-    partitions: &[Partition],
+    table: u16,
+    columns: &[Column],
+    row: &Row,
 ) -> Result<(), AllocError>
-    ensures { OnOk result (SamePartitions members.new (partitions.now ++ members.old)) }
+    requires { length columns.now ≤ 2 ^ 16 }
+    ensures { OnOk result (SamePartitions members.new
+        (parts_of table columns.now row.now ++ members.old)) }
 {
-    for partition in partitions {
-        members.add(alloc, partition)?;
+    for i in 0..columns.len() {
+        add_part(
+            alloc,
+            members,
+            table,
+            i as u16,
+            &columns[i],
+            row.values.get(i),
+        )?;
     }
     Ok(())
+}
+
+/// Adds the partition of the value in a column, if there is a value and the column is a partition
+/// column.
+fn add_part(
+    alloc: Global,
+    members: &mut DirtyPartitions,
+    table: u16,
+    position: u16,
+    column: &Column,
+    value: Option<&Value>,
+) -> Result<(), AllocError>
+    ensures { OnOk result (SamePartitions members.new
+        (part_at table position column.now (option_copied value.entry) ++ members.old)) }
+{
+    let Some(value) = value else {
+        return Ok(());
+    };
+    if is_partition_column(position, column) {
+        ensure_member(alloc, members, table, position, value)?;
+    }
+    Ok(())
+}
+
+/// Makes the partition of a value in a column a member. Takes no memory where it is one already.
+#[tactic(auto, using(crate::proofs::SearchLemmas::adds_partition))]
+fn ensure_member(
+    alloc: Global,
+    members: &mut DirtyPartitions,
+    table: u16,
+    column: u16,
+    value: &Value,
+) -> Result<(), AllocError>
+    ensures { OnOk result (SamePartitions members.new
+        (record { table = table; column = column; value = value.now } ∷ members.old)) }
+{
+    if members.has_value_in(table, column, value) {
+        return Ok(());
+    }
+    let partition = Partition {
+        table,
+        column,
+        value: value.copy()?,
+    };
+    members.add(alloc, &partition)
 }
 
 /// Whether one of the equalities is on a partition column.

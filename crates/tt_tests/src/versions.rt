@@ -106,42 +106,6 @@ fn rows_of_one_time_are_written_together(rt: HostRuntime) -> Result<(), Fail> {
 }
 
 #[test]
-fn a_switch_leaves_the_next_side(rt: HostRuntime) -> Result<(), Fail> {
-    let table = two_sides(&rt, rt.alloc())?.switched()?;
-    assert!(rt; !table.is_split(1));
-    expect_sides(&rt, &table, [A, A, A, C, C], [A, A, A, C, C])?;
-    Ok(())
-}
-
-#[test]
-fn an_abort_leaves_the_current_side(rt: HostRuntime) -> Result<(), Fail> {
-    let table = two_sides(&rt, rt.alloc())?.aborted()?;
-    assert!(rt; !table.is_split(1));
-    expect_sides(&rt, &table, [A, A, B, B, NONE], [A, A, B, B, NONE])?;
-    let table = two_sides(&rt, rt.alloc())?.into_aborted()?;
-    expect_sides(&rt, &table, [A, A, B, B, NONE], [A, A, B, B, NONE])?;
-    Ok(())
-}
-
-#[test]
-fn keys_at_the_bounds_stand_in_order(rt: HostRuntime) -> Result<(), Fail> {
-    let alloc = rt.alloc();
-    let keys = [i64::MAX, 0, i64::MIN];
-    let mut table = Table::new(alloc);
-    for key in keys {
-        table = table.written(key, row(alloc, key, A)?, 1)?;
-    }
-    table = table.split_back(i64::MIN, 1)?;
-    assert!(rt; table.is_split(i64::MIN));
-    assert!(rt; !table.is_split(i64::MAX));
-    let current = keys_at(alloc, &table, Side::Current)?;
-    assert_eq!(rt; current.as_slice(), [i64::MIN, 0, i64::MAX].as_slice());
-    let next = keys_at(alloc, &table, Side::Next)?;
-    assert_eq!(rt; next.as_slice(), [0, i64::MAX].as_slice());
-    Ok(())
-}
-
-#[test]
 fn rows_are_found_by_key_by_value_and_among_all(rt: HostRuntime) -> Result<(), Fail> {
     let alloc = rt.alloc();
     let table = Table::with_columns(alloc, &[1])?
@@ -172,14 +136,6 @@ fn rows_are_found_by_key_by_value_and_among_all(rt: HostRuntime) -> Result<(), F
     }
     assert_eq!(rt; table.rows_matching(&[], 3, Side::Next)?.len(), 2);
     Ok(())
-}
-
-fn keys_at(alloc: Global, table: &Table, side: Side) -> Result<Vec<i64>, AllocError> {
-    let mut keys = Vec::new(alloc);
-    for (key, _) in &table.rows_at(1, side)? {
-        keys.push(*key)?;
-    }
-    Ok(keys)
 }
 
 /// Keys 0 to 29 have tag a at time 1 and b from time 2; every third one is split, with c from

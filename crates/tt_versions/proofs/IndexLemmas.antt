@@ -21,11 +21,11 @@ use Rattle.tt_versions.specs.declared.lineage.Lineage.{Lineage}
 use Rattle.tt_versions.specs.declared.indexed_column.IndexedColumn.{IndexedColumn}
 use Rattle.tt_versions.specs.Versions.{started_by, started_before, visible_row, with_write}
 use Rattle.tt_versions.specs.Lineage.{unwritten, chain_on, with_write_on, split_back}
-use Rattle.tt_versions.specs.Sides.{LineagesByKey, lineage_at, side_of, unsplit_if, UnsplitsKeys}
+use Rattle.tt_versions.specs.Sides.{LineagesByKey, lineage_at, side_of, is_split, StaysSplit, unsplit_if, UnsplitsKeys}
 use Rattle.tt_values.specs.Digest.{digest_of}
 use Rattle.tt_versions.specs.Index.{KeySet, has_key, keys_under, KeepsKeys, ColumnLists, ColumnsList, IndexState, ListsRow, KeepsRows, IsStored, CoversEqual, CoversMatches, IsKeyOfMatches, ChainHas, LineageHas, ListsTable, ListsTableBut, HaveKeysIn, HaveKey}
 use Rattle.tt_versions.proofs.EntriesLemmas.{first, second}
-use Rattle.tt_versions.proofs.SidesLemmas.{same_key, lineage_at-put, is_split-write}
+use Rattle.tt_versions.proofs.SidesLemmas.{same_key, lineage_at-put, is_split-write_on}
 
 -- ---- sets of keys
 
@@ -276,13 +276,13 @@ unfolding side_of
 HaveKey-covers index only equals t listed covers side key time row is m =
     covers key row (shown (ListsRow index key) (visible_row time (chain_on side (lineage_at t key))) row is (visible_row-has (ListsRow index key) side (lineage_at t key) time (listed key))) m
 
--- a current write, once the index lists its row
-pub IsStored-write : (key : ℤ) (split_keys : KeySet) (before after : IndexState) (t : LineagesByKey) (row : Option Row) (time : ℕ)
-    → IsStored split_keys before t → KeepsRows before after → IfSome row (ListsRow after key)
-    → IsStored split_keys after (sorted.put int_cmp key (with_write_on Current row time (lineage_at t key)) t)
-IsStored-write key split_keys before after t row time stored keeps lists = record {
-  split = λ q. stored.split q ∙ (λ i. sym (is_split-write t key row time) i q);
-  listed = ListsTable-put key after t (with_write_on Current row time (lineage_at t key)) (ListsTableBut-taken key before after t t stored.listed keeps (λ l. refl))
-      (LineageHas-write (ListsRow after key) Current row time (lineage_at t key)
+-- a write on a side, once the index lists its row
+pub IsStored-write : (side : Side) (key : ℤ) (split_keys : KeySet) (before after : IndexState) (t : LineagesByKey) (row : Option Row) (time : ℕ)
+    → StaysSplit side (is_split t) key → IsStored split_keys before t → KeepsRows before after → IfSome row (ListsRow after key)
+    → IsStored split_keys after (sorted.put int_cmp key (with_write_on side row time (lineage_at t key)) t)
+IsStored-write side key split_keys before after t row time stays stored keeps lists = record {
+  split = λ q. stored.split q ∙ (λ i. sym (is_split-write_on side t key row time stays) i q);
+  listed = ListsTable-put key after t (with_write_on side row time (lineage_at t key)) (ListsTableBut-taken key before after t t stored.listed keeps (λ l. refl))
+      (LineageHas-write (ListsRow after key) side row time (lineage_at t key)
       (LineageHas-map (ListsRow before key) (ListsRow after key) (λ r. keeps key r) (lineage_at t key) (stored.listed key)) lists);
 }

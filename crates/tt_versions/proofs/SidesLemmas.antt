@@ -1,5 +1,7 @@
 -- What a change of one row does to the sides of a table.
-use Rattle.std.proofs.Common.{◌≡◌, ℕ, ℤ, Bool, true, false, cond, ◌&&◌, ◌||◌, nat_le, List, Option, None, Some, is_some, if◌then◌else◌, Less, Greater, Equal, refl, sym, ap, ◌∙◌, [], ◌∷◌, not}
+use Rattle.std.proofs.Common.{◌≡◌, ℕ, ℤ, Bool, true, false, cond, ◌&&◌, ◌||◌, nat_le, List, Option, None, Some, is_some, if◌then◌else◌, Less, Greater, Equal, refl, sym, ap, subst, ◌∙◌, [], ◌∷◌, not}
+use Rattle.std.specs.List.{All}
+use Rattle.std.proofs.lemmas.List.Elements.{All-nil, All-cons, All-head, All-tail}
 use Rattle.std.proofs.lemmas.Int.{to_z-of_z}
 use Rattle.std.specs.declared.cmp.Ordering.{Ordering}
 use Rattle.std.specs.Option.{unwrap_or}
@@ -7,6 +9,7 @@ use Rattle.std.specs.Ordering.{int_cmp, int_eq, is_eq}
 use Rattle.std.specs.Cmp.{int_cmp_total}
 use Rattle.std.specs.FinMap.{int_cmp-IsAntisymmetric}
 use Rattle.std.specs.FinMap.Entries as sorted
+use Rattle.tt_pages.specs.MapEntries.{ChangesAt}
 use Rattle.tt_values.specs.declared.row.Row.{Row}
 use Rattle.tt_versions.specs.declared.side.Side.{Side}
 use Rattle.tt_versions.specs.declared.side.Side.TheVariants.{Current, Next}
@@ -15,7 +18,7 @@ use Rattle.tt_versions.specs.declared.lineage.Lineage.{Lineage}
 use Rattle.tt_versions.specs.Versions.{visible_row}
 use Rattle.tt_versions.specs.Versions as versions
 use Rattle.tt_versions.specs.Lineage.{unwritten, chain_on, with_write_on, split_back}
-use Rattle.tt_versions.specs.Sides.{LineagesByKey, lineage_at, side_of, current_of, next_of, is_split, written_from, all_written_from, whole_among, with_writes, just_before, rolled_back_from, with_key}
+use Rattle.tt_versions.specs.Sides.{LineagesByKey, lineage_at, side_of, current_of, next_of, is_split, written_from, all_written_from, whole_among, with_writes, StaysSplit, just_before, rolled_back_from, with_key}
 use Rattle.tt_versions.proofs.VersionsLemmas.{visible_row-with_write, visible_row-without_writes_from}
 
 tied : (o : Ordering) → is_eq o ≡ true → o ≡ Equal
@@ -34,6 +37,11 @@ lineage_at-put t key l q = ap (λ o. unwrap_or o unwritten) (sorted.find-put int
     by : (b : Bool) → unwrap_or (cond b (Some l) (sorted.find int_cmp q t)) unwritten ≡ cond b l (lineage_at t q)
     by true = refl
     by false = refl
+
+-- a lineage that a key has is changed, and the others stay
+pub changed-there : (t after : LineagesByKey) (key : ℤ) (change : Lineage → Lineage) (l : Lineage) → sorted.find int_cmp key t ≡ Some l → ChangesAt key change t after
+    → after ≡ sorted.put int_cmp key (change (lineage_at t key)) t
+changed-there t after key change l found changes = changes l found ∙ ap (λ x. sorted.put int_cmp key (change x) t) (sym (ap (λ o. unwrap_or o unwritten) found))
 
 -- a row that was never written is there at no time
 pub visible_row-unwritten : (time : ℕ) (side : Side) → visible_row time (chain_on side unwritten) ≡ None
@@ -137,21 +145,21 @@ next_of-whole t key whole = λ i u. by (lineage_at t key).next whole u i
     by (Some n) e u = cc
 
 -- several current writes, one after another: the current side
-pub current_of-with_writes : (es : List (ℤ × Option Row)) (time : ℕ) (t : LineagesByKey) → side_of (with_writes es time t) Current ≡ all_written_from es time (current_of t)
+pub current_of-with_writes : (es : List (ℤ × Option Row)) (time : ℕ) (t : LineagesByKey) → side_of (with_writes Current es time t) Current ≡ all_written_from es time (current_of t)
 current_of-with_writes [] time t = refl
 current_of-with_writes (e ∷ es) time t =
     current_of-with_writes es time (sorted.put int_cmp e.0 (with_write_on Current e.1 time (lineage_at t e.0)) t)
     ∙ ap (all_written_from es time) (current_of-write t e.0 e.1 time)
 
 -- the split keys
-pub is_split-with_writes : (es : List (ℤ × Option Row)) (time : ℕ) (t : LineagesByKey) → is_split (with_writes es time t) ≡ is_split t
+pub is_split-with_writes : (es : List (ℤ × Option Row)) (time : ℕ) (t : LineagesByKey) → is_split (with_writes Current es time t) ≡ is_split t
 is_split-with_writes [] time t = refl
 is_split-with_writes (e ∷ es) time t =
     is_split-with_writes es time (sorted.put int_cmp e.0 (with_write_on Current e.1 time (lineage_at t e.0)) t) ∙ is_split-write t e.0 e.1 time
 
 -- and the next side, which they change where a row isn't split
 pub next_of-with_writes : (es : List (ℤ × Option Row)) (time : ℕ) (t : LineagesByKey)
-    → side_of (with_writes es time t) Next ≡ all_written_from (whole_among (is_split t) es) time (next_of t)
+    → side_of (with_writes Current es time t) Next ≡ all_written_from (whole_among (is_split t) es) time (next_of t)
 next_of-with_writes [] time t = refl
 next_of-with_writes (e ∷ es) time t =
     next_of-with_writes es time after
@@ -168,8 +176,42 @@ next_of-with_writes (e ∷ es) time t =
     by true = refl
     by false = refl
 
+-- several writes on the next side: the current side
+pub current_of-with_next_writes : (es : List (ℤ × Option Row)) (time : ℕ) (t : LineagesByKey) → side_of (with_writes Next es time t) Current ≡ side_of t Current
+current_of-with_next_writes [] time t = refl
+current_of-with_next_writes (e ∷ es) time t =
+    current_of-with_next_writes es time (sorted.put int_cmp e.0 (with_write_on Next e.1 time (lineage_at t e.0)) t)
+    ∙ current_of-next_write t e.0 e.1 time
+
+-- and the next one
+pub next_of-with_next_writes : (es : List (ℤ × Option Row)) (time : ℕ) (t : LineagesByKey) → side_of (with_writes Next es time t) Next ≡ all_written_from es time (next_of t)
+next_of-with_next_writes [] time t = refl
+next_of-with_next_writes (e ∷ es) time t =
+    next_of-with_next_writes es time (sorted.put int_cmp e.0 (with_write_on Next e.1 time (lineage_at t e.0)) t)
+    ∙ ap (all_written_from es time) (next_of-next_write t e.0 e.1 time)
+
+-- rows that stay split or not keep the split keys
+pub is_split-write_on : (side : Side) (t : LineagesByKey) (key : ℤ) (row : Option Row) (time : ℕ) → StaysSplit side (is_split t) key
+    → is_split (sorted.put int_cmp key (with_write_on side row time (lineage_at t key)) t) ≡ is_split t
+is_split-write_on Current t key row time h = is_split-write t key row time
+is_split-write_on Next t key row time h = is_split-next_write t key row time h
+
+pub is_split-with_next_writes : (es : List (ℤ × Option Row)) (time : ℕ) (t : LineagesByKey) → All (λ e. is_split t e.0 ≡ true) es → is_split (with_writes Next es time t) ≡ is_split t
+is_split-with_next_writes [] time t h = refl
+is_split-with_next_writes (e ∷ es) time t h =
+    let after = sorted.put int_cmp e.0 (with_write_on Next e.1 time (lineage_at t e.0)) t in
+    let same : is_split after ≡ is_split t = is_split-next_write t e.0 e.1 time (All-head (λ e. is_split t e.0 ≡ true) e es h) in
+    is_split-with_next_writes es time after (subst (λ (split : ℤ → Bool). All (λ e. split e.0 ≡ true) es) (sym same) (All-tail (λ e. is_split t e.0 ≡ true) e es h)) ∙ same
+
+pub StaysSplit-current : (split : ℤ → Bool) (es : List (ℤ × Option Row)) → All (λ e. StaysSplit Current split e.0) es
+StaysSplit-current split [] = All-nil (λ (e : ℤ × Option Row). StaysSplit Current split e.0)
+StaysSplit-current split (e ∷ es) = All-cons (λ (e : ℤ × Option Row). StaysSplit Current split e.0) e es tt (StaysSplit-current split es)
+
 -- what writing several rows rests on
 pub ruleset writes_all = (current_of-with_writes, next_of-with_writes, is_split-with_writes)
+
+-- and on the next side
+pub ruleset writes_all_next = (current_of-with_next_writes, next_of-with_next_writes, is_split-with_next_writes)
 
 -- what reading one row rests on
 pub ruleset reads = (to_z-of_z, visible_row-unwritten, next_of-whole)

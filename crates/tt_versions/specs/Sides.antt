@@ -1,5 +1,5 @@
 -- The two sides of a table: for each key and time, the row.
-use Rattle.std.specs.Prelude.{◌≡◌, ℕ, zero, suc, ℤ, Bool, false, ◌&&◌, ◌||◌, nat_le, List, [], IsTrue, Option, None, is_some, map, if◌then◌else◌, ◌∷◌, filter, not}
+use Rattle.std.specs.Prelude.{◌≡◌, ℕ, zero, suc, ℤ, Bool, true, false, ◌&&◌, ◌||◌, nat_le, List, [], IsTrue, Option, None, is_some, map, if◌then◌else◌, ◌∷◌, filter, not}
 use Rattle.std.specs.Borrow.{Bor}
 use Rattle.std.specs.Option.{unwrap_or}
 use Rattle.std.specs.Ordering.{int_cmp, int_eq}
@@ -88,10 +88,15 @@ all_written_from (e ∷ es) time rows = all_written_from es time (written_from e
 abbrev pub whole_among : (ℤ → Bool) → List (ℤ × Option Row) → List (ℤ × Option Row)
 whole_among split es = filter (λ e. not (split e.0)) es
 
--- a table, once each key of a list has its row, or none, from a time on, by current writes
-abbrev pub with_writes : List (ℤ × Option Row) → ℕ → LineagesByKey → LineagesByKey
-with_writes [] time t = t
-with_writes (e ∷ es) time t = with_writes es time (sorted.put int_cmp e.0 (with_write_on Current e.1 time (lineage_at t e.0)) t)
+-- a table, once each key of a list has its row, or none, from a time on, by writes on a side
+abbrev pub with_writes : Side → List (ℤ × Option Row) → ℕ → LineagesByKey → LineagesByKey
+with_writes side [] time t = t
+with_writes side (e ∷ es) time t = with_writes side es time (sorted.put int_cmp e.0 (with_write_on side e.1 time (lineage_at t e.0)) t)
+
+-- whether a row stays as it is, split or not, when it is written on a side: on the next one where it is split
+abbrev pub StaysSplit : Side → (ℤ → Bool) → ℤ → Type 0
+StaysSplit Current split key = Unit {0}
+StaysSplit Next split key = split key ≡ true
 
 -- the row just before a time. Before time 0 there is none
 abbrev pub just_before : ℕ → (ℕ → Option Row) → Option Row

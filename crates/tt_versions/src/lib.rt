@@ -9,6 +9,7 @@ pub mod laws;
 mod lineage;
 mod lineages;
 mod pace;
+mod row_write;
 mod side;
 mod table;
 mod taking;

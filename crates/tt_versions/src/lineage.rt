@@ -5,7 +5,7 @@ use crate::side::Side;
 use crate::version_chain::VersionChain;
 use std::alloc::{AllocError, Global};
 use tt_pages::Kept;
-use tt_values::{Equal, Row, Shared, matches};
+use tt_values::{Equal, Row, matches};
 
 /// The versions of one row. A row that isn't split has one chain, which both sides share. The
 /// chain that a version stands in says which generation it belongs to.
@@ -13,12 +13,13 @@ use tt_values::{Equal, Row, Shared, matches};
 pub(crate) struct Lineage {
     current: VersionChain,
     /// The next side's own chain, where the row is split.
-    next: Option<Shared<VersionChain>>,
+    next: Option<VersionChain>,
 }
 
 impl Lineage {
     ghost use Rattle.tt_versions.specs.Versions.{visible_row};
     ghost use Rattle.tt_versions.specs.Matching.{if_matching};
+    ghost use Rattle.tt_versions.specs.Sides.{just_before};
     ghost use Rattle.tt_versions.specs.Lineage.{unwritten, chain_on, with_write_on, split_back, unsplit};
 
     /// A row that was never written.
@@ -42,6 +43,15 @@ impl Lineage {
         ensures { option_copied result ≡ visible_row time (chain_on side self.now) }
     {
         self.chain(side).at(time)
+    }
+
+    /// The row just before the time on that side.
+    pub(crate) fn before(&self, time: u64, side: Side) -> Option<&Row>
+        ensures { option_copied result
+            ≡ just_before time (λ u. visible_row u (chain_on side self.now)) }
+    {
+        let earlier = time.checked_sub(1)?;
+        self.at(earlier, side)
     }
 
     /// The row at the time on that side, if it matches.
@@ -71,7 +81,7 @@ impl Lineage {
         ensures { result.now ≡ chain_on Side.Next self.now }
     {
         match &self.next {
-            Some(next) => next.get(),
+            Some(next) => next,
             None => &self.current,
         }
     }
@@ -80,7 +90,6 @@ impl Lineage {
     /// both sides share where the row isn't split, on the next one in a chain of its own.
     pub(crate) fn with_write(
         self,
-        alloc: Global,
         side: Side,
         row: Option<Row>,
         time: u64,
@@ -98,7 +107,6 @@ impl Lineage {
             Side::Next => {
                 let (current, next) = self.both_chains()?;
                 let next = next.with_write(row, time)?;
-                let next = Shared::new(alloc, next)?;
                 Ok(Lineage {
                     current,
                     next: Some(next),
@@ -108,12 +116,11 @@ impl Lineage {
     }
 
     /// The row gets a next side of its own, rolled back to before the time.
-    pub(crate) fn split_back(self, alloc: Global, time: u64) -> Result<Lineage, AllocError>
+    pub(crate) fn split_back(self, time: u64) -> Result<Lineage, AllocError>
         ensures { IfOk result (λ l. l ≡ split_back time self) }
     {
         let (current, next) = self.both_chains()?;
         let next = next.without_writes_from(time)?;
-        let next = Shared::new(alloc, next)?;
         Ok(Lineage {
             current,
             next: Some(next),
@@ -127,10 +134,7 @@ impl Lineage {
     {
         let Lineage { current, next } = self;
         match next {
-            Some(next) => {
-                let next = next.into_value()?;
-                Ok((current, next))
-            }
+            Some(next) => Ok((current, next)),
             None => {
                 let next = current.share()?;
                 Ok((current, next))
@@ -154,7 +158,7 @@ impl Kept for Lineage {
     fn kept(&self) -> Result<Self, AllocError> {
         let current = self.current.share()?;
         let next = match &self.next {
-            Some(next) => Some(next.clone()?),
+            Some(next) => Some(next.share()?),
             None => None,
         };
         Ok(Lineage { current, next })

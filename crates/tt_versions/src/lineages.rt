@@ -1,15 +1,17 @@
 ghost use Rattle.std.specs.Prelude.{◌≡◌, [], ℤ, IsTrue, IsSome, IfOk, IfSome, OnOk};
+ghost use Rattle.std.specs.List.{All};
 ghost use Rattle.std.specs.Option.{option_copied};
 ghost use Rattle.std.specs.Ordering.{int_cmp};
 ghost use Rattle.std.specs.FinMap.Entries.{find, put, is_sorted};
 ghost use Rattle.tt_versions.specs.declared.lineage.Lineage.{Lineage};
 ghost use Rattle.tt_versions.specs.Lineage.{with_write_on};
 ghost use Rattle.tt_versions.specs.Index.{IsStored, ListsRow, KeepsRows, LineageHas, ListsTableBut, HaveKey, HaveKeysIn};
-ghost use Rattle.tt_versions.specs.Sides.{lineage_at, with_writes, HasSplitKeysBut, MarksKey, UnsplitsKeys, UnsplitsRow};
+ghost use Rattle.tt_versions.specs.Sides.{lineage_at, is_split, with_writes, StaysSplit, HasSplitKeysBut, MarksKey, UnsplitsKeys, UnsplitsRow};
 
 use crate::index::Index;
 use crate::indexed_column::{IndexedColumn, KeySet};
 use crate::lineage::Lineage;
+use crate::row_write::RowWrite;
 use crate::side::Side;
 use crate::taking::{put_value, take_value};
 use std::alloc::{AllocError, Global};
@@ -122,17 +124,20 @@ impl Lineages {
         } = self;
         let (lineage, is_there) = take_lineage(alloc, &mut entries, key)?;
         list_row(alloc, &mut index, &lineage, side, key, &row, time)?;
-        let lineage = lineage.with_write(alloc, side, row, time)?;
+        let lineage = lineage.with_write(side, row, time)?;
         with_lineage(alloc, entries, split_keys, index, key, lineage, is_there)
     }
 
-    /// The rows with these keys, or none, are written at the time on the current side.
+    /// The rows with these keys, or none, are written at the time on that side. On the next side
+    /// they are split already.
     pub(crate) fn with_writes(
         self,
+        side: Side,
         rows: Vec<(i64, Option<Row>)>,
         time: u64,
     ) -> Result<Lineages, AllocError>
-        ensures { IfOk result (λ m. m ≡ with_writes rows.items time self) }
+        requires { All (λ e. StaysSplit side (is_split self) e.0) rows.items }
+        ensures { IfOk result (λ m. m ≡ with_writes side rows.items time self) }
     {
         let Lineages {
             alloc,
@@ -140,7 +145,15 @@ impl Lineages {
             split_keys,
             mut index,
         } = self;
-        write_rows(alloc, &mut entries, &split_keys, &mut index, rows, time)?;
+        write_rows(
+            alloc,
+            side,
+            &mut entries,
+            &split_keys,
+            &mut index,
+            rows,
+            time,
+        )?;
         Ok(Lineages {
             alloc,
             entries,
@@ -161,7 +174,7 @@ impl Lineages {
             index,
         } = self;
         let (lineage, is_there) = take_lineage(alloc, &mut entries, key)?;
-        let lineage = lineage.split_back(alloc, time)?;
+        let lineage = lineage.split_back(time)?;
         with_lineage(alloc, entries, split_keys, index, key, lineage, is_there)
     }
 
@@ -185,28 +198,31 @@ impl Lineages {
     }
 }
 
-/// Writes rows, or none, on the current side. The index lists them then.
+/// Writes rows, or none, on a side. The index lists them then.
 fn write_rows(
     alloc: Global,
+    side: Side,
     entries: &mut PagedMap<Lineage>,
     split_keys: &KeySet,
     index: &mut Index,
     rows: Vec<(i64, Option<Row>)>,
     time: u64,
 ) -> Result<(), AllocError>
-    requires { IsStored split_keys.now index.old entries.old }
-    ensures entries { OnOk result (entries.new ≡ with_writes rows.items time entries.old) }
+    requires stored { IsStored split_keys.now index.old entries.old }
+    requires split { All (λ e. StaysSplit side (is_split entries.old) e.0) rows.items }
+    ensures entries { OnOk result (entries.new ≡ with_writes side rows.items time entries.old) }
     ensures stored { OnOk result (IsStored split_keys.now index.new entries.new) }
 {
     for (key, row) in rows {
-        write_row(alloc, entries, split_keys, index, key, row, time)?;
+        write_row(alloc, side, entries, split_keys, index, key, row, time)?;
     }
     Ok(())
 }
 
-/// Writes a row, or none, on the current side. The index lists it then.
+/// Writes a row, or none, on a side. The index lists it then.
 fn write_row(
     alloc: Global,
+    side: Side,
     entries: &mut PagedMap<Lineage>,
     _split_keys: &KeySet,
     index: &mut Index,
@@ -214,17 +230,31 @@ fn write_row(
     row: Option<Row>,
     time: u64,
 ) -> Result<(), AllocError>
-    requires { IsStored _split_keys.now index.old entries.old }
+    requires stored { IsStored _split_keys.now index.old entries.old }
+    requires split { StaysSplit side (is_split entries.old) key }
     ensures entries { OnOk result (
-        let lineage = with_write_on Side.Current row time (lineage_at entries.old key) in
+        let lineage = with_write_on side row time (lineage_at entries.old key) in
         entries.new ≡ put int_cmp key lineage entries.old) }
     ensures stored { OnOk result (IsStored _split_keys.now index.new entries.new) }
 {
-    let (lineage, is_there) = take_lineage(alloc, entries, key)?;
-    list_row(alloc, index, &lineage, Side::Current, key, &row, time)?;
-    let lineage = lineage.with_write(alloc, Side::Current, row, time)?;
-    put_value(entries, key, lineage, is_there)?;
-    Ok(())
+    match entries.get(key) {
+        Some(lineage) => {
+            list_row(alloc, index, lineage, side, key, &row, time)?;
+            let write = RowWrite {
+                alloc,
+                side,
+                row,
+                time,
+            };
+            entries.change(key, write)
+        }
+        None => {
+            let lineage = Lineage::new(alloc);
+            list_row(alloc, index, &lineage, side, key, &row, time)?;
+            let lineage = lineage.with_write(side, row, time)?;
+            entries.put(key, lineage)
+        }
+    }
 }
 
 /// Takes the lineage of a row out of the map, and leaves an empty one. Answers whether the map has

@@ -1,4 +1,5 @@
-ghost use Rattle.std.specs.Prelude.{◌≡◌, false, IsTrue, IfOk, if◌then◌else◌};
+ghost use Rattle.std.specs.Prelude.{◌≡◌, true, false, IsTrue, IfOk, if◌then◌else◌};
+ghost use Rattle.std.specs.List.{All};
 ghost use Rattle.std.specs.Option.{option_copied, unwrap_or};
 ghost use Rattle.std.specs.Ordering.{int_cmp};
 ghost use Rattle.std.specs.FinMap.Entries as sorted;
@@ -33,7 +34,7 @@ impl Model for Table {
 
 impl Table {
     ghost use Rattle.tt_versions.specs.Lineage.{unwritten, with_write_on};
-    ghost use Rattle.tt_versions.specs.Sides.{no_lineages, lineage_at, side_of, current_of, next_of, is_split, written_from, all_written_from, whole_among, rolled_back_from, no_rows, none_split, with_key, rows_behind, ListsRows};
+    ghost use Rattle.tt_versions.specs.Sides.{no_lineages, lineage_at, side_of, current_of, next_of, is_split, written_from, all_written_from, whole_among, rolled_back_from, just_before, no_rows, none_split, with_key, rows_behind, ListsRows};
     ghost use Rattle.tt_versions.specs.Matching.{if_matching, ListsMatches, ListsMatchingRows};
     ghost use Rattle.tt_versions.specs.Index.{HaveKey, HaveKeysIn};
     ghost use Rattle.tt_versions.specs.RowsByWrites.{AddsRowWrite, AddsRowWritesOf, DropsRowWrites, ListsContent};
@@ -73,6 +74,18 @@ impl Table {
     {
         let lineage = self.lineage_of(key)?;
         lineage.at(time, side)
+    }
+
+    /// The row with the key just before the time and at it, on that side. Takes no memory.
+    #[tactic(auto, using(crate::proofs::SidesLemmas::reads), unfolding(crate::specs::Sides::side_of))]
+    pub fn around(&self, key: i64, time: u64, side: Side) -> (Option<&Row>, Option<&Row>)
+        ensures before { option_copied result.0 ≡ just_before time (side_of self.now side key) }
+        ensures at { option_copied result.1 ≡ side_of self.now side key time }
+    {
+        match self.lineage_of(key) {
+            Some(lineage) => (lineage.before(time, side), lineage.at(time, side)),
+            None => (None, None),
+        }
     }
 
     /// Whether the row with the key has a next side of its own. Takes no memory.
@@ -278,7 +291,7 @@ impl Table {
         ensures next_adds { IfOk result (λ t. AddsRowWritesOf (next_of self) (next_of t)
             (whole_among (is_split self) rows.items) time) }
     {
-        let lineages = self.lineages.with_writes(rows, time)?;
+        let lineages = self.lineages.with_writes(Side::Current, rows, time)?;
         Ok(Table {
             alloc: self.alloc,
             lineages,
@@ -348,6 +361,30 @@ impl Table {
     {
         let table = self.with_write(Side::Next, key, row, time)?;
         Ok(table)
+    }
+
+    /// Each of these keys, whose rows are split, has its row, or none, from the time on, only on the
+    /// next side, as by one [`next_written`](Table::next_written) after another, of a table that
+    /// isn't needed any more.
+    #[tactic(auto, using(crate::proofs::SidesLemmas::writes_all_next))]
+    pub fn into_all_next_written(
+        self,
+        rows: Vec<(i64, Option<Row>)>,
+        time: u64,
+    ) -> Result<Table, AllocError>
+        requires { All (λ e. is_split self e.0 ≡ true) rows.items }
+        ensures current { IfOk result (λ t. current_of t ≡ current_of self) }
+        ensures next { IfOk result (λ t.
+            next_of t ≡ all_written_from rows.items time (next_of self)) }
+        ensures split { IfOk result (λ t. is_split t ≡ is_split self) }
+        ensures next_adds { IfOk result (λ t.
+            AddsRowWritesOf (next_of self) (next_of t) rows.items time) }
+    {
+        let lineages = self.lineages.with_writes(Side::Next, rows, time)?;
+        Ok(Table {
+            alloc: self.alloc,
+            lineages,
+        })
     }
 
     /// The next side becomes the current one, and no row is split. Takes time for the split rows

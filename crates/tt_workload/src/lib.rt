@@ -20,6 +20,3 @@ pub use run_fault::RunFault;
 pub use tt_db::Db;
 pub use tt_document::{Ask, Call, DocFault, Document, Plan};
 pub use tt_repair::{After, Changed, Record, What};
-
-#[cfg(test)]
-mod tests;

@@ -2,7 +2,7 @@ use std::alloc::{AllocError, Global};
 use std::collections::BTreeMap;
 use std::process::Abort;
 use std::test::Fail;
-use tt_pages::PagedMap;
+use tt_pages::{Change, PagedMap};
 
 /// That the map has the entries of the other, in its order.
 fn expect_entries(
@@ -149,21 +149,38 @@ fn maps_that_were_shared_stay_while_one_changes(rt: HostRuntime) -> Result<(), F
     Ok(())
 }
 
-/// Swaps the value at a key of a copy, in a page that is shared and then in one of its own. The map
-/// keeps its value.
-fn expect_swaps(
+/// Exchanges one value for another, and refuses any other.
+#[derive(Drop)]
+struct Exchange {
+    from: u64,
+    to: u64,
+}
+
+impl Change<u64> for Exchange {
+    ghost after = { λ exchange _. exchange.to };
+
+    fn apply(self, value: &mut u64) -> Result<(), AllocError> {
+        if *value != self.from {
+            return Err(AllocError);
+        }
+        *value = self.to;
+        Ok(())
+    }
+}
+
+/// Changes the value at a key of a copy, in a page that is shared and then in one of its own. The
+/// map keeps its value.
+fn expect_changes(
     rt: &impl Abort,
     map: &PagedMap<u64>,
     key: i64,
     value: u64,
 ) -> Result<(), AllocError> {
     let mut copy = map.share()?;
-    for (old, new) in [(value, 1000), (1000, 2000)] {
+    for (from, to) in [(value, 1000), (1000, 2000)] {
         copy.get(key).expect(rt, "no entry at the key");
-        let mut exchanged = new;
-        copy.swap(key, &mut exchanged)?;
-        assert_eq!(rt; exchanged, old);
-        assert_eq!(rt; copy.get(key), Some(&new));
+        copy.change(key, Exchange { from, to })?;
+        assert_eq!(rt; copy.get(key), Some(&to));
     }
     assert_eq!(rt; copy.len(), map.len());
     assert_eq!(rt; map.get(key), Some(&value));
@@ -171,14 +188,14 @@ fn expect_swaps(
 }
 
 #[test]
-fn a_swap_answers_the_old_value(rt: HostRuntime) -> Result<(), Fail> {
+fn a_change_sees_the_value_at_the_key(rt: HostRuntime) -> Result<(), Fail> {
     let alloc = rt.alloc();
     let page = PagedMap::new(alloc).with(1, 10)?.with(2, 20)?;
-    expect_swaps(&rt, &page, 1, 10)?;
-    expect_swaps(&rt, &page, 2, 20)?;
+    expect_changes(&rt, &page, 1, 10)?;
+    expect_changes(&rt, &page, 2, 20)?;
     let tree = map_of(alloc, Order::OddFirst)?;
     for number in 1..201u64 {
-        expect_swaps(&rt, &tree, number as i64, number)?;
+        expect_changes(&rt, &tree, number as i64, number)?;
     }
     expect_entries(&rt, &tree, &numbers(alloc, false)?)?;
     Ok(())

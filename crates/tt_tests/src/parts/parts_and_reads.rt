@@ -5,32 +5,6 @@ use super::{
 use std::test::Fail;
 use tt_parts::{Reads, parts_of, reads_of};
 
-const PARTITIONS: &[PlainPartition] = &[
-    (0, 0, Number(1)),
-    (1, 0, Number(1)),
-    (0, 1, Number(1)),
-    (0, 0, Number(i64::MIN)),
-    (0, 0, Words("1")),
-    (u16::MAX, u16::MAX, Words("ann")),
-];
-
-#[test]
-fn clones_equal_their_source(rt: HostRuntime) -> Result<(), Fail> {
-    let alloc = rt.alloc();
-    let list = partitions(alloc, PARTITIONS)?;
-    for (i, one) in list.as_slice().iter().enumerate() {
-        assert_eq!(rt; one.clone()?, *one);
-        for (j, other) in list.as_slice().iter().enumerate() {
-            assert_eq!(rt; one.is_same(other), i == j, "{i} and {j}");
-        }
-    }
-    let reads = Reads::Equated(list);
-    assert_eq!(rt; reads.clone()?, reads);
-    let whole = Reads::All { table: u16::MAX };
-    assert_eq!(rt; whole.clone()?, whole);
-    Ok(())
-}
-
 /// A table, a row of it, and the partitions that the row lies in.
 type RowCase = (u16, &'static [Plain], &'static [PlainPartition]);
 

@@ -1,19 +1,11 @@
--- One more row gets dirty with what the tables show just before the time and at it.
-use Rattle.std.proofs.Common.{◌∙◌, w64, rules}
-use Rattle.std.proofs.lemmas.Int.{to_z-of_z}
-use Rattle.tt_generations.proofs.RepairLemmas.{SameMembers-then, shown-step}
+-- Rows that stand there twice get as dirty as once.
+use Rattle.tt_generations.specs.declared.slot.RowKey.{RowKey}
+use Rattle.std.proofs.Common.{◌<◌, length}
+use Rattle.tt_generations.proofs.RepairLemmas.{SameMembers-then, shown-once, All-half}
 use Rattle.tt_generations.proofs.repair.with_rows_shown.Goals as goal
 
-pub loop-row-preserved : goal.loop-row-preserved
-loop-row-preserved c =
-    let before = c.loop-row.dirty in
-    let after = c.add_row.new.self in
-    let added = c.in_ok-add_row.ensures in
-    let h1 = c.at-before.ensures in
-    let h2 = c.table-table.ensures in
-    let h3 = added.dirty in
-    record {
-      catalog = added.catalog ∙ c.loop-row.invariant.catalog;
-      dirty = SameMembers-then _ _ _ (shown-step before after c.args.rows.now c.args.redone.now c.loop-row.row-index _ c.table-table.result.now _ _ _ c.args.time c.loop-row-test.true added.catalog
-          (to_z-of_z w64 _ (search rules)) c.table-table.ensures c.at-before.ensures c.at-after.ensures added.dirty) c.loop-row.invariant.dirty;
-    }
+pub with_each_row_shown-requires-clause-tables : goal.with_each_row_shown-requires-clause-tables
+with_each_row_shown-requires-clause-tables c = All-half (λ (r : RowKey). r.table < length c.args.dirty.catalog) _ _ c.once.ensures c.requires.tables
+
+pub returns-clause-dirty : goal.returns-clause-dirty
+returns-clause-dirty c = SameMembers-then _ _ _ c.in_ok-dirty.ensures.dirty (shown-once c.args.dirty c.args.rows.now c.once.result.now c.args.redone.now c.args.time c.once.ensures)

@@ -1,11 +1,14 @@
--- the rows that are left lead to the table with all, and what is stored so far is found
+-- the rows that are left lead to the table with all, and what is stored so far is found; the same rows are split
 use Rattle.std.proofs.Common.{◌≡◌}
-use Rattle.tt_versions.specs.Sides.{with_writes}
+use Rattle.std.specs.List.{All}
+use Rattle.tt_versions.specs.Sides.{is_split, with_writes, StaysSplit}
 use Rattle.tt_versions.specs.Index.{IsStored}
 use Rattle.tt_versions.proofs.lineages.write_rows.Given as goal
 
 abbrev pub invariant-loop-key : goal.invariant-loop-key
 invariant-loop-key l = record {
-  writes : with_writes l.key-iterator.rest.items l.time l.entries ≡ with_writes l.fn.rows.items l.time l.fn.entries;
+  writes : with_writes l.side l.key-iterator.rest.items l.time l.entries ≡ with_writes l.side l.fn.rows.items l.time l.fn.entries;
   stored : IsStored l.split_keys l.index l.entries;
+  split : is_split l.entries ≡ is_split l.fn.entries;
+  left : All (λ e. StaysSplit l.side (is_split l.fn.entries) e.0) l.key-iterator.rest.items;
 }

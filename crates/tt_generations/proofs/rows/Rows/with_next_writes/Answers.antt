@@ -7,8 +7,8 @@ use Rattle.tt_generations.proofs.RowsLemmas.{PutsTable, PutsTable-set}
 use Rattle.tt_generations.proofs.SplitRowsLemmas.{WritesNext-put}
 use Rattle.tt_generations.proofs.rows.Rows.with_next_writes.Goals as goal
 
-pub with_all_next_written-requires : goal.with_all_next_written-requires
-with_all_next_written-requires c =
+pub into_all_next_written-requires : goal.into_all_next_written-requires
+into_all_next_written-requires c =
     let taken = c.in_ok-old.ensures in
     let old : c.in_ok-old.old ≡ versions_at c.args.self c.args.table =
     taken.table ∙ (λ i. versions_at (c.self.view_is i) (c.from-position.ensures i)) in
