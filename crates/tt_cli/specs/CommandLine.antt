@@ -1,13 +1,13 @@
 -- The command line: `timetravel`, with its version and the subcommand `replay`, which takes
--- `--batch`.
+-- `--batch` and `--closed`.
 use Rattle.std.specs.Prelude.{◌≡◌, ℕ, ◌∷◌, [], List, Option, Some, None, Ok, IsSomeAnd, codes, pos}
-use Rattle.std.specs.Prelude.{if◌then◌else◌, true}
+use Rattle.std.specs.Prelude.{Bool, if◌then◌else◌, true}
 use Rattle.std.specs.Str.Parse.{ParsesUnsigned}
 use Rattle.std.specs.declared.num.ParseIntError.{ParseIntError}
 use Rattle.clap.specs.Words.{App, Row, Rule, Text, first_of, new_app, new_rule, subcommand_of}
 use Rattle.clap.specs.Words.{with_rule, with_subcommand}
 use Rattle.clap.specs.Takes.{is_given}
-use Rattle.clap.specs.declared.builder.action.ArgAction.TheVariants.{Set}
+use Rattle.clap.specs.declared.builder.action.ArgAction.TheVariants.{Set, SetTrue}
 use Rattle.clap.specs.declared.builder.value_parser.ValueParser.TheVariants as parser
 
 abbrev pub requiring_subcommand : App → App
@@ -26,8 +26,12 @@ batch = record (new_rule (codes "batch")) {
   parser = Some (parser.Signed (pos 1) (pos 10000));
 }
 
+-- `--closed`, which takes no value
+abbrev pub closed : Rule
+closed = record (new_rule (codes "closed")) { long = Some (codes "closed"); action = Some SetTrue }
+
 abbrev pub replay : App
-replay = with_rule (new_app (codes "replay")) batch
+replay = with_rule (with_rule (new_app (codes "replay")) batch) closed
 
 abbrev pub command_line : App
 command_line =
@@ -46,3 +50,8 @@ IsNumberOr fallback (Some text) n = ParsesUnsigned {E = ParseIntError} 32 10 tex
 unfoldable pub IsBatchOf : List Text → ℕ → Type 0
 IsBatchOf words n = IsSomeAnd (subcommand_of command_line words) (λ sub.
     IsNumberOr 16 (given_text (codes "batch") sub.1) n)
+
+-- whether the words give `--closed`
+unfoldable pub IsClosedOf : List Text → Bool → Type 0
+IsClosedOf words given = IsSomeAnd (subcommand_of command_line words) (λ sub.
+    given ≡ is_given (codes "closed") sub.1)

@@ -1,7 +1,8 @@
 //! The command line.
 ghost use Rattle.std.specs.Prelude.{◌≡◌, IfOk, map, string_bytes};
 ghost use Rattle.clap.specs.Words.{FailsBy, app_of, fault_of, rule_of};
-ghost use Rattle.tt_cli.specs.CommandLine.{IsBatchOf, batch, command_line, replay};
+ghost use Rattle.tt_cli.specs.CommandLine.{IsBatchOf, IsClosedOf, batch, closed, command_line};
+ghost use Rattle.tt_cli.specs.CommandLine.{replay};
 ghost use Rattle.tt_workload.specs.Options.{AreWithin};
 
 use clap::{Arg, ArgAction, Command, Error};
@@ -37,7 +38,9 @@ The second select reads the rows as they were at time 1, after the first write. 
 two writes as one action: they take one slot and one time. The repair cancels call 2, the update;
 a member "by" beside "replace" would put another write in its place.
 The report goes to standard output: a line for each call, one for the repair and for each reply
-that it has changed, one for each table, and a last line."#;
+that it has changed, one for each table, and a last line. With --closed, one for each table of each
+closed generation that is kept follows the changed replies: its rows at that generation's last
+time."#;
 
 /// What the command line asks for.
 #[derive(Clone, Copy, Debug, PartialEq, Eq)]
@@ -52,6 +55,8 @@ pub fn command_of<'a>(alloc: Global, words: &'a [String]) -> Result<Cli, Error>
     ensures within { IfOk result (λ cli. AreWithin cli.options) }
     ensures batch { IfOk result (λ cli.
         IsBatchOf (map string_bytes words.entry.now) cli.options.batch) }
+    ensures closed { IfOk result (λ cli.
+        IsClosedOf (map string_bytes words.entry.now) cli.options.closed) }
     ensures rounds { IfOk result (λ cli. cli.options.rounds ≡ 8) }
 {
     let command = command(alloc)?;
@@ -62,10 +67,12 @@ pub fn command_of<'a>(alloc: Global, words: &'a [String]) -> Result<Cli, Error>
     let Some(batch) = replay.get_one::<u32>("batch") else {
         unreachable!()
     };
+    let closed = replay.get_flag("closed");
     Ok(Cli {
         options: Options {
             batch,
             rounds: Options::usual().rounds,
+            closed,
         },
     })
 }
@@ -90,7 +97,8 @@ fn replay<'a>(alloc: Global) -> Result<Command<'a>, AllocError>
     Command::new(alloc, "replay")
         .about("Runs the calls one after another, in one thread")
         .after_help(DOCUMENT)
-        .arg(batch(alloc))
+        .arg(batch(alloc))?
+        .arg(closed(alloc))
 }
 
 /// The option `--batch`.
@@ -104,4 +112,14 @@ fn batch<'a>(alloc: Global) -> Arg<'a>
         .value_parser(clap::value_parser!(u32).range(1..=10_000))
         .default_value("16")
         .help("The most steps of a repair that are done at once, 1 to 10,000")
+}
+
+/// The option `--closed`.
+fn closed<'a>(alloc: Global) -> Arg<'a>
+    ensures { rule_of result ≡ closed }
+{
+    Arg::new(alloc, "closed")
+        .long("closed")
+        .action(ArgAction::SetTrue)
+        .help("Prints, for each closed generation that is kept, every table at its last time")
 }

@@ -1,6 +1,6 @@
 -- What becomes of the current answers after an event, what a step passes over, and what the next side shows.
 use Rattle.std.proofs.Common.{◌≡◌, ℕ, ◌≤◌, ℤ, Some, refl, sym, ap, ◌∙◌, arith}
-use Rattle.tt_values.specs.Content.{Content, row_at}
+use Rattle.tt_values.specs.Content.{row_at}
 use Rattle.tt_values.specs.Tables.{Tables}
 use Rattle.tt_values.specs.RowWrites.{Slots}
 use Rattle.tt_values.proofs.LawProofs.{added_slot_leaves_past}
@@ -25,9 +25,9 @@ MissesNoSlot-law db events.Switch = tt
 MissesNoSlot-law db events.Abort = tt
 
 pub ShowsCurrent-entry : (db : Database) (entry : Entry) → ShowsCurrent db entry.event (with_entry db entry)
-ShowsCurrent-entry db entry = by entry.event (after-push db.history entry)
+ShowsCurrent-entry db entry = by entry.event (after-push db.limits db.history entry)
   where
-    by : (event : Event) → state_of (with_entry db entry) ≡ next_state (state_of db) event → ShowsCurrent db event (with_entry db entry)
+    by : (event : Event) → state_of (with_entry db entry) ≡ next_state db.limits (state_of db) event → ShowsCurrent db event (with_entry db entry)
     by (events.Write action) next = λ time past. ap (λ (S : State). current_at S time) next ∙ added_slot_leaves_past (current_slots db) (Some action) time past
     by (events.Begin edits) next = record { slots = ap (λ (S : State). S.slots) next; contents = λ time. ap (λ (S : State). current_at S time) next }
     by events.Step next = record { slots = ap (λ (S : State). S.slots) next; contents = λ time. ap (λ (S : State). current_at S time) next }

@@ -1,24 +1,22 @@
 -- A database with one more entry.
-use Rattle.std.proofs.Common.{◌≡◌, ℕ, zero, suc, ◌+◌, ◌<◌, ◌≤◌, List, [], ◌∷◌, ◌++◌, fold, length, None, Some, refl, sym, ap, subst, ◌∙◌, arith, length-append}
+use Rattle.std.proofs.Common.{◌≡◌, ◌≢◌, ℕ, ◌+◌, ◌<◌, ◌≤◌, List, [], ◌∷◌, ◌++◌, fold, length, None, Some, refl, sym, ap, subst, ◌∙◌, arith, length-append}
 use Rattle.std.proofs.lemmas.List.Sums.{fold-append}
 use Rattle.tt_values.specs.declared.statement.Write.{Write}
 use Rattle.tt_values.specs.Tables.{Tables, IsCatalog}
 use Rattle.tt_values.specs.RowWrites.{Slots}
 use Rattle.tt_repair_laws.proofs.LawProofs.{edited_slots_are_as_many}
-use Rattle.tt_generations.specs.Limits.{max_slots}
-use Rattle.tt_generations.specs.TwoGenerations.{TwoGenerations, Phase, Idle, Repairing, no_slots, left_of, done_of, phase_after_step, slots_edited_by, IsWithin}
+use Rattle.tt_generations.specs.TwoGenerations.{TwoGenerations, Phase, Idle, Repairing, no_slots, left_of, phase_after_step, slots_edited_by, IsWithin}
 use Rattle.tt_db.specs.declared.limits.Limits.{Limits}
 use Rattle.tt_db.specs.declared.event.Entry.{Entry}
 use Rattle.tt_db.specs.declared.event.Event.{Event}
 use Rattle.tt_db.specs.declared.event.Event.TheVariants as events
-use Rattle.tt_db.specs.declared.outcome.Outcome.{Outcome}
 use Rattle.tt_db.specs.Limits.{max_limits, Fits}
-use Rattle.tt_db.specs.State.{State, start, after, next_state, refusal, outcome_of, now_of, slots_left, IsLegal, IsLegalFrom}
+use Rattle.tt_db.specs.State.{State, ClosedGeneration, start, after, next_state, with_closed, refusal, outcome_of, now_of, IsLegal, IsLegalFrom}
 use Rattle.tt_db.specs.Database.{IsConsistent}
-use Rattle.tt_db.specs.Transition.{generations_after, number_after, state_with, Allows}
+use Rattle.tt_db.specs.Transition.{generations_after, number_after, closed_after, state_with, Allows}
 use Rattle.tt_db.proofs.RefusalLemmas.{accepted_action, accepted_begin, has_room_for_entry, has_room_for_slot, step_finds_slot, switch_finds_none, is_idle, All-names, All-accepted}
 
-pub IsConsistent-empty : (tables : Tables) (limits : Limits) → IsCatalog tables → Fits limits → IsConsistent limits [] (no_slots tables) 0
+pub IsConsistent-empty : (tables : Tables) (limits : Limits) → IsCatalog tables → Fits limits → IsConsistent limits [] (no_slots tables) 0 []
 IsConsistent-empty tables limits catalog fits = record {
   catalog = catalog;
   fits = fits;
@@ -31,47 +29,66 @@ IsConsistent-empty tables limits catalog fits = record {
   slots = refl;
   phase = refl;
   generation = refl;
+  closed = refl;
 }
 
 -- one more entry leads to the next state
-pub after-push : (history : List Entry) (e : Entry) → after (history ++ e ∷ []) ≡ next_state (after history) e.event
-after-push history e = fold-append (λ S e. next_state S e.event) start history (e ∷ [])
+pub after-push : (limits : Limits) (history : List Entry) (e : Entry) → after limits (history ++ e ∷ []) ≡ next_state limits (after limits history) e.event
+after-push limits history e = fold-append (λ S e. next_state limits S e.event) start history (e ∷ [])
 
 -- a history stays legal where the entry isn't refused
 IsLegalFrom-push : (tables : Tables) (limits : Limits) (S : State) (history : List Entry) (e : Entry) → IsLegalFrom tables limits S history
-    → refusal tables limits (fold (λ S e. next_state S e.event) S history) e.event ≡ None → IsLegalFrom tables limits S (history ++ e ∷ [])
+    → refusal tables limits (fold (λ S e. next_state limits S e.event) S history) e.event ≡ None → IsLegalFrom tables limits S (history ++ e ∷ [])
 IsLegalFrom-push tables limits S [] e legal none = (none, tt)
-IsLegalFrom-push tables limits S (d ∷ history) e legal none = (legal.0, IsLegalFrom-push tables limits (next_state S d.event) history e legal.1 none)
+IsLegalFrom-push tables limits S (d ∷ history) e legal none = (legal.0, IsLegalFrom-push tables limits (next_state limits S d.event) history e legal.1 none)
 
--- tables of two generations and a number are those of a state
-pub record Agrees (G : TwoGenerations) (number : ℕ) (S : State) : Type 0 where
+-- tables of two generations, a number and closed generations are those of a state
+pub record Agrees (G : TwoGenerations) (number : ℕ) (kept : List ClosedGeneration) (S : State) : Type 0 where
   pub slots : G.slots ≡ S.slots
   pub phase : G.phase ≡ S.phase
   pub generation : number ≡ S.generation
+  pub closed : kept ≡ S.closed
 
-pub Agrees-consistent : (limits : Limits) (history : List Entry) (G : TwoGenerations) (number : ℕ) → IsConsistent limits history G number → Agrees G number (after history)
-Agrees-consistent limits history G number is = record { slots = is.slots; phase = is.phase; generation = is.generation }
+pub Agrees-consistent : (limits : Limits) (history : List Entry) (G : TwoGenerations) (number : ℕ) (kept : List ClosedGeneration)
+    → IsConsistent limits history G number kept → Agrees G number kept (after limits history)
+Agrees-consistent limits history G number kept is = record { slots = is.slots; phase = is.phase; generation = is.generation; closed = is.closed }
 
 -- after an event they are those of the next state
-Agrees-next : (G : TwoGenerations) (number : ℕ) (S : State) (event : Event) → Agrees G number S → Agrees (generations_after G event) (number_after number event) (next_state S event)
-Agrees-next G number S (events.Write action) h = record { slots = ap (λ (W : Slots). W ++ Some action ∷ []) h.slots; phase = h.phase; generation = h.generation }
-Agrees-next G number S (events.Begin edits) h = record { slots = h.slots; phase = refl; generation = h.generation }
-Agrees-next G number S events.Step h = record { slots = h.slots; phase = ap phase_after_step h.phase; generation = h.generation }
-Agrees-next G number S events.Switch h = record { slots = λ i. slots_edited_by (h.phase i) (h.slots i); phase = refl; generation = ap (λ n. n + 1) h.generation }
-Agrees-next G number S events.Abort h = record { slots = h.slots; phase = refl; generation = h.generation }
+Agrees-next : (limits : Limits) (G : TwoGenerations) (number : ℕ) (kept : List ClosedGeneration) (S : State) (event : Event) → Agrees G number kept S
+    → Agrees (generations_after G event) (number_after number event) (closed_after limits.keep kept number G.slots event) (next_state limits S event)
+Agrees-next limits G number kept S (events.Write action) h =
+    record { slots = ap (λ (W : Slots). W ++ Some action ∷ []) h.slots; phase = h.phase; generation = h.generation; closed = h.closed }
+Agrees-next limits G number kept S (events.Begin edits) h = record { slots = h.slots; phase = refl; generation = h.generation; closed = h.closed }
+Agrees-next limits G number kept S events.Step h = record { slots = h.slots; phase = ap phase_after_step h.phase; generation = h.generation; closed = h.closed }
+Agrees-next limits G number kept S events.Switch h = record {
+  slots = λ i. slots_edited_by (h.phase i) (h.slots i);
+  phase = refl;
+  generation = ap (λ n. n + 1) h.generation;
+  closed = λ i. with_closed limits.keep (h.closed i) (record { number = h.generation i; slots = h.slots i });
+}
+Agrees-next limits G number kept S events.Abort h = record { slots = h.slots; phase = refl; generation = h.generation; closed = h.closed }
+
+-- an event that is no switch closes no generation
+pub closed_after-other : (keep : ℕ) (kept : List ClosedGeneration) (number : ℕ) (W : Slots) (event : Event) → event ≢ events.Switch → closed_after keep kept number W event ≡ kept
+closed_after-other keep kept number W (events.Write action) other = refl
+closed_after-other keep kept number W (events.Begin edits) other = refl
+closed_after-other keep kept number W events.Step other = refl
+closed_after-other keep kept number W events.Switch other = absurd (other refl)
+closed_after-other keep kept number W events.Abort other = refl
 
 -- so the outcome is that of the state
-outcome_uncounted : (tables : Tables) (S : State) (event : Event) → outcome_of tables (record S { events = 0 }) event ≡ outcome_of tables S event
+outcome_uncounted : (tables : Tables) (S : State) (event : Event) → outcome_of tables (record S { events = 0; closed = [] }) event ≡ outcome_of tables S event
 outcome_uncounted tables S (events.Write action) = refl
 outcome_uncounted tables S (events.Begin edits) = refl
 outcome_uncounted tables S events.Step = refl
 outcome_uncounted tables S events.Switch = refl
 outcome_uncounted tables S events.Abort = refl
 
-pub outcome_of-agrees : (tables : Tables) (G : TwoGenerations) (number : ℕ) (S : State) (event : Event) → Agrees G number S
+pub outcome_of-agrees : (tables : Tables) (G : TwoGenerations) (number : ℕ) (kept : List ClosedGeneration) (S : State) (event : Event) → Agrees G number kept S
     → outcome_of tables (state_with G number) event ≡ outcome_of tables S event
-outcome_of-agrees tables G number S event h =
-    (λ i. outcome_of tables (record { slots = h.slots i; generation = h.generation i; events = 0; phase = h.phase i }) event) ∙ outcome_uncounted tables S event
+outcome_of-agrees tables G number kept S event h =
+    (λ i. outcome_of tables (record { slots = h.slots i; generation = h.generation i; events = 0; phase = h.phase i; closed = [] }) event)
+    ∙ outcome_uncounted tables S event
 
 -- the catalog stays
 pub catalog-after : (G : TwoGenerations) (event : Event) → (generations_after G event).catalog ≡ G.catalog
@@ -86,7 +103,7 @@ length-edited : (phase : Phase) (W : Slots) → length (slots_edited_by phase W)
 length-edited Idle W = refl
 length-edited (Repairing edits n) W = edited_slots_are_as_many W edits
 
-few_slots-next : (tables : Tables) (limits : Limits) (S : State) (event : Event) → refusal tables limits S event ≡ None → now_of S ≤ limits.slots → now_of (next_state S event) ≤ limits.slots
+few_slots-next : (tables : Tables) (limits : Limits) (S : State) (event : Event) → refusal tables limits S event ≡ None → now_of S ≤ limits.slots → now_of (next_state limits S event) ≤ limits.slots
 few_slots-next tables limits S (events.Write action) accepted few =
     omega (arith, has_room_for_slot tables limits S action accepted few, length-append S.slots (Some action ∷ []))
 few_slots-next tables limits S (events.Begin edits) accepted few = few
@@ -95,12 +112,12 @@ few_slots-next tables limits S events.Switch accepted few = omega (arith, few, l
 few_slots-next tables limits S events.Abort accepted few = few
 
 -- and no more generations than entries
-few_generations-next : (S : State) (event : Event) → S.generation ≤ S.events → (next_state S event).generation ≤ S.events + 1
-few_generations-next S (events.Write action) few = omega (arith, few)
-few_generations-next S (events.Begin edits) few = omega (arith, few)
-few_generations-next S events.Step few = omega (arith, few)
-few_generations-next S events.Switch few = omega (arith, few)
-few_generations-next S events.Abort few = omega (arith, few)
+few_generations-next : (limits : Limits) (S : State) (event : Event) → S.generation ≤ S.events → (next_state limits S event).generation ≤ S.events + 1
+few_generations-next limits S (events.Write action) few = omega (arith, few)
+few_generations-next limits S (events.Begin edits) few = omega (arith, few)
+few_generations-next limits S events.Step few = omega (arith, few)
+few_generations-next limits S events.Switch few = omega (arith, few)
+few_generations-next limits S events.Abort few = omega (arith, few)
 
 -- and the repair has done no more slots than there are
 IsWithin-action : (phase : Phase) (W : Slots) (action : List Write) → IsWithin phase W → IsWithin phase (W ++ Some action ∷ [])
@@ -119,57 +136,59 @@ IsWithin-next G events.Switch allowed h = tt
 IsWithin-next G events.Abort allowed h = tt
 
 -- tables of two generations allow each event that isn't refused
-allows : (limits : Limits) (G : TwoGenerations) (number : ℕ) (S : State) (event : Event) → Agrees G number S → Fits limits → now_of S ≤ limits.slots
-    → refusal G.catalog limits S event ≡ None → Allows G event
-allows limits G number S (events.Write action) h fits few accepted =
+allows : (limits : Limits) (G : TwoGenerations) (number : ℕ) (kept : List ClosedGeneration) (S : State) (event : Event) → Agrees G number kept S → Fits limits
+    → now_of S ≤ limits.slots → refusal G.catalog limits S event ≡ None → Allows G event
+allows limits G number kept S (events.Write action) h fits few accepted =
     let room = has_room_for_slot G.catalog limits S action accepted few in
     ((accepted_action G.catalog limits S action accepted).no_fault, omega (arith, room, fits.slots, ap length h.slots))
-allows limits G number S (events.Begin edits) h fits few accepted =
+allows limits G number kept S (events.Begin edits) h fits few accepted =
     let begin = accepted_begin G.catalog limits S edits accepted in (
       h.phase ∙ is_idle S.phase begin.idle,
       All-names G.slots edits (rw (h.slots) begin.there),
       All-accepted G.catalog edits begin.no_fault,
     )
-allows limits G number S events.Step h fits few accepted =
+allows limits G number kept S events.Step h fits few accepted =
     subst (λ n. 0 < n) (λ i. left_of (sym h.phase i) (sym h.slots i)) (step_finds_slot G.catalog limits S accepted)
-allows limits G number S events.Switch h fits few accepted =
+allows limits G number kept S events.Switch h fits few accepted =
     (λ i. left_of (h.phase i) (h.slots i)) ∙ switch_finds_none G.catalog limits S accepted
-allows limits G number S events.Abort h fits few accepted = tt
+allows limits G number kept S events.Abort h fits few accepted = tt
 
-pub Allows-consistent : (limits : Limits) (history : List Entry) (G : TwoGenerations) (number : ℕ) (event : Event) → IsConsistent limits history G number
-    → refusal G.catalog limits (after history) event ≡ None → Allows G event
-Allows-consistent limits history G number event is accepted =
-    allows limits G number (after history) event (Agrees-consistent limits history G number is) is.fits is.few_slots accepted
+pub Allows-consistent : (limits : Limits) (history : List Entry) (G : TwoGenerations) (number : ℕ) (kept : List ClosedGeneration) (event : Event) → IsConsistent limits history G number kept
+    → refusal G.catalog limits (after limits history) event ≡ None → Allows G event
+Allows-consistent limits history G number kept event is accepted =
+    allows limits G number kept (after limits history) event (Agrees-consistent limits history G number kept is) is.fits is.few_slots accepted
 
 -- and the number of generations is below the largest limit of entries
-pub few_generations : (limits : Limits) (history : List Entry) (G : TwoGenerations) (number : ℕ) (event : Event) → IsConsistent limits history G number
-    → refusal G.catalog limits (after history) event ≡ None → number < max_limits.events
-few_generations limits history G number event is accepted =
-    omega (arith, is.generation, is.few_generations, has_room_for_entry G.catalog limits (after history) event accepted is.few_events, is.fits.events)
+pub few_generations : (limits : Limits) (history : List Entry) (G : TwoGenerations) (number : ℕ) (kept : List ClosedGeneration) (event : Event) → IsConsistent limits history G number kept
+    → refusal G.catalog limits (after limits history) event ≡ None → number < max_limits.events
+few_generations limits history G number kept event is accepted =
+    omega (arith, is.generation, is.few_generations, has_room_for_entry G.catalog limits (after limits history) event accepted is.few_events, is.fits.events)
 
 -- an event that isn't refused leads to a consistent database
-pub IsConsistent-push : (limits : Limits) (history : List Entry) (G : TwoGenerations) (number : ℕ) (e : Entry) → IsConsistent limits history G number
-    → refusal G.catalog limits (after history) e.event ≡ None
+pub IsConsistent-push : (limits : Limits) (history : List Entry) (G : TwoGenerations) (number : ℕ) (kept : List ClosedGeneration) (e : Entry) → IsConsistent limits history G number kept
+    → refusal G.catalog limits (after limits history) e.event ≡ None
     → IsConsistent limits (history ++ e ∷ []) (generations_after G e.event) (number_after number e.event)
-IsConsistent-push limits history G number e is accepted = record {
+    (closed_after limits.keep kept number G.slots e.event)
+IsConsistent-push limits history G number kept e is accepted = record {
   catalog = subst IsCatalog (sym (catalog-after G e.event)) is.catalog;
   fits = is.fits;
   legal = subst (λ tables. IsLegal tables limits (history ++ e ∷ [])) (sym (catalog-after G e.event)) (IsLegalFrom-push G.catalog limits start history e is.legal accepted);
   events = ap (λ T. T.events) next ∙ omega (arith, is.events, length-append history (e ∷ []));
   few_slots = subst (λ T. now_of T ≤ limits.slots) (sym next) (few_slots-next G.catalog limits S e.event accepted is.few_slots);
   few_events = subst (λ T. T.events ≤ limits.events) (sym next) (omega (arith, has_room_for_entry G.catalog limits S e.event accepted is.few_events));
-  few_generations = subst (λ T. T.generation ≤ T.events) (sym next) (few_generations-next S e.event is.few_generations);
-  within = IsWithin-next G e.event (Allows-consistent limits history G number e.event is accepted) is.within;
+  few_generations = subst (λ T. T.generation ≤ T.events) (sym next) (few_generations-next limits S e.event is.few_generations);
+  within = IsWithin-next G e.event (Allows-consistent limits history G number kept e.event is accepted) is.within;
   slots = agree.slots ∙ sym (ap (λ T. T.slots) next);
   phase = agree.phase ∙ sym (ap (λ T. T.phase) next);
   generation = agree.generation ∙ sym (ap (λ T. T.generation) next);
+  closed = agree.closed ∙ sym (ap (λ T. T.closed) next);
 }
   where
     S : State
-    S = after history
+    S = after limits history
 
-    next : after (history ++ e ∷ []) ≡ next_state S e.event
-    next = after-push history e
+    next : after limits (history ++ e ∷ []) ≡ next_state limits S e.event
+    next = after-push limits history e
 
-    agree : Agrees (generations_after G e.event) (number_after number e.event) (next_state S e.event)
-    agree = Agrees-next G number S e.event (Agrees-consistent limits history G number is)
+    agree : Agrees (generations_after G e.event) (number_after number e.event) (closed_after limits.keep kept number G.slots e.event) (next_state limits S e.event)
+    agree = Agrees-next limits G number kept S e.event (Agrees-consistent limits history G number kept is)

@@ -1,12 +1,12 @@
 -- Rows and the keys that they are stored under.
-use Rattle.std.proofs.Common.{◌≡◌, ℕ, zero, suc, ◌≤◌, ℤ, pos, Bool, true, false, cond, not, ◌&&◌, ◌==◌, nat_le, nat_lt, List, [], ◌∷◌, ◌++◌, map, filter, length, fold, Option, None, Some, IsSome, is_some, Less, Equal, Greater, if◌then◌else◌, refl, sym, ap, subst, ◌∙◌, arith}
+use Rattle.std.proofs.Common.{◌≡◌, ℕ, zero, suc, ◌≤◌, ◌-◌, ℤ, pos, Bool, true, false, cond, not, ◌&&◌, ◌==◌, nat_le, nat_lt, List, [], ◌∷◌, ◌++◌, map, filter, find, length, drop, fold, Option, None, Some, IsSome, is_some, Less, Equal, Greater, if◌then◌else◌, refl, sym, ap, subst, ◌∙◌, arith}
 use Rattle.std.proofs.lemmas.Bool.Decides.{nat_tests}
 use Rattle.std.proofs.lemmas.List.Elements.{All-from_recursion}
 use Rattle.std.specs.declared.cmp.Ordering.{Ordering}
 use Rattle.std.specs.Ordering.{int_cmp, int_eq, is_eq, is_lt}
 use Rattle.std.specs.List.{AllByRecursion}
 use Rattle.std.specs.List.Sorted.{IsStrictlySortedBy}
-use Rattle.std.specs.Option.{option_or, unwrap_or}
+use Rattle.std.specs.Option.{option_map, option_or, unwrap_or}
 use Rattle.std.specs.FinMap.{int_cmp-IsAntisymmetric}
 use Rattle.std.specs.FinMap.Entries as sorted
 use Rattle.std.specs.FinMap.Entries.{by_order}
@@ -38,7 +38,7 @@ use Rattle.tt_repair_laws.specs.declared.edit.Edit.TheVariants.{Cancel, Replace}
 use Rattle.tt_repair_laws.specs.Edits.{edit_of, slot_with_edit, edited_slots_from, edited_slots}
 use Rattle.tt_generations.specs.KeptSlots.{IsAccepted}
 use Rattle.tt_generations.specs.TwoGenerations.{Phase, Idle, Repairing, phase_after_step, slots_edited_by, done_of}
-use Rattle.tt_db.specs.State.{State, start, after, current_at, next_in, next_at, next_state, edits_fault, refusal, IsLegal, IsLegalFrom}
+use Rattle.tt_db.specs.State.{State, ClosedGeneration, start, after, current_at, next_in, next_at, slots_in, next_state, with_closed, edits_fault, refusal, IsLegal, IsLegalFrom}
 use Rattle.tt_db.specs.RightAnswers.{RowsHaveRisingKeys}
 use Rattle.tt_db.proofs.RefusalLemmas.{accepted_action, accepted_begin}
 
@@ -218,9 +218,31 @@ abbrev HasAcceptedEdits : Tables → Phase → Type 0
 HasAcceptedEdits tables Idle = Unit {0}
 HasAcceptedEdits tables (Repairing edits n) = edits_fault tables edits ≡ None
 
+-- nor have those of closed generations
+abbrev AllClosedAccepted : Tables → List ClosedGeneration → Type 0
+AllClosedAccepted tables [] = Unit {0}
+AllClosedAccepted tables (c ∷ closed) = AllAccepted tables c.slots × AllClosedAccepted tables closed
+
+AllClosedAccepted-drop : (tables : Tables) (n : ℕ) (closed : List ClosedGeneration) → AllClosedAccepted tables closed → AllClosedAccepted tables (drop n closed)
+AllClosedAccepted-drop tables zero closed h = h
+AllClosedAccepted-drop tables (suc n) [] h = tt
+AllClosedAccepted-drop tables (suc n) (c ∷ closed) h = AllClosedAccepted-drop tables n closed h.1
+
+AllClosedAccepted-push : (tables : Tables) (closed : List ClosedGeneration) (c : ClosedGeneration) → AllClosedAccepted tables closed → AllAccepted tables c.slots
+    → AllClosedAccepted tables (closed ++ c ∷ [])
+AllClosedAccepted-push tables [] c h a = (a, tt)
+AllClosedAccepted-push tables (d ∷ closed) c h a = (h.0, AllClosedAccepted-push tables closed c h.1 a)
+
+AllClosedAccepted-with : (tables : Tables) (keep : ℕ) (closed : List ClosedGeneration) (c : ClosedGeneration) → AllClosedAccepted tables closed
+    → AllAccepted tables c.slots → AllClosedAccepted tables (with_closed keep closed c)
+AllClosedAccepted-with tables keep closed c h a =
+    let all = closed ++ c ∷ [] in
+    AllClosedAccepted-drop tables (length all - keep) all (AllClosedAccepted-push tables closed c h a)
+
 record IsAcceptedState (tables : Tables) (S : State) : Type 0 where
   slots : AllAccepted tables S.slots
   edits : HasAcceptedEdits tables S.phase
+  closed : AllClosedAccepted tables S.closed
 
 edits-step : (tables : Tables) (phase : Phase) → HasAcceptedEdits tables phase → HasAcceptedEdits tables (phase_after_step phase)
 edits-step tables Idle h = tt
@@ -230,24 +252,29 @@ slots-switch : (tables : Tables) (phase : Phase) (W : Slots) → HasAcceptedEdit
 slots-switch tables Idle W edits h = h
 slots-switch tables (Repairing E n) W edits h = AllAccepted-edits tables E 1 W edits h
 
-IsAcceptedState-next : (tables : Tables) (limits : Limits) (S : State) (event : Event) → refusal tables limits S event ≡ None → IsAcceptedState tables S → IsAcceptedState tables (next_state S event)
+IsAcceptedState-next : (tables : Tables) (limits : Limits) (S : State) (event : Event) → refusal tables limits S event ≡ None → IsAcceptedState tables S → IsAcceptedState tables (next_state limits S event)
 IsAcceptedState-next tables limits S (events.Write action) accepted h = record {
   slots = AllAccepted-push tables S.slots (Some action) h.slots (accepted_action tables limits S action accepted).no_fault;
   edits = h.edits;
+  closed = h.closed;
 }
-IsAcceptedState-next tables limits S (events.Begin edits) accepted h = record { slots = h.slots; edits = (accepted_begin tables limits S edits accepted).no_fault }
-IsAcceptedState-next tables limits S events.Step accepted h = record { slots = h.slots; edits = edits-step tables S.phase h.edits }
-IsAcceptedState-next tables limits S events.Switch accepted h = record { slots = slots-switch tables S.phase S.slots h.edits h.slots; edits = tt }
-IsAcceptedState-next tables limits S events.Abort accepted h = record { slots = h.slots; edits = tt }
+IsAcceptedState-next tables limits S (events.Begin edits) accepted h = record { slots = h.slots; edits = (accepted_begin tables limits S edits accepted).no_fault; closed = h.closed }
+IsAcceptedState-next tables limits S events.Step accepted h = record { slots = h.slots; edits = edits-step tables S.phase h.edits; closed = h.closed }
+IsAcceptedState-next tables limits S events.Switch accepted h = record {
+  slots = slots-switch tables S.phase S.slots h.edits h.slots;
+  edits = tt;
+  closed = AllClosedAccepted-with tables limits.keep S.closed (record { number = S.generation; slots = S.slots }) h.closed h.slots;
+}
+IsAcceptedState-next tables limits S events.Abort accepted h = record { slots = h.slots; edits = tt; closed = h.closed }
 
 IsAcceptedState-legal : (tables : Tables) (limits : Limits) (S : State) (history : List Entry) → IsLegalFrom tables limits S history → IsAcceptedState tables S
-    → IsAcceptedState tables (fold (λ T e. next_state T e.event) S history)
+    → IsAcceptedState tables (fold (λ T e. next_state limits T e.event) S history)
 IsAcceptedState-legal tables limits S [] legal h = h
 IsAcceptedState-legal tables limits S (e ∷ history) legal h =
-    IsAcceptedState-legal tables limits (next_state S e.event) history legal.1 (IsAcceptedState-next tables limits S e.event legal.0 h)
+    IsAcceptedState-legal tables limits (next_state limits S e.event) history legal.1 (IsAcceptedState-next tables limits S e.event legal.0 h)
 
-IsAcceptedState-after : (tables : Tables) (limits : Limits) (history : List Entry) → IsLegal tables limits history → IsAcceptedState tables (after history)
-IsAcceptedState-after tables limits history legal = IsAcceptedState-legal tables limits start history legal (record { slots = tt; edits = tt })
+IsAcceptedState-after : (tables : Tables) (limits : Limits) (history : List Entry) → IsLegal tables limits history → IsAcceptedState tables (after limits history)
+IsAcceptedState-after tables limits history legal = IsAcceptedState-legal tables limits start history legal (record { slots = tt; edits = tt; closed = tt })
 
 IsKeyedContent-slot : (tables : Tables) (s : Option (List Write)) (time : ℕ) (X : Content) → IsCatalog tables → IsAccepted tables s → IsByRisingKey X → IsKeyedContent X
     → IsKeyedContent (fold with_row_write X (slot_writes time s X))
@@ -275,9 +302,9 @@ IsKeyedContent-content_of tables W time catalog h = by (nat_le time (length W)) 
         let later : length W ≤ time = grind (arith, nat_tests) in
         subst IsKeyedContent (sym (last_content_stays W (length W) time later)) (IsKeyedContent-slots tables W (length W) catalog h)
 
-pub IsKeyedContent-legal : (tables : Tables) (limits : Limits) (history : List Entry) (time : ℕ) → IsCatalog tables → IsLegal tables limits history → IsKeyedContent (current_at (after history) time)
+pub IsKeyedContent-legal : (tables : Tables) (limits : Limits) (history : List Entry) (time : ℕ) → IsCatalog tables → IsLegal tables limits history → IsKeyedContent (current_at (after limits history) time)
 IsKeyedContent-legal tables limits history time catalog legal =
-    IsKeyedContent-content_of tables (after history).slots time catalog (IsAcceptedState-after tables limits history legal).slots
+    IsKeyedContent-content_of tables (after limits history).slots time catalog (IsAcceptedState-after tables limits history legal).slots
 
 -- the rows of a list that match have rising keys, where the list is by rising key
 all_above : (p : ℤ × Row → Bool) (key : ℤ) (es : RowsByKey) → sorted.below_all int_cmp key es ≡ true → AllKeyed es
@@ -323,10 +350,34 @@ RowsHaveRisingKeys-content q ws time keyed =
 
 -- the reply to a select has rising keys, at each time
 pub RowsHaveRisingKeys-current : (tables : Tables) (limits : Limits) (history : List Entry) (q : Select) (time : ℕ)
-    → IsCatalog tables → IsLegal tables limits history → RowsHaveRisingKeys (answer_of q (current_at (after history) time))
+    → IsCatalog tables → IsLegal tables limits history → RowsHaveRisingKeys (answer_of q (current_at (after limits history) time))
 RowsHaveRisingKeys-current tables limits history q time catalog legal =
-    let W = (after history).slots in
+    let W = (after limits history).slots in
     RowsHaveRisingKeys-content q (row_writes W (length W)) time (IsKeyedContent-legal tables limits history time catalog legal)
+
+-- in each generation that can be read
+AllAccepted-find : (tables : Tables) (test : ClosedGeneration → Bool) (closed : List ClosedGeneration) (W : Slots) → AllClosedAccepted tables closed
+    → option_map (λ c. c.slots) (find test closed) ≡ Some W → AllAccepted tables W
+AllAccepted-find tables test [] W h is = cc
+AllAccepted-find tables test (c ∷ closed) W h is = by (test c) is (AllAccepted-find tables test closed W h.1)
+  where
+    by : (b : Bool) → option_map (λ c. c.slots) (cond b (Some c) (find test closed)) ≡ Some W
+        → (option_map (λ c. c.slots) (find test closed) ≡ Some W → AllAccepted tables W) → AllAccepted tables W
+    by true found rest = let same : c.slots ≡ W = cc in subst (AllAccepted tables) same h.0
+    by false found rest = rest found
+
+AllAccepted-slots_in : (tables : Tables) (S : State) (number : ℕ) (W : Slots) → IsAcceptedState tables S → slots_in S number ≡ Some W → AllAccepted tables W
+AllAccepted-slots_in tables S number W h is = by (number == S.generation) is
+  where
+    by : (b : Bool) → (if b then Some S.slots else option_map (λ c. c.slots) (find (λ c. c.number == number) S.closed)) ≡ Some W → AllAccepted tables W
+    by true found = let same : S.slots ≡ W = cc in subst (AllAccepted tables) same h.slots
+    by false found = AllAccepted-find tables (λ c. c.number == number) S.closed W h.closed found
+
+pub RowsHaveRisingKeys-in : (tables : Tables) (limits : Limits) (history : List Entry) (number : ℕ) (W : Slots) (q : Select) (time : ℕ)
+    → IsCatalog tables → IsLegal tables limits history → slots_in (after limits history) number ≡ Some W → RowsHaveRisingKeys (answer_of q (content_of W time))
+RowsHaveRisingKeys-in tables limits history number W q time catalog legal is =
+    let accepted = AllAccepted-slots_in tables (after limits history) number W (IsAcceptedState-after tables limits history legal) is in
+    RowsHaveRisingKeys-content q (row_writes W (length W)) time (IsKeyedContent-content_of tables W time catalog accepted)
 
 -- and in the next generation
 of_next : (tables : Tables) (phase : Phase) (W : Slots) (q : Select) → IsCatalog tables → AllAccepted tables W → HasAcceptedEdits tables phase
@@ -337,8 +388,8 @@ of_next tables (Repairing E n) W q catalog slots edits =
     RowsHaveRisingKeys-content q (row_writes V n) n (IsKeyedContent-slots tables V n catalog (AllAccepted-edits tables E 1 W edits slots))
 
 pub RowsHaveRisingKeys-next : (tables : Tables) (limits : Limits) (history : List Entry) (q : Select) → IsCatalog tables → IsLegal tables limits history
-    → RowsHaveRisingKeys (answer_of q (next_at (after history) (done_of (after history).phase)))
+    → RowsHaveRisingKeys (answer_of q (next_at (after limits history) (done_of (after limits history).phase)))
 RowsHaveRisingKeys-next tables limits history q catalog legal =
-    let S = after history in
+    let S = after limits history in
     let accepted = IsAcceptedState-after tables limits history legal in
     of_next tables S.phase S.slots q catalog accepted.slots accepted.edits

@@ -1,4 +1,5 @@
 pub mod RefusalLemmas
+pub mod ClosedLemmas
 pub mod DatabaseLemmas
 pub mod CurrentLemmas
 pub mod KeyLemmas

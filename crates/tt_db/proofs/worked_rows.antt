@@ -1,2 +1,3 @@
 mod Histories
 mod Repairs
+mod ClosedGenerations

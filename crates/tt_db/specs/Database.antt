@@ -22,8 +22,8 @@ use Rattle.tt_db.specs.declared.outcome.Outcome.{Outcome}
 use Rattle.tt_db.specs.declared.errors.DbError.{DbError}
 use Rattle.tt_db.specs.declared.errors.ReadError.{ReadError}
 use Rattle.tt_db.specs.Limits.{Fits}
-use Rattle.tt_db.specs.State.{State, after, now_of, current_at, next_at, refusal, outcome_of, IsLegal}
-use Rattle.tt_db.specs.RightAnswers.{right_select, right_select_at, right_preview}
+use Rattle.tt_db.specs.State.{State, ClosedGeneration, after, now_of, current_at, next_at, oldest_of, refusal, outcome_of, IsLegal}
+use Rattle.tt_db.specs.RightAnswers.{right_select, right_select_at, right_select_in, right_preview}
 
 -- a database: its tables, its limits and its history
 pub record Database : Type 0 where
@@ -33,11 +33,15 @@ pub record Database : Type 0 where
 
 -- the state of the sequential table after the history
 abbrev pub state_of : Database → State
-state_of db = after db.history
+state_of db = after db.limits db.history
 
 -- the slots of the current generation
 abbrev pub current_slots : Database → Slots
 current_slots db = (state_of db).slots
+
+-- the number of the oldest generation that can be read
+abbrev pub oldest_in : Database → ℕ
+oldest_in db = oldest_of (state_of db).closed (state_of db).generation
 
 -- the tables of two generations in a state
 abbrev pub generations_in : Tables → State → TwoGenerations
@@ -66,6 +70,10 @@ right_answer db select = right_select db.catalog (current_at (state_of db) (time
 -- the right answer to a select at a time
 abbrev pub right_answer_at : Database → Select → ℕ → Result Reply ReadError
 right_answer_at db select time = right_select_at db.catalog (state_of db) select time
+
+-- the right answer to a select at a time in a generation
+abbrev pub right_answer_in : Database → ℕ → Select → ℕ → Result Reply ReadError
+right_answer_in db number select time = right_select_in db.catalog (state_of db) number select time
 
 -- the right answer to a select of the next generation
 abbrev pub right_preview_of : Database → Select → Result Reply ReadError
@@ -130,16 +138,17 @@ abbrev pub nth_item : {X : Type 0} → List X → ℕ → Option X
 nth_item items zero = None
 nth_item items (suc n) = slice_get items n
 
--- a history is legal, and the slots, the generation and what is under way are those that it leads to
-pub record IsConsistent (limits : Limits) (history : List Entry) (G : TwoGenerations) (number : ℕ) : Type 0 where
+-- a history is legal, and the slots, the generation, what is under way and the closed generations are those that it leads to
+pub record IsConsistent (limits : Limits) (history : List Entry) (G : TwoGenerations) (number : ℕ) (kept : List ClosedGeneration) : Type 0 where
   pub catalog : IsCatalog G.catalog
   pub fits : Fits limits
   pub legal : IsLegal G.catalog limits history
-  pub events : (after history).events ≡ length history
-  pub few_slots : now_of (after history) ≤ limits.slots
-  pub few_events : (after history).events ≤ limits.events
-  pub few_generations : (after history).generation ≤ (after history).events
+  pub events : (after limits history).events ≡ length history
+  pub few_slots : now_of (after limits history) ≤ limits.slots
+  pub few_events : (after limits history).events ≤ limits.events
+  pub few_generations : (after limits history).generation ≤ (after limits history).events
   pub within : IsWithin G.phase G.slots
-  pub slots : G.slots ≡ (after history).slots
-  pub phase : G.phase ≡ (after history).phase
-  pub generation : number ≡ (after history).generation
+  pub slots : G.slots ≡ (after limits history).slots
+  pub phase : G.phase ≡ (after limits history).phase
+  pub generation : number ≡ (after limits history).generation
+  pub closed : kept ≡ (after limits history).closed

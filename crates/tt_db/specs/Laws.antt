@@ -1,16 +1,30 @@
 -- What holds of every legal history, in the subject's own words.
-use Rattle.std.specs.Prelude.{◌≡◌, ℕ, ℤ, List, Some}
+use Rattle.std.specs.Prelude.{◌≡◌, ◌≤◌, ℕ, suc, ℤ, List, [], ◌∷◌, length, Some}
 use Rattle.tt_values.specs.declared.row.Row.{Row}
 use Rattle.tt_values.specs.Row.{first_int}
 use Rattle.tt_values.specs.Tables.{Tables, IsCatalog}
 use Rattle.tt_values.specs.Content.{row_at}
 use Rattle.tt_db.specs.declared.limits.Limits.{Limits}
 use Rattle.tt_db.specs.declared.event.Entry.{Entry}
-use Rattle.tt_db.specs.State.{after, current_at, IsLegal}
+use Rattle.tt_db.specs.State.{State, ClosedGeneration, after, current_at, oldest_of, IsLegal}
 
 -- each row of a legal history begins with an Int, which is the key that it is stored under
 abbrev pub RowsHaveTheirKeys : Type 0
 RowsHaveTheirKeys = (tables : Tables) (limits : Limits) (history : List Entry)
     → IsCatalog tables → IsLegal tables limits history
     → (time table : ℕ) (key : ℤ) (row : Row)
-    → row_at (current_at (after history) time table) key ≡ Some row → first_int row.values ≡ Some key
+    → row_at (current_at (after limits history) time table) key ≡ Some row → first_int row.values ≡ Some key
+
+-- closed generations are numbered one after another, from a number up to the one before the current one
+abbrev pub AreNumbered : ℕ → ℕ → List ClosedGeneration → Type 0
+AreNumbered number current [] = number ≡ current
+AreNumbered number current (c ∷ closed) = (c.number ≡ number) × AreNumbered (suc number) current closed
+
+-- the closed generations of a state are the last ones before the current one, and no more than are kept
+pub record KeepsLastGenerations (limits : Limits) (S : State) : Type 0 where
+  pub numbered : AreNumbered (oldest_of S.closed S.generation) S.generation S.closed
+  pub few : length S.closed ≤ limits.keep
+
+-- this holds after each history
+abbrev pub LastGenerationsAreKept : Type 0
+LastGenerationsAreKept = (limits : Limits) (history : List Entry) → KeepsLastGenerations limits (after limits history)

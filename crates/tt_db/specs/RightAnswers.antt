@@ -1,5 +1,5 @@
 -- The right answers to reads.
-use Rattle.std.specs.Prelude.{◌≡◌, ℕ, nat_lt, List, map, All, IsSome, Option, None, Some, Result, Ok, Err, IsOk, if◌then◌else◌}
+use Rattle.std.specs.Prelude.{◌≡◌, ℕ, nat_lt, List, length, map, All, IsSome, Option, None, Some, Result, Ok, Err, IsOk, if◌then◌else◌}
 use Rattle.std.specs.List.Sorted.{IsStrictlySortedBy}
 use Rattle.std.specs.Ordering.{int_cmp}
 use Rattle.tt_values.specs.declared.row.Row.{Row}
@@ -12,10 +12,11 @@ use Rattle.tt_values.specs.Tables.{Tables}
 use Rattle.tt_values.specs.Check.{select_fault}
 use Rattle.tt_values.specs.Content.{Content}
 use Rattle.tt_values.specs.Effect.{answer_of}
+use Rattle.tt_values.specs.RowWrites.{Slots, content_of}
 use Rattle.tt_db.specs.declared.errors.ReadError.{ReadError}
 use Rattle.tt_db.specs.declared.errors.ReadError.TheVariants as read_errors
 use Rattle.tt_generations.specs.TwoGenerations.{Phase, is_repairing, done_of}
-use Rattle.tt_db.specs.State.{State, now_of, current_at, next_at}
+use Rattle.tt_db.specs.State.{State, now_of, current_at, next_at, oldest_of, slots_in}
 
 -- an answer, or the fault of the statement where it has one
 abbrev pub unless_fault : Option CheckError → Result Reply ReadError → Result Reply ReadError
@@ -34,6 +35,16 @@ right_select tables X q = unless_fault (select_fault tables q) (Ok (answer_of q 
 abbrev pub right_select_at : Tables → State → Select → ℕ → Result Reply ReadError
 right_select_at tables S q time =
     unless_fault (select_fault tables q) (unless_later time (now_of S) (answer_of q (current_at S time)))
+
+-- the reply to a select at a time over these slots, or the refusal of a generation that can't be read
+abbrev pub unless_no_generation : State → Option Slots → Select → ℕ → Result Reply ReadError
+unless_no_generation S None q time = Err (read_errors.NoGeneration (oldest_of S.closed S.generation) S.generation)
+unless_no_generation S (Some W) q time = unless_later time (length W) (answer_of q (content_of W time))
+
+-- the right answer to a select at a time in a generation
+abbrev pub right_select_in : Tables → State → ℕ → Select → ℕ → Result Reply ReadError
+right_select_in tables S number q time =
+    unless_fault (select_fault tables q) (unless_no_generation S (slots_in S number) q time)
 
 -- an answer, or not repairing while no repair is under way
 abbrev pub unless_idle : Phase → Result Reply ReadError → Result Reply ReadError

@@ -13,8 +13,8 @@ use Rattle.tt_db.specs.Errors.{refusal_of_error}
 abbrev pub IsRun : Tables → Limits → List Entry → List Entry → List (Result Outcome DbError) → List Entry → Type 0
 IsRun tables limits before [] [] last = last ≡ before
 IsRun tables limits before (e ∷ entries) (Ok outcome ∷ answers) last =
-    (refusal tables limits (after before) e.event ≡ None) × (outcome ≡ outcome_of tables (after before) e.event) × IsRun tables limits (before ++ e ∷ []) entries answers last
+    (refusal tables limits (after limits before) e.event ≡ None) × (outcome ≡ outcome_of tables (after limits before) e.event) × IsRun tables limits (before ++ e ∷ []) entries answers last
 IsRun tables limits before (e ∷ entries) (Err error ∷ answers) last =
-    (refusal tables limits (after before) e.event ≡ refusal_of_error error) × IsRun tables limits before entries answers last
+    (refusal tables limits (after limits before) e.event ≡ refusal_of_error error) × IsRun tables limits before entries answers last
 IsRun tables limits before [] (answer ∷ answers) last = ⊥
 IsRun tables limits before (e ∷ entries) [] last = ⊥

@@ -1,17 +1,17 @@
 -- The sequential table of two generations: its states, its refusals, its next states and its outcomes.
-use Rattle.std.specs.Prelude.{◌≡◌, ℕ, suc, ◌+◌, ◌-◌, ◌==◌, ◌||◌, not, nat_lt, Bool, List, [], ◌∷◌, ◌++◌, length, fold, Option, None, Some, if◌then◌else◌}
-use Rattle.std.specs.List.{All, list_any}
+use Rattle.std.specs.Prelude.{◌≡◌, ℕ, ◌+◌, ◌-◌, ◌==◌, ◌||◌, not, nat_lt, Bool, List, [], ◌∷◌, ◌++◌, length, drop, find, fold, Option, None, Some, if◌then◌else◌}
+use Rattle.std.specs.List.{list_any}
 use Rattle.std.specs.Option.{option_map, option_or}
 use Rattle.tt_values.specs.Tables.{Tables}
 use Rattle.tt_values.specs.declared.checking.CheckError.{CheckError}
-use Rattle.tt_values.specs.Check.{action_fault, HasKey}
+use Rattle.tt_values.specs.Check.{action_fault}
 use Rattle.tt_values.specs.Content.{Content, content_at}
 use Rattle.tt_values.specs.Action.{replies_of}
 use Rattle.tt_values.specs.RowWrites.{Slots, row_writes, content_of}
 use Rattle.tt_repair_laws.specs.declared.edit.Edit.{Edit}
 use Rattle.tt_repair_laws.specs.declared.edit.Edit.TheVariants.{Cancel, Replace}
 use Rattle.tt_repair_laws.specs.Edits.{slot_number, edited_slots}
-use Rattle.tt_generations.specs.TwoGenerations.{Phase, Idle, Repairing, TwoGenerations, is_repairing, done_of, left_of, rerun_of, is_due_in, phase_after_step, slots_edited_by}
+use Rattle.tt_generations.specs.TwoGenerations.{Phase, Idle, Repairing, is_repairing, done_of, left_of, rerun_of, is_due_in, phase_after_step, slots_edited_by}
 use Rattle.tt_db.specs.declared.limits.Limits.{Limits}
 use Rattle.tt_db.specs.declared.event.Event.{Event}
 use Rattle.tt_db.specs.declared.event.Event.TheVariants as events
@@ -21,16 +21,23 @@ use Rattle.tt_db.specs.declared.outcome.Outcome.TheVariants.{Written, Begun, Ste
 use Rattle.tt_db.specs.declared.errors.DbError.{DbError}
 use Rattle.tt_db.specs.declared.errors.DbError.TheVariants as errors
 
--- the slots of the current generation, its number, how many events were accepted, and what is under way
+-- a closed generation: its number, and the slots that it had at the switch
+pub record ClosedGeneration : Type 0 where
+  pub number : ℕ
+  pub slots : Slots
+
+-- the slots of the current generation, its number, how many events were accepted, what is under way, and the closed generations that
+-- are kept, the oldest first
 pub record State : Type 0 where
   pub slots : Slots
   pub generation : ℕ
   pub events : ℕ
   pub phase : Phase
+  pub closed : List ClosedGeneration
 
 -- the state before the first event
 abbrev pub start : State
-start = record { slots = []; generation = 0; events = 0; phase = Idle }
+start = record { slots = []; generation = 0; events = 0; phase = Idle; closed = [] }
 
 -- the time of the last slot
 abbrev pub now_of : State → ℕ
@@ -47,6 +54,15 @@ next_in (Repairing edits n) W time = content_at (row_writes (edited_slots W edit
 
 abbrev pub next_at : State → ℕ → Content
 next_at S time = next_in S.phase S.slots time
+
+-- the number of the oldest generation that can be read: of the first closed one, or of the current one where none is kept
+abbrev pub oldest_of : List ClosedGeneration → ℕ → ℕ
+oldest_of [] current = current
+oldest_of (c ∷ closed) current = c.number
+
+-- the slots of a generation that can be read: of the current one, or of a closed one that is kept
+abbrev pub slots_in : State → ℕ → Option Slots
+slots_in S number = if number == S.generation then Some S.slots else option_map (λ c. c.slots) (find (λ c. c.number == number) S.closed)
 
 -- how many slots the repair has left
 abbrev pub slots_left : State → ℕ
@@ -121,17 +137,34 @@ refusal tables limits S events.Abort = first_refusal
     ∷ full_at S.events limits.events
     ∷ [])
 
--- the slots, the generation and what is under way after an event that isn't refused
-abbrev pub changed_state : State → Event → State
-changed_state S (events.Write action) = record S { slots = S.slots ++ Some action ∷ [] }
-changed_state S (events.Begin edits) = record S { phase = Repairing edits 0 }
-changed_state S events.Step = record S { phase = phase_after_step S.phase }
-changed_state S events.Switch = record S { slots = slots_edited_by S.phase S.slots; generation = S.generation + 1; phase = Idle }
-changed_state S events.Abort = record S { phase = Idle }
+-- the last items of a list, so many at most
+abbrev pub last_items : {X : Type 0} → ℕ → List X → List X
+last_items count items = drop (length items - count) items
+
+-- the closed generations and one more. The first are dropped while there are more than are kept
+abbrev pub with_closed : ℕ → List ClosedGeneration → ClosedGeneration → List ClosedGeneration
+with_closed keep closed c = last_items keep (closed ++ c ∷ [])
+
+-- the state after a switch: the current generation is closed, and the next one takes its place
+abbrev pub switched_state : Limits → State → State
+switched_state limits S = record S {
+  slots = slots_edited_by S.phase S.slots;
+  generation = S.generation + 1;
+  phase = Idle;
+  closed = with_closed limits.keep S.closed (record { number = S.generation; slots = S.slots });
+}
+
+-- what an event that isn't refused changes in a state
+abbrev pub changed_state : Limits → State → Event → State
+changed_state limits S (events.Write action) = record S { slots = S.slots ++ Some action ∷ [] }
+changed_state limits S (events.Begin edits) = record S { phase = Repairing edits 0 }
+changed_state limits S events.Step = record S { phase = phase_after_step S.phase }
+changed_state limits S events.Switch = switched_state limits S
+changed_state limits S events.Abort = record S { phase = Idle }
 
 -- the state after an event that isn't refused
-abbrev pub next_state : State → Event → State
-next_state S event = record (changed_state S event) { events = S.events + 1 }
+abbrev pub next_state : Limits → State → Event → State
+next_state limits S event = record (changed_state limits S event) { events = S.events + 1 }
 
 -- the outcome of an event that isn't refused
 abbrev pub outcome_of : Tables → State → Event → Outcome
@@ -142,13 +175,13 @@ outcome_of tables S events.Switch = Switched (S.generation + 1) (now_of S) (reru
 outcome_of tables S events.Abort = Aborted
 
 -- the state after a history
-abbrev pub after : List Entry → State
-after history = fold (λ S e. next_state S e.event) start history
+abbrev pub after : Limits → List Entry → State
+after limits history = fold (λ S e. next_state limits S e.event) start history
 
 -- no event of a history is refused at its point, from a state on
 abbrev pub IsLegalFrom : Tables → Limits → State → List Entry → Type 0
 IsLegalFrom tables limits S [] = Unit {0}
-IsLegalFrom tables limits S (e ∷ history) = (refusal tables limits S e.event ≡ None) × IsLegalFrom tables limits (next_state S e.event) history
+IsLegalFrom tables limits S (e ∷ history) = (refusal tables limits S e.event ≡ None) × IsLegalFrom tables limits (next_state limits S e.event) history
 
 -- no event of a history is refused
 abbrev pub IsLegal : Tables → Limits → List Entry → Type 0

@@ -1,14 +1,14 @@
 -- What an event that isn't refused makes of the tables of two generations.
-use Rattle.std.specs.Prelude.{◌≡◌, ℕ, ◌+◌, ◌<◌, length, List, None}
+use Rattle.std.specs.Prelude.{◌≡◌, ℕ, ◌+◌, ◌<◌, length, List, [], None}
 use Rattle.std.specs.List.{All}
 use Rattle.tt_values.specs.Check.{action_fault}
+use Rattle.tt_values.specs.RowWrites.{Slots}
 use Rattle.tt_generations.specs.Limits.{max_slots}
 use Rattle.tt_generations.specs.TwoGenerations.{TwoGenerations, Idle, with_action, with_repair, after_step, after_switch, after_abort, left_of, NamesSlot, HasNoFault}
 use Rattle.tt_db.specs.declared.event.Event.{Event}
 use Rattle.tt_db.specs.declared.event.Event.TheVariants as events
 use Rattle.tt_db.specs.declared.transition.Transition.{Transition}
-use Rattle.tt_db.specs.Limits.{max_limits}
-use Rattle.tt_db.specs.State.{State, outcome_of}
+use Rattle.tt_db.specs.State.{State, ClosedGeneration, with_closed, outcome_of}
 
 -- the tables of two generations after an event
 abbrev pub generations_after : TwoGenerations → Event → TwoGenerations
@@ -26,9 +26,14 @@ number_after number events.Step = number
 number_after number events.Switch = number + 1
 number_after number events.Abort = number
 
--- the state of which these are the tables of two generations, before any event is counted
+-- the closed generations after an event: a switch closes the current one, of this number and these slots
+abbrev pub closed_after : ℕ → List ClosedGeneration → ℕ → Slots → Event → List ClosedGeneration
+closed_after keep closed number W events.Switch = with_closed keep closed (record { number = number; slots = W })
+closed_after keep closed number W event = closed
+
+-- the state of which these are the tables of two generations, before any event is counted or any generation is closed
 abbrev pub state_with : TwoGenerations → ℕ → State
-state_with G number = record { slots = G.slots; generation = number; events = 0; phase = G.phase }
+state_with G number = record { slots = G.slots; generation = number; events = 0; phase = G.phase; closed = [] }
 
 -- what tables of two generations ask of an event
 abbrev pub Allows : TwoGenerations → Event → Type 0

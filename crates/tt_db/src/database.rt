@@ -1,13 +1,14 @@
-ghost use Rattle.std.specs.Prelude.{◌≡◌, ◌<◌, ◌↔◌, IsSome, IfSome, [], length, None, Some, OnOk, OnErr, IfOk, IfErr};
-ghost use Rattle.std.specs.Option.{option_copied};
+ghost use Rattle.std.specs.Prelude.{◌≡◌, ◌<◌, ◌↔◌, IsSome, IsOk, IfSome, [], length, None, Some, OnOk, OnErr, IfOk, IfErr};
+ghost use Rattle.std.specs.Option.{option_copied, option_map};
 ghost use Rattle.tt_versions.specs.Sides.{current_of, next_of, is_split};
 ghost use Rattle.tt_db.specs.Limits.{Fits};
 ghost use Rattle.tt_db.specs.Errors.{refusal_of_error};
-ghost use Rattle.tt_db.specs.State.{IsLegal, full_at};
-ghost use Rattle.tt_db.specs.Database.{state_of, time_of, with_entry, refusal_of, outcome_for, right_answer, right_answer_at, right_preview_of, answer_for, preview_for, slot_of, repair_of, current_rows_of, ShowsNextRows, dirty_rows_in, MissesNoSlot, ShowsCurrent, nth_item};
+ghost use Rattle.tt_db.specs.State.{IsLegal, full_at, slots_in};
+ghost use Rattle.tt_db.specs.Database.{state_of, time_of, oldest_in, with_entry, refusal_of, outcome_for, right_answer, right_answer_at, right_answer_in, right_preview_of, answer_for, preview_for, slot_of, repair_of, current_rows_of, ShowsNextRows, dirty_rows_in, MissesNoSlot, ShowsCurrent, nth_item};
 ghost use Rattle.tt_db.specs.RightAnswers.{Answers, RowsHaveRisingKeys};
 ghost use Rattle.tt_db.specs.Run.{IsRun};
 
+use crate::closed::{ClosedGeneration, closed_of, oldest_of, with_closed};
 use crate::errors::{DbError, ReadError};
 use crate::event::{Entry, Event};
 use crate::limits::Limits;
@@ -30,6 +31,8 @@ pub struct Db {
     history: PagedLog<Entry>,
     generations: Generations,
     generation: u64,
+    /// The closed generations that are kept, the oldest first.
+    closed: PagedLog<ClosedGeneration>,
 }
 
 impl Model for Db {
@@ -44,7 +47,7 @@ impl Model for Db {
     } };
 
     ghost invariant = { λ d.
-        IsConsistent d.limits d.history d.generations d.generation };
+        IsConsistent d.limits d.history d.generations d.generation d.closed };
 }
 
 impl Db {
@@ -62,6 +65,7 @@ impl Db {
             history: PagedLog::new(alloc),
             generations: Generations::new(alloc, catalog),
             generation: 0,
+            closed: PagedLog::new(alloc),
         }
     }
 
@@ -84,6 +88,22 @@ impl Db {
         ensures { result ≡ (state_of self.now).generation }
     {
         self.generation
+    }
+
+    /// The number of the oldest generation that can be read: of the oldest closed one that is kept,
+    /// or of the current one where none is. Takes no memory.
+    pub fn oldest(&self) -> u64
+        ensures { result ≡ oldest_in self.now }
+    {
+        oldest_of(&self.closed, self.generation)
+    }
+
+    /// The last time of a generation that can be read; None for any other. Takes no memory.
+    pub fn last_time(&self, generation: u64) -> Option<u64>
+        ensures { result ≡ option_map length (slots_in (state_of self.now) generation) }
+    {
+        let generations = self.generations_of(generation)?;
+        Some(generations.len())
     }
 
     /// How many entries the history has.
@@ -154,9 +174,19 @@ impl Db {
         ensures unchanged { IfOk result (λ r. OnErr r.1 (r.0 ≡ self)) }
         ensures memory { OnErr result (refusal_of self entry.event ≡ None) }
     {
-        if let Some(refusal) = self.refusal(&entry.event) {
-            return Ok((self, Err(refusal)));
+        match self.refusal(&entry.event) {
+            Some(refusal) => Ok((self, Err(refusal))),
+            None => self.advanced_by(entry),
         }
+    }
+
+    /// The database after an event that isn't refused, and the outcome.
+    fn advanced_by(self, entry: Entry) -> Result<(Db, Result<Outcome, DbError>), AllocError>
+        requires { refusal_of self entry.event ≡ None }
+        ensures state { IfOk result (λ r. OnOk r.1 (r.0 ≡ with_entry self entry)) }
+        ensures outcome { IfOk result (λ r. IfOk r.1 (λ o. o ≡ outcome_for self entry.event)) }
+        ensures accepted { IfOk result (λ r. IsOk r.1) }
+    {
         let (next, outcome) = self.apply_event(entry)?;
         Ok((next, Ok(outcome)))
     }
@@ -277,12 +307,14 @@ impl Db {
     {
         let history = self.history.share()?;
         let generations = self.generations.share()?;
+        let closed = self.closed.share()?;
         Ok(Db {
             alloc: self.alloc,
             limits: self.limits,
             history,
             generations,
             generation: self.generation,
+            closed,
         })
     }
 
@@ -298,7 +330,12 @@ impl Db {
             mut history,
             generations,
             generation,
+            closed,
         } = self;
+        let closed = match &entry.event {
+            Event::Switch => with_closed(alloc, limits.keep, &closed, generation, &generations)?,
+            _ => closed,
+        };
         let transition = Transition::by_event(generations, generation, &entry.event)?;
         let Transition {
             generations,
@@ -312,6 +349,7 @@ impl Db {
             history,
             generations,
             generation,
+            closed,
         };
         Ok((db, outcome))
     }
@@ -402,6 +440,43 @@ impl Db {
         match self.answer_at(select, time) {
             Ok(reply) => Ok(reply),
             Err(AllocError) => Err(ReadError::Memory),
+        }
+    }
+
+    /// The rows that match at a time in a generation, by rising key: in the current one as
+    /// [`select_at`](Db::select_at), or in a closed one that is kept, as it was at the switch.
+    pub fn select_in(&self, generation: u64, select: &Select, time: u64) -> Result<Reply, ReadError>
+        ensures right { Answers (right_answer_in self.now generation select.now time) result }
+        ensures keyed { IfOk result (λ reply. RowsHaveRisingKeys reply) }
+    {
+        if let Err(fault) = check_select(self.catalog(), select) {
+            return Err(ReadError::Statement(fault));
+        }
+        let Some(generations) = self.generations_of(generation) else {
+            return Err(ReadError::NoGeneration {
+                oldest: self.oldest(),
+                newest: self.generation,
+            });
+        };
+        let now = generations.len();
+        if time > now {
+            return Err(ReadError::Later { now });
+        }
+        match generations.answer_at(select, time) {
+            Ok(reply) => Ok(reply),
+            Err(AllocError) => Err(ReadError::Memory),
+        }
+    }
+
+    /// A generation that can be read, as the current one of two.
+    fn generations_of(&self, number: u64) -> Option<&Generations>
+        ensures { option_map (λ g. g.slots) (option_copied result)
+            ≡ slots_in (state_of self.now) number }
+    {
+        if number == self.generation {
+            Some(&self.generations)
+        } else {
+            closed_of(&self.closed, number)
         }
     }
 

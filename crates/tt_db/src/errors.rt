@@ -46,7 +46,10 @@ pub enum ReadError {
     /// No repair is under way, so there is no next generation to read.
     #[error("no repair is under way")]
     NotRepairing,
-    /// The time is later than `now`, the current time.
+    /// The generation can't be read: only those from `oldest` to `newest`, the current one, can.
+    #[error("no such generation: {oldest} to {newest} can be read")]
+    NoGeneration { oldest: u64, newest: u64 },
+    /// The time is later than `now`, the last time of the generation that is read.
     #[error("later than {now}")]
     Later { now: u64 },
     /// Out of memory.

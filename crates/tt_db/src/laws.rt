@@ -1,8 +1,14 @@
 //! Laws of the definitions that the contracts of this crate speak by. Each is the contract of a
 //! function with an empty body.
-ghost use Rattle.tt_db.specs.Laws.{RowsHaveTheirKeys};
+ghost use Rattle.tt_db.specs.Laws.{RowsHaveTheirKeys, LastGenerationsAreKept};
 
 /// Each row of a legal history begins with an Int, and that is the key that it is stored under.
 pub fn rows_have_their_keys()
     ensures { RowsHaveTheirKeys }
+{}
+
+/// The closed generations that are kept are the last ones before the current one, each numbered
+/// one higher than the one before it, and no more than the limit.
+pub fn last_generations_are_kept()
+    ensures { LastGenerationsAreKept }
 {}

@@ -2,6 +2,7 @@
 //! refusal is the one that a sequential table of two generations gives at that point of the history.
 #![tactic(auto)]
 
+mod closed;
 mod database;
 mod errors;
 mod event;
@@ -23,3 +24,6 @@ pub const MAX_EVENTS: u64 = 4_000_000;
 
 /// The largest limit of edits in one repair.
 pub const MAX_EDITS: u32 = 10_000;
+
+/// The largest limit of closed generations that are kept.
+pub const MAX_KEEP: u32 = 16;

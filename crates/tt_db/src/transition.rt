@@ -34,8 +34,8 @@ impl Transition {
         ensures { IfOk result (λ t. IsTransition generations generation event.now t) }
     {
         match event {
-            Event::Write(action) => by_action(generations, generation, action.clone()?),
-            Event::Begin(edits) => by_begin(generations, generation, edits.clone()?),
+            Event::Write(action) => by_action(generations, generation, action),
+            Event::Begin(edits) => by_begin(generations, generation, edits),
             Event::Step => by_step(generations, generation),
             Event::Switch => by_switch(generations, generation),
             Event::Abort => by_abort(generations, generation),
@@ -46,13 +46,13 @@ impl Transition {
 fn by_action(
     generations: Generations,
     generation: u64,
-    action: Items<Write>,
+    action: &Items<Write>,
 ) -> Result<Transition, AllocError>
-    requires accepted { action_fault generations.catalog action ≡ None }
+    requires accepted { action_fault generations.catalog action.now ≡ None }
     requires room { length generations.slots < max_slots }
-    ensures { IfOk result (λ t. IsTransition generations generation (Event.Write action) t) }
+    ensures { IfOk result (λ t. IsTransition generations generation (Event.Write action.now) t) }
 {
-    let (generations, replies) = generations.with_action(action)?;
+    let (generations, replies) = generations.with_action(action.clone()?)?;
     let slot = generations.len();
     Ok(Transition {
         generations,
@@ -64,14 +64,14 @@ fn by_action(
 fn by_begin(
     generations: Generations,
     generation: u64,
-    edits: Items<Edit>,
+    edits: &Items<Edit>,
 ) -> Result<Transition, AllocError>
     requires idle { generations.phase ≡ Phase.Idle }
-    requires named { All (NamesSlot generations.slots) edits }
-    requires accepted { All (HasNoFault generations.catalog) edits }
-    ensures { IfOk result (λ t. IsTransition generations generation (Event.Begin edits) t) }
+    requires named { All (NamesSlot generations.slots) edits.now }
+    requires accepted { All (HasNoFault generations.catalog) edits.now }
+    ensures { IfOk result (λ t. IsTransition generations generation (Event.Begin edits.now) t) }
 {
-    let generations = generations.with_repair(edits)?;
+    let generations = generations.with_repair(edits.clone()?)?;
     Ok(Transition {
         generations,
         generation,

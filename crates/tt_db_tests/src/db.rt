@@ -1,6 +1,7 @@
 //! What no clause says: that ample memory is enough for each call, that earlier databases stay
 //! usable, limits at small numbers, and what repairs lead to.
 mod calls;
+mod closed;
 mod history;
 mod incident;
 mod limits;
@@ -17,7 +18,7 @@ mod versions;
 use std::alloc::Global;
 use std::process::Abort;
 use std::sync::Arc;
-use tt_db::{Db, DbError, Entry, Event, Limits, MAX_EDITS, Outcome};
+use tt_db::{Db, DbError, Entry, Event, Limits, MAX_EDITS, MAX_KEEP, Outcome};
 use tt_values::{
     Catalog, Change, Column, Equal, Items, Kind, Reply, Row, Select, TableDef, Text, Value, Write,
 };
@@ -81,6 +82,7 @@ fn small_db(rt: &impl Abort, alloc: Global, slots: u64, events: u64) -> Db {
         slots,
         events,
         edits: MAX_EDITS,
+        keep: MAX_KEEP,
     };
     assert!(rt; limits.fits());
     Db::new(alloc, bank(rt, alloc, &["acct"]), limits)

@@ -1,6 +1,7 @@
 -- The tables of two generations, before and after each event.
 use Rattle.std.proofs.Common.{◌≡◌, ℕ, zero, suc, ◌<◌, ◌≤◌, ◌+◌, Bool, true, false, ℤ, List, [], ◌∷◌, ◌++◌, map, length, slice_get, Option, None, Some, refl, sym, ap, subst, ◌∙◌, arith, length-append}
 use Rattle.std.proofs.lemmas.List.{length-map, map-append}
+use Rattle.std.proofs.lemmas.Option.{slice_get_within}
 use Rattle.std.proofs.lemmas.List.Elements.{All-nil, All-cons, All-append}
 use Rattle.std.specs.Option.{option_or}
 use Rattle.std.specs.List.{All}
@@ -245,6 +246,11 @@ IsAtSlot-next tables kept versions r k are found inside =
       shows = subst (λ (j : KeptSlot). ShowsFewBefore versions (r.done + 1) (as_pairs j.rows)) (sym is) (ShowsFewBefore-next versions tables W r repair left (omega (arith, many, are.few)) are.accepted are.rows);
       due = subst (λ (j : KeptSlot). is_kept_due r j ≡ is_due tables W r.edits r.done) (sym is) (is_due-kept tables W r repair left);
     }
+
+-- the same of the repair that is under way
+pub IsAtSlot-found : (tables : Tables) (kept : List KeptSlot) (versions : TablesByPosition) (repair : Option Repair) (r : Repair) (k : KeptSlot) → AreGenerations tables kept versions repair → repair ≡ Some r
+    → slice_get kept r.done ≡ Some k → IsAtSlot tables kept versions r k
+IsAtSlot-found tables kept versions repair r k are is found = IsAtSlot-next tables kept versions r k (subst (AreGenerations tables kept versions) is are) found (slice_get_within kept r.done k found)
 
 -- where the slot wasn't due
 pub AreGenerations-undue : (tables : Tables) (kept : List KeptSlot) (versions : TablesByPosition) (r after : Repair) → AreGenerations tables kept versions (Some r) → r.done < length (actions_of kept)

@@ -7,8 +7,9 @@ use Rattle.tt_values.specs.ActionLaws.{IsByRisingKey}
 use Rattle.tt_versions.specs.Sides.{next_of, is_split, just_before}
 use Rattle.tt_parts.specs.Dirty.{is_row_in}
 use Rattle.tt_repair_laws.specs.Due.{action_rows_matched}
+use Rattle.tt_generations.specs.declared.slot.RowKey.{RowKey}
 use Rattle.tt_generations.specs.declared.reexecution.Reexecution.{Reexecution}
-use Rattle.tt_generations.specs.Rows.{TablesByPosition, versions_at, KeepsCurrent, as_pairs}
+use Rattle.tt_generations.specs.Rows.{TablesByPosition, versions_at, KeepsCurrent, SplitsRows, as_pairs}
 use Rattle.tt_generations.specs.ActionRun.{as_row_keys, most_rows}
 
 -- what tables show on the next side before a slot is re-executed at a time: just before it a content. From then on, split rows still show it, and at that time so do the others but for the rows that the slot wrote
@@ -39,6 +40,13 @@ pub record HasRedone (before : TablesByPosition) (time : ℕ) (Y : Content) (wri
   pub redone : as_pairs after.redone.items ≡ as_pairs run.redone.items ++ action_rows_matched ws X
   pub replies : after.replies.items ≡ run.replies.items ++ replies_of ws X
   pub keys : after.keys.items ≡ run.keys.items ++ as_row_keys (rows_of_action ws X)
+
+-- further rows are split for a slot under re-execution
+pub record SplitsForRun (run after : Reexecution) (further : List RowKey) (time : ℕ) : Type 0 where
+  pub rows : SplitsRows run.rows after.rows (as_pairs further) time
+  pub redone : after.redone.items ≡ run.redone.items ++ further
+  pub replies : after.replies.items ≡ run.replies.items
+  pub keys : after.keys.items ≡ run.keys.items
 
 -- further writes are carried out, whatever the slot began on
 abbrev pub Redoes : ℕ → List Write → Reexecution → Reexecution → Type 0

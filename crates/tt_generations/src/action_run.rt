@@ -1,5 +1,5 @@
 //! How the writes of an action are carried out on the current side, one after another.
-ghost use Rattle.std.specs.Prelude.{◌≤◌, ◌+◌, [], ◌∷◌, length, IfOk};
+ghost use Rattle.std.specs.Prelude.{◌≡◌, ◌≤◌, ◌+◌, [], ◌∷◌, length, Some, IfOk, OnOk};
 ghost use Rattle.std.specs.List.{All};
 ghost use Rattle.tt_values.specs.Check.{HasKey};
 ghost use Rattle.tt_values.specs.Limits.{max_writes};
@@ -8,9 +8,9 @@ ghost use Rattle.tt_generations.specs.ActionRun.{CarriesOut, CarriesOutAction, m
 
 use crate::effect::{add_keys, effect_of, reply_to};
 use crate::rows::Rows;
-use crate::slot::RowKey;
+use crate::slot::{KeptSlot, RowKey};
 use std::alloc::{AllocError, Global};
-use tt_values::{Catalog, Reply, Write};
+use tt_values::{Catalog, Items, Reply, Write};
 use tt_versions::Side;
 
 /// An action under way: the rows that its writes so far leave, their replies, and the rows that
@@ -37,45 +37,66 @@ impl ActionRun {
         ensures current { IfOk result (λ run. CarriesOutAction time writes.now rows run) }
         ensures split { IfOk result (λ run. KeepsSplitRows rows run.rows) }
     {
-        let mut run = ActionRun {
-            rows,
-            replies: Vec::with_capacity(alloc, writes.len())?,
-            keys: Vec::new(alloc),
-        };
+        let mut run = ActionRun::new(alloc, rows, writes.len())?;
         for write in writes {
-            run = run.with_write(alloc, catalog, write, time)?;
+            run.carry_out(alloc, catalog, write, time)?;
         }
         Ok(run)
     }
 
+    /// An action of so many writes, before the first of them.
+    fn new(alloc: Global, rows: Rows, writes: usize) -> Result<ActionRun, AllocError>
+        ensures rows { IfOk result (λ run. run.rows ≡ rows) }
+        ensures replies { IfOk result (λ run. run.replies.items ≡ []) }
+        ensures keys { IfOk result (λ run. run.keys.items ≡ []) }
+    {
+        let replies = Vec::with_capacity(alloc, writes)?;
+        Ok(ActionRun {
+            rows,
+            replies,
+            keys: Vec::new(alloc),
+        })
+    }
+
     /// Carries out one more write.
-    fn with_write(
-        self,
+    fn carry_out(
+        &mut self,
         alloc: Global,
         catalog: &Catalog,
         write: &Write,
         time: u64,
-    ) -> Result<ActionRun, AllocError>
+    ) -> Result<(), AllocError>
         requires keyed { HasKey write.now }
-        requires few { HasFewRows self.rows Side.Current time (most_rows + max_writes) }
-        ensures current { IfOk result (λ run. CarriesOut time (write.now ∷ []) self run) }
-        ensures few { IfOk result (λ run. AddsOneRowAtMost time self.rows run.rows) }
-        ensures split { IfOk result (λ run. KeepsSplitRows self.rows run.rows) }
+        requires few { HasFewRows self.old.rows Side.Current time (most_rows + max_writes) }
+        ensures current { OnOk result (CarriesOut time (write.now ∷ []) self.old self.new) }
+        ensures few { OnOk result (AddsOneRowAtMost time self.old.rows self.new.rows) }
+        ensures split { OnOk result (KeepsSplitRows self.old.rows self.new.rows) }
     {
-        let ActionRun {
-            rows,
-            mut replies,
-            mut keys,
-        } = self;
         let table = write.table();
-        let effect = effect_of(alloc, rows.table(table), write, time, Side::Current)?;
-        replies.push(reply_to(write, &effect))?;
-        add_keys(&mut keys, table, &effect)?;
-        let rows = rows.with_row_writes(catalog, table, effect, time)?;
-        Ok(ActionRun {
-            rows,
-            replies,
-            keys,
-        })
+        let effect = effect_of(alloc, self.rows.table(table), write, time, Side::Current)?;
+        self.replies.push(reply_to(write, &effect))?;
+        add_keys(&mut self.keys, table, &effect)?;
+        self.rows.write(catalog, table, effect, time)?;
+        Ok(())
+    }
+
+    /// The slot of this action, once all its writes are carried out, and their replies. The rows
+    /// are put back.
+    pub(crate) fn into_slot(
+        self,
+        alloc: Global,
+        action: Items<Write>,
+        rows: &mut Rows,
+    ) -> Result<(KeptSlot, Items<Reply>), AllocError>
+        ensures rows { rows.new ≡ self.rows }
+        ensures action { IfOk result (λ r. r.0.slot.action ≡ Some action) }
+        ensures kept_replies { IfOk result (λ r. r.0.slot.replies ≡ Some self.replies.items) }
+        ensures keys { IfOk result (λ r. r.0.rows ≡ self.keys.items) }
+        ensures replies { IfOk result (λ r. r.1 ≡ self.replies.items) }
+    {
+        *rows = self.rows;
+        let replies = Items::new(alloc, self.replies)?;
+        let kept = KeptSlot::new(alloc, Some(action), &replies, self.keys)?;
+        Ok((kept, replies))
     }
 }

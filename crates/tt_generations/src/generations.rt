@@ -1,4 +1,4 @@
-ghost use Rattle.std.specs.Prelude.{◌≡◌, ◌<◌, ◌≤◌, ◌+◌, length, None, IfOk};
+ghost use Rattle.std.specs.Prelude.{◌≡◌, ◌<◌, ◌≤◌, ◌+◌, ◌++◌, [], ◌∷◌, length, None, Some, IfOk, OnOk};
 ghost use Rattle.std.specs.List.{All};
 ghost use Rattle.std.specs.Option.{option_copied};
 ghost use Rattle.tt_values.specs.Check.{action_fault};
@@ -8,9 +8,10 @@ ghost use Rattle.tt_values.specs.RowWrites.{content_of};
 ghost use Rattle.tt_versions.specs.Sides.{current_of, next_of, is_split};
 ghost use Rattle.tt_repair_laws.specs.NextSide.{current_side};
 ghost use Rattle.tt_generations.specs.Limits.{max_slots};
-ghost use Rattle.tt_generations.specs.KeptSlots.{slot_at, last_content};
+ghost use Rattle.tt_generations.specs.KeptSlots.{slot_at, last_content, actions_of};
 ghost use Rattle.tt_generations.specs.Repair.{repair_with_slot, next_slots};
-ghost use Rattle.tt_generations.specs.TwoGenerations.{no_slots, with_action, with_repair, after_step, after_switch, after_abort, is_repairing, done_of, left_of, rerun_of, is_next_due, next_content_of, rows_on, AnswersOn, IsWithin, progress_of, next_side_of, dirty_rows_of, NamesSlot, HasNoFault, Phase};
+ghost use Rattle.tt_generations.specs.TwoGenerations.{no_slots, with_action, with_repair, after_step, after_switch, after_abort, is_repairing, done_of, left_of, rerun_of, is_next_due, is_due_in, phase_after_step, next_content_of, rows_on, AnswersOn, IsWithin, progress_of, next_side_of, dirty_rows_of, NamesSlot, HasNoFault, Phase};
+ghost use Rattle.tt_generations.specs.Generations.{phase_of, AreGenerations};
 
 use crate::action_run::ActionRun;
 use crate::effect::copies_of;
@@ -20,6 +21,7 @@ use crate::rows::Rows;
 use crate::slot::{KeptSlot, Slot};
 use std::alloc::{AllocError, Global};
 use std::marker::Model;
+use std::mem;
 use tt_pages::PagedLog;
 use tt_repair_laws::Edit;
 use tt_values::{Catalog, Items, Reply, Select, Shared, Write};
@@ -29,6 +31,12 @@ use tt_versions::{Side, Table};
 /// next one beside it, while one is under way.
 #[derive(Drop)]
 pub struct Generations {
+    state: State,
+}
+
+/// What generations consist of. While it is changed, its parts needn't fit together.
+#[derive(Drop)]
+struct State {
     alloc: Global,
     catalog: Shared<Catalog>,
     slots: PagedLog<KeptSlot>,
@@ -44,12 +52,13 @@ impl Model for Generations {
     ghost Value = { TwoGenerations };
 
     ghost view = { λ g. record {
-      catalog = g.catalog;
-      slots = actions_of g.slots;
-      phase = phase_of g.repair;
+      catalog = g.state.catalog;
+      slots = actions_of g.state.slots;
+      phase = phase_of g.state.repair;
     } };
 
-    ghost invariant = { λ g. AreGenerations g.catalog g.slots g.rows g.repair };
+    ghost invariant = { λ g.
+        AreGenerations g.state.catalog g.state.slots g.state.rows g.state.repair };
 }
 
 impl Generations {
@@ -59,27 +68,28 @@ impl Generations {
     {
         // For the proof: each catalog is sound.
         let _ = catalog.get().len();
-        Generations {
+        let state = State {
             alloc,
             catalog,
             slots: PagedLog::new(alloc),
             rows: Rows::new(alloc),
             repair: None,
-        }
+        };
+        Generations { state }
     }
 
     /// The catalog of the tables.
     pub fn catalog(&self) -> &Catalog
         ensures { result.now ≡ self.now.catalog }
     {
-        self.catalog.get()
+        self.state.catalog.get()
     }
 
     /// How many slots there are.
     pub fn len(&self) -> u64
         ensures { result ≡ length self.now.slots }
     {
-        self.slots.len() as u64
+        self.state.slots.len() as u64
     }
 
     /// The slot of a number, counted from 1, in the current generation.
@@ -87,7 +97,7 @@ impl Generations {
         ensures { option_copied result ≡ slot_at self.now.slots number }
     {
         let position = number.checked_sub(1)?;
-        let kept = self.slots.get(position as usize)?;
+        let kept = self.state.slots.get(position as usize)?;
         Some(&kept.slot)
     }
 
@@ -95,7 +105,7 @@ impl Generations {
     pub fn progress(&self) -> Option<Progress>
         ensures { result ≡ progress_of self.now }
     {
-        let repair = self.repair.as_ref()?;
+        let repair = self.state.repair.as_ref()?;
         Some(Progress {
             done: repair.done,
             left: self.len() - repair.done,
@@ -107,7 +117,7 @@ impl Generations {
     pub fn is_repairing(&self) -> bool
         ensures { result ≡ is_repairing self.now.phase }
     {
-        match &self.repair {
+        match &self.state.repair {
             Some(_) => true,
             None => false,
         }
@@ -118,7 +128,7 @@ impl Generations {
         ensures done { result ≡ done_of self.now.phase }
         ensures within { IsWithin self.now.phase self.now.slots }
     {
-        match &self.repair {
+        match &self.state.repair {
             Some(repair) => repair.done,
             None => 0,
         }
@@ -128,7 +138,7 @@ impl Generations {
     pub fn left(&self) -> u64
         ensures { result ≡ left_of self.now.phase self.now.slots }
     {
-        match &self.repair {
+        match &self.state.repair {
             Some(repair) => self.len() - repair.done,
             None => 0,
         }
@@ -138,7 +148,7 @@ impl Generations {
     pub fn rerun(&self) -> u64
         ensures { result ≡ rerun_of self.now.catalog self.now.phase self.now.slots }
     {
-        match &self.repair {
+        match &self.state.repair {
             Some(repair) => repair.rerun,
             None => 0,
         }
@@ -152,7 +162,7 @@ impl Generations {
         ensures split { is_split result.now
             ≡ dirty_rows_of self.now.catalog self.now.phase self.now.slots table }
     {
-        self.rows.table(table)
+        self.state.rows.table(table)
     }
 
     /// The reply to a select at a time, in the current generation.
@@ -180,8 +190,8 @@ impl Generations {
     {
         let table = self.table(select.table);
         let matching = table.rows_matching(select.equals.as_slice(), time, side)?;
-        let rows = copies_of(self.alloc, &matching)?;
-        let rows = Items::new(self.alloc, rows)?;
+        let rows = copies_of(self.state.alloc, &matching)?;
+        let rows = Items::new(self.state.alloc, rows)?;
         Ok(Reply::Rows(rows))
     }
 
@@ -189,17 +199,8 @@ impl Generations {
     pub fn share(&self) -> Result<Generations, AllocError>
         ensures { IfOk result (λ g. g ≡ self.now) }
     {
-        let catalog = self.catalog.clone()?;
-        let slots = self.slots.share()?;
-        let rows = self.rows.share()?;
-        let repair = shared_repair(&self.repair)?;
-        Ok(Generations {
-            alloc: self.alloc,
-            catalog,
-            slots,
-            rows,
-            repair,
-        })
+        let state = self.state.share()?;
+        Ok(Generations { state })
     }
 
     /// The slots and one more, for this action, with the replies to its writes.
@@ -212,32 +213,9 @@ impl Generations {
         ensures state { IfOk result (λ r. r.0 ≡ with_action self action) }
         ensures replies { IfOk result (λ r. r.1 ≡ replies_of action (last_content self.slots)) }
     {
-        let time = self.len() + 1;
-        let Generations {
-            alloc,
-            catalog,
-            mut slots,
-            rows,
-            repair,
-        } = self;
-        let run = ActionRun::of_writes(alloc, catalog.get(), rows, action.as_slice(), time)?;
-        let ActionRun {
-            rows,
-            replies,
-            keys,
-        } = run;
-        let replies = Items::new(alloc, replies)?;
-        let kept = KeptSlot::new(alloc, Some(action), &replies, keys)?;
-        let repair = repair_with_slot(repair, &kept)?;
-        slots.push(kept)?;
-        let generations = Generations {
-            alloc,
-            catalog,
-            slots,
-            rows,
-            repair,
-        };
-        Ok((generations, replies))
+        let mut state = self.state;
+        let replies = state.add_action(action)?;
+        Ok((Generations { state }, replies))
     }
 
     /// Begins a repair with these edits, where none is under way. It has done no slot yet.
@@ -247,14 +225,10 @@ impl Generations {
         requires accepted { All (HasNoFault self.catalog) edits }
         ensures { IfOk result (λ g. g ≡ with_repair self edits) }
     {
-        let repair = Repair::new(self.alloc, &self.catalog, edits, &self.slots)?;
-        Ok(Generations {
-            alloc: self.alloc,
-            catalog: self.catalog,
-            slots: self.slots,
-            rows: self.rows,
-            repair: Some(repair),
-        })
+        let mut state = self.state;
+        let repair = Repair::new(state.alloc, &state.catalog, edits, &state.slots)?;
+        state.repair = Some(repair);
+        Ok(Generations { state })
     }
 
     /// Does one slot of the repair: it is re-executed where it is due. Answers whether it was.
@@ -263,28 +237,9 @@ impl Generations {
         ensures state { IfOk result (λ r. r.0 ≡ after_step self) }
         ensures due { IfOk result (λ r. r.1 ≡ is_next_due self) }
     {
-        let Generations {
-            alloc,
-            catalog,
-            slots,
-            rows,
-            repair,
-        } = self;
-        let Some(repair) = repair else {
-            unreachable!();
-        };
-        let Some(kept) = slots.get(repair.done as usize) else {
-            unreachable!();
-        };
-        let (repair, rows, is_due) = repair.stepped(alloc, catalog.get(), rows, kept)?;
-        let generations = Generations {
-            alloc,
-            catalog,
-            slots,
-            rows,
-            repair: Some(repair),
-        };
-        Ok((generations, is_due))
+        let mut state = self.state;
+        let is_due = state.step()?;
+        Ok((Generations { state }, is_due))
     }
 
     /// The next generation becomes the current one. Takes time for the split rows alone.
@@ -292,22 +247,16 @@ impl Generations {
         requires { left_of self.phase self.slots ≡ 0 }
         ensures { IfOk result (λ g. g ≡ after_switch self) }
     {
-        let Generations {
-            alloc,
-            catalog,
-            slots,
-            rows,
-            repair,
-        } = self;
-        let slots = next_slots(repair, slots);
-        let rows = rows.unsplit(Side::Next)?;
-        Ok(Generations {
-            alloc,
-            catalog,
-            slots,
-            rows,
+        let mut state = self.state;
+        state.rows.unsplit(Side::Next)?;
+        let state = State {
+            alloc: state.alloc,
+            catalog: state.catalog,
+            slots: next_slots(state.repair, state.slots),
+            rows: state.rows,
             repair: None,
-        })
+        };
+        Ok(Generations { state })
     }
 
     /// The next generation is given up, and the current one stays. Takes time for the split rows
@@ -315,14 +264,76 @@ impl Generations {
     pub fn aborted(self) -> Result<Generations, AllocError>
         ensures { IfOk result (λ g. g ≡ after_abort self) }
     {
-        let rows = self.rows.unsplit(Side::Current)?;
-        Ok(Generations {
+        let mut state = self.state;
+        state.rows.unsplit(Side::Current)?;
+        state.repair = None;
+        Ok(Generations { state })
+    }
+}
+
+impl State {
+    /// A further owner of the same slots and rows.
+    fn share(&self) -> Result<State, AllocError>
+        ensures { IfOk result (λ state. state ≡ self.now) }
+    {
+        let catalog = self.catalog.clone()?;
+        let slots = self.slots.share()?;
+        let rows = self.rows.share()?;
+        let repair = shared_repair(&self.repair)?;
+        Ok(State {
             alloc: self.alloc,
-            catalog: self.catalog,
-            slots: self.slots,
+            catalog,
+            slots,
             rows,
-            repair: None,
+            repair,
         })
+    }
+
+    /// Adds a slot of this action, and answers the replies to its writes.
+    fn add_action(&mut self, action: Items<Write>) -> Result<Items<Reply>, AllocError>
+        requires parts { AreGenerations self.old.catalog self.old.slots self.old.rows self.old.repair }
+        requires accepted { action_fault self.old.catalog action ≡ None }
+        requires room { length self.old.slots < max_slots }
+        ensures parts { OnOk result
+            (AreGenerations self.new.catalog self.new.slots self.new.rows self.new.repair) }
+        ensures catalog { OnOk result (self.new.catalog ≡ self.old.catalog) }
+        ensures slots { OnOk result
+            (actions_of self.new.slots ≡ actions_of self.old.slots ++ Some action ∷ []) }
+        ensures phase { OnOk result (phase_of self.new.repair ≡ phase_of self.old.repair) }
+        ensures replies { IfOk result
+            (λ r. r ≡ replies_of action (last_content (actions_of self.old.slots))) }
+    {
+        let time = self.slots.len() as u64 + 1;
+        let rows = mem::replace(&mut self.rows, Rows::new(self.alloc));
+        let catalog = self.catalog.get();
+        let run = ActionRun::of_writes(self.alloc, catalog, rows, action.as_slice(), time)?;
+        let (kept, replies) = run.into_slot(self.alloc, action, &mut self.rows)?;
+        add_to_repair(&mut self.repair, &kept)?;
+        self.slots.push(kept)?;
+        Ok(replies)
+    }
+
+    /// Does one slot of the repair. Answers whether it was due.
+    fn step(&mut self) -> Result<bool, AllocError>
+        requires parts { AreGenerations self.old.catalog self.old.slots self.old.rows self.old.repair }
+        requires left { 0 < left_of (phase_of self.old.repair) (actions_of self.old.slots) }
+        ensures parts { OnOk result
+            (AreGenerations self.new.catalog self.new.slots self.new.rows self.new.repair) }
+        ensures catalog { OnOk result (self.new.catalog ≡ self.old.catalog) }
+        ensures slots { OnOk result (self.new.slots ≡ self.old.slots) }
+        ensures phase { OnOk result
+            (phase_of self.new.repair ≡ phase_after_step (phase_of self.old.repair)) }
+        ensures due { IfOk result (λ due. due
+            ≡ is_due_in self.old.catalog (phase_of self.old.repair) (actions_of self.old.slots)) }
+    {
+        let Some(repair) = &mut self.repair else {
+            unreachable!();
+        };
+        let Some(kept) = self.slots.get(repair.done as usize) else {
+            unreachable!();
+        };
+        let is_due = repair.step(self.alloc, self.catalog.get(), &mut self.rows, kept)?;
+        Ok(is_due)
     }
 }
 
@@ -339,16 +350,13 @@ fn shared_repair(repair: &Option<Repair>) -> Result<Option<Repair>, AllocError>
     }
 }
 
-/// The repair, if there is one, once a slot was added to the current generation.
-fn repair_with_slot(repair: Option<Repair>, kept: &KeptSlot) -> Result<Option<Repair>, AllocError>
-    ensures { IfOk result (λ r. r ≡ repair_with_slot kept.now repair) }
+/// Adds a slot to the repair, if there is one.
+fn add_to_repair(repair: &mut Option<Repair>, kept: &KeptSlot) -> Result<(), AllocError>
+    ensures { OnOk result (repair.new ≡ repair_with_slot kept.now repair.old) }
 {
     match repair {
-        Some(repair) => {
-            let repair = repair.with_slot(kept)?;
-            Ok(Some(repair))
-        }
-        None => Ok(None),
+        Some(repair) => repair.add_slot(kept),
+        None => Ok(()),
     }
 }
 

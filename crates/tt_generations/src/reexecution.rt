@@ -1,17 +1,19 @@
 //! How a slot is re-executed on the next side.
-ghost use Rattle.std.specs.Prelude.{◌≤◌, ◌+◌, [], ◌∷◌, length, IfOk};
+ghost use Rattle.std.specs.Prelude.{◌≡◌, ◌≤◌, ◌+◌, [], ◌∷◌, length, IfOk, OnOk};
 ghost use Rattle.std.specs.List.{All};
 ghost use Rattle.tt_values.specs.Check.{HasKey};
 ghost use Rattle.tt_values.specs.Limits.{max_writes};
 ghost use Rattle.tt_generations.specs.Rows.{HasFewRows, as_pairs};
 ghost use Rattle.tt_generations.specs.ActionRun.{most_rows};
-ghost use Rattle.tt_generations.specs.Reexecution.{Redoes, Reexecutes, ShowsFewBefore};
+ghost use Rattle.tt_generations.specs.Effect.{matched_keys};
+ghost use Rattle.tt_generations.specs.Replies.{replies_if};
+ghost use Rattle.tt_generations.specs.Reexecution.{Redoes, Reexecutes, ShowsFewBefore, SplitsForRun};
 
 use crate::effect::{add_keys, effect_of, matched_keys, reply_to};
 use crate::rows::Rows;
-use crate::slot::RowKey;
+use crate::slot::{KeptSlot, RowKey};
 use std::alloc::{AllocError, Global};
-use tt_values::{Catalog, Reply, Write};
+use tt_values::{Catalog, Items, Reply, Row, Write};
 use tt_versions::Side;
 
 /// A slot under re-execution: the rows that it leaves so far, the replies to its writes, the rows
@@ -40,52 +42,98 @@ impl Reexecution {
         requires few { ShowsFewBefore rows time (as_pairs written.now) }
         ensures { IfOk result (λ run. Reexecutes time (as_pairs written.now) writes.now rows run) }
     {
-        let rows = rows.with_rows_split(catalog, written, time)?;
-        let mut redone = Vec::with_capacity(alloc, written.len())?;
-        redone.extend_from_slice(written)?;
-        let mut run = Reexecution {
-            rows,
-            replies: Vec::with_capacity(alloc, writes.len())?,
-            keys: Vec::new(alloc),
-            redone,
-        };
+        let mut run = Reexecution::new(alloc, rows, writes.len())?;
+        run.split_rows(catalog, written, time)?;
         for write in writes {
-            run = run.with_write(alloc, catalog, write, time)?;
+            run.carry_out(alloc, catalog, write, time)?;
         }
         Ok(run)
     }
 
+    /// A slot of so many writes, before its rows are rolled back.
+    fn new(alloc: Global, rows: Rows, writes: usize) -> Result<Reexecution, AllocError>
+        ensures rows { IfOk result (λ run. run.rows ≡ rows) }
+        ensures replies { IfOk result (λ run. run.replies.items ≡ []) }
+        ensures keys { IfOk result (λ run. run.keys.items ≡ []) }
+        ensures redone { IfOk result (λ run. run.redone.items ≡ []) }
+    {
+        let replies = Vec::with_capacity(alloc, writes)?;
+        Ok(Reexecution {
+            rows,
+            replies,
+            keys: Vec::new(alloc),
+            redone: Vec::new(alloc),
+        })
+    }
+
     /// Carries out one more write.
-    fn with_write(
-        self,
+    fn carry_out(
+        &mut self,
         alloc: Global,
         catalog: &Catalog,
         write: &Write,
         time: u64,
-    ) -> Result<Reexecution, AllocError>
+    ) -> Result<(), AllocError>
         requires keyed { HasKey write.now }
-        requires few { HasFewRows self.rows Side.Next time (most_rows + max_writes) }
-        ensures { IfOk result (λ run. Redoes time (write.now ∷ []) self run) }
+        requires few { HasFewRows self.old.rows Side.Next time (most_rows + max_writes) }
+        ensures { OnOk result (Redoes time (write.now ∷ []) self.old self.new) }
     {
-        let Reexecution {
-            rows,
-            mut replies,
-            mut keys,
-            mut redone,
-        } = self;
         let table = write.table();
-        let effect = effect_of(alloc, rows.table(table), write, time, Side::Next)?;
-        let matched = matched_keys(alloc, write, &effect)?;
-        let rows = rows.with_rows_split(catalog, &matched, time)?;
-        replies.push(reply_to(write, &effect))?;
-        add_keys(&mut keys, table, &effect)?;
-        redone.extend_from_slice(&matched)?;
-        let rows = rows.with_next_writes(catalog, table, effect, time)?;
-        Ok(Reexecution {
-            rows,
-            replies,
-            keys,
-            redone,
-        })
+        let effect = effect_of(alloc, self.rows.table(table), write, time, Side::Next)?;
+        self.split_matched(alloc, catalog, write, &effect, time)?;
+        self.replies.push(reply_to(write, &effect))?;
+        add_keys(&mut self.keys, table, &effect)?;
+        self.rows.write_next(catalog, table, effect, time)?;
+        Ok(())
+    }
+
+    /// Rolls back the rows that a write with that effect matches.
+    fn split_matched(
+        &mut self,
+        alloc: Global,
+        catalog: &Catalog,
+        write: &Write,
+        effect: &[(i64, Option<Row>)],
+        time: u64,
+    ) -> Result<(), AllocError>
+        requires { HasKey write.now }
+        ensures { OnOk result (SplitsForRun self.old self.new (matched_keys write.now effect.now) time) }
+    {
+        let matched = matched_keys(alloc, write, effect)?;
+        self.split_rows(catalog, &matched, time)?;
+        Ok(())
+    }
+
+    /// Rolls back further rows.
+    fn split_rows(
+        &mut self,
+        catalog: &Catalog,
+        keys: &[RowKey],
+        time: u64,
+    ) -> Result<(), AllocError>
+        ensures { OnOk result (SplitsForRun self.old self.new keys.now time) }
+    {
+        self.redone.extend_from_slice(keys)?;
+        self.rows.split_rows(catalog, keys, time)?;
+        Ok(())
+    }
+
+    /// The slot, now with this action, once all its writes are carried out. The rows are put back.
+    pub(crate) fn into_slot(
+        self,
+        alloc: Global,
+        action: Option<Items<Write>>,
+        rows: &mut Rows,
+    ) -> Result<KeptSlot, AllocError>
+        ensures rows { rows.new ≡ self.rows }
+        ensures action { IfOk result (λ kept. kept.slot.action ≡ action) }
+        ensures replies { IfOk result
+            (λ kept. kept.slot.replies ≡ replies_if action self.replies.items) }
+        ensures keys { IfOk result (λ kept. kept.rows ≡ self.keys.items) }
+    {
+        *rows = self.rows;
+        let replies = Items::new(alloc, self.replies)?;
+        let kept = KeptSlot::new(alloc, action, &replies, self.keys)?;
+        Ok(kept)
     }
 }

@@ -1,6 +1,6 @@
 //! A repair under way: its edits, how far it is, what is dirty, and the slots of the next
 //! generation.
-ghost use Rattle.std.specs.Prelude.{◌≡◌, ◌<◌, ◌≤◌, ◌+◌, [], ◌∷◌, ◌++◌, length, IsTrue, IfOk};
+ghost use Rattle.std.specs.Prelude.{◌≡◌, ◌<◌, ◌≤◌, ◌+◌, [], ◌∷◌, ◌++◌, length, slice_set, IsTrue, IfOk, OnOk};
 ghost use Rattle.std.specs.List.{All, list_all, zip};
 ghost use Rattle.std.specs.Option.{option_copied};
 ghost use Rattle.tt_parts.specs.Dirty.{SameMembers, nothing_dirty};
@@ -18,6 +18,7 @@ use crate::reexecution::Reexecution;
 use crate::rows::Rows;
 use crate::slot::{KeptSlot, RowKey};
 use std::alloc::{AllocError, Global};
+use std::mem;
 use tt_pages::{Kept, PagedLog, PagedMap};
 use tt_parts::Dirty;
 use tt_repair_laws::Edit;
@@ -87,14 +88,14 @@ impl Repair {
         })
     }
 
-    /// The repair once a slot was added to the current generation.
-    pub(crate) fn with_slot(self, kept: &KeptSlot) -> Result<Repair, AllocError>
-        ensures { IfOk result (λ r. r ≡ record self { slots = self.slots ++ kept.now ∷ [] }) }
+    /// Adds a slot, which is added to the current generation too.
+    pub(crate) fn add_slot(&mut self, kept: &KeptSlot) -> Result<(), AllocError>
+        ensures { OnOk result
+            (self.new ≡ record self.old { slots = self.old.slots ++ kept.now ∷ [] }) }
     {
-        let mut repair = self;
         let kept = kept.kept()?;
-        repair.slots.push(kept)?;
-        Ok(repair)
+        self.slots.push(kept)?;
+        Ok(())
     }
 
     /// Whether the next slot, which is this one in the current generation, is due.
@@ -138,95 +139,82 @@ impl Repair {
         }
     }
 
-    /// The repair once the next slot is done, where it wasn't due.
-    pub(crate) fn passed(self) -> Repair
-        requires { self.done < max_slots }
-        ensures { result ≡ record self { done = self.done + 1 } }
-    {
-        let mut repair = self;
-        repair.done += 1;
-        repair
-    }
-
-    /// The repair and the rows once the next slot is done, which is this one in the current
-    /// generation, and whether it was due.
-    pub(crate) fn stepped(
-        self,
+    /// Does the next slot, which is this one in the current generation. Answers whether it was
+    /// due. Without memory nothing is promised of the repair and the rows.
+    pub(crate) fn step(
+        &mut self,
         alloc: Global,
         catalog: &Catalog,
-        rows: Rows,
+        rows: &mut Rows,
         kept: &KeptSlot,
-    ) -> Result<(Repair, Rows, bool), AllocError>
-        requires room { self.done < max_slots }
-        requires few_rerun { self.rerun ≤ self.done }
-        requires there { self.done < length self.slots }
-        requires catalog { self.dirty.catalog ≡ catalog.now }
+    ) -> Result<bool, AllocError>
+        requires room { self.old.done < max_slots }
+        requires few_rerun { self.old.rerun ≤ self.old.done }
+        requires there { self.old.done < length self.old.slots }
+        requires catalog { self.old.dirty.catalog ≡ catalog.now }
         requires keyed { HasKeysIfAny kept.now.slot.action }
         requires written { All (λ r. r.table < length catalog.now) kept.now.rows }
-        requires accepted { IsAccepted catalog.now (next_action self kept.now) }
-        requires few { ShowsFewBefore rows (self.done + 1) (as_pairs kept.now.rows) }
-        ensures due { IfOk result (λ r. r.2 ≡ is_kept_due self kept.now) }
-        ensures step { IfOk result (λ r. DoesSlot self kept.now rows r.2 r.0 r.1) }
+        requires accepted { IsAccepted catalog.now (next_action self.old kept.now) }
+        requires few { ShowsFewBefore rows.old (self.old.done + 1) (as_pairs kept.now.rows) }
+        ensures due { IfOk result (λ due. due ≡ is_kept_due self.old kept.now) }
+        ensures step { IfOk result (λ due.
+            DoesSlot self.old kept.now rows.old due self.new rows.new) }
     {
         if !self.is_due(kept) {
-            return Ok((self.passed(), rows, false));
+            self.done += 1;
+            return Ok(false);
         }
-        let (repair, rows) = self.reexecuted(alloc, catalog, rows, kept)?;
-        Ok((repair, rows, true))
+        self.reexecute(alloc, catalog, rows, kept)?;
+        Ok(true)
     }
 
-    /// The repair and the rows once the next slot is re-executed, which is this one in the current
-    /// generation.
-    pub(crate) fn reexecuted(
-        self,
+    /// Re-executes the next slot, which is this one in the current generation.
+    fn reexecute(
+        &mut self,
         alloc: Global,
         catalog: &Catalog,
-        rows: Rows,
+        rows: &mut Rows,
         kept: &KeptSlot,
-    ) -> Result<(Repair, Rows), AllocError>
-        requires room { self.done < max_slots }
-        requires few_rerun { self.rerun ≤ self.done }
-        requires there { self.done < length self.slots }
-        requires catalog { self.dirty.catalog ≡ catalog.now }
+    ) -> Result<(), AllocError>
+        requires room { self.old.done < max_slots }
+        requires few_rerun { self.old.rerun ≤ self.old.done }
+        requires there { self.old.done < length self.old.slots }
+        requires catalog { self.old.dirty.catalog ≡ catalog.now }
         requires written { All (λ r. r.table < length catalog.now) kept.now.rows }
-        requires accepted { IsAccepted catalog.now (next_action self kept.now) }
-        requires few { ShowsFewBefore rows (self.done + 1) (as_pairs kept.now.rows) }
-        ensures done { IfOk result (λ r. HasDoneDueSlot self r.0) }
-        ensures rows { IfOk result (λ r. ReexecutesSlot self kept.now rows r.0 r.1) }
+        requires accepted { IsAccepted catalog.now (next_action self.old kept.now) }
+        requires few { ShowsFewBefore rows.old (self.old.done + 1) (as_pairs kept.now.rows) }
+        ensures done { OnOk result (HasDoneDueSlot self.old self.new) }
+        ensures rows { OnOk result
+            (ReexecutesSlot self.old kept.now rows.old self.new rows.new) }
     {
         // For the proof: each catalog is sound.
         let _ = catalog.len();
         let time = self.done + 1;
         let action = self.next_action(kept)?;
         let written = kept.rows.as_slice();
-        let run = Reexecution::of_slot(alloc, catalog, rows, written, writes_of(&action), time)?;
-        let Reexecution {
-            rows,
-            replies,
-            keys,
-            redone,
-        } = run;
-        let replies = Items::new(alloc, replies)?;
-        let kept = KeptSlot::new(alloc, action, &replies, keys)?;
-        let Repair {
-            edits,
-            replacements,
-            done,
-            rerun,
-            dirty,
-            mut slots,
-        } = self;
-        slots.replace(done as usize, kept)?;
-        let dirty = with_rows_shown(dirty, &rows, &redone, time)?;
-        let repair = Repair {
-            edits,
-            replacements,
-            done: done + 1,
-            rerun: rerun + 1,
-            dirty,
-            slots,
-        };
-        Ok((repair, rows))
+        let taken = mem::replace(rows, Rows::new(alloc));
+        let run = Reexecution::of_slot(alloc, catalog, taken, written, writes_of(&action), time)?;
+        add_rows_shown(&mut self.dirty, &run.rows, &run.redone, time)?;
+        let slot = run.into_slot(alloc, action, rows)?;
+        self.put_slot(slot)?;
+        Ok(())
+    }
+
+    /// Puts the next slot as it was re-executed.
+    fn put_slot(&mut self, kept: KeptSlot) -> Result<(), AllocError>
+        requires room { self.old.done < max_slots }
+        requires few_rerun { self.old.rerun ≤ self.old.done }
+        requires there { self.old.done < length self.old.slots }
+        ensures { OnOk result (self.new ≡ record self.old {
+          done = self.old.done + 1;
+          rerun = self.old.rerun + 1;
+          slots = slice_set self.old.slots self.old.done kept;
+        }) }
+    {
+        self.slots.replace(self.done as usize, kept)?;
+        self.done += 1;
+        self.rerun += 1;
+        Ok(())
     }
 }
 
@@ -253,22 +241,22 @@ fn writes_of(action: &Option<Items<Write>>) -> &[Write]
     }
 }
 
-/// The dirty set with the rows that were re-executed at a time, by what the tables show on the next
-/// side just before it and at it.
-fn with_rows_shown(
-    dirty: Dirty,
+/// Makes the rows dirty that were re-executed at a time, by what the tables show on the next side
+/// just before it and at it.
+fn add_rows_shown(
+    dirty: &mut Dirty,
     rows: &Rows,
     redone: &[RowKey],
     time: u64,
-) -> Result<Dirty, AllocError>
+) -> Result<(), AllocError>
     requires room { 0 < time }
-    requires tables { All (λ r. r.table < length dirty.catalog) redone.now }
-    ensures catalog { IfOk result (λ d. d.catalog ≡ dirty.catalog) }
-    ensures dirty { IfOk result (λ d.
-        SameMembers d.dirty (with_rows_shown dirty rows.now redone.now time)) }
+    requires tables { All (λ r. r.table < length dirty.old.catalog) redone.now }
+    ensures catalog { OnOk result (dirty.new.catalog ≡ dirty.old.catalog) }
+    ensures dirty { OnOk result
+        (SameMembers dirty.new.dirty (with_rows_shown dirty.old rows.now redone.now time)) }
 {
-    let dirty = with_each_row_shown(dirty, rows, once(redone), time)?;
-    Ok(dirty)
+    add_each_row_shown(dirty, rows, once(redone), time)?;
+    Ok(())
 }
 
 /// The first half of the rows, where the second half repeats it, else all of them. The writes of a
@@ -293,24 +281,23 @@ fn are_same_pairwise(first: &[RowKey], second: &[RowKey]) -> bool
     first.iter().zip(second).all(|(one, other)| one.table == other.table && one.key == other.key)
 }
 
-/// The dirty set with each of the rows, one after another.
-fn with_each_row_shown(
-    dirty: Dirty,
+/// Makes each of the rows dirty, one after another.
+fn add_each_row_shown(
+    dirty: &mut Dirty,
     rows: &Rows,
     redone: &[RowKey],
     time: u64,
-) -> Result<Dirty, AllocError>
+) -> Result<(), AllocError>
     requires room { 0 < time }
-    requires tables { All (λ r. r.table < length dirty.catalog) redone.now }
-    ensures catalog { IfOk result (λ d. d.catalog ≡ dirty.catalog) }
-    ensures dirty { IfOk result (λ d.
-        SameMembers d.dirty (with_rows_shown dirty rows.now redone.now time)) }
+    requires tables { All (λ r. r.table < length dirty.old.catalog) redone.now }
+    ensures catalog { OnOk result (dirty.new.catalog ≡ dirty.old.catalog) }
+    ensures dirty { OnOk result
+        (SameMembers dirty.new.dirty (with_rows_shown dirty.old rows.now redone.now time)) }
 {
-    let mut dirty = dirty;
     for row in redone {
         let table = rows.table(row.table);
         let (before, after) = table.around(row.key, time, Side::Next);
         dirty.add_row(row.table, row.key, before, after)?;
     }
-    Ok(dirty)
+    Ok(())
 }

@@ -7,7 +7,7 @@ use crate::slot::RowKey;
 use std::alloc::{AllocError, Global};
 use std::marker::Model;
 use std::mem;
-use tt_values::{Catalog, Row};
+use tt_values::{Catalog, Column, Row, TableDef};
 use tt_versions::{Side, Table};
 
 /// The rows of all tables with their versions on both sides.
@@ -73,118 +73,84 @@ impl Rows {
         })
     }
 
-    /// The rows once these keys of a table have those rows, or none, from the time on: on both
-    /// sides, or only on the current one where a row is split. The catalog says by which columns
-    /// the rows of a new table can be found.
-    pub(crate) fn with_row_writes(
-        self,
+    /// Gives these keys of a table those rows, or none, from the time on: on both sides, or only
+    /// on the current one where a row is split. The catalog says by which columns the rows of a
+    /// new table can be found. Without memory nothing is promised of the rows.
+    pub(crate) fn write(
+        &mut self,
         catalog: &Catalog,
         table: u16,
         effect: Vec<(i64, Option<Row>)>,
         time: u64,
-    ) -> Result<Rows, AllocError>
-        ensures current { IfOk result (λ r. AddsEffect self r time table effect.items) }
-        ensures written { IfOk result (λ r. WritesCurrent self r time table effect.items) }
-        ensures split { IfOk result (λ r. KeepsSplitRows self r) }
+    ) -> Result<(), AllocError>
+        ensures current { OnOk result (AddsEffect self.old self.new time table effect.items) }
+        ensures written { OnOk result (WritesCurrent self.old self.new time table effect.items) }
+        ensures split { OnOk result (KeepsSplitRows self.old self.new) }
     {
-        let Rows {
-            alloc,
-            mut tables,
-            empty,
-        } = self;
         let position = usize::from(table);
-        let old = take_table(alloc, catalog, &mut tables, position)?;
+        let old = take_table(self.alloc, catalog, &mut self.tables, position)?;
         let new = old.into_all_written(effect, time)?;
-        tables[position] = new;
-        Ok(Rows {
-            alloc,
-            tables,
-            empty,
-        })
+        self.tables[position] = new;
+        Ok(())
     }
 
-    /// The rows once each of these is split. One that wasn't is rolled back on its next side to
-    /// before the time.
-    pub(crate) fn with_rows_split(
-        self,
+    /// Splits each of these rows. One that wasn't split is rolled back on its next side to before
+    /// the time. Without memory nothing is promised of the rows.
+    pub(crate) fn split_rows(
+        &mut self,
         catalog: &Catalog,
         keys: &[RowKey],
         time: u64,
-    ) -> Result<Rows, AllocError>
-        ensures { IfOk result (λ r. SplitsRows self r (as_pairs keys.now) time) }
+    ) -> Result<(), AllocError>
+        ensures { OnOk result (SplitsRows self.old self.new (as_pairs keys.now) time) }
     {
-        let mut rows = self;
         for key in keys {
-            rows = rows.with_row_split(catalog, *key, time)?;
+            self.split_row(catalog, *key, time)?;
         }
-        Ok(rows)
+        Ok(())
     }
 
-    fn with_row_split(self, catalog: &Catalog, row: RowKey, time: u64) -> Result<Rows, AllocError>
-        ensures { IfOk result (λ r. SplitsRows self r ((row.table, row.key) ∷ []) time) }
+    fn split_row(&mut self, catalog: &Catalog, row: RowKey, time: u64) -> Result<(), AllocError>
+        ensures { OnOk result (SplitsRows self.old self.new ((row.table, row.key) ∷ []) time) }
     {
         if self.table(row.table).is_split(row.key) {
-            return Ok(self);
+            return Ok(());
         }
-        let Rows {
-            alloc,
-            mut tables,
-            empty,
-        } = self;
         let position = usize::from(row.table);
-        let old = take_table(alloc, catalog, &mut tables, position)?;
+        let old = take_table(self.alloc, catalog, &mut self.tables, position)?;
         let new = old.into_split_back(row.key, time)?;
-        tables[position] = new;
-        Ok(Rows {
-            alloc,
-            tables,
-            empty,
-        })
+        self.tables[position] = new;
+        Ok(())
     }
 
-    /// The rows once these keys of a table, whose rows are split, have those rows, or none, from
-    /// the time on, only on the next side.
-    pub(crate) fn with_next_writes(
-        self,
+    /// Gives these keys of a table, whose rows are split, those rows, or none, from the time on,
+    /// only on the next side. Without memory nothing is promised of the rows.
+    pub(crate) fn write_next(
+        &mut self,
         catalog: &Catalog,
         table: u16,
         effect: Vec<(i64, Option<Row>)>,
         time: u64,
-    ) -> Result<Rows, AllocError>
-        requires { All (λ e. is_split (versions_at self table) e.0 ≡ true) effect.items }
-        ensures { IfOk result (λ r. WritesNext self r time table effect.items) }
+    ) -> Result<(), AllocError>
+        requires { All (λ e. is_split (versions_at self.old table) e.0 ≡ true) effect.items }
+        ensures { OnOk result (WritesNext self.old self.new time table effect.items) }
     {
-        let Rows {
-            alloc,
-            mut tables,
-            empty,
-        } = self;
         let position = usize::from(table);
-        let old = take_table(alloc, catalog, &mut tables, position)?;
+        let old = take_table(self.alloc, catalog, &mut self.tables, position)?;
         let new = old.into_all_next_written(effect, time)?;
-        tables[position] = new;
-        Ok(Rows {
-            alloc,
-            tables,
-            empty,
-        })
+        self.tables[position] = new;
+        Ok(())
     }
 
-    /// The rows once both sides of each table show what this one shows.
-    pub(crate) fn unsplit(self, side: Side) -> Result<Rows, AllocError>
-        ensures { IfOk result (λ r. ShowsSide side self r) }
+    /// Makes both sides of each table show what this one shows. Without memory nothing is promised of
+    /// the rows.
+    pub(crate) fn unsplit(&mut self, side: Side) -> Result<(), AllocError>
+        ensures { OnOk result (ShowsSide side self.old self.new) }
     {
-        let Rows {
-            alloc,
-            tables,
-            empty,
-        } = self;
-        let tables = tables_unsplit(alloc, tables, side)?;
-        Ok(Rows {
-            alloc,
-            tables,
-            empty,
-        })
+        let old = mem::replace(&mut self.tables, Vec::new(self.alloc));
+        let new = tables_unsplit(self.alloc, old, side)?;
+        self.tables = new;
+        Ok(())
     }
 }
 
@@ -261,19 +227,26 @@ fn partition_columns(
     catalog: &Catalog,
     position: usize,
 ) -> Result<Vec<u16>, AllocError> {
-    let mut columns = Vec::new(alloc);
-    let Ok(position) = u16::try_from(position) else {
-        return Ok(columns);
-    };
-    let Some(table) = catalog.table(position) else {
-        return Ok(columns);
-    };
+    let mut positions = Vec::new(alloc);
+    if let Some(table) = table_at(catalog, position) {
+        add_partition_columns(&mut positions, table.columns.as_slice())?;
+    }
+    Ok(positions)
+}
+
+/// The table at a position of the catalog, if there is one.
+fn table_at(catalog: &Catalog, position: usize) -> Option<&TableDef> {
+    let position = u16::try_from(position).ok()?;
+    catalog.table(position)
+}
+
+fn add_partition_columns(positions: &mut Vec<u16>, columns: &[Column]) -> Result<(), AllocError> {
     let mut place: u16 = 0;
-    for column in table.columns.as_slice() {
+    for column in columns {
         if column.partition && place > 0 {
-            columns.push(place)?;
+            positions.push(place)?;
         }
         place = place.saturating_add(1);
     }
-    Ok(columns)
+    Ok(())
 }

@@ -1,10 +1,10 @@
-ghost use Rattle.std.specs.Prelude.{◌≡◌, ◌<◌, length, IfOk};
+ghost use Rattle.std.specs.Prelude.{◌≡◌, ◌<◌, length};
 ghost use Rattle.tt_values.specs.Check.{HasKey};
 
 mod dirty;
 mod parts_and_reads;
 
-use std::alloc::{AllocError, Global};
+use std::alloc::Global;
 use std::process::Abort;
 use std::sync::Arc;
 use tt_parts::{Dirty, Partition, Reads};
@@ -23,92 +23,96 @@ type PlainPartition = (u16, u16, Plain);
 /// The row (1, "ann", 10) of `acct`.
 const ANN: &[Plain] = &[Plain::Number(1), Plain::Words("ann"), Plain::Number(10)];
 
-fn text(alloc: Global, words: &str) -> Result<Text, AllocError> {
-    Text::new(alloc, String::from_str(alloc, words)?)
+fn text(rt: &impl Abort, alloc: Global, words: &str) -> Text {
+    let words = String::from_str(alloc, words).expect(rt, "memory");
+    Text::new(alloc, words).expect(rt, "memory")
 }
 
-fn value(alloc: Global, plain: Plain) -> Result<Value, AllocError> {
+fn value(rt: &impl Abort, alloc: Global, plain: Plain) -> Value {
     match plain {
-        Plain::Number(number) => Ok(Value::Int(number)),
-        Plain::Words(words) => Ok(Value::Text(text(alloc, words)?)),
+        Plain::Number(number) => Value::Int(number),
+        Plain::Words(words) => Value::Text(text(rt, alloc, words)),
     }
 }
 
-fn row(alloc: Global, plains: &[Plain]) -> Result<Row, AllocError> {
+fn row(rt: &impl Abort, alloc: Global, plains: &[Plain]) -> Row {
     let mut values = Vec::new(alloc);
     for plain in plains {
-        values.push(value(alloc, *plain)?)?;
+        values.push(value(rt, alloc, *plain)).expect(rt, "memory");
     }
-    Ok(Row {
-        values: Items::new(alloc, values)?,
-    })
+    Row {
+        values: Items::new(alloc, values).expect(rt, "memory"),
+    }
 }
 
-fn partitions(alloc: Global, plains: &[PlainPartition]) -> Result<Items<Partition>, AllocError> {
+fn partitions(rt: &impl Abort, alloc: Global, plains: &[PlainPartition]) -> Items<Partition> {
     let mut partitions = Vec::new(alloc);
     for (table, column, plain) in plains {
-        partitions.push(Partition {
+        let partition = Partition {
             table: *table,
             column: *column,
-            value: value(alloc, *plain)?,
-        })?;
+            value: value(rt, alloc, *plain),
+        };
+        partitions.push(partition).expect(rt, "memory");
     }
-    let partitions = Items::new(alloc, partitions)?;
-    Ok(partitions)
+    Items::new(alloc, partitions).expect(rt, "memory")
 }
 
-fn partition_reads(alloc: Global, plains: &[PlainPartition]) -> Result<Reads, AllocError> {
-    Ok(Reads::Equated(partitions(alloc, plains)?))
+fn partition_reads(rt: &impl Abort, alloc: Global, plains: &[PlainPartition]) -> Reads {
+    Reads::Equated(partitions(rt, alloc, plains))
 }
 
-fn delete(alloc: Global, table: u16, pairs: &[(u16, Plain)]) -> Result<Write, AllocError>
-    ensures { IfOk result (λ write. HasKey write) }
+fn delete(rt: &impl Abort, alloc: Global, table: u16, pairs: &[(u16, Plain)]) -> Write
+    ensures { HasKey result }
 {
     let mut equals = Vec::new(alloc);
     for (column, plain) in pairs {
-        equals.push(Equal {
+        let equal = Equal {
             column: *column,
-            value: value(alloc, *plain)?,
-        })?;
+            value: value(rt, alloc, *plain),
+        };
+        equals.push(equal).expect(rt, "memory");
     }
-    Ok(Write::Delete {
+    Write::Delete {
         table,
-        equals: Items::new(alloc, equals)?,
-    })
+        equals: Items::new(alloc, equals).expect(rt, "memory"),
+    }
 }
 
 /// The insert of Dan's account with a key.
-fn insert(alloc: Global, key: i64) -> Result<Write, AllocError>
-    ensures { IfOk result (λ write. HasKey write) }
+fn insert(rt: &impl Abort, alloc: Global, key: i64) -> Write
+    ensures { HasKey result }
 {
-    let owner = value(alloc, Plain::Words("dan"))?;
-    let values = vec![in alloc; Value::Int(key), owner, Value::Int(0)]?;
-    Ok(Write::Insert {
+    let owner = value(rt, alloc, Plain::Words("dan"));
+    let values = vec![in alloc; Value::Int(key), owner, Value::Int(0)].expect(rt, "memory");
+    Write::Insert {
         table: 0,
         row: Row {
-            values: Items::new(alloc, values)?,
+            values: Items::new(alloc, values).expect(rt, "memory"),
         },
-    })
+    }
 }
 
 /// Columns, each with its kind and whether it is declared as a partition column.
-fn table(alloc: Global, columns: &[(&str, Kind, bool)]) -> Result<TableDef, AllocError> {
+fn table(rt: &impl Abort, alloc: Global, columns: &[(&str, Kind, bool)]) -> TableDef {
     let mut list = Vec::new(alloc);
     for (name, kind, partition) in columns {
-        list.push(Column {
-            name: text(alloc, name)?,
+        let column = Column {
+            name: text(rt, alloc, name),
             kind: *kind,
             partition: *partition,
-        })?;
+        };
+        list.push(column).expect(rt, "memory");
     }
-    Ok(TableDef {
-        columns: Items::new(alloc, list)?,
-    })
+    TableDef {
+        columns: Items::new(alloc, list).expect(rt, "memory"),
+    }
 }
 
 /// Accounts: the owner is declared as a partition column.
-fn acct(alloc: Global) -> Result<TableDef, AllocError> {
+fn acct(rt: &impl Abort, alloc: Global) -> TableDef {
     table(
+        rt,
         alloc,
         &[
             ("id", Kind::Int, false),
@@ -119,8 +123,9 @@ fn acct(alloc: Global) -> Result<TableDef, AllocError> {
 }
 
 /// Parcels: the key, a text and a number are declared as partition columns.
-fn parcel(alloc: Global) -> Result<TableDef, AllocError> {
+fn parcel(rt: &impl Abort, alloc: Global) -> TableDef {
     table(
+        rt,
         alloc,
         &[
             ("id", Kind::Int, true),
@@ -136,10 +141,10 @@ fn tables(rt: &impl Abort, alloc: Global) -> Arc<Catalog>
     ensures { length result.value ≡ 2 }
 {
     let mut catalog = Catalog::new(alloc);
-    let acct = acct(alloc).expect(rt, "memory");
-    catalog.add("acct", acct).expect(rt, "a table");
-    let parcel = parcel(alloc).expect(rt, "memory");
-    catalog.add("parcel", parcel).expect(rt, "a table");
+    catalog.add("acct", acct(rt, alloc)).expect(rt, "a table");
+    catalog
+        .add("parcel", parcel(rt, alloc))
+        .expect(rt, "a table");
     Arc::new(alloc, catalog).expect(rt, "memory")
 }
 

@@ -1,6 +1,5 @@
-use std::alloc::{AllocError, Global};
+use std::alloc::Global;
 use std::process::Abort;
-use std::test::Fail;
 use tt_values::{Equal, Items, Row, Value};
 use tt_versions::{Side, Table};
 
@@ -13,11 +12,11 @@ const C: i64 = 3;
 const NONE: i64 = 0;
 
 /// A row with that key, and with a tag that differs from version to version.
-fn row(alloc: Global, key: i64, tag: i64) -> Result<Option<Row>, AllocError> {
-    let values = vec![in alloc; Value::Int(key), Value::Int(tag)]?;
-    Ok(Some(Row {
-        values: Items::new(alloc, values)?,
-    }))
+fn row(rt: &impl Abort, alloc: Global, key: i64, tag: i64) -> Option<Row> {
+    let values = vec![in alloc; Value::Int(key), Value::Int(tag)].expect(rt, "memory");
+    Some(Row {
+        values: Items::new(alloc, values).expect(rt, "memory"),
+    })
 }
 
 fn tag(row: Option<&Row>) -> i64 {
@@ -35,64 +34,58 @@ fn tag(row: Option<&Row>) -> i64 {
 }
 
 /// The side has key 1 with these tags, or not at all, at the times 1 to 5.
-fn expect_side(
-    rt: &impl Abort,
-    table: &Table,
-    side: Side,
-    wanted: [i64; 5],
-) -> Result<(), AllocError> {
+fn expect_side(rt: &impl Abort, table: &Table, side: Side, wanted: [i64; 5]) {
     for (index, want) in wanted.iter().enumerate() {
         let time = index as u64 + 1;
         assert_eq!(rt; tag(table.at(1, time, side)), *want);
-        let rows = table.rows_at(time, side)?;
+        let rows = table.rows_at(time, side).expect(rt, "memory");
         assert_eq!(rt; rows.is_empty(), *want == NONE);
         for (key, row) in &rows {
             assert_eq!(rt; *key, 1);
             assert_eq!(rt; tag(Some(*row)), *want);
         }
     }
-    Ok(())
 }
 
-fn expect_sides(
-    rt: &impl Abort,
-    table: &Table,
-    current: [i64; 5],
-    next: [i64; 5],
-) -> Result<(), AllocError> {
-    expect_side(rt, table, Side::Current, current)?;
-    expect_side(rt, table, Side::Next, next)
+fn expect_sides(rt: &impl Abort, table: &Table, current: [i64; 5], next: [i64; 5]) {
+    expect_side(rt, table, Side::Current, current);
+    expect_side(rt, table, Side::Next, next);
 }
 
 /// Key 1 has tag a from time 1 and tag b from time 3.
-fn a_then_b(alloc: Global) -> Result<Table, AllocError> {
-    Table::new(alloc)
-        .written(1, row(alloc, 1, A)?, 1)?
-        .written(1, row(alloc, 1, B)?, 3)
+fn a_then_b(rt: &impl Abort, alloc: Global) -> Table {
+    let table = Table::new(alloc)
+        .into_written(1, row(rt, alloc, 1, A), 1)
+        .expect(rt, "memory");
+    table
+        .written(1, row(rt, alloc, 1, B), 3)
+        .expect(rt, "memory")
 }
 
 /// Then key 1 was rolled back to before time 2, and each side was written on.
-fn two_sides(rt: &impl Abort, alloc: Global) -> Result<Table, AllocError> {
-    let split = a_then_b(alloc)?.split_back(1, 2)?;
+fn two_sides(rt: &impl Abort, alloc: Global) -> Table {
+    let split = a_then_b(rt, alloc).split_back(1, 2).expect(rt, "memory");
     assert!(rt; split.is_split(1));
-    split
-        .next_written(1, row(alloc, 1, C)?, 4)?
-        .written(1, None, 5)
+    let next = split
+        .next_written(1, row(rt, alloc, 1, C), 4)
+        .expect(rt, "memory");
+    next.written(1, None, 5).expect(rt, "memory")
 }
 
 #[test]
-fn each_side_is_written_on_its_own(rt: HostRuntime) -> Result<(), Fail> {
-    let split = two_sides(&rt, rt.alloc())?;
-    expect_sides(&rt, &split, [A, A, B, B, NONE], [A, A, A, C, C])?;
-    Ok(())
+fn each_side_is_written_on_its_own(rt: HostRuntime) {
+    let split = two_sides(&rt, rt.alloc());
+    expect_sides(&rt, &split, [A, A, B, B, NONE], [A, A, A, C, C]);
 }
 
 #[test]
-fn rows_of_one_time_are_written_together(rt: HostRuntime) -> Result<(), Fail> {
+fn rows_of_one_time_are_written_together(rt: HostRuntime) {
     let alloc = rt.alloc();
-    let rows = vec![in alloc; (1, row(alloc, 1, C)?), (2, row(alloc, 2, A)?)]?;
-    let table = a_then_b(alloc)?.split_back(1, 2)?;
-    let table = table.into_all_written(rows, 4)?;
+    let rows = vec![in alloc; (1, row(&rt, alloc, 1, C)), (2, row(&rt, alloc, 2, A))];
+    let table = a_then_b(&rt, alloc).split_back(1, 2).expect(&rt, "memory");
+    let table = table
+        .into_all_written(rows.expect(&rt, "memory"), 4)
+        .expect(&rt, "memory");
     for (key, side, before, after) in [
         (1, Side::Current, B, C),
         (1, Side::Next, A, A),
@@ -102,16 +95,17 @@ fn rows_of_one_time_are_written_together(rt: HostRuntime) -> Result<(), Fail> {
         assert_eq!(rt; tag(table.at(key, 3, side)), before);
         assert_eq!(rt; tag(table.at(key, 4, side)), after);
     }
-    Ok(())
 }
 
 #[test]
-fn rows_are_found_by_key_by_value_and_among_all(rt: HostRuntime) -> Result<(), Fail> {
+fn rows_are_found_by_key_by_value_and_among_all(rt: HostRuntime) {
     let alloc = rt.alloc();
-    let table = Table::with_columns(alloc, &[1])?
-        .into_written(1, row(alloc, 1, A)?, 1)?
-        .into_written(2, row(alloc, 2, A)?, 2)?
-        .into_written(1, row(alloc, 1, B)?, 3)?;
+    let mut table = Table::with_columns(alloc, &[1]).expect(&rt, "memory");
+    for (key, tag, time) in [(1, A, 1), (2, A, 2), (1, B, 3)] {
+        table = table
+            .into_written(key, row(&rt, alloc, key, tag), time)
+            .expect(&rt, "memory");
+    }
     for (column, value, time, wanted) in [
         (0, 1, 3, 1),
         (0, 3, 3, 0),
@@ -121,44 +115,50 @@ fn rows_are_found_by_key_by_value_and_among_all(rt: HostRuntime) -> Result<(), F
         (1, C, 3, 0),
         (7, A, 3, 0),
     ] {
-        let equals = vec![in alloc;
-            Equal {
-                column,
-                value: Value::Int(value)
-            },
-        ]?;
-        let rows = table.rows_matching(&equals, time, Side::Current)?;
+        let equals = [Equal {
+            column,
+            value: Value::Int(value),
+        }];
+        let rows = table
+            .rows_matching(&equals, time, Side::Current)
+            .expect(&rt, "memory");
         assert_eq!(rt;
             rows.len(),
             wanted,
             "column {column} value {value} time {time}"
         );
     }
-    assert_eq!(rt; table.rows_matching(&[], 3, Side::Next)?.len(), 2);
-    Ok(())
+    let all = table
+        .rows_matching(&[], 3, Side::Next)
+        .expect(&rt, "memory");
+    assert_eq!(rt; all.len(), 2);
 }
 
 /// Keys 0 to 29 have tag a at time 1 and b from time 2; every third one is split, with c from
 /// time 2.
-fn many_rows(rt: &impl Abort, alloc: Global) -> Result<Table, AllocError> {
+fn many_rows(rt: &impl Abort, alloc: Global) -> Table {
     let mut table = Table::new(alloc);
     for key in 0..30 {
-        table = table
-            .into_written(key, row(alloc, key, A)?, 1)?
-            .into_written(key, row(alloc, key, B)?, 2)?;
+        for (tag, time) in [(A, 1), (B, 2)] {
+            table = table
+                .into_written(key, row(rt, alloc, key, tag), time)
+                .expect(rt, "memory");
+        }
         if key % 3 == 0 {
-            table = table.into_split_back(key, 2)?;
+            table = table.into_split_back(key, 2).expect(rt, "memory");
             assert!(rt; table.is_split(key));
-            table = table.into_next_written(key, row(alloc, key, C)?, 2)?;
+            table = table
+                .into_next_written(key, row(rt, alloc, key, C), 2)
+                .expect(rt, "memory");
         }
     }
-    Ok(table)
+    table
 }
 
 /// Both sides have keys 0 to 29 at time 2, every third one with tag c and the others with tag b.
-fn expect_many(rt: &impl Abort, table: &Table) -> Result<(), AllocError> {
+fn expect_many(rt: &impl Abort, table: &Table) {
     for side in [Side::Current, Side::Next] {
-        let rows = table.rows_at(2, side)?;
+        let rows = table.rows_at(2, side).expect(rt, "memory");
         assert_eq!(rt; rows.len(), 30);
         let mut wanted = 0;
         for (key, row) in &rows {
@@ -170,11 +170,10 @@ fn expect_many(rt: &impl Abort, table: &Table) -> Result<(), AllocError> {
             wanted += 1;
         }
     }
-    Ok(())
 }
 
 #[test]
-fn many_rows_are_switched(rt: HostRuntime) -> Result<(), Fail> {
-    expect_many(&rt, &many_rows(&rt, rt.alloc())?.into_switched()?)?;
-    Ok(())
+fn many_rows_are_switched(rt: HostRuntime) {
+    let table = many_rows(&rt, rt.alloc()).into_switched();
+    expect_many(&rt, &table.expect(&rt, "memory"));
 }

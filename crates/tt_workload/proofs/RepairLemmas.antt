@@ -11,7 +11,6 @@ use Rattle.tt_db.specs.declared.event.Event.TheVariants as events
 use Rattle.tt_db.specs.declared.errors.DbError.TheVariants as errors
 use Rattle.tt_db.specs.declared.limits.Limits.{Limits}
 use Rattle.tt_repair_laws.specs.declared.edit.Edit.{Edit}
-use Rattle.tt_db.specs.Limits.{max_limits}
 use Rattle.tt_db.specs.State.{State, after, next_state, now_of, slots_left, full_at}
 use Rattle.tt_db.specs.Database.{Database, state_of, with_entry, refusal_of}
 use Rattle.tt_repair.specs.declared.record.Record.{Record}
@@ -19,8 +18,8 @@ use Rattle.tt_document.specs.declared.document.Call.{Call}
 use Rattle.tt_document.specs.declared.document.Ask.{Ask}
 use Rattle.tt_document.specs.declared.document.Ask.TheVariants as asks
 use Rattle.tt_workload.specs.Records.{record_in, kept}
-use Rattle.tt_workload.specs.History.{entries_of_ask, entries_of, repair_entry, steps, with_batch, records_of, records_meanwhile}
-use Rattle.tt_workload.specs.Room.{with_entries, HasRoom, IsBefore, IsUnderWay}
+use Rattle.tt_workload.specs.History.{with_entries, entries_of_ask, entries_of, repair_entry, steps, with_batch, with_meanwhile, records_of, records_meanwhile}
+use Rattle.tt_workload.specs.Room.{HasRoom, IsBefore, IsUnderWay}
 use Rattle.tt_workload.proofs.SlotLemmas.{after-push}
 
 pub full_at-below : (count limit : ℕ) → count < limit → full_at count limit ≡ None
@@ -51,8 +50,8 @@ left-push : (p : Phase) (W : Slots) (action : List Write) → left_of p (W ++ So
 left-push Idle W action = omega arith
 left-push (Repairing edits n) W action = omega (arith, length-append W (Some action ∷ []))
 
-is_after_action : (S : State) (action : List Write) → IsAfterAsk S (next_state S (events.Write action))
-is_after_action S action =
+is_after_action : (limits : Limits) (S : State) (action : List Write) → IsAfterAsk S (next_state limits S (events.Write action))
+is_after_action limits S action =
     let longer = length-append S.slots (Some action ∷ []) in
     record {
       phase = refl;
@@ -66,9 +65,9 @@ is_after_none : (S : State) → IsAfterAsk S S
 is_after_none S = record { phase = refl; slots = omega arith; events = omega arith; left = omega arith; more = omega arith }
 
 is_after_ask : (db : Database) (worker : ℕ) (ask : Ask) → IsAfterAsk (state_of db) (state_of (with_entries db (entries_of_ask worker ask)))
-is_after_ask db worker (asks.Write action) = subst (IsAfterAsk (state_of db)) (sym (after-push db.history _)) (is_after_action (state_of db) action)
-is_after_ask db worker (asks.Read q at) = subst (IsAfterAsk (state_of db)) (sym (ap after (append-nil db.history))) (is_after_none (state_of db))
-is_after_ask db worker (asks.Preview q) = subst (IsAfterAsk (state_of db)) (sym (ap after (append-nil db.history))) (is_after_none (state_of db))
+is_after_ask db worker (asks.Write action) = subst (IsAfterAsk (state_of db)) (sym (after-push db.limits db.history _)) (is_after_action db.limits (state_of db) action)
+is_after_ask db worker (asks.Read q at) = subst (IsAfterAsk (state_of db)) (sym (ap (after db.limits) (append-nil db.history))) (is_after_none (state_of db))
+is_after_ask db worker (asks.Preview q) = subst (IsAfterAsk (state_of db)) (sym (ap (after db.limits) (append-nil db.history))) (is_after_none (state_of db))
 
 -- ---- before the repair
 
@@ -109,7 +108,7 @@ under_way-call calls db worker ask is =
 -- the beginning of the repair
 pub under_way-begun : (calls : ℕ) (db : Database) (worker : ℕ) (edits : List Edit) → IsBefore calls db → IsUnderWay calls (with_entry db (repair_entry worker (events.Begin edits)))
 under_way-begun calls db worker edits is =
-    let next = after-push db.history (repair_entry worker (events.Begin edits)) in
+    let next = after-push db.limits db.history (repair_entry worker (events.Begin edits)) in
     record {
       limits = is.limits;
       repairing = ap (λ (S : State). is_repairing S.phase) next;
@@ -138,13 +137,13 @@ pub is_after_step : (db : Database) (worker : ℕ) → is_repairing (state_of db
     → IsAfterStep (state_of db) (state_of (with_entry db (repair_entry worker events.Step)))
 is_after_step db worker repairing some =
     let S = state_of db in
-    let next : IsAfterStep S (next_state S events.Step) = record {
+    let next : IsAfterStep S (next_state db.limits S events.Step) = record {
       repairing = repairing-step S.phase ∙ repairing;
       slots = refl;
       events = refl;
       left = left-step S.phase S.slots repairing some;
     } in
-    subst (IsAfterStep S) (sym (after-push db.history _)) next
+    subst (IsAfterStep S) (sym (after-push db.limits db.history _)) next
 
 pub under_way-step : (calls : ℕ) (db : Database) (worker : ℕ) → 0 < slots_left (state_of db) → IsUnderWay calls db → IsUnderWay calls (with_entry db (repair_entry worker events.Step))
 under_way-step calls db worker some is =
@@ -180,13 +179,22 @@ switch_is_accepted calls db is few none =
 -- ---- calls beside the steps
 
 -- the record of the next call, and those of the calls that are left
-pub records_meanwhile-next : (worker batch number : ℕ) (history before next : List Entry) (call : Call) (calls rest : List Call)
-    → calls ≡ call ∷ rest → before ≡ with_batch worker batch history → next ≡ before ++ entries_of call
-    → records_meanwhile worker batch number history calls ≡ record_in number (after before) call ∷ records_meanwhile worker batch (number + 1) next rest
-records_meanwhile-next worker batch number history before next call calls rest is_next is_before is_after =
-    ap (records_meanwhile worker batch number history) is_next
-    ∙ ap (λ h. record_in number (after h) call ∷ records_meanwhile worker batch (number + 1) (h ++ entries_of call) rest) (sym is_before)
-    ∙ ap (λ h. record_in number (after before) call ∷ records_meanwhile worker batch (number + 1) h rest) (sym is_after)
+pub records_meanwhile-next : (worker batch number : ℕ) (db before next : Database) (call : Call) (calls rest : List Call)
+    → calls ≡ call ∷ rest → before ≡ with_batch worker batch db → next ≡ with_entries before (entries_of call)
+    → records_meanwhile worker batch number db calls ≡ record_in number (state_of before) call ∷ records_meanwhile worker batch (number + 1) next rest
+records_meanwhile-next worker batch number db before next call calls rest is_next is_before is_after =
+    ap (records_meanwhile worker batch number db) is_next
+    ∙ ap (λ (d : Database). record_in number (state_of d) call ∷ records_meanwhile worker batch (number + 1) (with_entries d (entries_of call)) rest) (sym is_before)
+    ∙ ap (λ (d : Database). record_in number (state_of before) call ∷ records_meanwhile worker batch (number + 1) d rest) (sym is_after)
+
+-- the database after the next call, and after those that are left
+pub with_meanwhile-next : (worker batch : ℕ) (db before next : Database) (call : Call) (calls rest : List Call)
+    → calls ≡ call ∷ rest → before ≡ with_batch worker batch db → next ≡ with_entries before (entries_of call)
+    → with_meanwhile worker batch db calls ≡ with_meanwhile worker batch next rest
+with_meanwhile-next worker batch db before next call calls rest is_next is_before is_after =
+    ap (with_meanwhile worker batch db) is_next
+    ∙ ap (λ (d : Database). with_meanwhile worker batch (with_entries d (entries_of call)) rest) (sym is_before)
+    ∙ ap (λ (d : Database). with_meanwhile worker batch d rest) (sym is_after)
 
 -- a list so far, and the piece of the next item with those of the items that are left
 pub next-piece : {X Y : Type 0} (f : List X → List Y) (piece : X → List Y) (out new all : List Y) (x : X) (left rest : List X)
@@ -195,10 +203,10 @@ next-piece f piece out new all x left rest step is_left is_new whole =
     ap (λ o. o ++ f rest) is_new ∙ append_assoc out (piece x) (f rest) ∙ ap (λ ys. out ++ ys) (sym (step x rest)) ∙ ap (λ xs. out ++ f xs) (sym is_left) ∙ whole
 
 -- the same of calls before the repair
-pub records_of-next : (number : ℕ) (history next : List Entry) (call : Call) (calls rest : List Call)
-    → calls ≡ call ∷ rest → next ≡ history ++ entries_of call → records_of number history calls ≡ record_in number (after history) call ∷ records_of (number + 1) next rest
-records_of-next number history next call calls rest is_next is_after =
-    ap (records_of number history) is_next ∙ ap (λ h. record_in number (after history) call ∷ records_of (number + 1) h rest) (sym is_after)
+pub records_of-next : (number : ℕ) (db next : Database) (call : Call) (calls rest : List Call)
+    → calls ≡ call ∷ rest → next ≡ with_entries db (entries_of call) → records_of number db calls ≡ record_in number (state_of db) call ∷ records_of (number + 1) next rest
+records_of-next number db next call calls rest is_next is_after =
+    ap (records_of number db) is_next ∙ ap (λ (d : Database). record_in number (state_of db) call ∷ records_of (number + 1) d rest) (sym is_after)
 
 pub kept-next : (are_kept : Bool) (r : Record) (rs : List Record) → kept are_kept (r ∷ rs) ≡ kept are_kept (r ∷ []) ++ kept are_kept rs
 kept-next true r rs = refl

@@ -26,7 +26,7 @@ use Rattle.tt_workload.specs.Records.{after_text, text_of_change}
 use Rattle.tt_workload.specs.Room.{AreAccepted}
 use Rattle.tt_workload.specs.Report.{table_line, table_lines, end_line}
 
-drop-at : {X : Type 0} → (xs : List X) (i : ℕ) (x : X) → slice_get xs i ≡ Some x → drop i xs ≡ x ∷ drop (suc i) xs
+pub drop-at : {X : Type 0} → (xs : List X) (i : ℕ) (x : X) → slice_get xs i ≡ Some x → drop i xs ≡ x ∷ drop (suc i) xs
 drop-at [] i x h = cc
 drop-at (y ∷ ys) zero x h = let same : y ≡ x = cc in ap (λ z. z ∷ ys) same
 drop-at (y ∷ ys) (suc i) x h = drop-at ys i x h

@@ -4,18 +4,20 @@ use Rattle.std.proofs.lemmas.List.Sums.{fold-append}
 use Rattle.tt_values.specs.declared.statement.Select.{Select}
 use Rattle.tt_generations.specs.TwoGenerations.{is_repairing}
 use Rattle.tt_db.specs.declared.event.Entry.{Entry}
+use Rattle.tt_db.specs.declared.limits.Limits.{Limits}
 use Rattle.tt_db.specs.State.{State, start, after, next_state, now_of}
+use Rattle.tt_db.specs.Database.{Database, state_of}
 use Rattle.tt_repair.specs.declared.record.Record.{Record}
 use Rattle.tt_document.specs.declared.document.Call.{Call}
 use Rattle.tt_document.specs.declared.document.Ask.{Ask}
 use Rattle.tt_document.specs.declared.document.Ask.TheVariants as asks
 use Rattle.tt_document.specs.Repair.{is_action, is_action_of}
 use Rattle.tt_workload.specs.Records.{answer_in, read_in, preview_in}
-use Rattle.tt_workload.specs.History.{entries_of_ask, entries_of, history_of, records_of, slot_in, slot_in_record}
+use Rattle.tt_workload.specs.History.{with_entries, entries_of_ask, entries_of, history_of, records_of, slot_in, slot_in_record}
 
 -- one entry more leads to the next state
-pub after-push : (history : List Entry) (e : Entry) → after (history ++ e ∷ []) ≡ next_state (after history) e.event
-after-push history e = fold-append (λ S e. next_state S e.event) start history (e ∷ [])
+pub after-push : (limits : Limits) (history : List Entry) (e : Entry) → after limits (history ++ e ∷ []) ≡ next_state limits (after limits history) e.event
+after-push limits history e = fold-append (λ S e. next_state limits S e.event) start history (e ∷ [])
 
 -- the slots so far, with that of a call if it asks for an action
 abbrev pub with_slot : ℕ → Bool → ℕ
@@ -91,17 +93,17 @@ answer_in-slot S (asks.Write action) = omega arith
 answer_in-slot S (asks.Read q at) = read_in-slot S q at
 answer_in-slot S (asks.Preview q) = elim (is_repairing S.phase) as (λ b. is_repairing S.phase ≡ b → slot_in (preview_in S q) ≡ 0) [ true ↦ λ e. rw e refl | false ↦ λ e. rw e refl ] refl
 
-after-ask : (history : List Entry) (worker : ℕ) (ask : Ask) → now_of (after (history ++ entries_of_ask worker ask)) ≡ with_slot (now_of (after history)) (is_action ask)
-after-ask history worker (asks.Write action) = ap now_of (after-push history _) ∙ omega (arith, length-append (after history).slots (Some action ∷ []))
-after-ask history worker (asks.Read q at) = ap (λ h. now_of (after h)) (append-nil history)
-after-ask history worker (asks.Preview q) = ap (λ h. now_of (after h)) (append-nil history)
+after-ask : (db : Database) (worker : ℕ) (ask : Ask) → now_of (state_of (with_entries db (entries_of_ask worker ask))) ≡ with_slot (now_of (state_of db)) (is_action ask)
+after-ask db worker (asks.Write action) = ap now_of (after-push db.limits db.history _) ∙ omega (arith, length-append (state_of db).slots (Some action ∷ []))
+after-ask db worker (asks.Read q at) = ap (λ h. now_of (after db.limits h)) (append-nil db.history)
+after-ask db worker (asks.Preview q) = ap (λ h. now_of (after db.limits h)) (append-nil db.history)
 
-pub records_of-slot : (number : ℕ) (history : List Entry) (calls : List Call) (i : ℕ)
-    → slot_in_record (slice_get (records_of number history calls) i) ≡ slot_at (now_of (after history)) (asking calls) i
-records_of-slot number history [] i = refl
-records_of-slot number history (call ∷ calls) zero = answer_in-slot (after history) call.ask
-records_of-slot number history (call ∷ calls) (suc i) =
-    records_of-slot (number + 1) (history ++ entries_of call) calls i ∙ ap (λ n. slot_at n (asking calls) i) (after-ask history call.worker call.ask)
+pub records_of-slot : (number : ℕ) (db : Database) (calls : List Call) (i : ℕ)
+    → slot_in_record (slice_get (records_of number db calls) i) ≡ slot_at (now_of (state_of db)) (asking calls) i
+records_of-slot number db [] i = refl
+records_of-slot number db (call ∷ calls) zero = answer_in-slot (state_of db) call.ask
+records_of-slot number db (call ∷ calls) (suc i) =
+    records_of-slot (number + 1) (with_entries db (entries_of call)) calls i ∙ ap (λ n. slot_at n (asking calls) i) (after-ask db call.worker call.ask)
 
 pub asks_at-action : (calls : List Call) (i : ℕ) → is_action_of (slice_get calls i) ≡ asks_at (asking calls) i
 asks_at-action [] i = refl
@@ -109,9 +111,9 @@ asks_at-action (call ∷ calls) zero = refl
 asks_at-action (call ∷ calls) (suc i) = asks_at-action calls i
 
 -- the time after all of them
-pub now-after_calls : (history : List Entry) (calls : List Call) → now_of (after (history ++ history_of calls)) ≡ slots_of (now_of (after history)) (asking calls)
-now-after_calls history [] = ap (λ h. now_of (after h)) (append-nil history)
-now-after_calls history (call ∷ calls) =
-    ap (λ h. now_of (after h)) (sym (append_assoc history (entries_of call) (history_of calls)))
-    ∙ now-after_calls (history ++ entries_of call) calls
-    ∙ ap (λ n. slots_of n (asking calls)) (after-ask history call.worker call.ask)
+pub now-after_calls : (db : Database) (calls : List Call) → now_of (state_of (with_entries db (history_of calls))) ≡ slots_of (now_of (state_of db)) (asking calls)
+now-after_calls db [] = ap (λ h. now_of (after db.limits h)) (append-nil db.history)
+now-after_calls db (call ∷ calls) =
+    ap (λ h. now_of (after db.limits h)) (sym (append_assoc db.history (entries_of call) (history_of calls)))
+    ∙ now-after_calls (with_entries db (entries_of call)) calls
+    ∙ ap (λ n. slots_of n (asking calls)) (after-ask db call.worker call.ask)

@@ -1,4 +1,4 @@
--- The history that a document leaves, and the records of its calls.
+-- The database that a document leaves, and the records of its calls.
 use Rattle.std.specs.Prelude.{ℕ, ◌+◌, ◌-◌, min, List, [], ◌∷◌, ◌++◌, length, slice_get, map, replicate, Option, Some, None}
 use Rattle.std.specs.List.{flat_map}
 use Rattle.tt_repair_laws.specs.declared.edit.Edit.{Edit}
@@ -6,7 +6,9 @@ use Rattle.tt_repair_laws.specs.declared.edit.Edit.TheVariants.{Cancel, Replace}
 use Rattle.tt_db.specs.declared.event.Event.{Event}
 use Rattle.tt_db.specs.declared.event.Event.TheVariants as events
 use Rattle.tt_db.specs.declared.event.Entry.{Entry}
-use Rattle.tt_db.specs.State.{State, after, slots_left}
+use Rattle.tt_db.specs.State.{slots_left}
+use Rattle.tt_db.specs.Limits.{usual_limits}
+use Rattle.tt_db.specs.Database.{Database, state_of, with_entry}
 use Rattle.tt_repair.specs.declared.record.Record.{Record}
 use Rattle.tt_repair.specs.declared.record.What.{What}
 use Rattle.tt_repair.specs.declared.record.What.TheVariants as whats
@@ -30,10 +32,14 @@ entries_of call = entries_of_ask call.worker call.ask
 abbrev pub history_of : List Call → List Entry
 history_of calls = flat_map entries_of calls
 
--- the records of calls, numbered from a number on, after a history
-abbrev pub records_of : ℕ → List Entry → List Call → List Record
-records_of number history [] = []
-records_of number history (call ∷ calls) = record_in number (after history) call ∷ records_of (number + 1) (history ++ entries_of call) calls
+-- a database with further entries at the end of its history
+abbrev pub with_entries : Database → List Entry → Database
+with_entries db entries = record db { history = db.history ++ entries }
+
+-- the records of calls, numbered from a number on, on a database
+abbrev pub records_of : ℕ → Database → List Call → List Record
+records_of number db [] = []
+records_of number db (call ∷ calls) = record_in number (state_of db) call ∷ records_of (number + 1) (with_entries db (entries_of call)) calls
 
 -- the slot that an answer tells of, and 0 where it tells of none
 abbrev pub slot_in : What → ℕ
@@ -63,56 +69,67 @@ repair_entry worker event = record { worker = worker; event = event }
 abbrev pub steps : ℕ → ℕ → List Entry
 steps worker count = replicate count (repair_entry worker events.Step)
 
--- the history before a call that is made during the repair: with at most a batch of steps, and fewer where fewer slots are left
-abbrev pub with_batch : ℕ → ℕ → List Entry → List Entry
-with_batch worker batch history = history ++ steps worker (min batch (slots_left (after history)))
+-- a database before a call that is made during the repair: with at most a batch of steps, and fewer where fewer slots are left
+abbrev pub with_batch : ℕ → ℕ → Database → Database
+with_batch worker batch db = with_entries db (steps worker (min batch (slots_left (state_of db))))
 
--- the history with all steps that are left
-abbrev pub with_steps_left : ℕ → List Entry → List Entry
-with_steps_left worker history = history ++ steps worker (slots_left (after history))
+-- a database with all steps that are left
+abbrev pub with_steps_left : ℕ → Database → Database
+with_steps_left worker db = with_entries db (steps worker (slots_left (state_of db)))
 
--- the history after calls that are made during the repair
-abbrev pub with_meanwhile : ℕ → ℕ → List Entry → List Call → List Entry
-with_meanwhile worker batch history [] = history
-with_meanwhile worker batch history (call ∷ calls) = with_meanwhile worker batch (with_batch worker batch history ++ entries_of call) calls
+-- a database after calls that are made during the repair
+abbrev pub with_meanwhile : ℕ → ℕ → Database → List Call → Database
+with_meanwhile worker batch db [] = db
+with_meanwhile worker batch db (call ∷ calls) = with_meanwhile worker batch (with_entries (with_batch worker batch db) (entries_of call)) calls
 
 -- the records of calls that are made during the repair
-abbrev pub records_meanwhile : ℕ → ℕ → ℕ → List Entry → List Call → List Record
-records_meanwhile worker batch number history [] = []
-records_meanwhile worker batch number history (call ∷ calls) =
-    let before = with_batch worker batch history in
-    record_in number (after before) call ∷ records_meanwhile worker batch (number + 1) (before ++ entries_of call) calls
+abbrev pub records_meanwhile : ℕ → ℕ → ℕ → Database → List Call → List Record
+records_meanwhile worker batch number db [] = []
+records_meanwhile worker batch number db (call ∷ calls) =
+    let before = with_batch worker batch db in
+    record_in number (state_of before) call ∷ records_meanwhile worker batch (number + 1) (with_entries before (entries_of call)) calls
 
--- the history after the beginning of a repair of calls, of which these are the records, by the worker of this number
-abbrev pub begun : ℕ → List Record → List Entry → Plan → List Entry
-begun worker records history plan = history ++ repair_entry worker (events.Begin (map (edit_of_slot records) plan.edits)) ∷ []
+-- a database after the beginning of a repair of calls, of which these are the records, by the worker of this number
+abbrev pub after_begin : ℕ → List Record → Database → Plan → Database
+after_begin worker records db plan = with_entry db (repair_entry worker (events.Begin (map (edit_of_slot records) plan.edits)))
 
--- the history before the switch, with every slot done, where at most a batch of steps is made before each further call
-abbrev pub caught_up : ℕ → ℕ → List Record → List Entry → Plan → List Entry
-caught_up worker batch records history plan =
-    with_steps_left worker (with_meanwhile worker batch (begun worker records history plan) plan.meanwhile)
+-- the database before the switch, with every slot done, where at most a batch of steps is made before each further call
+abbrev pub before_switch : ℕ → ℕ → List Record → Database → Plan → Database
+before_switch worker batch records db plan =
+    with_steps_left worker (with_meanwhile worker batch (after_begin worker records db plan) plan.meanwhile)
 
--- the history after the switch
-abbrev pub switched : ℕ → ℕ → List Record → List Entry → Plan → List Entry
-switched worker batch records history plan = caught_up worker batch records history plan ++ repair_entry worker events.Switch ∷ []
+-- the database after the switch
+abbrev pub after_switch : ℕ → ℕ → List Record → Database → Plan → Database
+after_switch worker batch records db plan = with_entry (before_switch worker batch records db plan) (repair_entry worker events.Switch)
 
 -- the records of the calls before the repair and of those that are made meanwhile
-abbrev pub with_records_meanwhile : ℕ → ℕ → List Record → List Entry → Plan → List Record
-with_records_meanwhile worker batch records history plan =
-    records ++ records_meanwhile worker batch (length records + 1) (begun worker records history plan) plan.meanwhile
+abbrev pub with_records_meanwhile : ℕ → ℕ → List Record → Database → Plan → List Record
+with_records_meanwhile worker batch records db plan =
+    records ++ records_meanwhile worker batch (length records + 1) (after_begin worker records db plan) plan.meanwhile
+
+-- the database of a document before its calls, and after them
+abbrev pub before_calls : Document → Database
+before_calls document = record { catalog = document.catalog; limits = usual_limits; history = [] }
+
+abbrev pub after_calls : Document → Database
+after_calls document = with_entries (before_calls document) (history_of document.calls)
+
+-- the records of its calls
+abbrev pub records_of_calls : Document → List Record
+records_of_calls document = records_of 1 (before_calls document) document.calls
 
 -- the worker of the repair: the one behind the last
 abbrev pub administrator : Document → ℕ
 administrator document = document.workers + 1
 
--- the whole history of a document, with or without a repair
-abbrev pub history_if : ℕ → Document → Option Plan → List Entry
-history_if batch document None = history_of document.calls
-history_if batch document (Some plan) =
-    switched (administrator document) batch (records_of 1 [] document.calls) (history_of document.calls) plan
+-- the last database of a document, with or without a repair
+abbrev pub database_if : ℕ → Document → Option Plan → Database
+database_if batch document None = after_calls document
+database_if batch document (Some plan) =
+    after_switch (administrator document) batch (records_of_calls document) (after_calls document) plan
 
 -- the records of all its calls
 abbrev pub records_if : ℕ → Document → Option Plan → List Record
-records_if batch document None = records_of 1 [] document.calls
+records_if batch document None = records_of_calls document
 records_if batch document (Some plan) =
-    with_records_meanwhile (administrator document) batch (records_of 1 [] document.calls) (history_of document.calls) plan
+    with_records_meanwhile (administrator document) batch (records_of_calls document) (after_calls document) plan

@@ -1,10 +1,10 @@
--- How a run repairs.
-use Rattle.std.specs.Prelude.{◌≤◌}
+-- How a run repairs, and what its report tells.
+use Rattle.std.specs.Prelude.{◌≤◌, false}
 use Rattle.tt_workload.specs.declared.options.Options.{Options}
 
 -- the options where none is given
 abbrev pub usual : Options
-usual = record { batch = 16; rounds = 8 }
+usual = record { batch = 16; rounds = 8; closed = false }
 
 -- a batch of 1 to 10,000 steps, and at most 1,000 rounds
 pub record AreWithin (options : Options) : Type 0 where

@@ -1,44 +1,54 @@
 -- The report of a document, in bytes, and the database that its calls leave.
-use Rattle.std.specs.Prelude.{◌≡◌, ℕ, ◌+◌, List, [], ◌∷◌, ◌++◌, Option, Some, None, codes}
+use Rattle.std.specs.Prelude.{ℕ, ◌+◌, List, [], ◌∷◌, ◌++◌, length, Bool, true, false, Option, Some, None, codes}
 use Rattle.std.specs.Fmt.{decimal}
 use Rattle.tt_values.specs.declared.statement.Select.{Select}
 use Rattle.tt_values.specs.declared.reply.Reply.{Reply}
 use Rattle.tt_values.specs.Tables.{Tables}
 use Rattle.tt_values.specs.Effect.{answer_of}
-use Rattle.tt_generations.specs.TwoGenerations.{rerun_of}
-use Rattle.tt_db.specs.declared.event.Entry.{Entry}
-use Rattle.tt_db.specs.State.{State, after, now_of, current_at}
-use Rattle.tt_db.specs.Limits.{max_limits}
-use Rattle.tt_db.specs.Database.{Database}
+use Rattle.tt_values.specs.RowWrites.{Slots, content_of}
+use Rattle.tt_db.specs.State.{State, ClosedGeneration, now_of, current_at}
+use Rattle.tt_db.specs.declared.event.Event.TheVariants.{Switch}
+use Rattle.tt_db.specs.declared.outcome.Outcome.{Outcome}
+use Rattle.tt_db.specs.declared.outcome.Outcome.TheVariants.{Switched}
+use Rattle.tt_db.specs.Database.{Database, state_of, outcome_for}
 use Rattle.tt_repair.specs.declared.record.Record.{Record}
 use Rattle.tt_repair.specs.Changes.{changes_of}
 use Rattle.tt_document.specs.declared.document.Document.{Document}
 use Rattle.tt_document.specs.declared.document.Plan.{Plan}
+use Rattle.tt_workload.specs.declared.options.Options.{Options}
 use Rattle.tt_workload.specs.Printing.{reply_text}
 use Rattle.tt_workload.specs.Records.{text_of_records, text_of_changes}
-use Rattle.tt_workload.specs.History.{history_of, records_of, caught_up, switched, with_records_meanwhile, administrator, history_if, records_if}
+use Rattle.tt_workload.specs.History.{after_calls, records_of_calls, before_switch, after_switch, with_records_meanwhile, administrator, database_if, records_if}
 
 -- the line of a repair, with what its switch answered: the generation, the slots, and how many of them were re-executed
 abbrev pub repair_text : ℕ → ℕ → ℕ → List ℕ
 repair_text generation slots rerun =
     codes "repair generation " ++ (decimal generation ++ (codes " slots " ++ (decimal slots ++ (codes " rerun " ++ (decimal rerun ++ codes "\n")))))
 
--- the line of a repair, in the state before its switch
-abbrev pub repair_line : Tables → State → List ℕ
-repair_line tables S = repair_text (S.generation + 1) (now_of S) (rerun_of tables S.phase S.slots)
+-- the line of a repair whose switch has this outcome; no other event has one
+abbrev pub outcome_text : Outcome → List ℕ
+outcome_text (Switched generation slots rerun) = repair_text generation slots rerun
+outcome_text outcome = []
+
+-- the line of a repair, on the database before its switch
+abbrev pub repair_line : Database → List ℕ
+repair_line db = outcome_text (outcome_for db Switch)
+
+-- the lines of the replies that a database answers otherwise now
+abbrev pub changed_lines : Database → List Record → List ℕ
+changed_lines db records = text_of_changes (changes_of db.catalog (state_of db) records)
 
 -- the lines of a repair: its own, and one for each changed reply
-abbrev pub repair_lines : Tables → ℕ → ℕ → List Record → List Entry → Plan → List ℕ
-repair_lines tables worker batch records history plan =
-    let all = with_records_meanwhile worker batch records history plan in
-    repair_line tables (after (caught_up worker batch records history plan))
-    ++ text_of_changes (changes_of tables (after (switched worker batch records history plan)) all)
+abbrev pub repair_lines : ℕ → ℕ → List Record → Database → Plan → List ℕ
+repair_lines worker batch records db plan =
+    repair_line (before_switch worker batch records db plan)
+    ++ changed_lines (after_switch worker batch records db plan) (with_records_meanwhile worker batch records db plan)
 
 -- the lines of the repair of a document, with or without one
 abbrev pub repair_lines_if : ℕ → Document → Option Plan → List ℕ
 repair_lines_if batch document None = []
 repair_lines_if batch document (Some plan) =
-    repair_lines document.catalog (administrator document) batch (records_of 1 [] document.calls) (history_of document.calls) plan
+    repair_lines (administrator document) batch (records_of_calls document) (after_calls document) plan
 
 -- a select of all rows of a table
 abbrev pub all_rows : ℕ → Select
@@ -57,6 +67,37 @@ abbrev pub table_lines : State → ℕ → Tables → List ℕ
 table_lines S table [] = []
 table_lines S table (t ∷ tables) = table_line S table t.0 ++ table_lines S (table + 1) tables
 
+-- the slots of a generation, and none where it can't be read
+abbrev pub slots_or_none : Option Slots → Slots
+slots_or_none None = []
+slots_or_none (Some W) = W
+
+-- the line of a table of a closed generation, with the generation's last time
+abbrev pub closed_text : ℕ → ℕ → List ℕ → Reply → List ℕ
+closed_text generation time name rows =
+    codes "closed generation " ++ (decimal generation ++ (codes " time " ++ (decimal time ++ (codes " " ++ table_text name rows))))
+
+-- the line of a table of a closed generation with these slots: all its rows at the last time
+abbrev pub closed_table_line : ℕ → Slots → ℕ → List ℕ → List ℕ
+closed_table_line generation W table name =
+    closed_text generation (length W) name (answer_of (all_rows table) (content_of W (length W)))
+
+-- the lines of the tables of a closed generation, from a position on
+abbrev pub closed_table_lines : ℕ → Slots → ℕ → Tables → List ℕ
+closed_table_lines generation W table [] = []
+closed_table_lines generation W table (t ∷ tables) =
+    closed_table_line generation W table t.0 ++ closed_table_lines generation W (table + 1) tables
+
+-- the lines of closed generations
+abbrev pub closed_lines : Tables → List ClosedGeneration → List ℕ
+closed_lines tables [] = []
+closed_lines tables (c ∷ closed) = closed_table_lines c.number c.slots 0 tables ++ closed_lines tables closed
+
+-- the lines of the closed generations that are kept, where these are asked for
+abbrev pub closed_lines_if : Bool → Database → List ℕ
+closed_lines_if false db = []
+closed_lines_if true db = closed_lines db.catalog (state_of db).closed
+
 -- the last line, with a generation and a time
 abbrev pub end_text : ℕ → ℕ → List ℕ
 end_text generation time = codes "end generation " ++ (decimal generation ++ (codes " time " ++ (decimal time ++ codes "\n")))
@@ -65,13 +106,18 @@ end_text generation time = codes "end generation " ++ (decimal generation ++ (co
 abbrev pub end_line : State → List ℕ
 end_line S = end_text S.generation (now_of S)
 
--- the report of a document, whose repair makes at most a batch of steps before each call: a line for each call, those of the repair, one for each table, and the last one
-abbrev pub report_of : ℕ → Document → List ℕ
-report_of batch document =
-    let last = after (history_if batch document document.repair) in
-    text_of_records (records_if batch document document.repair)
-    ++ (repair_lines_if batch document document.repair ++ (table_lines last 0 document.catalog ++ end_line last))
+-- the lines of all tables, and the last one
+abbrev pub last_lines : Database → List ℕ
+last_lines db = table_lines (state_of db) 0 db.catalog ++ end_line (state_of db)
+
+-- the report of a document, whose repair makes at most a batch of steps before each call: a line for each call, those of the repair,
+-- those of the closed generations where these are asked for, one for each table, and the last one
+abbrev pub report_of : Options → Document → List ℕ
+report_of options document =
+    let last = database_if options.batch document document.repair in
+    text_of_records (records_if options.batch document document.repair)
+    ++ (repair_lines_if options.batch document document.repair ++ (closed_lines_if options.closed last ++ last_lines last))
 
 -- the database after the calls of a document, and its repair
 abbrev pub database_after : ℕ → Document → Database
-database_after batch document = record { catalog = document.catalog; limits = max_limits; history = history_if batch document document.repair }
+database_after batch document = database_if batch document document.repair

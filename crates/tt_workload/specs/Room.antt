@@ -1,17 +1,12 @@
 -- Why no call of a document, and no entry of its repair, is refused.
-use Rattle.std.specs.Prelude.{◌≡◌, ℕ, ◌+◌, ◌<◌, ◌≤◌, true, false, List, [], ◌∷◌, ◌++◌, None}
+use Rattle.std.specs.Prelude.{◌≡◌, ℕ, ◌+◌, ◌<◌, ◌≤◌, true, false, List, [], ◌∷◌, None}
 use Rattle.tt_values.specs.Tables.{Tables}
 use Rattle.tt_generations.specs.TwoGenerations.{is_repairing}
-use Rattle.tt_db.specs.declared.event.Entry.{Entry}
-use Rattle.tt_db.specs.State.{State, now_of, slots_left}
-use Rattle.tt_db.specs.Limits.{max_limits}
+use Rattle.tt_db.specs.State.{now_of, slots_left}
+use Rattle.tt_db.specs.Limits.{usual_limits}
 use Rattle.tt_db.specs.Database.{Database, state_of}
 use Rattle.tt_document.specs.declared.document.Call.{Call}
 use Rattle.tt_document.specs.Document.{ask_fault}
-
--- a database with further entries at the end of its history
-abbrev pub with_entries : Database → List Entry → Database
-with_entries db entries = record db { history = db.history ++ entries }
 
 -- a database with room for a further action
 pub record HasRoom (db : Database) : Type 0 where
@@ -25,14 +20,14 @@ AreAccepted tables (call ∷ calls) = (ask_fault tables call.ask ≡ None) × Ar
 
 -- after these calls, which took a slot each at most, no repair is under way, and each slot is one entry
 pub record IsBefore (calls : ℕ) (db : Database) : Type 0 where
-  pub limits : db.limits ≡ max_limits
+  pub limits : db.limits ≡ usual_limits
   pub idle : is_repairing (state_of db).phase ≡ false
   pub slots : now_of (state_of db) ≤ calls
   pub events : (state_of db).events ≤ now_of (state_of db)
 
 -- a repair is under way after so many calls: each of them took a slot at most, and each slot is one entry and at most one step, beside the beginning of the repair
 pub record IsUnderWay (calls : ℕ) (db : Database) : Type 0 where
-  pub limits : db.limits ≡ max_limits
+  pub limits : db.limits ≡ usual_limits
   pub repairing : is_repairing (state_of db).phase ≡ true
   pub slots : now_of (state_of db) ≤ calls
   pub events : (state_of db).events + slots_left (state_of db) ≤ now_of (state_of db) + now_of (state_of db) + 1

@@ -2,12 +2,12 @@
 ghost use Rattle.std.specs.Prelude.{◌≡◌, ◌++◌, ◌∷◌, ◌≤◌, [], length, OnOk, IfOk, IfErr, None, Some};
 ghost use Rattle.tt_values.specs.Check.{action_fault, select_fault};
 ghost use Rattle.tt_generations.specs.TwoGenerations.{done_of};
-ghost use Rattle.tt_db.specs.Limits.{max_limits};
+ghost use Rattle.tt_db.specs.Limits.{usual_limits};
 ghost use Rattle.tt_db.specs.Database.{state_of, with_entry, refusal_of, outcome_for};
 ghost use Rattle.tt_document.specs.Document.{ask_fault};
 ghost use Rattle.tt_workload.specs.Records.{read_in, preview_in, answer_in, record_in, kept, text_of_record, text_of_records};
-ghost use Rattle.tt_workload.specs.History.{entries_of_ask, entries_of, history_of, records_of};
-ghost use Rattle.tt_workload.specs.Room.{with_entries, HasRoom, AreAccepted, IsBefore};
+ghost use Rattle.tt_workload.specs.History.{with_entries, entries_of_ask, entries_of, history_of, records_of};
+ghost use Rattle.tt_workload.specs.Room.{HasRoom, AreAccepted, IsBefore};
 
 use crate::record_text::push_record;
 use crate::run_fault::RunFault;
@@ -18,7 +18,7 @@ use tt_repair::{Record, What};
 use tt_values::{Items, Select, Write};
 
 /// Carries out an event that isn't refused. Answers the next database and the outcome.
-pub(crate) fn carry_out(alloc: Global, db: Db, entry: Entry) -> Result<(Db, Outcome), RunFault>
+pub(crate) fn carry_out(db: Db, entry: Entry) -> Result<(Db, Outcome), RunFault>
     requires { refusal_of db entry.event ≡ None }
     ensures state { IfOk result (λ r. r.0 ≡ with_entry db entry) }
     ensures outcome { IfOk result (λ r. r.1 ≡ outcome_for db entry.event) }
@@ -27,17 +27,12 @@ pub(crate) fn carry_out(alloc: Global, db: Db, entry: Entry) -> Result<(Db, Outc
     let (next, answer) = db.advanced(entry)?;
     match answer {
         Ok(outcome) => Ok((next, outcome)),
-        Err(error) => Err(RunFault::of_event(alloc, error)),
+        Err(_) => unreachable!(),
     }
 }
 
 /// Carries out an action. Answers the next database, and the slot with the replies.
-fn make_action(
-    alloc: Global,
-    db: Db,
-    worker: u32,
-    action: Items<Write>,
-) -> Result<(Db, What), RunFault>
+fn make_action(db: Db, worker: u32, action: Items<Write>) -> Result<(Db, What), RunFault>
     requires accepted { action_fault db.catalog action ≡ None }
     requires room { HasRoom db }
     ensures state { IfOk result (λ r. r.0
@@ -49,7 +44,7 @@ fn make_action(
         worker,
         event: Event::Write(action),
     };
-    let (next, outcome) = carry_out(alloc, db, entry)?;
+    let (next, outcome) = carry_out(db, entry)?;
     match outcome {
         Outcome::Written { slot, replies } => Ok((next, What::Write { slot, replies })),
         _ => unreachable!(),
@@ -140,15 +135,35 @@ fn answer(alloc: Global, db: Db, worker: u32, ask: Ask) -> Result<(Db, What), Ru
     ensures err { IfErr result (λ e. e ≡ RunFault.Memory) }
 {
     match ask {
-        Ask::Write(action) => make_action(alloc, db, worker, action),
-        Ask::Read { select, at } => {
-            let what = read(alloc, &db, select, at)?;
-            Ok((db, what))
-        }
-        Ask::Preview(select) => {
-            let what = preview(alloc, &db, &select)?;
-            Ok((db, what))
-        }
+        Ask::Write(action) => make_action(db, worker, action),
+        Ask::Read { select, at } => make_read(alloc, db, select, at),
+        Ask::Preview(select) => make_preview(alloc, db, select),
+    }
+}
+
+/// Answers a select. Answers the same database, too.
+fn make_read(alloc: Global, db: Db, select: Select, at: Option<u64>) -> Result<(Db, What), RunFault>
+    requires accepted { select_fault db.catalog select ≡ None }
+    ensures state { IfOk result (λ r. r.0 ≡ db) }
+    ensures answer { IfOk result (λ r. r.1 ≡ read_in (state_of db) select at) }
+    ensures err { IfErr result (λ e. e ≡ RunFault.Memory) }
+{
+    match read(alloc, &db, select, at) {
+        Ok(what) => Ok((db, what)),
+        Err(fault) => Err(fault),
+    }
+}
+
+/// Answers a preview. Answers the same database, too.
+fn make_preview(alloc: Global, db: Db, select: Select) -> Result<(Db, What), RunFault>
+    requires accepted { select_fault db.catalog select ≡ None }
+    ensures state { IfOk result (λ r. r.0 ≡ db) }
+    ensures answer { IfOk result (λ r. r.1 ≡ preview_in (state_of db) select) }
+    ensures err { IfErr result (λ e. e ≡ RunFault.Memory) }
+{
+    match preview(alloc, &db, &select) {
+        Ok(what) => Ok((db, what)),
+        Err(fault) => Err(fault),
     }
 }
 
@@ -201,15 +216,15 @@ pub(crate) fn make_calls(
     calls: Vec<Call>,
 ) -> Result<Db, RunFault>
     requires empty { db.history ≡ [] }
-    requires limits { db.limits ≡ max_limits }
+    requires limits { db.limits ≡ usual_limits }
     requires accepted { AreAccepted db.catalog calls.items }
     requires few { length calls.items ≤ 100000 }
     ensures lines { OnOk result (out.new.items
-        ≡ out.old.items ++ text_of_records (records_of 1 [] calls.items)) }
+        ≡ out.old.items ++ text_of_records (records_of 1 db calls.items)) }
     ensures records { OnOk result (records.new.items
-        ≡ records.old.items ++ kept are_kept (records_of 1 [] calls.items)) }
+        ≡ records.old.items ++ kept are_kept (records_of 1 db calls.items)) }
     ensures state { IfOk result (λ last.
-        last ≡ record db { history = history_of calls.items }) }
+        last ≡ with_entries db (history_of calls.items)) }
     ensures room { IfOk result (IsBefore (length calls.items)) }
     ensures err { IfErr result (λ e. e ≡ RunFault.Memory) }
 {

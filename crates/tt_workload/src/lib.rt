@@ -3,6 +3,7 @@
 #![tactic(auto)]
 
 mod calls;
+mod closed;
 mod ends;
 mod options;
 mod printing;

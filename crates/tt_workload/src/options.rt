@@ -1,29 +1,32 @@
 ghost use Rattle.std.specs.Prelude.{◌≡◌};
 
-/// How a run repairs.
+/// How a run repairs, and what its report tells.
 #[derive(Clone, Copy, Debug, PartialEq, Eq)]
 pub struct Options {
     /// The largest number of steps of a repair that are done at once, 1 to 10,000.
     pub batch: u32,
     /// The largest number of rounds of catching up before a repair is finished, 0 to 1,000.
     pub rounds: u32,
+    /// Whether the closed generations that are kept are printed.
+    pub closed: bool,
 }
 
 impl Options {
     ghost use Rattle.std.specs.Prelude.{◌↔◌, IsTrue};
     ghost use Rattle.tt_workload.specs.Options.{usual, AreWithin};
 
-    /// The options where none is given: batch 16, rounds 8.
+    /// The options where none is given: batch 16, rounds 8, no closed generation.
     pub const fn usual() -> Options
         ensures { result ≡ usual }
     {
         Options {
             batch: 16,
             rounds: 8,
+            closed: false,
         }
     }
 
-    /// Whether both are within their ranges.
+    /// Whether both numbers are within their ranges.
     pub fn fits(&self) -> bool
         ensures { IsTrue result ↔ AreWithin self.now }
     {

@@ -1,12 +1,12 @@
 //! The repair of a document: its edits, its steps beside further calls, and its switch.
 ghost use Rattle.std.specs.Prelude.{◌≡◌, ◌+◌, ◌++◌, ◌∷◌, ◌≤◌, true, [], length, map, min, OnOk, IfOk, IfErr, None};
 ghost use Rattle.tt_generations.specs.TwoGenerations.{is_repairing};
-ghost use Rattle.tt_db.specs.State.{after, slots_left};
-ghost use Rattle.tt_db.specs.Database.{state_of, with_entry, refusal_of};
+ghost use Rattle.tt_db.specs.State.{slots_left};
+ghost use Rattle.tt_db.specs.Database.{state_of, with_entry, refusal_of, outcome_for};
 ghost use Rattle.tt_workload.specs.Records.{text_of_records};
-ghost use Rattle.tt_workload.specs.History.{slot_in, slot_of_call, edit_of_slot, repair_entry, steps, with_batch, with_steps_left, with_meanwhile, records_meanwhile};
-ghost use Rattle.tt_workload.specs.Report.{repair_line, repair_text};
-ghost use Rattle.tt_workload.specs.Room.{with_entries, AreAccepted, IsUnderWay};
+ghost use Rattle.tt_workload.specs.History.{with_entries, slot_in, slot_of_call, edit_of_slot, repair_entry, steps, with_batch, with_steps_left, with_meanwhile, records_meanwhile};
+ghost use Rattle.tt_workload.specs.Report.{repair_line, repair_text, outcome_text};
+ghost use Rattle.tt_workload.specs.Room.{AreAccepted, IsUnderWay};
 
 use crate::calls::{carry_out, make_call};
 use crate::printing::push_labelled;
@@ -71,23 +71,23 @@ pub(crate) fn edits_of_slots(
 }
 
 /// Carries out an entry of the repair that isn't refused.
-fn make_entry(alloc: Global, db: Db, worker: u32, event: Event) -> Result<Db, RunFault>
+fn make_entry(db: Db, worker: u32, event: Event) -> Result<Db, RunFault>
     requires { refusal_of db event ≡ None }
     ensures state { IfOk result (λ next. next ≡ with_entry db (repair_entry worker event)) }
     ensures err { IfErr result (λ e. e ≡ RunFault.Memory) }
 {
-    let (next, _) = carry_out(alloc, db, Entry { worker, event })?;
+    let (next, _) = carry_out(db, Entry { worker, event })?;
     Ok(next)
 }
 
 /// Begins the repair with these edits of slots.
-pub(crate) fn begin(alloc: Global, db: Db, worker: u32, edits: Items<Edit>) -> Result<Db, RunFault>
+pub(crate) fn begin(db: Db, worker: u32, edits: Items<Edit>) -> Result<Db, RunFault>
     requires { refusal_of db (Event.Begin edits) ≡ None }
     ensures state { IfOk result (λ next. next
         ≡ with_entry db (repair_entry worker (Event.Begin edits))) }
     ensures err { IfErr result (λ e. e ≡ RunFault.Memory) }
 {
-    make_entry(alloc, db, worker, Event::Begin(edits))
+    make_entry(db, worker, Event::Begin(edits))
 }
 
 /// How many slots the repair has left: 0 where none is under way.
@@ -101,7 +101,7 @@ fn slots_left(db: &Db) -> u64
 }
 
 /// Makes steps of the repair, which has at least so many left.
-fn make_steps(alloc: Global, db: Db, worker: u32, count: u64, calls: u64) -> Result<Db, RunFault>
+fn make_steps(db: Db, worker: u32, count: u64, calls: u64) -> Result<Db, RunFault>
     requires under_way { IsUnderWay calls db }
     requires few { calls ≤ 200000 }
     requires left { count ≤ slots_left (state_of db) }
@@ -113,22 +113,22 @@ fn make_steps(alloc: Global, db: Db, worker: u32, count: u64, calls: u64) -> Res
 {
     let mut db = db;
     for _ in 0..count {
-        db = make_entry(alloc, db, worker, Event::Step)?;
+        db = make_entry(db, worker, Event::Step)?;
     }
     Ok(db)
 }
 
 /// Makes a batch of steps, or as many as are left.
-fn make_batch(alloc: Global, db: Db, worker: u32, batch: u64, calls: u64) -> Result<Db, RunFault>
+fn make_batch(db: Db, worker: u32, batch: u64, calls: u64) -> Result<Db, RunFault>
     requires under_way { IsUnderWay calls db }
     requires few { calls ≤ 200000 }
     ensures state { IfOk result (λ last.
-        last ≡ record db { history = with_batch worker batch db.history }) }
+        last ≡ with_batch worker batch db) }
     ensures under_way { IfOk result (IsUnderWay calls) }
     ensures err { IfErr result (λ e. e ≡ RunFault.Memory) }
 {
     let count = batch.min(slots_left(&db));
-    make_steps(alloc, db, worker, count, calls)
+    make_steps(db, worker, count, calls)
 }
 
 /// Makes the calls of a document that are made while its repair is under way, with a batch of steps
@@ -147,18 +147,18 @@ pub(crate) fn make_meanwhile(
     requires accepted { AreAccepted db.catalog calls.items }
     requires few { made + length calls.items ≤ 200000 }
     ensures lines { OnOk result (out.new.items ≡ out.old.items
-        ++ text_of_records (records_meanwhile worker batch (made + 1) db.history calls.items)) }
+        ++ text_of_records (records_meanwhile worker batch (made + 1) db calls.items)) }
     ensures records { OnOk result (records.new.items ≡ records.old.items
-        ++ records_meanwhile worker batch (made + 1) db.history calls.items) }
-    ensures state { IfOk result (λ last. last
-        ≡ record db { history = with_meanwhile worker batch db.history calls.items }) }
+        ++ records_meanwhile worker batch (made + 1) db calls.items) }
+    ensures state { IfOk result (λ last.
+        last ≡ with_meanwhile worker batch db calls.items) }
     ensures under_way { IfOk result (IsUnderWay (made + length calls.items)) }
     ensures err { IfErr result (λ e. e ≡ RunFault.Memory) }
 {
     let mut db = db;
     let mut number = made;
     for call in calls {
-        db = make_batch(alloc, db, worker, batch, number)?;
+        db = make_batch(db, worker, batch, number)?;
         number += 1;
         let (next, record) = make_call(alloc, out, db, number, call)?;
         db = next;
@@ -168,53 +168,65 @@ pub(crate) fn make_meanwhile(
 }
 
 /// Makes the steps that are left.
-fn catch_up(alloc: Global, db: Db, worker: u32, calls: u64) -> Result<Db, RunFault>
+fn catch_up(db: Db, worker: u32, calls: u64) -> Result<Db, RunFault>
     requires under_way { IsUnderWay calls db }
     requires few { calls ≤ 200000 }
     ensures state { IfOk result (λ last.
-        last ≡ record db { history = with_steps_left worker db.history }) }
+        last ≡ with_steps_left worker db) }
     ensures under_way { IfOk result (IsUnderWay calls) }
     ensures none_left { IfOk result (λ last. slots_left (state_of last) ≡ 0) }
     ensures err { IfErr result (λ e. e ≡ RunFault.Memory) }
 {
     let count = slots_left(&db);
-    make_steps(alloc, db, worker, count, calls)
+    make_steps(db, worker, count, calls)
 }
 
 /// Makes the steps that are left, switches to the repaired generation, and pushes the line of the
 /// repair. Answers the database after the switch.
-pub(crate) fn finish(
-    alloc: Global,
-    out: &mut Vec<u8>,
-    db: Db,
-    worker: u32,
-    calls: u64,
-) -> Result<Db, RunFault>
+pub(crate) fn finish(out: &mut Vec<u8>, db: Db, worker: u32, calls: u64) -> Result<Db, RunFault>
     requires under_way { IsUnderWay calls db }
     requires few { calls ≤ 200000 }
-    ensures line { OnOk result (out.new.items ≡ out.old.items
-        ++ repair_line db.catalog (after (with_steps_left worker db.history))) }
-    ensures state { IfOk result (λ last. last ≡ record db {
-      history = with_steps_left worker db.history
-          ++ repair_entry worker Event.Switch ∷ [];
-    }) }
+    ensures line { OnOk result (out.new.items
+        ≡ out.old.items ++ repair_line (with_steps_left worker db)) }
+    ensures state { IfOk result (λ last. last
+        ≡ with_entry (with_steps_left worker db) (repair_entry worker Event.Switch)) }
     ensures err { IfErr result (λ e. e ≡ RunFault.Memory) }
 {
-    let db = catch_up(alloc, db, worker, calls)?;
+    let db = catch_up(db, worker, calls)?;
+    let (db, outcome) = switch(db, worker)?;
+    match push_outcome(out, &outcome) {
+        Ok(()) => Ok(db),
+        Err(AllocError) => Err(RunFault::Memory),
+    }
+}
+
+/// Switches to the repaired generation. Answers the database after the switch, and its outcome.
+fn switch(db: Db, worker: u32) -> Result<(Db, Outcome), RunFault>
+    requires { refusal_of db Event.Switch ≡ None }
+    ensures state { IfOk result (λ r. r.0 ≡ with_entry db (repair_entry worker Event.Switch)) }
+    ensures outcome { IfOk result (λ r. r.1 ≡ outcome_for db Event.Switch) }
+    ensures err { IfErr result (λ e. e ≡ RunFault.Memory) }
+{
     let entry = Entry {
         worker,
         event: Event::Switch,
     };
-    let (db, outcome) = carry_out(alloc, db, entry)?;
-    match outcome {
-        Outcome::Switched {
-            generation,
-            slots,
-            rerun,
-        } => push_repair(out, generation, slots, rerun)?,
-        _ => unreachable!(),
+    carry_out(db, entry)
+}
+
+/// Pushes the line of a repair, if the outcome is that of a switch.
+fn push_outcome(out: &mut Vec<u8>, outcome: &Outcome) -> Result<(), AllocError>
+    ensures { OnOk result (out.new.items ≡ out.old.items ++ outcome_text outcome.now) }
+{
+    if let Outcome::Switched {
+        generation,
+        slots,
+        rerun,
+    } = outcome
+    {
+        push_repair(out, *generation, *slots, *rerun)?;
     }
-    Ok(db)
+    Ok(())
 }
 
 /// Pushes the line of a repair.

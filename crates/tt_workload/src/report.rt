@@ -1,18 +1,18 @@
 //! The report of a document: the lines of its calls, of its repair and of its tables.
 ghost use Rattle.std.specs.Prelude.{◌≡◌, ◌+◌, ◌≤◌, ◌++◌, ◌∷◌, [], length, map, OnOk, IfOk, IfErr, None, Some};
 ghost use Rattle.tt_values.specs.Check.{select_fault};
-ghost use Rattle.tt_db.specs.Limits.{max_limits};
-ghost use Rattle.tt_db.specs.State.{after};
+ghost use Rattle.tt_db.specs.Limits.{usual_limits};
 ghost use Rattle.tt_db.specs.Database.{state_of, refusal_of};
 ghost use Rattle.tt_document.specs.Reading.{max_workers};
 ghost use Rattle.tt_document.specs.Document.{IsValidCall, IsValidPlan, IsValidDocument};
-ghost use Rattle.tt_repair.specs.Changes.{changes_of};
-ghost use Rattle.tt_workload.specs.Records.{text_of_records, text_of_changes};
-ghost use Rattle.tt_workload.specs.History.{edit_of_slot, begun, switched, history_of, records_of, records_meanwhile, records_if, history_if};
+ghost use Rattle.tt_workload.specs.Records.{text_of_records};
+ghost use Rattle.tt_workload.specs.History.{edit_of_slot, after_begin, after_switch, records_meanwhile, records_if};
 ghost use Rattle.tt_workload.specs.Room.{AreAccepted, IsBefore};
-ghost use Rattle.tt_workload.specs.Report.{all_rows, table_text, table_line, table_lines, end_text, end_line, repair_lines, repair_lines_if, report_of, database_after};
+ghost use Rattle.tt_workload.specs.Report.{all_rows, table_text, table_line, table_lines, end_text, end_line, changed_lines, repair_lines, repair_lines_if, closed_lines_if, last_lines, report_of, database_after};
 
 use crate::calls::make_calls;
+use crate::closed::push_closed_if;
+use crate::options::Options;
 use crate::printing::{push_decimal, push_labelled, push_reply};
 use crate::record_text::push_changes;
 use crate::repair::{begin, edits_of_slots, finish, make_meanwhile};
@@ -48,7 +48,8 @@ fn push_table(
     Ok(())
 }
 
-fn push_named(out: &mut Vec<u8>, name: &str, reply: &Reply) -> Result<(), AllocError>
+/// Pushes the name and the rows of a table.
+pub(crate) fn push_named(out: &mut Vec<u8>, name: &str, reply: &Reply) -> Result<(), AllocError>
     ensures { OnOk result (out.new.items ≡ out.old.items ++ table_text name.now reply.now) }
 {
     out.extend_from_slice(b"table ")?;
@@ -96,8 +97,7 @@ fn push_last(out: &mut Vec<u8>, generation: u64, time: u64) -> Result<(), AllocE
 
 /// Pushes the lines of all tables, and the last line.
 fn push_state(alloc: Global, out: &mut Vec<u8>, db: &Db) -> Result<(), RunFault>
-    ensures text { OnOk result (out.new.items ≡ out.old.items
-        ++ (table_lines (state_of db.now) 0 db.now.catalog ++ end_line (state_of db.now))) }
+    ensures text { OnOk result (out.new.items ≡ out.old.items ++ last_lines db.now) }
     ensures err { IfErr result (λ e. e ≡ RunFault.Memory) }
 {
     push_tables(alloc, out, db)?;
@@ -113,7 +113,7 @@ fn push_changed(
     records: &[Record],
 ) -> Result<(), RunFault>
     ensures text { OnOk result (out.new.items ≡ out.old.items
-        ++ text_of_changes (changes_of db.now.catalog (state_of db.now) records.now)) }
+        ++ changed_lines db.now records.now) }
     ensures err { IfErr result (λ e. e ≡ RunFault.Memory) }
 {
     let changes = changes(alloc, db, records)?;
@@ -141,11 +141,10 @@ fn run_repair(
     requires workers { workers ≤ max_workers }
     ensures lines { OnOk result (out.new.items ≡ out.old.items
         ++ (text_of_records (records_meanwhile (workers + 1) batch (length records.items + 1)
-        (begun (workers + 1) records.items db.history plan) plan.meanwhile)
-        ++ repair_lines db.catalog (workers + 1) batch records.items db.history plan)) }
-    ensures state { IfOk result (λ last. last ≡ record db {
-      history = switched (workers + 1) batch records.items db.history plan;
-    }) }
+        (after_begin (workers + 1) records.items db plan) plan.meanwhile)
+        ++ repair_lines (workers + 1) batch records.items db plan)) }
+    ensures state { IfOk result (λ last.
+        last ≡ after_switch (workers + 1) batch records.items db plan) }
     ensures err { IfErr result (λ e. e ≡ RunFault.Memory) }
 {
     let administrator = workers + 1;
@@ -156,7 +155,7 @@ fn run_repair(
     let calls = meanwhile.into_vec();
     let all = made + calls.len() as u64;
     let edits = edits_of_slots(alloc, &records, edits.as_slice())?;
-    let db = begin(alloc, db, administrator, edits)?;
+    let db = begin(db, administrator, edits)?;
     let db = make_meanwhile(
         alloc,
         out,
@@ -167,20 +166,24 @@ fn run_repair(
         made,
         calls,
     )?;
-    let db = finish(alloc, out, db, administrator, all)?;
+    let db = finish(out, db, administrator, all)?;
     push_changed(alloc, out, &db, &records)?;
     Ok(db)
 }
 
-/// The report of a document, and the database that its calls leave.
-pub(crate) fn report_of(
+/// Makes the calls of a document and its repair, and pushes their lines. Answers the last
+/// database.
+fn run_document(
     alloc: Global,
+    out: &mut Vec<u8>,
     document: Document,
     batch: u32,
-) -> Result<(Vec<u8>, Db), RunFault>
+) -> Result<Db, RunFault>
     requires { IsValidDocument document }
-    ensures report { IfOk result (λ r. r.0.items ≡ report_of batch document) }
-    ensures database { IfOk result (λ r. r.1 ≡ database_after batch document) }
+    ensures lines { OnOk result (out.new.items ≡ out.old.items
+        ++ (text_of_records (records_if batch document document.repair)
+        ++ repair_lines_if batch document document.repair)) }
+    ensures database { IfOk result (λ db. db ≡ database_after batch document) }
     ensures err { IfErr result (λ e. e ≡ RunFault.Memory) }
 {
     let Document {
@@ -190,21 +193,40 @@ pub(crate) fn report_of(
         repair,
     } = document;
     let db = Db::new(alloc, catalog.into_arc(), Limits::usual());
-    let mut out = Vec::new(alloc);
     let mut records = Vec::new(alloc);
     let are_kept = repair.is_some();
-    let db = make_calls(
-        alloc,
-        &mut out,
-        &mut records,
-        are_kept,
-        db,
-        calls.into_vec(),
-    )?;
-    let db = match repair {
-        Some(plan) => run_repair(alloc, &mut out, records, db, workers, batch, plan)?,
-        None => db,
-    };
-    push_state(alloc, &mut out, &db)?;
+    let db = make_calls(alloc, out, &mut records, are_kept, db, calls.into_vec())?;
+    match repair {
+        Some(plan) => run_repair(alloc, out, records, db, workers, batch, plan),
+        None => Ok(db),
+    }
+}
+
+/// The report of a document, and the database that its calls leave.
+pub(crate) fn report_of(
+    alloc: Global,
+    document: Document,
+    options: &Options,
+) -> Result<(Vec<u8>, Db), RunFault>
+    requires { IsValidDocument document }
+    ensures report { IfOk result (λ r. r.0.items ≡ report_of options.now document) }
+    ensures database { IfOk result (λ r. r.1 ≡ database_after options.now.batch document) }
+    ensures err { IfErr result (λ e. e ≡ RunFault.Memory) }
+{
+    let mut out = Vec::new(alloc);
+    let db = run_document(alloc, &mut out, document, options.batch)?;
+    push_end_of_run(alloc, &mut out, &db, options.closed)?;
     Ok((out, db))
+}
+
+/// Pushes the lines of the closed generations if these are asked for, those of all tables, and the
+/// last line.
+fn push_end_of_run(alloc: Global, out: &mut Vec<u8>, db: &Db, closed: bool) -> Result<(), RunFault>
+    ensures text { OnOk result (out.new.items
+        ≡ out.old.items ++ (closed_lines_if closed db.now ++ last_lines db.now)) }
+    ensures err { IfErr result (λ e. e ≡ RunFault.Memory) }
+{
+    push_closed_if(alloc, out, db, closed)?;
+    push_state(alloc, out, db)?;
+    Ok(())
 }

@@ -26,9 +26,9 @@ pub fn run_alone<R: Read, W: Write>(
 
     // Of a reader and a writer whose bytes are known.
     ensures ok { OnOk result (IfSome (R.remaining reader.old) (λ xs.
-        WritesReport options.now.batch xs (W.contents writer.old) (W.contents writer.new))) }
+        WritesReport options.now xs (W.contents writer.old) (W.contents writer.new))) }
     ensures err { IfErr result (λ e. IfSome (R.remaining reader.old) (λ xs.
-        EndsEarly options.now.batch e xs (W.contents writer.old) (W.contents writer.new))) }
+        EndsEarly options.now e xs (W.contents writer.old) (W.contents writer.new))) }
     ensures unchanged { IfErr result (λ e.
         e ≢ RunFault.Write → Keeps (W.contents writer.old) (W.contents writer.new)) }
     ensures limit { ConsumesAtMost max_bytes_read
@@ -62,11 +62,11 @@ pub fn run_to_end<R: Read, W: Write>(
 
     // Of a reader and a writer whose bytes are known.
     ensures ok { OnOk result (IfSome (R.remaining reader.old) (λ xs.
-        WritesReport options.now.batch xs (W.contents writer.old) (W.contents writer.new))) }
+        WritesReport options.now xs (W.contents writer.old) (W.contents writer.new))) }
     ensures database { IfOk result (λ end. IfSome (R.remaining reader.old) (λ xs.
         LeavesDatabase options.now.batch xs end.db)) }
     ensures err { IfErr result (λ e. IfSome (R.remaining reader.old) (λ xs.
-        EndsEarly options.now.batch e xs (W.contents writer.old) (W.contents writer.new))) }
+        EndsEarly options.now e xs (W.contents writer.old) (W.contents writer.new))) }
     ensures unchanged { IfErr result (λ e.
         e ≢ RunFault.Write → Keeps (W.contents writer.old) (W.contents writer.new)) }
     ensures limit { ConsumesAtMost max_bytes_read
@@ -77,7 +77,7 @@ pub fn run_to_end<R: Read, W: Write>(
     ensures kind { IfErr result IsFaultOfRun }
 {
     let (document, json) = read_with_json(alloc, reader)?;
-    let (report, db) = report_of(alloc, document, options.batch)?;
+    let (report, db) = report_of(alloc, document, options)?;
     write_report(writer, &report, RunEnd { db, json })
 }
 

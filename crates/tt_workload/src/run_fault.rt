@@ -1,7 +1,7 @@
 ghost use Rattle.std.specs.Prelude.{◌≡◌};
 
 use std::alloc::{AllocError, AllocFailed, Global};
-use tt_db::{DbError, ReadError};
+use tt_db::ReadError;
 use tt_document::DocFault;
 use tt_values::Text;
 
@@ -41,16 +41,6 @@ impl<T: Drop> From<AllocFailed<T>> for RunFault {
 }
 
 impl RunFault {
-    /// A refusal of the database, as a fault of the run.
-    pub(crate) fn of_event(alloc: Global, error: DbError) -> RunFault
-        ensures { error ≡ DbError.Memory → result ≡ RunFault.Memory }
-    {
-        match error {
-            DbError::Memory => RunFault::Memory,
-            error => store_fault(alloc, format!(in alloc; "{error}")),
-        }
-    }
-
     /// A refusal of a read, as a fault of the run.
     pub(crate) fn of_read(alloc: Global, error: ReadError) -> RunFault
         ensures { error ≡ ReadError.Memory → result ≡ RunFault.Memory }

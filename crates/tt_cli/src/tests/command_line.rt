@@ -22,10 +22,11 @@ fn command_line(alloc: Global, words: &[&str]) -> Result<Cli, Error> {
     command_of(alloc, texts.as_slice())
 }
 
-/// The words ask for this batch, and for the usual rounds.
-fn asks(rt: &impl Abort, alloc: Global, words: &[&str], batch: u32) {
+/// The words ask for this batch, with closed generations or without, and for the usual rounds.
+fn asks(rt: &impl Abort, alloc: Global, words: &[&str], batch: u32, closed: bool) {
     let cli = command_line(alloc, words).expect(rt, "a command");
     assert_eq!(rt; cli.options.batch, batch);
+    assert_eq!(rt; cli.options.closed, closed);
     assert_eq!(rt; cli.options.rounds, 8);
 }
 
@@ -40,10 +41,29 @@ fn fails(rt: &impl Abort, alloc: Global, words: &[&str], kind: ErrorKind) {
 #[test]
 fn batches(rt: HostRuntime) {
     let alloc = rt.alloc();
-    asks(&rt, alloc, &["replay"], 16);
-    asks(&rt, alloc, &["replay", "--batch", "2"], 2);
-    asks(&rt, alloc, &["replay", "--batch=1"], 1);
-    asks(&rt, alloc, &["replay", "--batch", "10000"], 10_000);
+    asks(&rt, alloc, &["replay"], 16, false);
+    asks(&rt, alloc, &["replay", "--batch", "2"], 2, false);
+    asks(&rt, alloc, &["replay", "--batch=1"], 1, false);
+    asks(&rt, alloc, &["replay", "--batch", "10000"], 10_000, false);
+}
+
+#[test]
+fn closed_generations(rt: HostRuntime) {
+    let alloc = rt.alloc();
+    asks(&rt, alloc, &["replay", "--closed"], 16, true);
+    asks(&rt, alloc, &["replay", "--closed", "--batch", "2"], 2, true);
+    fails(
+        &rt,
+        alloc,
+        &["replay", "--closed=true"],
+        ErrorKind::TooManyValues,
+    );
+    fails(
+        &rt,
+        alloc,
+        &["replay", "--closed", "--closed"],
+        ErrorKind::ArgumentConflict,
+    );
 }
 
 #[test]

@@ -34,7 +34,7 @@ abbrev history_of_actions : List (List Write) → List Entry
 history_of_actions actions = map (action_entry 1) actions
 
 abbrev state_after_actions : List (List Write) → State
-state_after_actions actions = after (history_of_actions actions)
+state_after_actions actions = after max_limits (history_of_actions actions)
 
 -- an action of one write; the history of such actions, and the state after it
 abbrev only : Write → List Write
@@ -44,7 +44,7 @@ abbrev history_of : List Write → List Entry
 history_of writes = history_of_actions (map only writes)
 
 abbrev state_after : List Write → State
-state_after writes = after (history_of writes)
+state_after writes = after max_limits (history_of writes)
 
 -- the first account of Ann
 abbrev ann_first : Row
@@ -66,18 +66,18 @@ from_no_table = record { table = 1; equals = [] }
 
 -- limits of slots and entries
 abbrev limits_of : ℕ → ℕ → Limits
-limits_of slots events = record { slots = slots; events = events; edits = 10000 }
+limits_of slots events = record max_limits { slots = slots; events = events }
 
 -- without entries a select finds no rows
-empty_select : right_select_at tables (after []) all 0 ≡ Ok (Rows [])
+empty_select : right_select_at tables (after max_limits []) all 0 ≡ Ok (Rows [])
 unfolding row_writes
 empty_select = refl
 
 -- the first insert is accepted, takes slot 1 and inserts its row
-first_accepted : refusal tables max_limits (after []) (events.Write (only (insert 1 ann 10))) ≡ None
+first_accepted : refusal tables max_limits (after max_limits []) (events.Write (only (insert 1 ann 10))) ≡ None
 first_accepted = refl
 
-first_outcome : outcome_of tables (after []) (events.Write (only (insert 1 ann 10))) ≡ Written 1 (Inserted ∷ [])
+first_outcome : outcome_of tables (after max_limits []) (events.Write (only (insert 1 ann 10))) ≡ Written 1 (Inserted ∷ [])
 unfolding row_writes
 first_outcome = refl
 
@@ -134,17 +134,17 @@ full_of_slots = refl
 full_of_entries : refusal tables (limits_of 2 1) (state_after (insert 1 ann 10 ∷ [])) (events.Write (only (insert 2 bob 20))) ≡ Some (errors.Full 1)
 full_of_entries = refl
 
-full_at_once : refusal tables (limits_of 0 4000000) (after []) (events.Write (only (insert 1 ann 10))) ≡ Some (errors.Full 0)
+full_at_once : refusal tables (limits_of 0 4000000) (after max_limits []) (events.Write (only (insert 1 ann 10))) ≡ Some (errors.Full 0)
 full_at_once = refl
 
 -- a fault of the statement comes before a full database
-width_first : refusal tables (limits_of 0 0) (after []) (events.Write (only narrow)) ≡ Some (errors.Statement faults.WrongWidth)
+width_first : refusal tables (limits_of 0 0) (after max_limits []) (events.Write (only narrow)) ≡ Some (errors.Statement faults.WrongWidth)
 width_first = refl
 
-no_table_first : refusal tables (limits_of 0 0) (after []) (events.Write (only in_no_table)) ≡ Some (errors.Statement faults.NoTable)
+no_table_first : refusal tables (limits_of 0 0) (after max_limits []) (events.Write (only in_no_table)) ≡ Some (errors.Statement faults.NoTable)
 no_table_first = refl
 
-key_change_first : refusal tables (limits_of 0 0) (after []) (events.Write (only (update (Set 0 (values.Int (pos 2))) []))) ≡ Some (errors.Statement faults.SetsKey)
+key_change_first : refusal tables (limits_of 0 0) (after max_limits []) (events.Write (only (update (Set 0 (values.Int (pos 2))) []))) ≡ Some (errors.Statement faults.SetsKey)
 key_change_first = refl
 
 -- a run of four entries over two slots: accepted, a fault, a duplicate, and full. The two that are accepted are its history
@@ -200,10 +200,10 @@ updated_row = (refl, refl)
 abbrev insert_sum_insert : List Write
 insert_sum_insert = insert 1 ann 10 ∷ update (balance_by 5) (of_id 1) ∷ insert 1 bob 1 ∷ []
 
-action_accepted : refusal tables max_limits (after []) (events.Write insert_sum_insert) ≡ None
+action_accepted : refusal tables max_limits (after max_limits []) (events.Write insert_sum_insert) ≡ None
 action_accepted = refl
 
-action_outcome : outcome_of tables (after []) (events.Write insert_sum_insert) ≡ Written 1 (Inserted ∷ Updated 1 ∷ Duplicate ∷ [])
+action_outcome : outcome_of tables (after max_limits []) (events.Write insert_sum_insert) ≡ Written 1 (Inserted ∷ Updated 1 ∷ Duplicate ∷ [])
 unfolding row_writes
 action_outcome = refl
 
@@ -223,8 +223,8 @@ reads_around_an_action = (refl, refl)
 
 -- an action without writes takes a slot too
 empty_action :
-    (refusal tables max_limits (after []) (events.Write []) ≡ None)
-    × (outcome_of tables (after []) (events.Write []) ≡ Written 1 [])
+    (refusal tables max_limits (after max_limits []) (events.Write []) ≡ None)
+    × (outcome_of tables (after max_limits []) (events.Write []) ≡ Written 1 [])
     × (slot_at (state_after_actions ([] ∷ [])).slots 1 ≡ Some (record { action = Some []; replies = Some [] }))
 unfolding row_writes
 empty_action = (refl, refl, refl)
@@ -234,7 +234,7 @@ abbrev insert_delete : List Write
 insert_delete = insert 1 ann 1 ∷ delete (of_id 1) ∷ []
 
 insert_and_delete :
-    (outcome_of tables (after []) (events.Write insert_delete) ≡ Written 1 (Inserted ∷ Deleted 1 ∷ []))
+    (outcome_of tables (after max_limits []) (events.Write insert_delete) ≡ Written 1 (Inserted ∷ Deleted 1 ∷ []))
     × (right_select_at tables (state_after_actions (insert_delete ∷ [])) all 1 ≡ Ok (Rows []))
 unfolding row_writes
 insert_and_delete = (refl, refl)
@@ -244,9 +244,9 @@ abbrev insert_set_key : List Write
 insert_set_key = insert 1 ann 1 ∷ update (Set 0 (values.Int (pos 2))) [] ∷ []
 
 faulty_actions :
-    (refusal tables max_limits (after []) (events.Write insert_set_key) ≡ Some (errors.Statement faults.SetsKey))
-    × (refusal tables max_limits (after []) (events.Write (replicate 16 (insert 1 ann 1))) ≡ None)
-    × (refusal tables max_limits (after []) (events.Write (replicate 17 (insert 1 ann 1))) ≡ Some (errors.Statement faults.TooManyWrites))
+    (refusal tables max_limits (after max_limits []) (events.Write insert_set_key) ≡ Some (errors.Statement faults.SetsKey))
+    × (refusal tables max_limits (after max_limits []) (events.Write (replicate 16 (insert 1 ann 1))) ≡ None)
+    × (refusal tables max_limits (after max_limits []) (events.Write (replicate 17 (insert 1 ann 1))) ≡ Some (errors.Statement faults.TooManyWrites))
 faulty_actions = (refl, refl, refl)
 
 run_of_faulty_actions : IsRun tables max_limits [] (history_of_actions (insert_set_key ∷ replicate 17 (insert 1 ann 1) ∷ []))

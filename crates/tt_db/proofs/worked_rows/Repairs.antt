@@ -27,7 +27,7 @@ use Rattle.tt_db.specs.RightAnswers.{right_select, right_select_at, right_previe
 
 -- the state after events
 abbrev after_events : List Event → State
-after_events history = after (map (λ event. record { worker = 1; event = event }) history)
+after_events history = after max_limits (map (λ event. record { worker = 1; event = event }) history)
 
 -- an action of one write
 abbrev write : Write → Event

@@ -75,23 +75,27 @@ fn a_full_database_refuses(rt: HostRuntime) {
 }
 
 #[test]
-fn the_usual_limits_are_the_largest(rt: HostRuntime) {
+fn limits_fit_up_to_the_largest(rt: HostRuntime) {
     let usual = Limits::usual();
     assert_eq!(rt; usual.slots, 1_000_000);
     assert_eq!(rt; usual.events, 4_000_000);
     assert_eq!(rt; usual.edits, 10_000);
-    for (slots, events, edits, fits) in [
-        (1_000_000, 4_000_000, 10_000, true),
-        (0, 0, 0, true),
-        (1_000_001, 4_000_000, 10_000, false),
-        (1_000_000, 4_000_001, 10_000, false),
-        (1_000_000, 4_000_000, 10_001, false),
-        (u64::MAX, u64::MAX, u32::MAX, false),
+    assert_eq!(rt; usual.keep, 4);
+    for (slots, events, edits, keep, fits) in [
+        (1_000_000, 4_000_000, 10_000, 4, true),
+        (1_000_000, 4_000_000, 10_000, 16, true),
+        (0, 0, 0, 0, true),
+        (1_000_001, 4_000_000, 10_000, 16, false),
+        (1_000_000, 4_000_001, 10_000, 16, false),
+        (1_000_000, 4_000_000, 10_001, 16, false),
+        (1_000_000, 4_000_000, 10_000, 17, false),
+        (u64::MAX, u64::MAX, u32::MAX, u32::MAX, false),
     ] {
         let limits = Limits {
             slots,
             events,
             edits,
+            keep,
         };
         assert_eq!(rt; limits.fits(), fits, "of {limits:?}");
     }

@@ -5,7 +5,9 @@ use super::{
 };
 use std::alloc::Global;
 use std::process::Abort;
-use tt_db::{Db, DbError, Edit, Event, Limits, MAX_EDITS, MAX_EVENTS, MAX_SLOTS, Outcome};
+use tt_db::{
+    Db, DbError, Edit, Event, Limits, MAX_EDITS, MAX_EVENTS, MAX_KEEP, MAX_SLOTS, Outcome,
+};
 use tt_values::{CheckError, Items, Write};
 
 /// Asserts that an event is refused, and changes nothing of the counts.
@@ -131,6 +133,7 @@ fn a_repair_has_so_many_edits_at_most(rt: HostRuntime) {
         slots: MAX_SLOTS,
         events: MAX_EVENTS,
         edits: 0,
+        keep: MAX_KEEP,
     };
     let mut db = limited_db(&rt, alloc, limits);
     open(&rt, alloc, &mut db, ANN);
@@ -149,6 +152,7 @@ fn bad_edits_come_before_too_many(rt: HostRuntime) {
         slots: MAX_SLOTS,
         events: MAX_EVENTS,
         edits: 1,
+        keep: MAX_KEEP,
     };
     let mut db = limited_db(&rt, alloc, limits);
     open(&rt, alloc, &mut db, ANN);
@@ -171,6 +175,7 @@ fn a_full_history_takes_no_switch_and_no_abort(rt: HostRuntime) {
         slots: MAX_SLOTS,
         events: 3,
         edits: MAX_EDITS,
+        keep: MAX_KEEP,
     };
     let mut db = limited_db(&rt, alloc, limits);
     open(&rt, alloc, &mut db, ANN);
@@ -189,6 +194,7 @@ fn a_repair_of_full_slots_can_be_finished(rt: HostRuntime) {
         slots: 2,
         events: MAX_EVENTS,
         edits: MAX_EDITS,
+        keep: MAX_KEEP,
     };
     let mut db = limited_db(&rt, alloc, limits);
     open(&rt, alloc, &mut db, ANN);

@@ -84,14 +84,19 @@ pub(super) fn is_cancelled(rt: &impl Abort, db: &Db, number: u64) {
 /// Five slots: the accounts of `FIVE_SLOTS_HAD`.
 pub(super) fn five_slots(rt: &impl Abort, alloc: Global) -> Db {
     let mut db = new_db(rt, alloc);
+    write_five_slots(rt, alloc, &mut db);
+    db
+}
+
+/// Writes the five slots in a database without slots.
+pub(super) fn write_five_slots(rt: &impl Abort, alloc: Global, db: &mut Db) {
     for account in [(1, "ann", 5), (2, "ann", 6), (3, "bob", 7)] {
-        open(rt, alloc, &mut db, account);
+        open(rt, alloc, db, account);
     }
     let delete = delete(owner_is(rt, alloc, "ann"));
-    write(rt, alloc, &mut db, [delete], [Reply::Deleted(2)]);
+    write(rt, alloc, db, [delete], [Reply::Deleted(2)]);
     let update = update(rt, alloc, add(1), any_account(rt, alloc));
-    write(rt, alloc, &mut db, [update], [Reply::Updated(1)]);
-    db
+    write(rt, alloc, db, [update], [Reply::Updated(1)]);
 }
 
 /// The accounts of the five slots at each time, from 0 on.

@@ -14,7 +14,8 @@ fn one_byte_at_a_time(rt: HostRuntime) {
     assert!(rt;
         !Options {
             batch: 0,
-            rounds: 0
+            rounds: 0,
+            closed: false,
         }
         .fits()
     );

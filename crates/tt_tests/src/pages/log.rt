@@ -1,38 +1,39 @@
-use std::alloc::{AllocError, Global};
-use std::test::Fail;
+use std::alloc::Global;
+use std::process::Abort;
 use tt_pages::{Kept, PagedLog};
 
 /// The numbers from 0 up to `count`.
-fn numbers(alloc: Global, count: u64) -> Result<PagedLog<u64>, AllocError> {
+fn numbers(rt: &impl Abort, alloc: Global, count: u64) -> PagedLog<u64> {
     let mut log = PagedLog::new(alloc);
     for number in 0..count {
-        log.push(number)?;
+        log.push(number).expect(rt, "memory");
     }
-    Ok(log)
+    log
 }
 
 #[test]
-fn reads_and_replaces_items(rt: HostRuntime) -> Result<(), Fail> {
-    let old = numbers(rt.alloc(), 65)?;
+fn reads_and_replaces_items(rt: HostRuntime) {
+    let old = numbers(&rt, rt.alloc(), 65);
     assert_eq!(rt; old.len(), 65);
     if old.len() == 65 {
-        let new = old.replaced(64, 7u64.kept()?)?;
+        let seven = 7u64.kept().expect(&rt, "memory");
+        let new = old.replaced(64, seven).expect(&rt, "memory");
         assert_eq!(rt; new.get(64), Some(&7));
     }
     assert_eq!(rt; old.get(64), Some(&64));
     assert_eq!(rt; old.get(65), None);
-    Ok(())
 }
 
 #[test]
-fn shared_logs_stay_the_same(rt: HostRuntime) -> Result<(), Fail> {
+fn shared_logs_stay_the_same(rt: HostRuntime) {
     let alloc = rt.alloc();
     let mut log = PagedLog::new(alloc);
     let mut shares = Vec::new(alloc);
     for round in 0..50 {
-        shares.push(log.share()?)?;
+        let share = log.share().expect(&rt, "memory");
+        shares.push(share).expect(&rt, "memory");
         for step in 0..37 {
-            log.push(round * 37 + step)?;
+            log.push(round * 37 + step).expect(&rt, "memory");
         }
     }
     for (round, share) in shares.iter().enumerate() {
@@ -44,5 +45,4 @@ fn shared_logs_stay_the_same(rt: HostRuntime) -> Result<(), Fail> {
         assert_eq!(rt; count, (round as u64).wrapping_mul(37));
         assert_eq!(rt; share.len() as u64, count);
     }
-    Ok(())
 }

@@ -3,7 +3,6 @@ use super::{ANN, PlainPartition, delete, done, insert, nothing_dirty, partition_
 use std::alloc::Global;
 use std::process::Abort;
 use tt_parts::{Dirty, Reads};
-use tt_values::Row;
 
 /// The row (1, "eve", 10) of `acct`.
 const EVE: &[Plain] = &[Number(1), Words("eve"), Number(10)];
@@ -13,14 +12,9 @@ type Clear = &'static [(&'static [PlainPartition], bool)];
 
 fn check_clear(rt: &impl Abort, alloc: Global, dirty: &Dirty, cases: Clear) {
     for (plains, want) in cases {
-        let reads = partition_reads(alloc, plains).expect(rt, "memory");
+        let reads = partition_reads(rt, alloc, plains);
         assert_eq!(rt; dirty.clear_of(&reads), *want, "{plains:?}");
     }
-}
-
-/// The row of these values.
-fn made(rt: &impl Abort, alloc: Global, plains: &[Plain]) -> Row {
-    row(alloc, plains).expect(rt, "memory")
 }
 
 const BY_ANN_AND_EVE: Clear = &[
@@ -38,7 +32,7 @@ fn a_row_gets_dirty_with_its_partitions(rt: HostRuntime) {
     let alloc = rt.alloc();
     let nothing = nothing_dirty(&rt, alloc);
     assert_eq!(rt; nothing.catalog().len(), 2);
-    let (ann, eve) = (made(&rt, alloc, ANN), made(&rt, alloc, EVE));
+    let (ann, eve) = (row(&rt, alloc, ANN), row(&rt, alloc, EVE));
     let dirty = nothing.with_row(0, 1, Some(&ann), Some(&eve));
     let dirty = dirty.expect(&rt, "memory");
     assert!(rt; dirty.has_row(0, 1) && !dirty.has_row(0, 2) && !dirty.has_row(1, 1));
@@ -62,8 +56,8 @@ const BY_THREE_KEYS: Clear = &[
 #[test]
 fn a_row_may_have_one_content_or_none(rt: HostRuntime) {
     let alloc = rt.alloc();
-    let lowest = made(&rt, alloc, &[Number(i64::MIN), Words("ann"), Number(0)]);
-    let highest = made(&rt, alloc, &[Number(i64::MAX), Words("eve"), Number(0)]);
+    let lowest = row(&rt, alloc, &[Number(i64::MIN), Words("ann"), Number(0)]);
+    let highest = row(&rt, alloc, &[Number(i64::MAX), Words("eve"), Number(0)]);
     let mut dirty = nothing_dirty(&rt, alloc);
     let added = dirty.add_row(0, i64::MIN, Some(&lowest), None);
     added.expect(&rt, "memory");
@@ -91,8 +85,8 @@ const BOTH_ARE_DIRTY: Clear = &[
 #[test]
 fn values_with_one_digest_are_told_apart(rt: HostRuntime) {
     let alloc = rt.alloc();
-    let first = made(&rt, alloc, &[Number(1), Words("a"), Number(0)]);
-    let second = made(&rt, alloc, &[Number(2), Words("\0a"), Number(0)]);
+    let first = row(&rt, alloc, &[Number(1), Words("a"), Number(0)]);
+    let second = row(&rt, alloc, &[Number(2), Words("\0a"), Number(0)]);
     let mut dirty = nothing_dirty(&rt, alloc);
     let added = dirty.add_row(0, 1, Some(&first), None);
     added.expect(&rt, "memory");
@@ -120,18 +114,18 @@ const DELETES: &[(&[(u16, Plain)], bool)] = &[
 #[test]
 fn a_write_is_clear_by_what_it_reads(rt: HostRuntime) {
     let alloc = rt.alloc();
-    let (ann, eve) = (made(&rt, alloc, ANN), made(&rt, alloc, EVE));
+    let (ann, eve) = (row(&rt, alloc, ANN), row(&rt, alloc, EVE));
     let mut dirty = nothing_dirty(&rt, alloc);
     let added = dirty.add_row(0, 1, Some(&ann), Some(&eve));
     added.expect(&rt, "memory");
     for (pairs, want) in DELETES {
-        let delete = delete(alloc, 0, pairs).expect(&rt, "memory");
+        let delete = delete(&rt, alloc, 0, pairs);
         assert_eq!(rt; dirty.is_clear(&delete), *want, "{pairs:?}");
     }
-    let of_parcels = delete(alloc, 1, &[]).expect(&rt, "memory");
+    let of_parcels = delete(&rt, alloc, 1, &[]);
     assert!(rt; dirty.is_clear(&of_parcels));
-    let first = insert(alloc, 1).expect(&rt, "memory");
-    let second = insert(alloc, 2).expect(&rt, "memory");
+    let first = insert(&rt, alloc, 1);
+    let second = insert(&rt, alloc, 2);
     assert!(rt; dirty.is_clear(&second) && !dirty.is_clear(&first));
     done(dirty);
 }

@@ -2,7 +2,6 @@ use super::Plain::{self, Number, Words};
 use super::{
     ANN, PlainPartition, acct, delete, insert, parcel, partition_reads, partitions, row, tables,
 };
-use std::test::Fail;
 use tt_parts::{Reads, parts_of, reads_of};
 
 /// A table, a row of it, and the partitions that the row lies in.
@@ -22,17 +21,15 @@ const ROWS: &[RowCase] = &[
 ];
 
 #[test]
-fn a_row_lies_in_one_partition_for_each_partition_column(rt: HostRuntime) -> Result<(), Fail> {
+fn a_row_lies_in_one_partition_for_each_partition_column(rt: HostRuntime) {
     let alloc = rt.alloc();
     let catalog = tables(&rt, alloc);
     for (table, plains, want) in ROWS {
-        let Some(def) = catalog.table(*table) else {
-            return Err("no table".into());
-        };
-        let parts = parts_of(alloc, *table, def, &row(alloc, plains)?)?;
-        assert_eq!(rt; parts, partitions(alloc, want)?, "{plains:?}");
+        let def = catalog.table(*table).expect(&rt, "a table");
+        let row = row(&rt, alloc, plains);
+        let parts = parts_of(alloc, *table, def, &row).expect(&rt, "memory");
+        assert_eq!(rt; parts, partitions(&rt, alloc, want), "{plains:?}");
     }
-    Ok(())
 }
 
 /// The equalities of a write on parcels, and the partitions that it reads.
@@ -55,18 +52,21 @@ const OF_PARCELS: &[WriteCase] = &[
 ];
 
 #[test]
-fn a_write_reads_its_partitions_or_its_table(rt: HostRuntime) -> Result<(), Fail> {
+fn a_write_reads_its_partitions_or_its_table(rt: HostRuntime) {
     let alloc = rt.alloc();
-    let def = parcel(alloc)?;
+    let def = parcel(&rt, alloc);
     for (pairs, want) in OF_PARCELS {
-        let reads = reads_of(alloc, &def, &delete(alloc, 4, pairs)?)?;
-        assert_eq!(rt; reads, partition_reads(alloc, want)?, "{pairs:?}");
+        let delete = delete(&rt, alloc, 4, pairs);
+        let reads = reads_of(alloc, &def, &delete).expect(&rt, "memory");
+        assert_eq!(rt; reads, partition_reads(&rt, alloc, want), "{pairs:?}");
     }
     for pairs in [&[][..], &[(2, Words("left"))]] {
-        let reads = reads_of(alloc, &def, &delete(alloc, 4, pairs)?)?;
+        let delete = delete(&rt, alloc, 4, pairs);
+        let reads = reads_of(alloc, &def, &delete).expect(&rt, "memory");
         assert_eq!(rt; reads, Reads::All { table: 4 }, "{pairs:?}");
     }
-    let reads = reads_of(alloc, &acct(alloc)?, &insert(alloc, i64::MAX)?)?;
-    assert_eq!(rt; reads, partition_reads(alloc, &[(0, 0, Number(i64::MAX))])?);
-    Ok(())
+    let insert = insert(&rt, alloc, i64::MAX);
+    let reads = reads_of(alloc, &acct(&rt, alloc), &insert).expect(&rt, "memory");
+    let key = partition_reads(&rt, alloc, &[(0, 0, Number(i64::MAX))]);
+    assert_eq!(rt; reads, key);
 }

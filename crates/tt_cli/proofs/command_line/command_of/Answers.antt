@@ -1,7 +1,7 @@
 use Rattle.std.proofs.Common.{◌≡◌, ◌∙◌, ap, arith, map, refl, rules, string_bytes, subst, sym}
 use Rattle.clap.specs.Words.{App, HasKind, app_of, fault_of}
 use Rattle.tt_cli.specs.CommandLine.{command_line}
-use Rattle.tt_cli.proofs.CommandLemmas.{batch_is, enters_replay, is_simple_command, never_none, reads_replay}
+use Rattle.tt_cli.proofs.CommandLemmas.{batch_is, closed_is, enters_replay, is_simple_command, never_none, reads_replay}
 use Rattle.tt_cli.proofs.command_line.command_of.Goals as goal
 
 pub returns-in_err-matches-clause-kinds : goal.returns-in_err-matches-clause-kinds
@@ -46,5 +46,6 @@ returns c =
       kinds = sym (ap (λ (a : App). fault_of a words) line_is) ∙ passes;
       within = record { some_batch = omega arith; batch = omega arith; rounds = omega arith };
       batch = batch_is words c.in_ok-matches.matches enters c.get_one.result batch reads is;
+      closed = closed_is words c.in_ok-matches.matches c.in-Some.replay.now c.get_flag-closed.result enters c.in-Some.ensures.rows c.get_flag-closed.ensures.value c.get_flag-closed.ensures.other;
       rounds = rounds;
     }

@@ -1,12 +1,12 @@
 -- One call more.
 use Rattle.std.proofs.Common.{rules, ◌≡◌, ◌+◌, ◌∷◌, ◌++◌, List, [], refl, sym, ap, subst, ◌∙◌}
-use Rattle.tt_db.specs.Database.{Database}
-use Rattle.tt_db.specs.State.{after}
+use Rattle.tt_db.specs.Database.{Database, state_of}
 use Rattle.tt_repair.specs.declared.record.Record.{Record}
 use Rattle.tt_document.specs.declared.document.Call.{Call}
 use Rattle.tt_workload.specs.Records.{record_in, kept, text_of_record, text_of_records}
 use Rattle.tt_workload.specs.History.{history_of, entries_of}
 use Rattle.tt_workload.specs.Room.{IsBefore}
+use Rattle.tt_workload.proofs.ReportLemmas.{is_memory}
 use Rattle.tt_workload.proofs.RepairLemmas.{before-call, records_of-next, next-piece, kept-next}
 use Rattle.tt_workload.proofs.calls.make_calls.Goals as goal
 
@@ -17,8 +17,8 @@ loop-call-preserved c =
     let rest : List Call = c.next.new.self.rest.items in
     let next : l.call-iterator.rest.items ≡ call ∷ rest = search rules in
     let next_is = c.in_ok-next.ensures.state in
-    let left = records_of-next (l.number + 1) l.db.history c.in_ok-next.next.history call l.call-iterator.rest.items rest next (ap (λ (db : Database). db.history) next_is) in
-    let latest = record_in (l.number + 1) (after l.db.history) call in
+    let left = records_of-next (l.number + 1) l.db c.in_ok-next.next call l.call-iterator.rest.items rest next next_is in
+    let latest = record_in (l.number + 1) (state_of l.db) call in
     record {
       lines = next-piece text_of_records text_of_record l.out.items c.make_call.new.out.items _ latest _ _ (λ r rs. refl) left c.in_ok-next.ensures.line l.invariant.lines;
       records = next-piece (kept c.args.are_kept) (λ r. kept c.args.are_kept (r ∷ [])) l.records.items _ _ latest _ _ (kept-next c.args.are_kept) left
@@ -32,3 +32,6 @@ loop-call-preserved c =
       accepted = search rules;
       number = search rules;
     }
+
+pub returns-in_err-keep-clause-err : goal.returns-in_err-keep-clause-err
+returns-in_err-keep-clause-err c = let gives = c.from_residual-in_err-keep in is_memory gives.result gives.ensures.1

@@ -1,13 +1,11 @@
 -- One call more, with the steps before it.
 use Rattle.std.proofs.Common.{rules, ◌≡◌, ◌+◌, ◌∷◌, ◌++◌, List, [], refl, sym, ap, subst, ◌∙◌}
-use Rattle.tt_db.specs.Database.{Database}
-use Rattle.tt_db.specs.State.{after}
+use Rattle.tt_db.specs.Database.{Database, state_of}
 use Rattle.tt_document.specs.declared.document.Call.{Call}
 use Rattle.tt_workload.specs.Records.{record_in, text_of_record, text_of_records}
-use Rattle.tt_workload.specs.History.{records_meanwhile}
 use Rattle.tt_workload.specs.Room.{IsUnderWay}
 use Rattle.tt_workload.proofs.ReportLemmas.{is_memory}
-use Rattle.tt_workload.proofs.RepairLemmas.{under_way-call, records_meanwhile-next, next-piece}
+use Rattle.tt_workload.proofs.RepairLemmas.{under_way-call, records_meanwhile-next, with_meanwhile-next, next-piece}
 use Rattle.tt_workload.proofs.repair.make_meanwhile.Goals as goal
 
 pub loop-call-preserved : goal.loop-call-preserved
@@ -18,16 +16,13 @@ loop-call-preserved c =
     let next : l.call-iterator.rest.items ≡ call ∷ rest = search rules in
     let before = c.in_ok-db.ensures.state in
     let next_is = c.in_ok-next.ensures.state in
-    let left = records_meanwhile-next c.args.worker c.args.batch (l.number + 1) l.db.history c.in_ok-db.db.history c.in_ok-next.next.history call
-    l.call-iterator.rest.items rest next (ap (λ (db : Database). db.history) before) (ap (λ (db : Database). db.history) next_is) in
-    let latest = record_in (l.number + 1) (after c.in_ok-db.db.history) call in
+    let left = records_meanwhile-next c.args.worker c.args.batch (l.number + 1) l.db c.in_ok-db.db c.in_ok-next.next call l.call-iterator.rest.items rest next before next_is in
+    let latest = record_in (l.number + 1) (state_of c.in_ok-db.db) call in
     record {
       lines = next-piece text_of_records text_of_record l.out.items c.make_call.new.out.items _ latest _ _ (λ r rs. refl) left c.in_ok-next.ensures.line l.invariant.lines;
       records = next-piece (λ rs. rs) (λ r. r ∷ []) l.records.items _ _ latest _ _ (λ r rs. refl) left
           (c.in_ok-push.ensures.items ∙ ap (λ r. l.records.items ++ r ∷ []) c.in_ok-next.ensures.answer) l.invariant.records;
-      state = search rules;
-      catalog = search rules;
-      limits = search rules;
+      state = sym (with_meanwhile-next c.args.worker c.args.batch l.db c.in_ok-db.db c.in_ok-next.next call l.call-iterator.rest.items rest next before next_is) ∙ l.invariant.state;
       under_way =
           let more = under_way-call l.number c.in_ok-db.db call.worker call.ask c.in_ok-db.ensures.under_way in
           subst (λ (db : Database). IsUnderWay (l.number + 1) db) (sym next_is) more;

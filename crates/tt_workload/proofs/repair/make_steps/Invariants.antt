@@ -2,8 +2,8 @@
 use Rattle.std.proofs.Common.{◌≡◌, ◌+◌}
 use Rattle.tt_db.specs.State.{slots_left}
 use Rattle.tt_db.specs.Database.{state_of}
-use Rattle.tt_workload.specs.History.{steps}
-use Rattle.tt_workload.specs.Room.{with_entries, IsUnderWay}
+use Rattle.tt_workload.specs.History.{with_entries, steps}
+use Rattle.tt_workload.specs.Room.{IsUnderWay}
 use Rattle.tt_workload.proofs.repair.make_steps.Given as goal
 
 abbrev pub invariant-loop : goal.invariant-loop

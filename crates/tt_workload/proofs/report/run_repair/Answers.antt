@@ -1,11 +1,21 @@
 -- The beginning of the repair, the calls beside its steps, the switch and the changed replies, one after another.
-use Rattle.std.proofs.Common.{rules, ◌≡◌, ◌+◌, ◌++◌, List, map, ap, subst, ◌∙◌}
+use Rattle.std.proofs.Common.{rules, ◌≡◌, ◌+◌, ◌++◌, List, None, map, sym, ap, subst, ◌∙◌}
 use Rattle.std.specs.Prelude.{IsErrAnd}
 use Rattle.tt_workload.specs.declared.run_fault.RunFault.{RunFault}
+use Rattle.tt_db.specs.declared.event.Event.TheVariants as events
+use Rattle.tt_db.specs.Database.{refusal_of}
 use Rattle.tt_workload.specs.History.{edit_of_slot}
 use Rattle.tt_workload.proofs.ReportLemmas.{is_memory}
 use Rattle.tt_workload.proofs.RepairReportLemmas.{repair-state, repair-pieces}
 use Rattle.tt_workload.proofs.report.run_repair.Goals as goal
+
+pub returns-in_err-edits-clause-err : goal.returns-in_err-edits-clause-err
+returns-in_err-edits-clause-err c = let gives = c.from_residual in is_memory gives.result gives.ensures.1
+
+pub begin-requires : goal.begin-requires
+begin-requires c =
+    let edits_are = c.in_ok-edits.ensures ∙ ap (λ rs. map (edit_of_slot rs) c.as_slice.result.now) c.deref.ensures.value ∙ ap (map (edit_of_slot c.args.records.items)) c.as_slice.ensures in
+    subst (λ es. refusal_of c.args.db (events.Begin es) ≡ None) (sym edits_are) c.requires.begins
 
 pub returns-in_err-push_changed-clause-err : goal.returns-in_err-push_changed-clause-err
 returns-in_err-push_changed-clause-err c =

@@ -7,4 +7,4 @@ use Rattle.tt_db.proofs.database.Db.new.Goals as goal
 pub invariant_of-result : goal.invariant_of-result
 invariant_of-result c =
     let catalog = subst IsCatalog c.get.ensures c.len.ensures.sound in
-    rw (c.new.ensures, c.new-2.ensures) (IsConsistent-empty c.from_arc-catalog.result c.args.limits catalog c.requires)
+    rw (c.new.ensures, c.new-2.ensures, c.new-3.ensures) (IsConsistent-empty c.from_arc-catalog.result c.args.limits catalog c.requires)

@@ -9,7 +9,7 @@ use Rattle.tt_db.proofs.CurrentLemmas.{next_content-is}
 use Rattle.tt_db.proofs.KeyLemmas.{RowsHaveRisingKeys-next}
 use Rattle.tt_db.proofs.database.Db.next_answer.Goals as goal
 
-right : (c : goal.In_ok-reply) → let S = after c.self.inside.history in c.in_ok-reply.reply ≡ answer_of c.args.select.now (next_at S (done_of S.phase))
+right : (c : goal.In_ok-reply) → let S = after c.self.inside.limits c.self.inside.history in c.in_ok-reply.reply ≡ answer_of c.args.select.now (next_at S (done_of S.phase))
 right c =
     let G = c.self.inside.generations in
     let is = c.self.invariant in

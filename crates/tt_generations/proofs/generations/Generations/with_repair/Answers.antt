@@ -10,11 +10,11 @@ use Rattle.tt_generations.proofs.generations.Generations.with_repair.Goals as go
 pub new-requires : goal.new-requires
 new-requires c =
     let named = subst (λ (G : TwoGenerations). All (NamesSlot G.slots) c.args.edits) (sym c.self.view_is) c.requires.named in
-    number-within c.self.inside.slots c.args.edits named c.self.invariant.few
+    number-within c.self.inside.state.slots c.args.edits named c.self.invariant.few
 
 pub invariant_of-result : goal.invariant_of-result
 invariant_of-result c =
-    let g = c.self.inside in
+    let g = c.self.inside.state in
     let named = subst (λ (G : TwoGenerations). All (NamesSlot G.slots) c.args.edits) (sym c.self.view_is) c.requires.named in
     let accepted = subst (λ (G : TwoGenerations). All (HasNoFault G.catalog) c.args.edits) (sym c.self.view_is) c.requires.accepted in
     let idle : phase_of g.repair ≡ Idle = ap (λ (G : TwoGenerations). G.phase) c.self.view_is ∙ c.requires.idle in
@@ -32,7 +32,7 @@ invariant_of-result c =
 
 pub returns : goal.returns
 returns c =
-    let g = c.self.inside in
+    let g = c.self.inside.state in
     let new = c.in_ok-repair.ensures in
     (λ i. record { catalog = g.catalog; slots = actions_of g.slots; phase = Repairing (new.edits i) (new.done i) })
     ∙ ap (λ (G : TwoGenerations). with_repair G c.args.edits) c.self.view_is

@@ -12,16 +12,17 @@ use Rattle.tt_generations.proofs.reexecution.Reexecution.of_slot.Goals as goal
 pub loop-write-init : goal.loop-write-init
 loop-write-init c =
     let written = as_pairs c.args.written.now in
-    let redone : as_pairs c.extend_from_slice.new.self.items ≡ written =
-    ap as_pairs (c.in_ok-extend_from_slice.ensures.items ∙ ap (λ ks. ks ++ c.args.written.now) c.in_ok-redone.ensures.items) in
-    let splits = subst (λ (r : TablesByPosition). SplitsRows c.args.rows r written c.args.time) (sym c.rows.view_is) c.in_ok-rows.ensures in
+    let new = c.in_ok-run.ensures in
+    let split = c.in_ok-split_rows.ensures in
+    let redone : as_pairs c.split_rows.new.self.redone.items ≡ written = ap as_pairs (split.redone ∙ ap (λ ks. ks ++ c.args.written.now) new.redone) in
+    let splits = subst (λ (r : TablesByPosition). SplitsRows r c.split_rows.new.self.rows written c.args.time) new.rows split.rows in
     record {
-      done = λ after all. Reexecutes-start c.args.time written c.args.writes.now c.args.rows _ after redone splits c.in_ok-with_capacity.ensures.items c.new.ensures.items all;
+      done = λ after all. Reexecutes-start c.args.time written c.args.writes.now c.args.rows _ after redone splits (split.replies ∙ new.replies) (split.keys ∙ new.keys) all;
       few = IsUnderWayWithFew-start c.args.time most_rows written c.args.rows _ c.requires.few.content redone splits c.requires.few.shows c.requires.few.few;
     }
 
-pub with_write-requires-clause-few : goal.with_write-requires-clause-few
-with_write-requires-clause-few c =
+pub carry_out-requires-clause-few : goal.carry_out-requires-clause-few
+carry_out-requires-clause-few c =
     let so_far = c.loop-write.write-index in
     HasFewRows-under_way c.args.rows c.args.time (as_pairs c.args.written.now) c.loop-write.run (most_rows + so_far) (most_rows + max_writes) (omega (arith, c.loop-write-test.true, c.requires.short)) c.loop-write.invariant.few
 
@@ -30,16 +31,16 @@ loop-write-preserved c =
     let so_far = c.loop-write.write-index in
     let left = drop (so_far + 1) c.args.writes.now in
     let w = c.write-item.result in
-    let now = c.in_ok-run.run' in
+    let now = c.carry_out.new.self in
     let next : suc so_far ≡ so_far + 1 = omega arith in
     let all : drop so_far c.args.writes.now ≡ w ∷ left =
     drop-cons c.args.writes.now so_far w c.loop-write-test.true ∙ (λ i. sym c.write-item.is i ∷ drop (next i) c.args.writes.now) in
     record {
       done = λ after rest. c.loop-write.invariant.done after
           (subst (λ (ws : List Write). Redoes c.args.time ws c.loop-write.run after) (sym all)
-          (Redoes-next c.args.time w left c.loop-write.run now after c.in_ok-run.ensures rest));
+          (Redoes-next c.args.time w left c.loop-write.run now after c.in_ok-carry_out.ensures rest));
       few = IsUnderWayWithFew-more c.args.rows c.args.time (as_pairs c.args.written.now) now (most_rows + so_far + 1) (most_rows + (so_far + 1)) (omega arith)
-          (IsUnderWayWithFew-next c.args.rows c.args.time (as_pairs c.args.written.now) c.loop-write.run now w (most_rows + so_far) c.loop-write.invariant.few c.in_ok-run.ensures);
+          (IsUnderWayWithFew-next c.args.rows c.args.time (as_pairs c.args.written.now) c.loop-write.run now w (most_rows + so_far) c.loop-write.invariant.few c.in_ok-carry_out.ensures);
     }
 
 pub returns : goal.returns

@@ -1,0 +1,29 @@
+-- One write is carried out by its effect, whose pairs are few.
+use Rattle.std.proofs.Common.{◌+◌, ◌++◌, subst, ap, ◌∙◌, arith, length}
+use Rattle.tt_values.specs.Limits.{max_writes}
+use Rattle.tt_versions.specs.declared.side.Side.TheVariants.{Current}
+use Rattle.tt_versions.specs.Sides.{current_of, LineagesByKey}
+use Rattle.tt_generations.specs.Effect.{IsEffect, row_keys}
+use Rattle.tt_generations.specs.ActionRun.{most_rows}
+use Rattle.tt_generations.proofs.ActionStepsLemmas.{CarriesOut-write}
+use Rattle.tt_generations.proofs.FewRowsLemmas.{length-effect, AddsOneRowAtMost-write}
+use Rattle.tt_generations.proofs.action_run.ActionRun.carry_out.Goals as goal
+
+pub reply_to-requires : goal.reply_to-requires
+reply_to-requires c =
+    let pairs = c.in_ok-effect.effect.items in
+    let is = subst (λ (t : LineagesByKey). IsEffect pairs c.args.write.now (current_of t) c.args.time) c.table.ensures c.in_ok-effect.ensures in
+    omega (arith, length-effect c.args.self.now.rows Current c.args.time (most_rows + max_writes) c.table-table.result c.args.write.now pairs c.requires.few c.table-table.ensures is, ap length c.deref.ensures.value)
+
+pub returns : goal.returns
+returns c =
+    let pairs = c.in_ok-effect.effect.items in
+    let is = subst (λ (t : LineagesByKey). IsEffect pairs c.args.write.now (current_of t) c.args.time) c.table.ensures c.in_ok-effect.ensures in
+    let written = c.in_ok-write.ensures in
+    record {
+      current = CarriesOut-write c.args.time c.table-table.result c.args.write.now c.args.self.now _ pairs c.reply_to.result c.table-table.ensures is written.current
+          (λ rows same. c.reply_to.ensures rows (c.deref.ensures.value ∙ same)) c.in_ok-push.ensures.items
+          (c.in_ok-add_keys.ensures ∙ ap (λ es. c.args.self.now.keys.items ++ row_keys c.table-table.result es) c.deref-2.ensures.value);
+      few = AddsOneRowAtMost-write c.args.time c.table-table.result c.args.write.now c.args.self.now.rows _ pairs c.table-table.ensures is written.written;
+      split = written.split;
+    }

@@ -1,0 +1,57 @@
+-- The slots with one more, and the tables with its rows.
+use Rattle.std.proofs.Common.{◌≡◌, ◌+◌, ◌++◌, ◌∷◌, [], Some, List, Option, ap, subst, sym, ◌∙◌, arith, length}
+use Rattle.std.specs.List.{All}
+use Rattle.std.proofs.lemmas.List.{length-map}
+use Rattle.tt_values.specs.declared.statement.Write.{Write}
+use Rattle.tt_values.specs.Check.{HasKey}
+use Rattle.tt_values.proofs.LawProofs.{accepted_actions_have_keys}
+use Rattle.tt_versions.specs.declared.side.Side.TheVariants.{Current}
+use Rattle.tt_generations.specs.Rows.{TablesByPosition, HasFewRows, KeepsSplitRows}
+use Rattle.tt_generations.specs.ActionRun.{CarriesOutAction, most_rows}
+use Rattle.tt_generations.specs.KeptSlots.{actions_of}
+use Rattle.tt_generations.specs.Generations.{AreGenerations}
+use Rattle.tt_generations.proofs.KeptSlotsLemmas.{actions-push}
+use Rattle.tt_generations.proofs.GenerationsLemmas.{AreGenerations-action, IsNextSlot-run, HasFewRows-slots, phase-with_slot}
+use Rattle.tt_generations.proofs.generations.State.add_action.Goals as goal
+
+pub of_writes-requires-clause-keyed : goal.of_writes-requires-clause-keyed
+of_writes-requires-clause-keyed c =
+    let g = c.args.self.now in
+    subst (λ (ws : List Write). All HasKey ws) (sym c.as_slice.ensures) (accepted_actions_have_keys g.catalog c.args.action c.requires.parts.catalog c.requires.accepted)
+
+pub of_writes-requires-clause-few : goal.of_writes-requires-clause-few
+of_writes-requires-clause-few c =
+    let g = c.args.self.now in
+    subst (λ (r : TablesByPosition). HasFewRows r Current (c.len.result + 1) most_rows) (sym c.replace-rows.ensures.value)
+    (HasFewRows-slots g.catalog g.slots g.rows g.repair (c.len.result + 1) c.requires.parts (omega (arith, c.len.ensures)))
+
+-- the run, on the rows as they were
+carries : (c : goal.In_ok-push) → CarriesOutAction (c.len.result + 1) c.args.action c.args.self.now.rows c.in_ok-run.run'
+carries c =
+    subst (λ (ws : List Write). CarriesOutAction (c.len.result + 1) ws c.args.self.now.rows c.in_ok-run.run') c.as_slice.ensures
+    (subst (λ (r : TablesByPosition). CarriesOutAction (c.len.result + 1) c.as_slice.result.now r c.in_ok-run.run') c.replace-rows.ensures.value c.in_ok-run.ensures.current)
+
+pub returns-clause-parts : goal.returns-clause-parts
+returns-clause-parts c =
+    let g = c.args.self.now in
+    let run = c.in_ok-run.run' in
+    let new = c.in_ok-kept.ensures in
+    let split = subst (λ (r : TablesByPosition). KeepsSplitRows r run.rows) c.replace-rows.ensures.value c.in_ok-run.ensures.split in
+    rw (c.in_ok-push.ensures.ok, c.in_ok-add_to_repair.ensures, c.into_slot.ensures.rows)
+    (AreGenerations-action g.catalog g.slots g.rows g.repair c.args.action run c.in_ok-kept.kept (c.len.result + 1) c.requires.parts c.requires.accepted c.requires.room
+    (omega (arith, c.len.ensures)) (carries c) split new.action new.kept_replies new.keys)
+
+pub returns-clause-slots : goal.returns-clause-slots
+returns-clause-slots c =
+    let g = c.args.self.now in
+    ap actions_of c.in_ok-push.ensures.ok ∙ actions-push g.slots c.in_ok-kept.kept ∙ ap (λ (s : Option (List Write)). actions_of g.slots ++ s ∷ []) c.in_ok-kept.ensures.action
+
+pub returns-clause-phase : goal.returns-clause-phase
+returns-clause-phase c = rw (c.in_ok-add_to_repair.ensures) (phase-with_slot c.in_ok-kept.kept c.args.self.now.repair)
+
+pub returns-clause-replies : goal.returns-clause-replies
+returns-clause-replies c =
+    let g = c.args.self.now in
+    let next = IsNextSlot-run (actions_of g.slots) c.args.action g.rows c.in_ok-run.run' (c.len.result + 1) c.requires.parts.rows.current
+    (omega (arith, c.len.ensures, length-map g.slots (λ t. t.slot.action))) (carries c) in
+    c.in_ok-kept.ensures.replies ∙ next.replies

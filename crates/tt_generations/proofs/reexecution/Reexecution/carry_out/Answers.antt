@@ -1,0 +1,43 @@
+-- The effect is found on the next side, the rows that the write matches are split, and the effect is written.
+use Rattle.std.proofs.Common.{List, ◌+◌, ◌∷◌, [], ◌++◌, refl, subst, ap, ◌∙◌, arith, length, ℤ, Option}
+use Rattle.tt_values.specs.declared.row.Row.{Row}
+use Rattle.tt_values.specs.Limits.{max_writes}
+use Rattle.tt_versions.specs.declared.side.Side.TheVariants.{Next}
+use Rattle.tt_versions.specs.Sides.{next_of, LineagesByKey}
+use Rattle.tt_generations.specs.Effect.{IsEffect, row_keys, matched_keys}
+use Rattle.tt_generations.specs.Rows.{SplitsRows, as_pairs}
+use Rattle.tt_generations.specs.ActionRun.{most_rows}
+use Rattle.tt_generations.proofs.FewRowsLemmas.{length-effect}
+use Rattle.tt_generations.proofs.ReexecutionLemmas.{effect-is_split, Redoes-write}
+use Rattle.tt_generations.proofs.reexecution.Reexecution.carry_out.Goals as goal
+
+pub reply_to-requires : goal.reply_to-requires
+reply_to-requires c =
+    let pairs = c.in_ok-effect.effect.items in
+    let is = subst (λ (t : LineagesByKey). IsEffect pairs c.args.write.now (next_of t) c.args.time) c.table.ensures c.in_ok-effect.ensures in
+    omega (arith, length-effect c.args.self.now.rows Next c.args.time (most_rows + max_writes) c.table-table.result c.args.write.now pairs c.requires.few c.table-table.ensures is, ap length c.deref-2.ensures.value)
+
+pub write_next-requires : goal.write_next-requires
+write_next-requires c =
+    let before = c.args.self.now.rows in
+    let between = c.split_matched.new.self.rows in
+    let w = c.args.write.now in
+    let pairs = c.in_ok-effect.effect.items in
+    let is = subst (λ (t : LineagesByKey). IsEffect pairs w (next_of t) c.args.time) c.table.ensures c.in_ok-effect.ensures in
+    let splits = subst (λ (es : List (ℤ × Option Row)). SplitsRows before between (as_pairs (matched_keys w es)) c.args.time) c.deref.ensures.value c.in_ok-split_matched.ensures.rows in
+    effect-is_split before between c.args.time (most_rows + max_writes) c.table-table.result w pairs (matched_keys w pairs) c.requires.few c.table-table.ensures is refl splits
+
+pub returns : goal.returns
+returns c =
+    let before = c.args.self.now in
+    let between = c.split_matched.new.self in
+    let w = c.args.write.now in
+    let table = c.table-table.result in
+    let pairs = c.in_ok-effect.effect.items in
+    let split = c.in_ok-split_matched.ensures in
+    let is = subst (λ (t : LineagesByKey). IsEffect pairs w (next_of t) c.args.time) c.table.ensures c.in_ok-effect.ensures in
+    let splits = subst (λ (es : List (ℤ × Option Row)). SplitsRows before.rows between.rows (as_pairs (matched_keys w es)) c.args.time) c.deref.ensures.value split.rows in
+    Redoes-write c.args.time table w before _ between.rows pairs (matched_keys w pairs) c.reply_to.result c.table-table.ensures is refl splits c.in_ok-write_next.ensures
+    (λ rows same. c.reply_to.ensures rows (c.deref-2.ensures.value ∙ same)) (c.in_ok-push.ensures.items ∙ ap (λ rs. rs ++ c.reply_to.result ∷ []) split.replies)
+    (c.in_ok-add_keys.ensures ∙ (λ i. split.keys i ++ row_keys table (c.deref-3.ensures.value i)))
+    (split.redone ∙ ap (λ es. before.redone.items ++ matched_keys w es) c.deref.ensures.value)
