@@ -1,4 +1,4 @@
-ghost use Rattle.std.specs.Prelude.{◌≡◌, None, is_some, IfOk};
+ghost use Rattle.std.specs.Prelude.{◌≡◌, None, is_some, IfOk, OnOk};
 ghost use Rattle.std.specs.Option.{option_copied};
 
 use crate::side::Side;
@@ -86,41 +86,41 @@ impl Lineage {
         }
     }
 
-    /// The row, or none, is written at the time on that side: on the current one in the chain that
-    /// both sides share where the row isn't split, on the next one in a chain of its own.
-    pub(crate) fn with_write(
-        self,
+    /// Writes the row, or none, at the time on that side: on the current one in the chain that both
+    /// sides share where the row isn't split, on the next one in a chain of its own. Without memory
+    /// the lineage may be any.
+    pub(crate) fn write(
+        &mut self,
         side: Side,
         row: Option<Row>,
         time: u64,
-    ) -> Result<Lineage, AllocError>
-        ensures { IfOk result (λ l. l ≡ with_write_on side row time self) }
+    ) -> Result<(), AllocError>
+        ensures { OnOk result (self.new ≡ with_write_on side row time self.old) }
     {
         match side {
-            Side::Current => {
-                let current = self.current.with_write(row, time)?;
-                Ok(Lineage {
-                    current,
-                    next: self.next,
-                })
-            }
-            Side::Next => {
-                let (current, next) = self.both_chains()?;
-                let next = next.with_write(row, time)?;
-                Ok(Lineage {
-                    current,
-                    next: Some(next),
-                })
-            }
+            Side::Current => self.current.write(row, time),
+            Side::Next => self.write_next(row, time),
         }
+    }
+
+    fn write_next(&mut self, row: Option<Row>, time: u64) -> Result<(), AllocError>
+        ensures { OnOk result (self.new ≡ with_write_on Side.Next row time self.old) }
+    {
+        if let Some(next) = &mut self.next {
+            return next.write(row, time);
+        }
+        let mut next = self.current.share()?;
+        next.write(row, time)?;
+        self.next = Some(next);
+        Ok(())
     }
 
     /// The row gets a next side of its own, rolled back to before the time.
     pub(crate) fn split_back(self, time: u64) -> Result<Lineage, AllocError>
         ensures { IfOk result (λ l. l ≡ split_back time self) }
     {
-        let (current, next) = self.both_chains()?;
-        let next = next.without_writes_from(time)?;
+        let (current, mut next) = self.both_chains()?;
+        next.drop_writes_from(time)?;
         Ok(Lineage {
             current,
             next: Some(next),

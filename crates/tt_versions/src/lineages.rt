@@ -122,9 +122,9 @@ impl Lineages {
             split_keys,
             mut index,
         } = self;
-        let (lineage, is_there) = take_lineage(alloc, &mut entries, key)?;
+        let (mut lineage, is_there) = take_lineage(alloc, &mut entries, key)?;
         list_row(alloc, &mut index, &lineage, side, key, &row, time)?;
-        let lineage = lineage.with_write(side, row, time)?;
+        lineage.write(side, row, time)?;
         with_lineage(alloc, entries, split_keys, index, key, lineage, is_there)
     }
 
@@ -240,18 +240,12 @@ fn write_row(
     match entries.get(key) {
         Some(lineage) => {
             list_row(alloc, index, lineage, side, key, &row, time)?;
-            let write = RowWrite {
-                alloc,
-                side,
-                row,
-                time,
-            };
-            entries.change(key, write)
+            entries.change(key, RowWrite { side, row, time })
         }
         None => {
-            let lineage = Lineage::new(alloc);
+            let mut lineage = Lineage::new(alloc);
             list_row(alloc, index, &lineage, side, key, &row, time)?;
-            let lineage = lineage.with_write(side, row, time)?;
+            lineage.write(side, row, time)?;
             entries.put(key, lineage)
         }
     }

@@ -1,4 +1,4 @@
-ghost use Rattle.std.specs.Prelude.{◌≡◌, ◌<◌, ◌+◌, [], length, take, drop, IsTrue, IsFalse, IfOk};
+ghost use Rattle.std.specs.Prelude.{◌≡◌, ◌<◌, ◌+◌, [], length, take, drop, IsTrue, IsFalse, IfOk, OnOk};
 ghost use Rattle.std.specs.Option.{option_copied};
 ghost use Rattle.tt_versions.specs.Versions.{started_by, started_before, HaveStarted, NoneHasStarted, StartsRise};
 
@@ -50,35 +50,24 @@ impl VersionChain {
         }
     }
 
-    /// The chain with that row, or none, from the time on.
-    pub(crate) fn with_write(self, row: Option<Row>, time: u64) -> Result<VersionChain, AllocError>
-        ensures { IfOk result (λ c. c ≡ with_write row time self) }
+    /// Writes that row, or none, from the time on. Without memory the chain may be any.
+    pub(crate) fn write(&mut self, row: Option<Row>, time: u64) -> Result<(), AllocError>
+        ensures { OnOk result (self.new ≡ with_write row time self.old) }
     {
-        let mut versions = self.front_before(time)?;
-        versions.push(Version { start: time, row })?;
-        Ok(VersionChain { versions })
+        self.drop_writes_from(time)?;
+        self.versions.push(Version { start: time, row })?;
+        Ok(())
     }
 
-    /// The chain without the versions from the time on.
-    pub(crate) fn without_writes_from(self, time: u64) -> Result<VersionChain, AllocError>
-        ensures { IfOk result (λ c. c ≡ without_writes_from time self) }
-    {
-        let versions = self.front_before(time)?;
-        Ok(VersionChain { versions })
-    }
-
-    /// The versions that started before the time.
-    fn front_before(self, time: u64) -> Result<PagedLog<Version>, AllocError>
-        ensures rise { IfOk result StartsRise }
-        ensures front { IfOk result (λ versions. versions ≡ started_before time self) }
+    /// Drops the versions from the time on. Without memory the chain stays.
+    pub(crate) fn drop_writes_from(&mut self, time: u64) -> Result<(), AllocError>
+        ensures { OnOk result (self.new ≡ without_writes_from time self.old) }
     {
         let count = self.count_before(time);
-        if count == self.versions.len() {
-            Ok(self.versions)
-        } else {
-            let versions = self.versions.front(count)?;
-            Ok(versions)
+        if count < self.versions.len() {
+            self.versions = self.versions.front(count)?;
         }
+        Ok(())
     }
 
     /// How many versions started before the time.

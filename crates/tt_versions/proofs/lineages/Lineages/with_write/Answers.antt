@@ -17,7 +17,7 @@ with_lineage-requires c =
       there = c.in_ok-lineage.ensures.there;
       others = HasSplitKeysBut-taken key before.split_keys before.entries c.take_lineage.new.entries c.self.invariant.split c.in_ok-lineage.ensures.others;
       listed_others = ListsTableBut-taken key before.index after before.entries c.take_lineage.new.entries c.self.invariant.listed c.in_ok-list_row.ensures.keeps c.in_ok-lineage.ensures.others;
-      listed = subst (λ (l : Lineage). LineageHas (ListsRow after key) l) (sym (c.in_ok-lineage-2.ensures ∙ ap (with_write_on c.args.side c.args.row c.args.time) c.in_ok-lineage.ensures.lineage))
+      listed = subst (λ (l : Lineage). LineageHas (ListsRow after key) l) (sym (c.in_ok-write.ensures ∙ ap (with_write_on c.args.side c.args.row c.args.time) c.in_ok-lineage.ensures.lineage))
           (LineageHas-write (ListsRow after key) c.args.side c.args.row c.args.time (lineage_at before.entries key)
           (LineageHas-map (ListsRow before.index key) (ListsRow after key) (λ row. c.in_ok-list_row.ensures.keeps key row) (lineage_at before.entries key) (c.self.invariant.listed key))
           c.in_ok-list_row.ensures.lists);
