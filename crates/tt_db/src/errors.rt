@@ -43,6 +43,10 @@ pub enum ReadError {
     /// The select has a fault: it can't be answered on the catalog.
     #[error("{0}")]
     Statement(CheckError),
+    /// A worker of a shared store has no reading of what is published. A database itself never
+    /// answers so.
+    #[error("no reading")]
+    NoReading,
     /// No repair is under way, so there is no next generation to read.
     #[error("no repair is under way")]
     NotRepairing,

@@ -24,6 +24,7 @@ none_if_refused S q time reply None e h = by (nat_lt (now_of S) time) refl
 right-refused : (right : Result Reply ReadError) (e : ReadError) → e ≢ errors.Memory → Answers right (Err e) → right ≡ Err e
 right-refused right (errors.Statement fault) some h = h
 right-refused right (errors.NoGeneration oldest newest) some h = h
+right-refused right errors.NoReading some h = h
 right-refused right errors.NotRepairing some h = h
 right-refused right (errors.Later now) some h = h
 right-refused right errors.Memory some h = absurd (some refl)

@@ -148,6 +148,7 @@ answer-at_last tables S number q time accepted last = by (slots_in S number) ref
 -- a read that has an answer fails for want of memory alone
 pub only-memory : (right : Result Reply ReadError) (reply : Reply) (e : ReadError) → right ≡ Ok reply → Answers right (Err e) → e ≡ errors.Memory
 only-memory right reply (errors.Statement fault) is h = cc
+only-memory right reply errors.NoReading is h = cc
 only-memory right reply errors.NotRepairing is h = cc
 only-memory right reply (errors.NoGeneration oldest newest) is h = cc
 only-memory right reply (errors.Later now) is h = cc

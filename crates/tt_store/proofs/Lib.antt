@@ -1,0 +1,9 @@
+pub mod Prefixes
+pub mod Growing
+pub mod WorkerLemmas
+pub mod CallLemmas
+pub mod DraftLemmas
+pub mod PublicLemmas
+pub mod ClosingLemmas
+pub mod OwnLemmas
+pub mod Crossing

@@ -1,0 +1,98 @@
+-- What is ready to be published, and what publishing it does to a worker.
+use Rattle.std.specs.Prelude.{◌≡◌, ℕ, ◌+◌, ◌-◌, ◌<◌, ◌≤◌, List, [], ◌++◌, drop, length, Option, None, Some, Result, Ok, Err}
+use Rattle.std.specs.declared.alloc.AllocError.{AllocError}
+use Rattle.tt_values.specs.Tables.{Tables}
+use Rattle.tt_db.specs.declared.limits.Limits.{Limits}
+use Rattle.tt_db.specs.declared.event.Event.{Event}
+use Rattle.tt_db.specs.declared.event.Entry.{Entry}
+use Rattle.tt_db.specs.declared.outcome.Outcome.{Outcome}
+use Rattle.tt_db.specs.State.{after}
+use Rattle.tt_db.specs.Database.{Database}
+use Rattle.tt_store.specs.declared.draft.Draft.{Draft}
+use Rattle.tt_store.specs.declared.call.Call.{Call}
+use Rattle.tt_store.specs.declared.attempt.Attempt.{Attempt}
+use Rattle.tt_store.specs.declared.attempt.Attempt.TheVariants as attempts
+use Rattle.tt_store.specs.declared.errors.Unread.{Unread}
+use Rattle.tt_store.specs.declared.errors.Unread.TheVariants as unread
+use Rattle.tt_store.specs.declared.errors.Unreached.{Unreached}
+use Rattle.tt_store.specs.declared.errors.Unreached.TheVariants as unreached
+use Rattle.tt_store.specs.declared.errors.StoreError.{StoreError}
+use Rattle.tt_store.specs.declared.errors.StoreError.TheVariants as errors
+use Rattle.tt_store.specs.History.{entries_by}
+use Rattle.tt_store.specs.Calls.{events_of, numbers_from, Reaches}
+use Rattle.tt_store.specs.Workers.{WorkerState, Looks, Publishes, IsRefused, own_entries, database_at}
+
+-- what the events of a call lead to, from what a worker has seen; none, where there are no events
+abbrev pub IsDraft : Tables → Limits → Call → WorkerState → Option Draft → Type 0
+IsDraft tables limits call w None = events_of call (after limits w.seen) ≡ []
+IsDraft tables limits call w (Some d) = Reaches (database_at tables limits w.seen) w.number (events_of call (after limits w.seen)) d.for_worker d.outcome
+
+-- a history goes on from what a worker has seen by entries of its own
+abbrev pub IsMadeBy : WorkerState → List Entry → Type 0
+IsMadeBy w history = (made : List Event) × (history ≡ w.seen ++ entries_by w.number made)
+
+-- a worker sees a history that goes on from what it had seen, and the places of what is new are its own
+pub record Adds (old new : WorkerState) (history : List Entry) : Type 0 where
+  pub number : new.number ≡ old.number
+  pub seen : new.seen ≡ history
+  pub own : new.own ≡ old.own ++ numbers_from (length old.seen + 1) (length history - length old.seen)
+  pub entries : own_entries new ≡ own_entries old ++ drop (length old.seen) history
+
+-- a database is published whole, by a worker that had seen all of the history; or nothing is
+abbrev pub Commits : WorkerState → WorkerState → List Entry → List Entry → Database → Outcome → Result (Option Outcome) AllocError → Type 0
+Commits old new before now db outcome (Ok (Some o)) = (o ≡ outcome) × (before ≡ old.seen) × (now ≡ db.history) × Adds old new db.history
+Commits old new before now db outcome (Ok None) = (new ≡ old) × (now ≡ before)
+Commits old new before now db outcome (Err e) = (new ≡ old) × (now ≡ before)
+
+-- a try to publish: it is done, or it is to be tried again, or it is refused
+abbrev pub Tries : Tables → Limits → Call → WorkerState → WorkerState → Result Attempt StoreError → Type 0
+Tries tables limits call old new (Ok (attempts.Done outcome)) = Publishes tables limits call old new outcome
+Tries tables limits call old new (Ok attempts.Again) = Looks old new
+Tries tables limits call old new (Err error) = IsRefused tables limits call old new error
+
+-- a draft is published whole; or it comes too late, and is to be tried again; or there is no memory for it
+abbrev pub Committed : WorkerState → WorkerState → Database → Outcome → Result Attempt StoreError → Type 0
+Committed old new db outcome (Ok (attempts.Done o)) = (o ≡ Some outcome) × Adds old new db.history
+Committed old new db outcome (Ok attempts.Again) = new ≡ old
+Committed old new db outcome (Err e) = (e ≡ errors.Memory) × (new ≡ old)
+
+-- the whole of a call that publishes
+abbrev pub Answered : Tables → Limits → Call → WorkerState → WorkerState → Result (Option Outcome) StoreError → Type 0
+Answered tables limits call old new (Ok outcome) = Publishes tables limits call old new outcome
+Answered tables limits call old new (Err error) = IsRefused tables limits call old new error
+
+-- why a worker doesn't get to see the whole history
+abbrev pub IsMissed : List Entry → List Entry → StoreError → Type 0
+IsMissed before seen (errors.Db e) = ⊥
+IsMissed before seen (errors.Raced read told) = (read ≡ length seen) × (told < read) × (length before ≤ told)
+IsMissed before seen errors.NoReading = Unit {0}
+IsMissed before seen errors.Memory = Unit {0}
+
+-- of what had been seen before, what is read and what is told, by their numbers of entries
+abbrev pub IsRace : ℕ → ℕ → ℕ → StoreError → Type 0
+IsRace before read told (errors.Db e) = ⊥
+IsRace before read told (errors.Raced r t) = (r ≡ read) × (t ≡ told) × (told < read) × (before ≤ told)
+IsRace before read told errors.NoReading = Unit {0}
+IsRace before read told errors.Memory = ⊥
+
+-- the answer of the last try, under the lock
+abbrev pub answer_of : Result (Option Outcome) AllocError → Result (Option Outcome) StoreError
+answer_of (Ok (Some o)) = Ok (Some o)
+answer_of (Ok None) = Err errors.NoReading
+answer_of (Err e) = Err errors.Memory
+
+-- what came of a try without the lock
+abbrev pub attempt_of : Result (Option Outcome) AllocError → Result Attempt StoreError
+attempt_of (Ok (Some o)) = Ok (attempts.Done (Some o))
+attempt_of (Ok None) = Ok attempts.Again
+attempt_of (Err e) = Err errors.Memory
+
+-- the error for what is in the way of events
+abbrev pub error_of : Unreached → StoreError
+error_of (unreached.Db e) = errors.Db e
+error_of unreached.Memory = errors.Memory
+
+-- the error where a worker has no reading
+abbrev pub error_of_read : Unread → StoreError
+error_of_read unread.NoReading = errors.NoReading
+error_of_read unread.Memory = errors.Memory

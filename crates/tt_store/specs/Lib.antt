@@ -1,0 +1,12 @@
+pub mod History
+pub mod Rules
+pub mod Published
+pub mod Calls
+pub mod Reaching
+pub mod Workers
+pub mod Drafts
+pub mod Store
+pub mod Opening
+pub mod Closing
+pub mod Closed
+pub mod Own

@@ -1,0 +1,28 @@
+use tt_values::{Items, Reply};
+
+/// The answer to a read, and the time that it is of: for `read` the current time, for `read_at` and
+/// `read_in` the time asked for, for `preview` the number of slots done.
+#[derive(Clone, Debug, PartialEq, Drop)]
+pub struct Answer {
+    pub time: u64,
+    pub reply: Reply,
+}
+
+/// An action that was carried out: the place of its entry in the history, its slot, and the replies
+/// to its writes. Places and slots count from 1.
+#[derive(Clone, Debug, PartialEq, Drop)]
+pub struct Written {
+    pub place: u64,
+    pub slot: u64,
+    pub replies: Items<Reply>,
+}
+
+/// A repair that was finished: the generation that is now current, the place of its switch in the
+/// history, how many slots it has, and how many of them were re-executed.
+#[derive(Clone, Copy, Debug, PartialEq, Eq)]
+pub struct Finished {
+    pub generation: u64,
+    pub place: u64,
+    pub slots: u64,
+    pub rerun: u64,
+}

@@ -1,0 +1,51 @@
+use thiserror::Error;
+use tt_db::DbError;
+
+/// Why a call of a store isn't carried out. It has added nothing to the history; what the worker
+/// has seen may have grown.
+#[derive(Clone, Copy, Debug, PartialEq, Eq, Error)]
+pub enum StoreError {
+    /// The database refuses the call, at the front that the worker has then seen. Of a list of
+    /// events this is the first refusal that it meets. It is never `DbError::Memory`.
+    #[error("{0}")]
+    Db(DbError),
+    /// The worker has read a front of `read` entries, longer than the `told` entries that the store
+    /// has under its lock, which are no fewer than the worker had seen before.
+    #[error("raced: {read} entries read, {told} told")]
+    Raced { read: u64, told: u64 },
+    /// There is no reading of what is published, or its length differs in another way from that of
+    /// the history under the lock.
+    #[error("no reading")]
+    NoReading,
+    /// Out of memory.
+    #[error("out of memory")]
+    Memory,
+}
+
+/// Why a store isn't opened. Nothing is handed back: it may be opened anew.
+#[derive(Clone, Copy, Debug, PartialEq, Eq, Error)]
+pub enum OpenError {
+    /// The number of workers isn't 1 to 16.
+    #[error("the number of workers is not 1 to 16")]
+    Workers,
+    /// There is no place for a reader.
+    #[error("no place for a reader")]
+    Place,
+    /// Out of memory.
+    #[error("out of memory")]
+    Memory,
+}
+
+/// Why a worker doesn't reach what is published.
+#[derive(Clone, Copy)]
+pub(crate) enum Unread {
+    NoReading,
+    Memory,
+}
+
+/// Why events don't lead to a database: the first that is refused, or memory.
+#[derive(Clone, Copy)]
+pub(crate) enum Unreached {
+    Db(DbError),
+    Memory,
+}

@@ -1,0 +1,239 @@
+//! What lies under the lock of a store.
+ghost use Rattle.std.specs.Prelude.{◌≡◌, [], length, IfErr, OnOk, IsTrue};
+ghost use mathlib.Core.List.{IsPrefix};
+ghost use Rattle.tt_store.specs.Published.{IsOf, SaysThat};
+ghost use Rattle.tt_store.specs.Workers.{Looks};
+ghost use Rattle.tt_store.specs.Drafts.{IsMadeBy, Commits, Answered, IsMissed, IsRace, answer_of};
+ghost use Rattle.tt_store.specs.Closing.{IsBehind};
+
+use crate::call::Call;
+use crate::causes::{error_of, error_of_read};
+use crate::draft::Draft;
+use crate::errors::StoreError;
+use crate::front::Head;
+use crate::gate::{Gate, Point};
+use crate::lane::Lane;
+use crate::shown::{Naming, Shown};
+use crate::worker::Worker;
+use std::alloc::{AllocError, Global};
+use std::marker::Model;
+use std::sync::Wait;
+use std::sync::ledger::{Book, Share};
+use tt_db::Outcome;
+
+/// The latest state, the word that counts the history, and the sum of what the workers made, with
+/// how many workers there are and a share of the ledger without parts. Contracts see its history.
+#[derive(Drop)]
+pub(crate) struct Core<L: Naming, R: Wait + Drop> {
+    lane: Option<Lane<L, R>>,
+    head: Head,
+    latest: Shown,
+    book: Book<L>,
+    workers: u32,
+    empty: Share<L>,
+}
+
+impl<L: Naming, R: Wait + Drop> Model for Core<L, R> {
+    ghost use Rattle.std.specs.Prelude.{◌≡◌, length, List};
+    ghost use Rattle.tt_db.specs.declared.event.Entry.{Entry};
+    ghost use Rattle.tt_store.specs.Published.{SaysThat, IsOf};
+
+    ghost Value = { List Entry };
+
+    ghost view = { λ c. c.latest.db.history };
+
+    ghost invariant = { λ c. SaysThat L.holds L.book L.tables L.limits
+        × IsOf L.book L.tables L.limits c.latest
+        × (c.head ≡ L.book)
+        × (c.book.total ≡ length c.latest.db.history)
+        × (c.workers ≡ L.parts)
+        × (c.empty.parts ≡ 0)
+        × (c.empty.amount ≡ 0) };
+}
+
+impl<L: Naming, R: Wait + Drop> Core<L, R> {
+    /// The core of a new store.
+    pub(crate) fn new(
+        lane: Lane<L, R>,
+        head: Head,
+        latest: Shown,
+        book: Book<L>,
+        workers: u32,
+        empty: Share<L>,
+    ) -> Core<L, R>
+        requires tied { SaysThat L.holds L.book L.tables L.limits }
+        requires of { IsOf L.book L.tables L.limits latest }
+        requires head { head ≡ L.book }
+        requires empty { latest.db.history ≡ [] }
+        requires total { book.total ≡ 0 }
+        requires workers { workers ≡ L.parts }
+        requires parts { empty.parts ≡ 0 }
+        requires amount { empty.amount ≡ 0 }
+        ensures { result ≡ [] }
+    {
+        Core {
+            lane: Some(lane),
+            head,
+            latest,
+            book,
+            workers,
+            empty,
+        }
+    }
+
+    /// How many workers the store was opened with.
+    pub(crate) fn workers(&self) -> u32
+        ensures { result ≡ L.parts }
+    {
+        self.workers
+    }
+
+    /// Whether a worker has seen a beginning of the history.
+    pub(crate) fn is_ahead_of(&self, worker: &Worker<L>) -> bool
+        ensures { IsTrue result → IsBehind self.now worker.now }
+    {
+        worker.is_behind(&self.latest)
+    }
+
+    /// Whether a worker has seen just the history.
+    pub(crate) fn is_seen_by(&self, worker: &Worker<L>) -> bool
+        ensures { IsTrue result → self.now ≡ worker.now.seen }
+    {
+        worker.is_at(&self.latest)
+    }
+
+    /// The latest state, the sum of what the workers made, and the share without parts.
+    pub(crate) fn into_parts(self) -> (Shown, Book<L>, Share<L>)
+        ensures of { IsOf L.book L.tables L.limits result.0 }
+        ensures history { result.0.db.history ≡ self }
+        ensures total { result.1.total ≡ length self }
+        ensures parts { result.2.parts ≡ 0 }
+        ensures amount { result.2.amount ≡ 0 }
+    {
+        let Self {
+            lane: _,
+            head: _,
+            latest,
+            book,
+            workers: _,
+            empty,
+        } = self;
+        (latest, book, empty)
+    }
+
+    /// Lets a worker see all that was published.
+    pub(crate) fn tell(&self, worker: &mut Worker<L>) -> Result<(), AllocError>
+        ensures looks { Looks worker.old worker.new }
+        ensures told { OnOk result (IsPrefix self.now worker.new.seen) }
+    {
+        let latest = self.latest.share()?;
+        worker.keep(latest);
+        Ok(())
+    }
+
+    /// Publishes a draft whole, if its worker has seen all of the history: answers its outcome, or
+    /// None if it hasn't. Without memory nothing changes either.
+    pub(crate) fn commit<G: Gate>(
+        &mut self,
+        gate: &G,
+        worker: &mut Worker<L>,
+        draft: Draft,
+    ) -> Result<Option<Outcome>, AllocError>
+        requires tables { draft.for_worker.catalog ≡ L.tables }
+        requires limits { draft.for_worker.limits ≡ L.limits }
+        requires made { IsMadeBy worker.old draft.for_worker.history }
+        ensures { Commits worker.old worker.new self.old self.new draft.for_worker
+            draft.outcome result }
+    {
+        if !worker.is_at(&self.latest) {
+            return Ok(None);
+        }
+        gate.at(worker.number(), Point::Locked);
+        let Draft {
+            for_worker,
+            for_store,
+            for_readers,
+            outcome,
+        } = draft;
+        if !worker.add(&self.head, &mut self.book, for_worker)? {
+            return Ok(None);
+        }
+        self.latest = Shown::new(for_store, worker.front().again());
+        let shown = Shown::new(for_readers, worker.front().again());
+        self.lane = shown_by(self.lane.take(), shown);
+        gate.at(worker.number(), Point::Published);
+        Ok(Some(outcome))
+    }
+
+    /// Publishes the events of a call, at all that was published before.
+    pub(crate) fn publish<G: Gate>(
+        &mut self,
+        gate: &G,
+        worker: &mut Worker<L>,
+        alloc: Global,
+        call: &Call,
+    ) -> Result<Option<Outcome>, StoreError>
+        ensures { Answered L.tables L.limits call.now worker.old worker.new result }
+    {
+        if let Err(error) = self.catch_up(worker) {
+            return Err(error);
+        }
+        gate.at(worker.number(), Point::Building);
+        match worker.draft(alloc, call) {
+            Ok(Some(draft)) => known(self.commit(gate, worker, draft)),
+            Ok(None) => Ok(None),
+            Err(unreached) => Err(error_of(unreached)),
+        }
+    }
+
+    /// Lets a worker see all of the history, so that the next entries go behind it.
+    fn catch_up(&self, worker: &mut Worker<L>) -> Result<(), StoreError>
+        ensures looks { Looks worker.old worker.new }
+        ensures missed { IfErr result (λ e. IsMissed worker.old.seen worker.new.seen e) }
+    {
+        let before = worker.seen();
+        if let Err(unread) = worker.look() {
+            return Err(error_of_read(unread));
+        }
+        if !worker.front().begins(self.latest.front()) {
+            return Err(raced(before, worker.seen(), self.latest.len()));
+        }
+        match self.tell(worker) {
+            Ok(()) => Ok(()),
+            Err(AllocError) => Err(StoreError::Memory),
+        }
+    }
+}
+
+/// Shows readers something new, where there is a lane to show it in.
+fn shown_by<L: Naming, R: Wait + Drop>(lane: Option<Lane<L, R>>, shown: Shown) -> Option<Lane<L, R>>
+    requires tied { SaysThat L.holds L.book L.tables L.limits }
+    requires of { IsOf L.book L.tables L.limits shown }
+{
+    match lane {
+        Some(lane) => Some(lane.show(shown).0),
+        None => None,
+    }
+}
+
+/// The answer of the last try, under the lock.
+fn known(committed: Result<Option<Outcome>, AllocError>) -> Result<Option<Outcome>, StoreError>
+    ensures { result ≡ answer_of committed }
+{
+    match committed {
+        Ok(Some(outcome)) => Ok(Some(outcome)),
+        Ok(None) => Err(StoreError::NoReading),
+        Err(AllocError) => Err(StoreError::Memory),
+    }
+}
+
+/// Why a worker that has read this much can't publish, where the store has told so many entries.
+fn raced(before: u64, read: u64, told: u64) -> StoreError
+    ensures { IsRace before read told result }
+{
+    if before <= told && told < read {
+        StoreError::Raced { read, told }
+    } else {
+        StoreError::NoReading
+    }
+}

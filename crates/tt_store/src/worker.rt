@@ -1,0 +1,392 @@
+ghost use Rattle.std.specs.Prelude.{◌≡◌, ◌+◌, ◌-◌, [], length, Ok, IfOk, IfErr, IfSome, OnErr, IsTrue, IsFalse};
+ghost use Rattle.std.specs.Option.{option_copied};
+ghost use mathlib.Core.List.{IsPrefix};
+ghost use Rattle.tt_values.specs.Check.{select_fault};
+ghost use Rattle.tt_generations.specs.TwoGenerations.{done_of};
+ghost use Rattle.tt_db.specs.Database.{state_of, time_of, nth_item, repair_of, right_answer, right_answer_at, right_answer_in, right_preview_of};
+ghost use Rattle.tt_db.specs.State.{after, IsLegal};
+ghost use Rattle.tt_store.specs.History.{places_of};
+ghost use Rattle.tt_store.specs.Calls.{events_of, IsInWay};
+ghost use Rattle.tt_store.specs.Drafts.{IsDraft, IsMadeBy, Adds};
+ghost use Rattle.tt_store.specs.Own.{RisesAbove};
+ghost use Rattle.tt_store.specs.Published.{IsOf, SaysThat};
+ghost use Rattle.tt_store.specs.Closing.{IsBehind};
+ghost use Rattle.tt_store.specs.Workers.{Looks, IsAmong, AnswersRightly, IsUnreached, database_at, timed};
+
+use crate::answer::Answer;
+use crate::call::Call;
+use crate::draft::Draft;
+use crate::errors::{Unreached, Unread};
+use crate::front::{Front, Head};
+use crate::places::push_places;
+use crate::plan::Plan;
+use crate::reaching::by_plan;
+use crate::shown::{Naming, Shown};
+use crossbeam_utils::rule::Outcome;
+use left_right::reader::Reader;
+use std::alloc::{AllocError, Global};
+use std::marker::{Model, PhantomData};
+use std::sync::ledger::{Book, Share};
+use tt_db::{Db, Entry, Progress, ReadError};
+use tt_values::{Reply, Select, Shared, check_select};
+
+/// A worker of a store. It has seen a front, which is a beginning of the one history and only grows,
+/// and has made some of its entries. Its reads take no lock and wait for nobody. It keeps the last
+/// state that it has seen, so one that is idle keeps that in memory.
+#[derive(Drop)]
+pub struct Worker<L: Naming> {
+    number: u32,
+    reader: Option<Reader<Shown, (), L>>,
+    seen: Shown,
+    own: Vec<u64>,
+    share: Share<L>,
+}
+
+impl<L: Naming> Model for Worker<L> {
+    ghost use Rattle.std.specs.Prelude.{length};
+    ghost use Rattle.tt_store.specs.Published.{SaysThat};
+    ghost use Rattle.tt_store.specs.Workers.{WorkerState, IsWorker};
+
+    ghost Value = { WorkerState };
+
+    ghost view = { λ w. record {
+      number = w.number;
+      seen = w.seen.db.history;
+      own = w.own.items;
+    } };
+
+    ghost invariant = { λ w. SaysThat L.holds L.book L.tables L.limits
+        × IsWorker L.book L.tables L.limits w.number w.seen w.own.items w.share.parts w.share.amount };
+}
+
+/// What a reading tells: that what is published is of the store.
+pub(crate) struct Sees<L>(PhantomData<L>);
+
+impl<L: Naming> Outcome<Shown, ()> for Sees<L> {
+    ghost use Rattle.tt_store.specs.Published.{IsOf};
+
+    ghost then = { λ before x y after. IsOf L.book L.tables L.limits y };
+}
+
+impl<L: Naming> Worker<L> {
+    /// A worker that has seen this much, and made nothing.
+    pub(crate) fn new(
+        alloc: Global,
+        number: u32,
+        reader: Reader<Shown, (), L>,
+        seen: Shown,
+        share: Share<L>,
+    ) -> Worker<L>
+        requires tied { SaysThat L.holds L.book L.tables L.limits }
+        requires of { IsOf L.book L.tables L.limits seen }
+        requires parts { share.parts ≡ 1 }
+        requires amount { share.amount ≡ 0 }
+        ensures { result ≡ record { number = number; seen = seen.db.history; own = [] } }
+    {
+        Worker {
+            number,
+            reader: Some(reader),
+            seen,
+            own: Vec::new(alloc),
+            share,
+        }
+    }
+
+    /// Its number: workers are numbered from 1 in the order of the list that came with their store.
+    pub fn number(&self) -> u32
+        ensures { result ≡ self.now.number }
+    {
+        self.number
+    }
+
+    /// How many entries of the history it has seen: the length of its front. No event of it is
+    /// refused where it stands.
+    pub fn seen(&self) -> u64
+        ensures count { result ≡ length self.now.seen }
+        ensures legal { IsLegal L.tables L.limits self.now.seen }
+    {
+        self.seen.db().events()
+    }
+
+    /// The entry at a place of the history, counted from 1, if it has seen it.
+    pub fn seen_entry(&self, place: u64) -> Option<&Entry>
+        ensures { option_copied result ≡ nth_item self.now.seen place }
+    {
+        self.seen.db().entry(place)
+    }
+
+    /// How many entries of the history it has made. Their places rise.
+    #[tactic(auto, using(crate::proofs::OwnLemmas::own_rises))]
+    pub fn made(&self) -> u64
+        ensures count { result ≡ length self.now.own }
+        ensures own { IsAmong self.now.own (places_of self.now.number self.now.seen) }
+        ensures rises { RisesAbove 0 self.now.own }
+    {
+        self.own.len() as u64
+    }
+
+    /// The place in the history of its entry of this number; both count from 1. None for 0 and past
+    /// the last.
+    pub fn place(&self, number: u64) -> Option<u64>
+        ensures { result ≡ nth_item self.now.own number }
+    {
+        let position = number.checked_sub(1)?;
+        self.own.get(position as usize).copied()
+    }
+
+    /// How far the repair is, in the last state that it has seen; None where none is under way.
+    pub fn progress(&self) -> Option<Progress>
+        ensures { result ≡ repair_of (database_at L.tables L.limits self.now.seen) }
+    {
+        self.seen.db().repair()
+    }
+
+    /// The rows that match now, by rising key, and the current time. They are right at a front that
+    /// begins with what it had seen, and it has then seen this front. `NoReading` leaves what it had
+    /// seen; with `Memory` that may have grown.
+    pub fn read(&mut self, select: &Select) -> Result<Answer, ReadError>
+        ensures looks { Looks self.old self.new }
+        ensures right { AnswersRightly L.tables select.now
+            (right_answer (database_at L.tables L.limits self.new.seen) select.now)
+            (time_of (database_at L.tables L.limits self.new.seen)) self.old self.new result }
+    {
+        self.look_for(select)?;
+        let db = self.seen.db();
+        timed(db.now(), db.select(select))
+    }
+
+    /// The rows that match at a time, by rising key: a point-in-time read. Time 0 is before the first
+    /// action; past the current time it is refused as `Later`.
+    pub fn read_at(&mut self, select: &Select, time: u64) -> Result<Answer, ReadError>
+        ensures looks { Looks self.old self.new }
+        ensures right { AnswersRightly L.tables select.now
+            (right_answer_at (database_at L.tables L.limits self.new.seen) select.now time)
+            time self.old self.new result }
+    {
+        self.look_for(select)?;
+        timed(time, self.seen.db().select_at(select, time))
+    }
+
+    /// The rows that match at a time in a generation, by rising key: in the current one, or in a
+    /// closed one that is kept, as it was at the switch. Any other generation is refused as
+    /// `NoGeneration`, and a time past its last one as `Later`.
+    pub fn read_in(
+        &mut self,
+        generation: u64,
+        select: &Select,
+        time: u64,
+    ) -> Result<Answer, ReadError>
+        ensures looks { Looks self.old self.new }
+        ensures right { AnswersRightly L.tables select.now
+            (right_answer_in (database_at L.tables L.limits self.new.seen)
+            generation select.now time)
+            time self.old self.new result }
+    {
+        self.look_for(select)?;
+        timed(time, self.seen.db().select_in(generation, select, time))
+    }
+
+    /// The rows that match in the next generation, at the last slot that the repair has done, whose
+    /// number is the answer's time. Refused as `NotRepairing` where no repair is under way.
+    pub fn preview(&mut self, select: &Select) -> Result<Answer, ReadError>
+        ensures looks { Looks self.old self.new }
+        ensures right { AnswersRightly L.tables select.now
+            (right_preview_of (database_at L.tables L.limits self.new.seen) select.now)
+            (done_of (state_of (database_at L.tables L.limits self.new.seen)).phase)
+            self.old self.new result }
+    {
+        self.look_for(select)?;
+        let db = self.seen.db();
+        timed(done(db), db.preview(select))
+    }
+
+    /// Sees what is published, so that a select can be judged on it.
+    fn look_for(&mut self, select: &Select) -> Result<(), ReadError>
+        ensures looks { Looks self.old self.new }
+        ensures unreached { IfErr result (λ e. IsUnreached L.tables select.now e) }
+        ensures unchanged { OnErr result (self.new ≡ self.old) }
+    {
+        match self.look() {
+            Ok(()) => Ok(()),
+            Err(unread) => Err(self.unanswered(select, unread)),
+        }
+    }
+
+    /// The answer to a select that nothing was reached for.
+    fn unanswered(&self, select: &Select, unread: Unread) -> ReadError
+        ensures { IsUnreached L.tables select.now result }
+    {
+        if let Err(fault) = check_select(self.seen.db().catalog(), select) {
+            return ReadError::Statement(fault);
+        }
+        match unread {
+            Unread::NoReading => ReadError::NoReading,
+            Unread::Memory => ReadError::Memory,
+        }
+    }
+
+    /// Sees what is published.
+    pub(crate) fn look(&mut self) -> Result<(), Unread>
+        ensures looks { Looks self.old self.new }
+        ensures unchanged { OnErr result (self.new ≡ self.old) }
+    {
+        let Some(reader) = self.reader.take() else {
+            return Err(Unread::NoReading);
+        };
+        let (reader, newer) = newer(reader, self.seen.len());
+        self.reader = Some(reader);
+        match newer {
+            Ok(Some(shown)) => {
+                self.keep(shown);
+                Ok(())
+            }
+            Ok(None) => Ok(()),
+            Err(unread) => Err(unread),
+        }
+    }
+
+    /// Sees at least this much.
+    pub(crate) fn keep(&mut self, shown: Shown)
+        requires { IsOf L.book L.tables L.limits shown }
+        ensures looks { Looks self.old self.new }
+        ensures reached { IsPrefix shown.db.history self.new.seen }
+    {
+        if self.seen.front().begins(shown.front()) {
+            self.seen = shown;
+        }
+    }
+
+    /// What it has seen, as a beginning of the history.
+    pub(crate) fn front(&self) -> &Front
+        ensures book { result.now.book ≡ L.book }
+        ensures entries { result.now.entries ≡ self.now.seen }
+    {
+        self.seen.front()
+    }
+
+    /// Whether it has seen just this much.
+    pub(crate) fn is_at(&self, shown: &Shown) -> bool
+        requires { IsOf L.book L.tables L.limits shown.now }
+        ensures { IsTrue result → shown.now.db.history ≡ self.now.seen }
+    {
+        self.seen.len() == shown.len() && self.seen.front().begins(shown.front())
+    }
+
+    /// Whether it has seen no more than this.
+    pub(crate) fn is_behind(&self, shown: &Shown) -> bool
+        requires { IsOf L.book L.tables L.limits shown.now }
+        ensures { IsTrue result → IsBehind shown.now.db.history self.now }
+    {
+        self.seen.front().begins(shown.front())
+    }
+
+    /// Its places, and its part of the ledger.
+    pub(crate) fn into_parts(self) -> (Vec<u64>, Share<L>)
+        ensures places { result.0.items ≡ self.own }
+        ensures parts { result.1.parts ≡ 1 }
+        ensures amount { result.1.amount ≡ length self.own }
+    {
+        (self.own, self.share)
+    }
+
+    /// What the events of a call lead to, from what it has seen; None where there are no events.
+    pub(crate) fn draft(&self, alloc: Global, call: &Call) -> Result<Option<Draft>, Unreached>
+        ensures drafted { IfOk result (λ d. IsDraft L.tables L.limits call.now self.now d) }
+        ensures in_way { IfErr result (λ e. IsInWay (database_at L.tables L.limits self.now.seen)
+            (events_of call.now (after L.limits self.now.seen)) e) }
+    {
+        let plan = match Plan::of(call, self.seen.db()) {
+            Ok(plan) => plan,
+            Err(AllocError) => return Err(Unreached::Memory),
+        };
+        let Some(reached) = by_plan(self.seen.db(), self.number, plan)? else {
+            return Ok(None);
+        };
+        match Draft::new(alloc, reached) {
+            Ok(draft) => Ok(Some(draft)),
+            Err(AllocError) => Err(Unreached::Memory),
+        }
+    }
+
+    /// Makes the history that of a database which it has led to, where it has seen all of the
+    /// history, and says whether it did. If not, or without memory, nothing changes.
+    pub(crate) fn add(
+        &mut self,
+        head: &Head,
+        book: &mut Book<L>,
+        db: Shared<Db>,
+    ) -> Result<bool, AllocError>
+        requires head { head.now ≡ L.book }
+        requires tables { db.catalog ≡ L.tables }
+        requires limits { db.limits ≡ L.limits }
+        requires made { IsMadeBy self.old db.history }
+        ensures added { IfOk result (λ done. IsTrue done → Adds self.old self.new db.history
+            × (book.new.total ≡ book.old.total + (length db.history - length self.old.seen))) }
+        ensures not_added { IfOk result (λ done. IsFalse done → (self.new ≡ self.old)
+            × (book.new.total ≡ book.old.total)) }
+        ensures err { OnErr result ((self.new ≡ self.old) × (book.new.total ≡ book.old.total)) }
+    {
+        let seen = self.seen.len();
+        let events = db.get().events();
+        self.own.reserve((events - seen) as usize)?;
+        let mut front = self.seen.front().again();
+        if !front.grow(head, db.get()) {
+            return Ok(false);
+        }
+        book.add(&mut self.share, events - seen);
+        push_places(&mut self.own, seen, events);
+        self.seen = Shown::new(db, front);
+        Ok(true)
+    }
+}
+
+/// What is published, by a further owner, where its history has more than so many entries. Where
+/// nothing is new, the counter of owners, which all workers share, stays untouched.
+fn newer<L: Naming>(
+    reader: Reader<Shown, (), L>,
+    seen: u64,
+) -> (Reader<Shown, (), L>, Result<Option<Shown>, Unread>)
+    requires { SaysThat L.holds L.book L.tables L.limits }
+    ensures { IfOk result.1 (λ newer. IfSome newer (IsOf L.book L.tables L.limits)) }
+{
+    match reader.enter_as::<Sees<L>>() {
+        Ok(reading) => {
+            let newer = owner_of_newer(reading.get(), seen);
+            (reading.leave(), newer)
+        }
+        Err(reader) => (reader, Err(Unread::NoReading)),
+    }
+}
+
+/// A further owner of a state, where its history has more than so many entries.
+fn owner_of_newer(shown: &Shown, seen: u64) -> Result<Option<Shown>, Unread>
+    ensures { IfOk result (λ newer. IfSome newer (λ s. s ≡ shown.now)) }
+{
+    if shown.len() <= seen {
+        return Ok(None);
+    }
+    match shown.share() {
+        Ok(shown) => Ok(Some(shown)),
+        Err(AllocError) => Err(Unread::Memory),
+    }
+}
+
+/// How many slots the repair has done.
+fn done(db: &Db) -> u64
+    ensures { result ≡ done_of (state_of db.now).phase }
+{
+    match db.repair() {
+        Some(progress) => progress.done,
+        None => 0,
+    }
+}
+
+/// An answer with its time.
+fn timed(time: u64, reply: Result<Reply, ReadError>) -> Result<Answer, ReadError>
+    ensures { result ≡ timed time reply }
+{
+    match reply {
+        Ok(reply) => Ok(Answer { time, reply }),
+        Err(error) => Err(error),
+    }
+}

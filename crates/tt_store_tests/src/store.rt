@@ -1,0 +1,291 @@
+//! What no clause says: that ample memory is enough for each call, what repairs in steps lead to,
+//! what is answered while another call is under way, and what threads see of one another.
+ghost use Rattle.std.specs.Prelude.{◌≡◌};
+ghost use Rattle.std.specs.Arc.{arc_value};
+ghost use Rattle.tt_db.specs.Limits.{Fits};
+ghost use Rattle.tt_store.specs.Published.{SaysThat};
+
+mod closing;
+mod crowd;
+mod given_up;
+mod held;
+mod limits;
+mod repairs;
+mod writes;
+
+use closing::{closes_backwards, closes_later};
+use crowd::sixteen_work;
+use given_up::gives_up;
+use limits::{fills_two_slots, has_workers};
+use repairs::{fills_history, finishes_for_another, repairs_in_steps};
+use std::alloc::Global;
+use std::marker::Brand;
+use std::process::Abort;
+use std::sync::{Arc, Wait};
+use std::thread::Threads;
+use tt_db::{Edit, Limits};
+use tt_store::{Closed, Gate, Naming, NoGate, OpenError, Opened, Store, Worker, Written};
+use tt_values::{
+    Catalog, Change, Column, Equal, Items, Kind, Reply, Row, Select, TableDef, Text, Value, Write,
+};
+use writes::{reads_beside, writes_behind, writes_in_threads};
+
+/// What a test does with a store that was just opened, and with its workers.
+#[derive(Clone, Copy)]
+enum Scenario {
+    ClosesBackwards,
+    ClosesLater,
+    SixteenWork,
+    FillsHistory,
+    FillsTwoSlots,
+    FinishesForAnother,
+    GivesUp { steps: u32 },
+    HasWorkers(u32),
+    ReadsBeside,
+    RepairsInSteps,
+    WritesBehind,
+    WritesInThreads,
+}
+
+/// Plays a scenario on a store of its own, with so many workers and the usual limits.
+fn plays<T: Threads + Wait + Abort + Sync>(
+    rt: &T,
+    alloc: Global,
+    workers: u32,
+    scenario: Scenario,
+) {
+    let played = tries(rt, alloc, workers, Limits::usual(), scenario);
+    assert_eq!(rt; played, Ok(()));
+}
+
+/// Plays a scenario, if the store can be opened.
+fn tries<T: Threads + Wait + Abort + Sync>(
+    rt: &T,
+    alloc: Global,
+    workers: u32,
+    limits: Limits,
+    scenario: Scenario,
+) -> Result<(), OpenError> {
+    assert!(rt; limits.fits());
+    let catalog = bank(rt, alloc);
+    let opened = Opened::new(workers);
+    plays_named::<Brand, T>(rt, alloc, opened, catalog, limits, scenario)
+}
+
+/// The same, where the store has a name.
+fn plays_named<L: Naming + Send + Sync, T: Threads + Wait + Abort + Sync>(
+    rt: &T,
+    alloc: Global,
+    opened: Opened,
+    catalog: Arc<Catalog>,
+    limits: Limits,
+    scenario: Scenario,
+) -> Result<(), OpenError>
+    requires fits { Fits limits }
+    requires book { opened.front.book ≡ L.book }
+    requires tables { arc_value catalog ≡ L.tables }
+    requires limits { limits ≡ L.limits }
+    requires tied { SaysThat L.holds L.book L.tables L.limits }
+    requires name { opened.blank.name ≡ L.name }
+    requires parts { opened.blank.parts ≡ L.parts }
+{
+    let opened = opened.named::<L, NoGate, &T>(rt, alloc, catalog, limits, NoGate);
+    match opened {
+        Ok((store, workers)) => {
+            play(rt, alloc, store, workers, scenario);
+            Ok(())
+        }
+        Err(error) => Err(error),
+    }
+}
+
+fn play<L: Naming + Send + Sync, T: Threads + Wait + Abort + Sync>(
+    rt: &T,
+    alloc: Global,
+    store: Store<L, NoGate, &T>,
+    workers: Vec<Worker<L>>,
+    scenario: Scenario,
+) {
+    match scenario {
+        Scenario::ClosesBackwards => closes_backwards(rt, alloc, store, workers),
+        Scenario::ClosesLater => closes_later(rt, store, workers),
+        Scenario::SixteenWork => sixteen_work(rt, alloc, store, workers),
+        Scenario::FillsHistory => fills_history(rt, alloc, store, workers),
+        Scenario::FillsTwoSlots => fills_two_slots(rt, alloc, store, workers),
+        Scenario::FinishesForAnother => finishes_for_another(rt, alloc, store, workers),
+        Scenario::GivesUp { steps } => gives_up(rt, alloc, store, workers, steps),
+        Scenario::HasWorkers(count) => has_workers(rt, workers, count),
+        Scenario::ReadsBeside => reads_beside(rt, alloc, store, workers),
+        Scenario::RepairsInSteps => repairs_in_steps(rt, alloc, store, workers),
+        Scenario::WritesBehind => writes_behind(rt, alloc, store, workers),
+        Scenario::WritesInThreads => writes_in_threads(rt, alloc, store, workers),
+    }
+}
+
+/// An account: its id, its owner and its balance.
+type Account = (i64, &'static str, i64);
+
+fn text(rt: &impl Abort, alloc: Global, words: &str) -> Text {
+    let words = String::from_str(alloc, words).expect(rt, "memory");
+    Text::new(alloc, words).expect(rt, "memory")
+}
+
+fn column(rt: &impl Abort, alloc: Global, name: &str, kind: Kind, partition: bool) -> Column {
+    Column {
+        name: text(rt, alloc, name),
+        kind,
+        partition,
+    }
+}
+
+fn bank(rt: &impl Abort, alloc: Global) -> Arc<Catalog> {
+    let id = column(rt, alloc, "id", Kind::Int, false);
+    let owner = column(rt, alloc, "owner", Kind::Text, true);
+    let balance = column(rt, alloc, "bal", Kind::Int, false);
+    let columns = Vec::from_array(alloc, [id, owner, balance]).expect(rt, "memory");
+    let columns = Items::new(alloc, columns).expect(rt, "memory");
+    let mut catalog = Catalog::new(alloc);
+    catalog
+        .add("acct", TableDef { columns })
+        .expect(rt, "a table");
+    Arc::new(alloc, catalog).expect(rt, "memory")
+}
+
+fn row(rt: &impl Abort, alloc: Global, account: Account) -> Row {
+    let (id, owner, balance) = account;
+    let owner = text(rt, alloc, owner);
+    let values = [Value::Int(id), Value::Text(owner), Value::Int(balance)];
+    let values = Vec::from_array(alloc, values).expect(rt, "memory");
+    Row {
+        values: Items::new(alloc, values).expect(rt, "memory"),
+    }
+}
+
+fn action(rt: &impl Abort, alloc: Global, write: Write) -> Items<Write> {
+    let writes = Vec::from_array(alloc, [write]).expect(rt, "memory");
+    Items::new(alloc, writes).expect(rt, "memory")
+}
+
+fn insert(rt: &impl Abort, alloc: Global, account: Account) -> Items<Write> {
+    let row = row(rt, alloc, account);
+    action(rt, alloc, Write::Insert { table: 0, row })
+}
+
+fn delete(rt: &impl Abort, alloc: Global, owner: &str) -> Items<Write> {
+    let equal = Equal {
+        column: 1,
+        value: Value::Text(text(rt, alloc, owner)),
+    };
+    let equals = Vec::from_array(alloc, [equal]).expect(rt, "memory");
+    let equals = Items::new(alloc, equals).expect(rt, "memory");
+    action(rt, alloc, Write::Delete { table: 0, equals })
+}
+
+fn any_account(rt: &impl Abort, alloc: Global) -> Items<Equal> {
+    Items::new(alloc, Vec::new(alloc)).expect(rt, "memory")
+}
+
+fn add_to_all(rt: &impl Abort, alloc: Global, by: i64) -> Items<Write> {
+    let changes = Vec::from_array(alloc, [Change::Add { column: 2, by }]).expect(rt, "memory");
+    let changes = Items::new(alloc, changes).expect(rt, "memory");
+    let equals = any_account(rt, alloc);
+    action(
+        rt,
+        alloc,
+        Write::Update {
+            table: 0,
+            changes,
+            equals,
+        },
+    )
+}
+
+fn all(rt: &impl Abort, alloc: Global) -> Select {
+    Select {
+        table: 0,
+        equals: any_account(rt, alloc),
+    }
+}
+
+/// The reply with these rows, in this order.
+fn rows(rt: &impl Abort, alloc: Global, accounts: &[Account]) -> Reply {
+    let mut rows = Vec::new(alloc);
+    for account in accounts {
+        rows.push(row(rt, alloc, *account)).expect(rt, "memory");
+    }
+    Reply::Rows(Items::new(alloc, rows).expect(rt, "memory"))
+}
+
+/// The edit that replaces slot 4 by another delete.
+fn delete_bob(rt: &impl Abort, alloc: Global) -> Items<Edit> {
+    let edit = Edit::Replace(4, delete(rt, alloc, "bob"));
+    let edits = Vec::from_array(alloc, [edit]).expect(rt, "memory");
+    Items::new(alloc, edits).expect(rt, "memory")
+}
+
+/// Inserts an account, which takes this place and this slot.
+fn inserts<L: Naming, G: Gate + Drop, T: Wait + Abort>(
+    rt: &T,
+    alloc: Global,
+    store: &Store<L, G, &T>,
+    worker: &mut Worker<L>,
+    account: Account,
+    (place, slot): (u64, u64),
+) {
+    let written = store.write(rt, worker, insert(rt, alloc, account));
+    let replies = Vec::from_array(alloc, [Reply::Inserted]).expect(rt, "memory");
+    let replies = Items::new(alloc, replies).expect(rt, "memory");
+    let want = Written {
+        place,
+        slot,
+        replies,
+    };
+    assert_eq!(rt; written.expect(rt, "a write"), want);
+}
+
+/// Writes five slots, and begins a repair of the fourth.
+fn begins_after_five_slots<L: Naming, G: Gate + Drop, T: Wait + Abort>(
+    rt: &T,
+    alloc: Global,
+    store: &Store<L, G, &T>,
+    worker: &mut Worker<L>,
+) {
+    let writes = [
+        insert(rt, alloc, (1, "ann", 5)),
+        insert(rt, alloc, (2, "ann", 6)),
+        insert(rt, alloc, (3, "bob", 7)),
+        delete(rt, alloc, "ann"),
+        add_to_all(rt, alloc, 1),
+    ];
+    for write in writes {
+        store.write(rt, worker, write).expect(rt, "a write");
+    }
+    let begun = store.begin(rt, worker, delete_bob(rt, alloc));
+    assert_eq!(rt; begun, Ok(6));
+}
+
+/// Asserts that these are the accounts now, in this order.
+fn has<L: Naming>(rt: &impl Abort, alloc: Global, worker: &mut Worker<L>, accounts: &[Account]) {
+    let answer = worker.read(&all(rt, alloc)).expect(rt, "a read");
+    assert_eq!(rt; answer.reply, rows(rt, alloc, accounts));
+}
+
+/// Closes a store.
+fn closed<L: Naming, G: Gate + Drop, T: Wait + Abort>(
+    rt: &T,
+    store: Store<L, G, &T>,
+    workers: Vec<Worker<L>>,
+) -> Closed {
+    match store.close(rt, workers) {
+        Ok(closed) => closed,
+        Err(_) => panic!(rt; "not closed"),
+    }
+}
+
+/// Whether there are two lists of places, and these.
+fn has_places(places: &[Vec<u64>], first: &[u64], second: &[u64]) -> bool {
+    match places {
+        [one, two] => one.as_slice() == first && two.as_slice() == second,
+        _ => false,
+    }
+}

@@ -1,0 +1,59 @@
+use super::{Scenario, closed, has_places, inserts, plays};
+use std::alloc::Global;
+use std::process::Abort;
+use std::sync::Wait;
+use std::test::*;
+use tt_store::{CloseFault, Naming, NoGate, Store, Worker};
+
+#[test]
+fn a_store_is_closed_in_any_order(rt: HostRuntime) {
+    plays(&rt, rt.alloc(), 2, Scenario::ClosesBackwards);
+}
+
+/// The workers are handed in by falling number.
+pub(super) fn closes_backwards<L: Naming, T: Wait + Abort>(
+    rt: &T,
+    alloc: Global,
+    store: Store<L, NoGate, &T>,
+    mut workers: Vec<Worker<L>>,
+) {
+    let second = workers.pop().expect(rt, "a second worker");
+    let mut first = workers.pop().expect(rt, "a first worker");
+    inserts(rt, alloc, &store, &mut first, (1, "ann", 10), (1, 1));
+    let both = Vec::from_array(alloc, [second, first]).expect(rt, "memory");
+    let closed = closed(rt, store, both);
+    assert_eq!(rt; closed.db.get().events(), 1);
+    assert!(rt; has_places(&closed.places, &[1], &[]));
+}
+
+#[test]
+fn a_store_with_a_worker_missing_is_handed_back(rt: HostRuntime) {
+    plays(&rt, rt.alloc(), 2, Scenario::ClosesLater);
+}
+
+/// A worker is missing at first.
+pub(super) fn closes_later<L: Naming, T: Wait + Abort>(
+    rt: &T,
+    store: Store<L, NoGate, &T>,
+    mut workers: Vec<Worker<L>>,
+) {
+    let second = workers.pop().expect(rt, "a second worker");
+    let (store, mut workers) = handed_back(rt, store, workers);
+    assert_eq!(rt; workers.len(), 1);
+    workers.push(second).expect(rt, "memory");
+    let closed = closed(rt, store, workers);
+    assert_eq!(rt; closed.db.get().events(), 0);
+    assert!(rt; has_places(&closed.places, &[], &[]));
+}
+
+/// The store and its workers, of which one is missing.
+fn handed_back<'a, L: Naming, T: Wait + Abort>(
+    rt: &T,
+    store: Store<L, NoGate, &'a T>,
+    workers: Vec<Worker<L>>,
+) -> (Store<L, NoGate, &'a T>, Vec<Worker<L>>) {
+    match store.close(rt, workers) {
+        Err(CloseFault::Missing { store, workers }) => (store, workers),
+        _ => panic!(rt; "no worker is missing"),
+    }
+}

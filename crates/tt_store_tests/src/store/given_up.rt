@@ -1,0 +1,69 @@
+use super::{Scenario, all, begins_after_five_slots, delete_bob, has, plays};
+use std::alloc::Global;
+use std::process::Abort;
+use std::sync::Wait;
+use std::test::*;
+use tt_db::ReadError;
+use tt_store::{Naming, NoGate, Store, Worker};
+
+#[test]
+fn a_repair_is_given_up_after_any_step(rt: HostRuntime) {
+    let alloc = rt.alloc();
+    for steps in 0..=5 {
+        plays(&rt, alloc, 1, Scenario::GivesUp { steps });
+    }
+}
+
+/// A repair is given up after so many of its five steps, and another one is begun.
+pub(super) fn gives_up<L: Naming, T: Wait + Abort>(
+    rt: &T,
+    alloc: Global,
+    store: Store<L, NoGate, &T>,
+    mut workers: Vec<Worker<L>>,
+    steps: u32,
+) {
+    let mut worker = workers.pop().expect(rt, "a worker");
+    begins_after_five_slots(rt, alloc, &store, &mut worker);
+    gives_up_after(rt, &store, &mut worker, steps);
+    has(rt, alloc, &mut worker, &[(3, "bob", 8)]);
+    has_no_next_generation(rt, alloc, &mut worker);
+    begins_another(rt, alloc, &store, &mut worker, steps);
+}
+
+/// Makes so many steps, and gives the repair up.
+fn gives_up_after<L: Naming, T: Wait + Abort>(
+    rt: &T,
+    store: &Store<L, NoGate, &T>,
+    worker: &mut Worker<L>,
+    steps: u32,
+) {
+    let done = u64::from(steps);
+    let progress = store.step(rt, worker, steps).expect(rt, "steps");
+    let left = 5u64.saturating_sub(done);
+    assert_eq!(rt; (progress.done, progress.left), (done, left));
+    assert_eq!(rt; store.abort(rt, worker), Ok(done.saturating_add(7)));
+    assert_eq!(rt; worker.progress(), None);
+}
+
+/// Asserts that there is generation 0, and none behind it.
+fn has_no_next_generation<L: Naming>(rt: &impl Abort, alloc: Global, worker: &mut Worker<L>) {
+    let all = all(rt, alloc);
+    assert_eq!(rt; worker.preview(&all).err(), Some(ReadError::NotRepairing));
+    let missing = ReadError::NoGeneration {
+        oldest: 0,
+        newest: 0,
+    };
+    assert_eq!(rt; worker.read_in(1, &all, 0).err(), Some(missing));
+}
+
+/// Begins a repair behind the one that was given up after so many steps.
+fn begins_another<L: Naming, T: Wait + Abort>(
+    rt: &T,
+    alloc: Global,
+    store: &Store<L, NoGate, &T>,
+    worker: &mut Worker<L>,
+    steps: u32,
+) {
+    let begun = store.begin(rt, worker, delete_bob(rt, alloc));
+    assert_eq!(rt; begun, Ok(u64::from(steps).saturating_add(8)));
+}

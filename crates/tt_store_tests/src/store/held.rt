@@ -1,0 +1,318 @@
+//! Calls of worker 1 that are held at some of their points until worker 2 has its answer.
+ghost use Rattle.std.specs.Prelude.{◌≡◌};
+ghost use Rattle.std.specs.Arc.{arc_value};
+ghost use Rattle.tt_db.specs.Limits.{usual_limits};
+ghost use Rattle.tt_store.specs.Published.{SaysThat};
+
+use super::{all, bank, begins_after_five_slots, has, inserts};
+use std::alloc::Global;
+use std::marker::Brand;
+use std::process::Abort;
+use std::sync::atomic::{AtomicU64, Ordering};
+use std::sync::{Arc, Wait};
+use std::test::*;
+use std::thread::{Threads, join, yield_now};
+use tt_db::{Limits, Progress};
+use tt_store::{Gate, Naming, Opened, Point, Store, Worker};
+use tt_values::Catalog;
+
+/// For how many turns a thread waits for another one at most.
+const TURNS: u64 = 10_000_000;
+
+/// What a call that is held and the thread beside it tell each other.
+#[derive(Drop)]
+struct Marks {
+    /// At how many of its points the call was held.
+    held: AtomicU64,
+    /// From how many of them it was released.
+    released: AtomicU64,
+    /// How often a state was built.
+    built: AtomicU64,
+    /// How often one of the two waited in vain.
+    missed: AtomicU64,
+}
+
+impl Marks {
+    fn new() -> Marks {
+        Marks {
+            held: AtomicU64::new(0),
+            released: AtomicU64::new(0),
+            built: AtomicU64::new(0),
+            missed: AtomicU64::new(0),
+        }
+    }
+
+    /// Waits until a mark is past a number.
+    fn wait_until_past(&self, mark: &AtomicU64, number: u64) {
+        for _ in 0..TURNS {
+            if mark.load(Ordering::SeqCst) > number {
+                return;
+            }
+            yield_now();
+        }
+        self.missed.fetch_add(1, Ordering::SeqCst);
+    }
+
+    /// Waits until the call is held at the point behind so many.
+    fn wait_until_held(&self, points: u64) {
+        self.wait_until_past(&self.held, points);
+    }
+
+    /// Releases the call from the point where it is held.
+    fn release(&self) {
+        self.released.fetch_add(1, Ordering::SeqCst);
+    }
+
+    /// Asserts that nobody waited in vain, and that a state was built so often.
+    fn check(&self, rt: &impl Abort, built: u64) {
+        assert_eq!(rt; self.missed.load(Ordering::SeqCst), 0);
+        assert_eq!(rt; self.built.load(Ordering::SeqCst), built);
+    }
+}
+
+/// Holds worker 1 at these points, one after another.
+#[derive(Clone, Copy)]
+struct Held<'a> {
+    marks: &'a Marks,
+    points: &'a [Point],
+}
+
+impl Gate for Held<'_> {
+    fn at(&self, worker: u32, point: Point) {
+        if worker != 1 {
+            return;
+        }
+        let marks = self.marks;
+        if point == Point::Building {
+            marks.built.fetch_add(1, Ordering::SeqCst);
+        }
+        let held = marks.held.load(Ordering::SeqCst);
+        if self.points.get(held as usize) == Some(&point) {
+            marks.held.fetch_add(1, Ordering::SeqCst);
+            marks.wait_until_past(&marks.released, held);
+        }
+    }
+}
+
+/// What worker 2 does while worker 1 is held.
+#[derive(Clone, Copy)]
+enum Beside {
+    Reads,
+    Writes,
+    WritesBeforeEachTry,
+}
+
+/// Opens a store in which worker 1 is held, and asserts how many states it builds.
+fn holds<T: Threads + Wait + Abort + Sync>(
+    rt: &T,
+    alloc: Global,
+    gate: Held<'_>,
+    beside: Beside,
+    built: u64,
+) {
+    let catalog = bank(rt, alloc);
+    holds_named::<Brand, T>(rt, alloc, Opened::new(2), catalog, gate, beside);
+    gate.marks.check(rt, built);
+}
+
+/// The same, where the store has a name.
+fn holds_named<L: Naming + Send + Sync, T: Threads + Wait + Abort + Sync>(
+    rt: &T,
+    alloc: Global,
+    opened: Opened,
+    catalog: Arc<Catalog>,
+    gate: Held<'_>,
+    beside: Beside,
+)
+    requires book { opened.front.book ≡ L.book }
+    requires tables { arc_value catalog ≡ L.tables }
+    requires limits { usual_limits ≡ L.limits }
+    requires tied { SaysThat L.holds L.book L.tables L.limits }
+    requires name { opened.blank.name ≡ L.name }
+    requires parts { opened.blank.parts ≡ L.parts }
+{
+    let opened = opened.named::<L, Held<'_>, &T>(rt, alloc, catalog, Limits::usual(), gate);
+    let (store, mut workers) = opened.expect(rt, "a store");
+    let second = workers.pop().expect(rt, "a second worker");
+    let first = workers.pop().expect(rt, "a first worker");
+    let marks = gate.marks;
+    match beside {
+        Beside::Reads => reads_beside_a_write(rt, alloc, &store, first, second, marks),
+        Beside::Writes => writes_beside_steps(rt, alloc, &store, first, second, marks),
+        Beside::WritesBeforeEachTry => writes_beside_writes(
+            rt, alloc, &store, first, second, marks,
+        ),
+    }
+    done(store);
+}
+
+/// The end of a test's use of a store.
+fn done<L: Naming, G: Gate + Drop, R: Wait + Drop>(_store: Store<L, G, R>) {}
+
+#[test]
+fn a_read_takes_no_lock(rt: HostRuntime) {
+    let marks = Marks::new();
+    let gate = Held {
+        marks: &marks,
+        points: &[Point::Locked, Point::Published],
+    };
+    holds(&rt, rt.alloc(), gate, Beside::Reads, 1);
+}
+
+/// Lets a worker read while a write of the other one is held.
+fn reads_beside_a_write<L: Naming + Send + Sync, T: Threads + Wait + Abort + Sync>(
+    rt: &T,
+    alloc: Global,
+    store: &Store<L, Held<'_>, &T>,
+    first: Worker<L>,
+    second: Worker<L>,
+    marks: &Marks,
+) {
+    join(
+        rt,
+        || writes_one(rt, alloc, store, first, (1, 1)),
+        || reads_under_the_lock(rt, alloc, second, marks),
+    );
+}
+
+/// Inserts an account, which takes this place and this slot.
+fn writes_one<L: Naming, T: Wait + Abort>(
+    rt: &T,
+    alloc: Global,
+    store: &Store<L, Held<'_>, &T>,
+    mut worker: Worker<L>,
+    at: (u64, u64),
+) -> Worker<L> {
+    inserts(rt, alloc, store, &mut worker, (1, "ann", 10), at);
+    worker
+}
+
+/// Reads before a write that is held is published, and behind that.
+fn reads_under_the_lock<L: Naming>(
+    rt: &impl Abort,
+    alloc: Global,
+    mut worker: Worker<L>,
+    marks: &Marks,
+) -> Worker<L> {
+    marks.wait_until_held(0);
+    has(rt, alloc, &mut worker, &[]);
+    marks.release();
+    marks.wait_until_held(1);
+    assert!(rt; comes_to_see(rt, alloc, &mut worker));
+    has(rt, alloc, &mut worker, &[(1, "ann", 10)]);
+    marks.release();
+    worker
+}
+
+/// Whether one of 10,000 reads is of the first write.
+fn comes_to_see<L: Naming>(rt: &impl Abort, alloc: Global, worker: &mut Worker<L>) -> bool {
+    let all = all(rt, alloc);
+    for _ in 0..10_000 {
+        let answer = worker.read(&all).expect(rt, "a read");
+        if answer.time == 1 {
+            return true;
+        }
+    }
+    false
+}
+
+#[test]
+fn steps_go_behind_a_write_made_meanwhile(rt: HostRuntime) {
+    let marks = Marks::new();
+    let gate = Held {
+        marks: &marks,
+        points: &[Point::Building],
+    };
+    holds(&rt, rt.alloc(), gate, Beside::Writes, 2);
+}
+
+/// Begins a repair, and lets a worker write while steps of the other one are held.
+fn writes_beside_steps<L: Naming + Send + Sync, T: Threads + Wait + Abort + Sync>(
+    rt: &T,
+    alloc: Global,
+    store: &Store<L, Held<'_>, &T>,
+    first: Worker<L>,
+    mut second: Worker<L>,
+    marks: &Marks,
+) {
+    begins_after_five_slots(rt, alloc, store, &mut second);
+    join(
+        rt,
+        || steps(rt, store, first),
+        || writes_meanwhile(rt, alloc, store, second, marks),
+    );
+}
+
+/// Makes two steps, behind a write that is made meanwhile.
+fn steps<L: Naming, T: Wait + Abort>(
+    rt: &T,
+    store: &Store<L, Held<'_>, &T>,
+    mut worker: Worker<L>,
+) -> Worker<L> {
+    let progress = Progress {
+        done: 2,
+        left: 4,
+        rerun: 0,
+    };
+    assert_eq!(rt; store.step(rt, &mut worker, 2), Ok(progress));
+    assert_eq!(rt; worker.seen(), 9);
+    worker
+}
+
+/// Inserts an account while the steps are held.
+fn writes_meanwhile<L: Naming, T: Wait + Abort>(
+    rt: &T,
+    alloc: Global,
+    store: &Store<L, Held<'_>, &T>,
+    mut worker: Worker<L>,
+    marks: &Marks,
+) -> Worker<L> {
+    marks.wait_until_held(0);
+    inserts(rt, alloc, store, &mut worker, (6, "eve", 1), (7, 6));
+    marks.release();
+    worker
+}
+
+#[test]
+fn the_fifth_try_is_made_under_the_lock(rt: HostRuntime) {
+    let marks = Marks::new();
+    let gate = Held {
+        marks: &marks,
+        points: &[Point::Building; 4],
+    };
+    holds(&rt, rt.alloc(), gate, Beside::WritesBeforeEachTry, 5);
+}
+
+/// Lets a worker write before each of four tries of the other one.
+fn writes_beside_writes<L: Naming + Send + Sync, T: Threads + Wait + Abort + Sync>(
+    rt: &T,
+    alloc: Global,
+    store: &Store<L, Held<'_>, &T>,
+    first: Worker<L>,
+    second: Worker<L>,
+    marks: &Marks,
+) {
+    join(
+        rt,
+        || writes_one(rt, alloc, store, first, (5, 5)),
+        || writes_before_each_try(rt, alloc, store, second, marks),
+    );
+}
+
+/// Inserts an account each time before a held write tries to publish.
+fn writes_before_each_try<L: Naming, T: Wait + Abort>(
+    rt: &T,
+    alloc: Global,
+    store: &Store<L, Held<'_>, &T>,
+    mut worker: Worker<L>,
+    marks: &Marks,
+) -> Worker<L> {
+    for tries in 0..4u32 {
+        let place = u64::from(tries) + 1;
+        let account = (i64::from(tries) + 2, "bob", 20);
+        marks.wait_until_held(u64::from(tries));
+        inserts(rt, alloc, store, &mut worker, account, (place, place));
+        marks.release();
+    }
+    worker
+}

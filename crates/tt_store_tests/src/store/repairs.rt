@@ -1,0 +1,192 @@
+use super::{
+    Scenario, all, begins_after_five_slots, closed, delete_bob, has, has_places, inserts, plays,
+    rows, tries,
+};
+use std::alloc::Global;
+use std::process::Abort;
+use std::sync::Wait;
+use std::test::*;
+use tt_db::{DbError, Edit, Limits, Progress, ReadError};
+use tt_store::{Finished, Naming, NoGate, Store, StoreError, Worker};
+use tt_values::Items;
+
+#[test]
+fn a_repair_is_made_in_steps(rt: HostRuntime) {
+    plays(&rt, rt.alloc(), 1, Scenario::RepairsInSteps);
+}
+
+/// A repair is made in steps, previewed and finished.
+pub(super) fn repairs_in_steps<L: Naming, T: Wait + Abort>(
+    rt: &T,
+    alloc: Global,
+    store: Store<L, NoGate, &T>,
+    mut workers: Vec<Worker<L>>,
+) {
+    let mut worker = workers.pop().expect(rt, "a worker");
+    is_idle(rt, &store, &mut worker);
+    begins_after_five_slots(rt, alloc, &store, &mut worker);
+    steps(rt, &store, &mut worker);
+    has(rt, alloc, &mut worker, &[(3, "bob", 8)]);
+    previews(rt, alloc, &mut worker);
+    finishes(rt, &store, &mut worker);
+    assert_eq!(rt; (worker.seen(), worker.made()), (12, 12));
+    reads_the_closed_generation(rt, alloc, &mut worker);
+}
+
+/// Asserts that no repair is under way.
+fn is_idle<L: Naming, T: Wait + Abort>(
+    rt: &T,
+    store: &Store<L, NoGate, &T>,
+    worker: &mut Worker<L>,
+) {
+    let refused = StoreError::Db(DbError::NotRepairing);
+    assert_eq!(rt; store.step(rt, worker, 0), Err(refused));
+    assert_eq!(rt; store.finish(rt, worker), Err(refused));
+}
+
+/// Makes no step of five, and then four of them.
+fn steps<L: Naming, T: Wait + Abort>(rt: &T, store: &Store<L, NoGate, &T>, worker: &mut Worker<L>) {
+    let before = Progress {
+        done: 0,
+        left: 5,
+        rerun: 0,
+    };
+    assert_eq!(rt; store.step(rt, worker, 0), Ok(before));
+    assert_eq!(rt; worker.seen(), 6);
+    let progress = Progress {
+        done: 4,
+        left: 1,
+        rerun: 1,
+    };
+    assert_eq!(rt; store.step(rt, worker, 4), Ok(progress));
+    assert_eq!(rt; worker.seen(), 10);
+}
+
+/// Asserts what the next generation shows after four slots.
+fn previews<L: Naming>(rt: &impl Abort, alloc: Global, worker: &mut Worker<L>) {
+    let next = worker.preview(&all(rt, alloc)).expect(rt, "a preview");
+    assert_eq!(rt; next.time, 4);
+    let accounts = [(1, "ann", 5), (2, "ann", 6)];
+    assert_eq!(rt; next.reply, rows(rt, alloc, &accounts));
+}
+
+/// Makes the step that is left, and the switch.
+fn finishes<L: Naming, T: Wait + Abort>(
+    rt: &T,
+    store: &Store<L, NoGate, &T>,
+    worker: &mut Worker<L>,
+) {
+    let finished = Finished {
+        generation: 1,
+        place: 12,
+        slots: 5,
+        rerun: 2,
+    };
+    assert_eq!(rt; store.finish(rt, worker), Ok(finished));
+}
+
+/// Asserts what is shown of the generation before the repair, and that there is no third one.
+fn reads_the_closed_generation<L: Naming>(rt: &impl Abort, alloc: Global, worker: &mut Worker<L>) {
+    let all = all(rt, alloc);
+    let old = worker.read_in(0, &all, 5).expect(rt, "a read");
+    assert_eq!(rt; old.reply, rows(rt, alloc, &[(3, "bob", 8)]));
+    let later = worker.read_in(0, &all, 6);
+    assert_eq!(rt; later.err(), Some(ReadError::Later { now: 5 }));
+    let missing = ReadError::NoGeneration {
+        oldest: 0,
+        newest: 1,
+    };
+    assert_eq!(rt; worker.read_in(2, &all, 5).err(), Some(missing));
+}
+
+#[test]
+fn a_repair_is_finished_by_another_worker(rt: HostRuntime) {
+    plays(&rt, rt.alloc(), 2, Scenario::FinishesForAnother);
+}
+
+/// Worker 2 finishes the repair that worker 1 began.
+pub(super) fn finishes_for_another<L: Naming, T: Wait + Abort>(
+    rt: &T,
+    alloc: Global,
+    store: Store<L, NoGate, &T>,
+    mut workers: Vec<Worker<L>>,
+) {
+    let mut second = workers.pop().expect(rt, "a second worker");
+    let mut first = workers.pop().expect(rt, "a first worker");
+    begins_after_five_slots(rt, alloc, &store, &mut first);
+    is_refused_another(rt, alloc, &store, &mut second);
+    let progress = store.step(rt, &mut second, 4).expect(rt, "four steps");
+    assert_eq!(rt; (progress.done, progress.left), (4, 1));
+    finishes(rt, &store, &mut second);
+    workers.push(first).expect(rt, "memory");
+    workers.push(second).expect(rt, "memory");
+    let closed = closed(rt, store, workers);
+    let (first, second) = (&[1, 2, 3, 4, 5, 6], &[7, 8, 9, 10, 11, 12]);
+    assert!(rt; has_places(&closed.places, first, second));
+}
+
+/// Asserts that a worker is told of the repair of another one, and can't begin one beside it.
+fn is_refused_another<L: Naming, T: Wait + Abort>(
+    rt: &T,
+    alloc: Global,
+    store: &Store<L, NoGate, &T>,
+    worker: &mut Worker<L>,
+) {
+    assert_eq!(rt; store.refresh(rt, worker), Ok(6));
+    let refused = StoreError::Db(DbError::Repairing);
+    assert_eq!(rt;
+        store.begin(rt, worker, delete_bob(rt, alloc)),
+        Err(refused)
+    );
+    assert_eq!(rt; (worker.seen(), worker.made()), (6, 0));
+}
+
+#[test]
+fn a_full_history_stops_a_repair(rt: HostRuntime) {
+    let limits = Limits {
+        events: 4,
+        ..Limits::usual()
+    };
+    let tried = tries(&rt, rt.alloc(), 1, limits, Scenario::FillsHistory);
+    assert_eq!(rt; tried, Ok(()));
+}
+
+/// There is room for four entries.
+pub(super) fn fills_history<L: Naming, T: Wait + Abort>(
+    rt: &T,
+    alloc: Global,
+    store: Store<L, NoGate, &T>,
+    mut workers: Vec<Worker<L>>,
+) {
+    let mut worker = workers.pop().expect(rt, "a worker");
+    inserts(rt, alloc, &store, &mut worker, (1, "ann", 10), (1, 1));
+    inserts(rt, alloc, &store, &mut worker, (2, "bob", 20), (2, 2));
+    begins(rt, alloc, &store, &mut worker);
+    is_full_after_a_step(rt, &store, &mut worker);
+}
+
+/// Begins a repair that cancels the first slot.
+fn begins<L: Naming, T: Wait + Abort>(
+    rt: &T,
+    alloc: Global,
+    store: &Store<L, NoGate, &T>,
+    worker: &mut Worker<L>,
+) {
+    let edits = Vec::from_array(alloc, [Edit::Cancel(1)]).expect(rt, "memory");
+    let edits = Items::new(alloc, edits).expect(rt, "memory");
+    assert_eq!(rt; store.begin(rt, worker, edits), Ok(3));
+}
+
+/// Asserts that there is room for one step of two, and then for none.
+fn is_full_after_a_step<L: Naming, T: Wait + Abort>(
+    rt: &T,
+    store: &Store<L, NoGate, &T>,
+    worker: &mut Worker<L>,
+) {
+    let full = StoreError::Db(DbError::Full { limit: 4 });
+    assert_eq!(rt; store.step(rt, worker, 2), Err(full));
+    let progress = store.step(rt, worker, 1).expect(rt, "a step");
+    assert_eq!(rt; (progress.done, progress.left), (1, 1));
+    assert_eq!(rt; store.finish(rt, worker), Err(full));
+    assert_eq!(rt; worker.seen(), 4);
+}
