@@ -3,7 +3,7 @@ use Rattle.std.proofs.Common.{◌≡◌, ◌∙◌, ap, Bool, List, Some, codes,
 use Rattle.clap.specs.Takes.{is_given}
 use Rattle.clap.specs.Walk.{Row, Text, one_of}
 use Rattle.clap.specs.declared.builder.value_parser.Reading.TheVariants.{AsWritten}
-use Rattle.tt_cli.proofs.ReplayLemmas.{HasClosed, IsTrueText}
+use Rattle.tt_cli.proofs.SubcommandLemmas.{HasClosed, IsTrueText}
 use Rattle.tt_cli.proofs.RowLemmas.{IsDefault, IsGiven}
 
 abbrev id : Text

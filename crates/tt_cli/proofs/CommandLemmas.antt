@@ -1,16 +1,19 @@
 -- What a parse of the command line that succeeds has found.
-use Rattle.std.proofs.Common.{◌≡◌, ◌∙◌, [], ap, ℕ, Bool, IsSomeAnd, List, Option, Some, None, codes, false, option_map, refl, subst, sym, true}
-use Rattle.clap.specs.Words.{App, HasMatchesOf, Row, Text, fault_of, found_of, is_simple_and_free, one_of, one_text, rows_of, subcommand_of, subcommand_rows_of}
+use Rattle.std.proofs.Common.{◌≡◌, ◌∙◌, ◌↔◌, [], ap, ℕ, Bool, Box, IsSomeAnd, IsTrue, List, Option, Some, None, codes, false, option_map, refl, subst, sym, true, unwrap_or}
+use Rattle.std.specs.Box.{box_value}
+use Rattle.clap.specs.Words.{App, HasMatchesOf, Row, Text, fault_of, found_of, is_simple_and_free, one_of, one_text, rows_of, subcommand_name_of, subcommand_of, subcommand_rows, subcommand_rows_of}
 use Rattle.clap.specs.Matches.{ReadsOne}
 use Rattle.clap.specs.Simple.{is_simple}
 use Rattle.clap.specs.Takes.{is_given}
 use Rattle.clap.specs.declared.parser.matches.ArgMatches.{ArgMatches}
+use Rattle.clap.specs.declared.parser.matches.ArgMatches.TheViews.{out-ArgMatches, out-SubCommand}
+use Rattle.clap.specs.declared.parser.matches.SubCommand.{SubCommand}
 use Rattle.clap.proofs.OnLiterals.{clap_on_literals}
 use Rattle.clap.proofs.WalkLemmas.{both, one_text-rows}
-use Rattle.tt_cli.specs.CommandLine.{IsBatchOf, IsClosedOf, IsNumberOr, command_line, given_text}
-use Rattle.tt_cli.proofs.BatchLemmas.{ReadsBatch, ReadsNumber, reads_batch}
+use Rattle.tt_cli.specs.CommandLine.{IsBatchOf, IsClosedOf, IsNumberOr, IsRoundsOf, IsSignedOr, IsThreadsOf, command_line, given_text}
+use Rattle.tt_cli.proofs.NumberLemmas.{ReadsBatch, ReadsNumber, ReadsRounds, reads_batch, reads_rounds}
 use Rattle.tt_cli.proofs.ClosedLemmas.{reads_closed}
-use Rattle.tt_cli.proofs.ReplayLemmas.{HasBatch, HasClosed, takes_replay}
+use Rattle.tt_cli.proofs.SubcommandLemmas.{HasOptions, takes_one}
 
 is_simple_line : is_simple_and_free command_line ≡ true
 unfolding clap_on_literals
@@ -20,55 +23,76 @@ is_simple_line = refl
 pub is_simple_command : (a : App) → a ≡ command_line → is_simple_and_free a ≡ true
 is_simple_command a is = ap is_simple_and_free is ∙ is_simple_line
 
--- the parse entered `replay`, with a row of `--batch` and one of `--closed`
-abbrev pub EntersReplay : List Text → ArgMatches → Type 0
-EntersReplay words m = (rows : List Row) × (subcommand_of command_line words ≡ Some (codes "replay", rows))
-    × (subcommand_rows_of m ≡ Some (codes "replay", rows)) × HasBatch rows × HasClosed rows
+-- the parse entered a subcommand, with the rows of its options
+abbrev pub Enters : List Text → ArgMatches → Type 0
+Enters words m = (name : Text) × (rows : List Row) × (subcommand_of command_line words ≡ Some (name, rows))
+    × (subcommand_rows_of m ≡ Some (name, rows)) × HasOptions rows
 
-pub enters_replay : (a : App) (words : List Text) (m : ArgMatches) → a ≡ command_line → fault_of a words ≡ [] → HasMatchesOf a words m → EntersReplay words m
-enters_replay a words m is passes matches =
-    let takes = takes_replay words (sym (ap (λ (x : App). fault_of x words) is) ∙ passes) in
+pub enters_one : (a : App) (words : List Text) (m : ArgMatches) → a ≡ command_line → fault_of a words ≡ [] → HasMatchesOf a words m → Enters words m
+enters_one a words m is passes matches =
+    let takes = takes_one words (sym (ap (λ (x : App). fault_of x words) is) ∙ passes) in
     let simple : is_simple a ≡ true = (both (is_simple a) _ (is_simple_command a is)).0 in
-    (takes.0, takes.1, (matches simple).1 ∙ (ap (λ (x : App). subcommand_of x words) is ∙ takes.1), takes.2, takes.3)
+    (takes.0, takes.1, takes.2, (matches simple).1 ∙ (ap (λ (x : App). subcommand_of x words) is ∙ takes.2), takes.3)
 
 abbrev rows_in : Option (Text × List Row) → Option (List Row)
 rows_in = option_map (λ sub. sub.1)
 
-pub never_none : (words : List Text) (m : ArgMatches) → EntersReplay words m → None ≡ option_map (λ sub. sub.1) (subcommand_rows_of m) → ⊥
-never_none words m enters none =
-    let bad : None ≡ Some enters.0 = none ∙ ap rows_in enters.2 in
-    absurd (cc)
+name_in : {Z : Type 0} (o : Option (Box SubCommand Z))
+    → option_map (λ b. (out-SubCommand (box_value b)).name.now) o ≡ option_map (λ sub. sub.0) (subcommand_rows o)
+name_in None = refl
+name_in (Some b) = refl
 
--- what is read of an argument of `replay`
-one_is : (words : List Text) (m inner : ArgMatches) (enters : EntersReplay words m)
-    → Some (rows_of (found_of inner)) ≡ option_map (λ sub. sub.1) (subcommand_rows_of m)
-    → (id : Text) → one_text (found_of inner) id ≡ one_of id enters.0
-one_is words m inner enters found id =
-    let given : Some (rows_of (found_of inner)) ≡ Some enters.0 = found ∙ ap rows_in enters.2 in
-    let same : rows_of (found_of inner) ≡ enters.0 = cc in
-    one_text-rows (found_of inner) id ∙ ap (one_of id) same
+module _ (words : List Text) (m : ArgMatches) (enters : Enters words m) where
+  pub never_none : None ≡ rows_in (subcommand_rows_of m) → ⊥
+  never_none none =
+      let bad : None ≡ Some enters.1 = none ∙ ap rows_in enters.3 in
+      absurd (cc)
 
-pub reads_replay : (words : List Text) (m inner : ArgMatches) (read : Option ℕ) (enters : EntersReplay words m)
-    → Some (rows_of (found_of inner)) ≡ option_map (λ sub. sub.1) (subcommand_rows_of m)
-    → ((text : Text) → one_text (found_of inner) (codes "batch") ≡ Some text → ReadsOne ReadsNumber text read) → ReadsBatch enters.0 read
-reads_replay words m inner read enters found reads =
-    reads_batch enters.0 read enters.3 (λ text e. reads text (one_is words m inner enters found (codes "batch") ∙ e))
+  -- the subcommand that was entered
+  pub threads_is : (name : Text) (threads : Bool) → Some name ≡ subcommand_name_of m → (IsTrue threads ↔ (name ≡ codes "run")) → IsThreadsOf words threads
+  unfolding IsThreadsOf
+  threads_is name threads found is =
+      let given : Some name ≡ Some enters.0 = found ∙ (name_in (out-ArgMatches m).subcommand ∙ ap (option_map (λ sub. sub.0)) enters.3) in
+      let same : name ≡ enters.0 = cc in
+      let named = subst (λ (n : Text). IsTrue threads ↔ (n ≡ codes "run")) same is in
+      subst (λ (sub : Option (Text × List Row)). IsSomeAnd sub (λ s. IsTrue threads ↔ (s.0 ≡ codes "run"))) (sym enters.2) named
 
--- the number that was read
-pub batch_is : (words : List Text) (m : ArgMatches) (enters : EntersReplay words m) (read : Option ℕ) (n : ℕ) → ReadsBatch enters.0 read → read ≡ Some n → IsBatchOf words n
-unfolding IsBatchOf
-batch_is words m enters read n reads is =
-    let same : reads.0 ≡ n = cc in
-    let number = subst (λ (k : ℕ). IsNumberOr 16 (given_text (codes "batch") enters.0) k) same reads.4 in
-    subst (λ (sub : Option (Text × List Row)). IsSomeAnd sub (λ s. IsNumberOr 16 (given_text (codes "batch") s.1) n)) (sym enters.1) number
+  -- what is read of an option
+  module _ (inner : ArgMatches) (found : Some (rows_of (found_of inner)) ≡ rows_in (subcommand_rows_of m)) where
+    one_is : (id : Text) → one_text (found_of inner) id ≡ one_of id enters.1
+    one_is id =
+        let given : Some (rows_of (found_of inner)) ≡ Some enters.1 = found ∙ ap rows_in enters.3 in
+        let same : rows_of (found_of inner) ≡ enters.1 = cc in
+        one_text-rows (found_of inner) id ∙ ap (one_of id) same
 
--- the flag that was read
-pub closed_is : (words : List Text) (m inner : ArgMatches) (read : Bool) (enters : EntersReplay words m)
-    → Some (rows_of (found_of inner)) ≡ option_map (λ sub. sub.1) (subcommand_rows_of m)
-    → (one_text (found_of inner) (codes "closed") ≡ Some (codes "true") → read ≡ true)
-    → (one_text (found_of inner) (codes "closed") ≡ Some (codes "false") → read ≡ false) → IsClosedOf words read
-unfolding IsClosedOf
-closed_is words m inner read enters found when_true when_false =
-    let one = one_is words m inner enters found (codes "closed") in
-    let is = reads_closed enters.0 read enters.4 (λ e. when_true (one ∙ e)) (λ e. when_false (one ∙ e)) in
-    subst (λ (sub : Option (Text × List Row)). IsSomeAnd sub (λ s. read ≡ is_given (codes "closed") s.1)) (sym enters.1) is
+    pub batch_read : (read : Option ℕ) → ((text : Text) → one_text (found_of inner) (codes "batch") ≡ Some text → ReadsOne ReadsNumber text read)
+        → ReadsBatch enters.1 read
+    batch_read read reads = reads_batch enters.1 read enters.4.0 (λ text e. reads text (one_is (codes "batch") ∙ e))
+
+    pub rounds_read : (read : Option ℕ) → (one_text (found_of inner) (codes "rounds") ≡ None → read ≡ None)
+        → ((text : Text) → one_text (found_of inner) (codes "rounds") ≡ Some text → ReadsOne ReadsNumber text read)
+        → ReadsRounds enters.1 (unwrap_or read 8)
+    rounds_read read none reads =
+        let one = one_is (codes "rounds") in
+        reads_rounds enters.1 read enters.4.2 (λ e. none (one ∙ e)) (λ text e. reads text (one ∙ e))
+
+    pub closed_is : (read : Bool) → (one_text (found_of inner) (codes "closed") ≡ Some (codes "true") → read ≡ true)
+        → (one_text (found_of inner) (codes "closed") ≡ Some (codes "false") → read ≡ false) → IsClosedOf words read
+    unfolding IsClosedOf
+    closed_is read when_true when_false =
+        let one = one_is (codes "closed") in
+        let is = reads_closed enters.1 read enters.4.1 (λ e. when_true (one ∙ e)) (λ e. when_false (one ∙ e)) in
+        subst (λ (sub : Option (Text × List Row)). IsSomeAnd sub (λ s. read ≡ is_given (codes "closed") s.1)) (sym enters.2) is
+
+  -- the numbers that were read
+  pub batch_is : (read : Option ℕ) (n : ℕ) → ReadsBatch enters.1 read → read ≡ Some n → IsBatchOf words n
+  unfolding IsBatchOf
+  batch_is read n reads is =
+      let same : reads.0 ≡ n = cc in
+      let number = subst (λ (k : ℕ). IsNumberOr 16 (given_text (codes "batch") enters.1) k) same reads.4 in
+      subst (λ (sub : Option (Text × List Row)). IsSomeAnd sub (λ s. IsNumberOr 16 (given_text (codes "batch") s.1) n)) (sym enters.2) number
+
+  pub rounds_are : (n : ℕ) → ReadsRounds enters.1 n → IsRoundsOf words n
+  unfolding IsRoundsOf
+  rounds_are n reads =
+      subst (λ (sub : Option (Text × List Row)). IsSomeAnd sub (λ s. IsSignedOr 8 (given_text (codes "rounds") s.1) n)) (sym enters.2) reads.1

@@ -1,7 +1,7 @@
-pub mod BatchLemmas
 pub mod BuildLemmas
 pub mod ClosedLemmas
 pub mod CommandLemmas
-pub mod ReplayLemmas
+pub mod NumberLemmas
 pub mod RowLemmas
+pub mod SubcommandLemmas
 pub mod WalkLemmas

@@ -57,6 +57,15 @@ module _ (id : Text) (how : Reading) (Passes : Text → Type 0) where
       → (rows : List Row) → AllFit rows → AllFit (with_values name by s vs (without name rows))
   use_keeps name by s vs new rows p = values_keep name by s vs new (without name rows) (at_row_keeps name (λ _. []) [] (λ r fits. tt) tt rows p)
 
+  -- and so does the default of an argument
+  pub default_keeps : (name : Text) (by : Reading) (vs : List Text) → Fits (new_row name by DefaultValue vs)
+      → (rows : List Row) → AllFit rows → AllFit (cond (has_row name rows) rows (with_values name by DefaultValue vs rows))
+  default_keeps name by vs new rows p = go (has_row name rows)
+    where
+      go : (b : Bool) → AllFit (cond b rows (with_values name by DefaultValue vs rows))
+      go true = p
+      go false = values_keep name by DefaultValue vs new rows p
+
   module _ (usual : Text) where
     -- the row is the default
     abbrev pub IsDefault : Row → Type 0
@@ -123,3 +132,12 @@ module _ (id : Text) (how : Reading) (Passes : Text → Type 0) where
         go : (b : Bool) → has_row name rows ≡ b → HasRow (cond b rows (with_values name by DefaultValue vs rows))
         go true any = has
         go false none = stays rows none has
+
+-- rows that fit no row of the argument have none
+pub none_has : (id : Text) (how : Reading) (rows : List Row) → AllFit id how (λ _. ⊥) rows → find (λ x. bytes_eq x.id id) rows ≡ None
+none_has id how [] p = refl
+none_has id how (r ∷ rs) p = go (bytes_eq r.id id) refl (none_has id how rs p.1)
+  where
+    go : (b : Bool) → bytes_eq r.id id ≡ b → find (λ x. bytes_eq x.id id) rs ≡ None → cond b (Some r) (find (λ x. bytes_eq x.id id) rs) ≡ None
+    go true same rest = absurd ((p.0 same).4)
+    go false other rest = rest

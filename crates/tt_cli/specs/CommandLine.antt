@@ -1,8 +1,9 @@
--- The command line: `timetravel`, with its version and the subcommand `replay`, which takes
--- `--batch` and `--closed`.
+-- The command line: `timetravel`, with its version and two subcommands. `replay` takes `--batch` and
+-- `--closed`; `run` takes `--rounds`, too.
 use Rattle.std.specs.Prelude.{◌≡◌, ℕ, ◌∷◌, [], List, Option, Some, None, Ok, IsSomeAnd, codes, pos}
-use Rattle.std.specs.Prelude.{Bool, if◌then◌else◌, true}
-use Rattle.std.specs.Str.Parse.{ParsesUnsigned}
+use Rattle.std.specs.Prelude.{Bool, if◌then◌else◌, true, IsTrue, ◌↔◌}
+use Rattle.std.specs.Int.{w64}
+use Rattle.std.specs.Str.Parse.{ParsesSigned, ParsesUnsigned}
 use Rattle.std.specs.declared.num.ParseIntError.{ParseIntError}
 use Rattle.clap.specs.Words.{App, Row, Rule, Text, first_of, new_app, new_rule, subcommand_of}
 use Rattle.clap.specs.Words.{with_rule, with_subcommand}
@@ -26,6 +27,16 @@ batch = record (new_rule (codes "batch")) {
   parser = Some (parser.Signed (pos 1) (pos 10000));
 }
 
+-- `--rounds N`, from 0 to 1,000, and 8 where it isn't given
+abbrev pub rounds : Rule
+rounds = record (new_rule (codes "rounds")) {
+  long = Some (codes "rounds");
+  action = Some Set;
+  value_names = 1;
+  defaults = codes "8" ∷ [];
+  parser = Some (parser.Signed (pos 0) (pos 1000));
+}
+
 -- `--closed`, which takes no value
 abbrev pub closed : Rule
 closed = record (new_rule (codes "closed")) { long = Some (codes "closed"); action = Some SetTrue }
@@ -33,9 +44,14 @@ closed = record (new_rule (codes "closed")) { long = Some (codes "closed"); acti
 abbrev pub replay : App
 replay = with_rule (with_rule (new_app (codes "replay")) batch) closed
 
+abbrev pub run : App
+run = with_rule (with_rule (with_rule (new_app (codes "run")) batch) rounds) closed
+
 abbrev pub command_line : App
 command_line =
-    with_subcommand (requiring_subcommand (with_version (new_app (codes "timetravel")))) replay.top
+    with_subcommand
+    (with_subcommand (requiring_subcommand (with_version (new_app (codes "timetravel")))) replay.top)
+    run.top
 
 -- the text that the words give for an option; a default is none
 abbrev pub given_text : Text → List Row → Option Text
@@ -46,10 +62,25 @@ abbrev pub IsNumberOr : ℕ → Option Text → ℕ → Type 0
 IsNumberOr fallback None n = n ≡ fallback
 IsNumberOr fallback (Some text) n = ParsesUnsigned {E = ParseIntError} 32 10 text (Ok n)
 
+-- the same, where the text may be `-0`, too, which writes 0
+abbrev pub IsSignedOr : ℕ → Option Text → ℕ → Type 0
+IsSignedOr fallback None n = n ≡ fallback
+IsSignedOr fallback (Some text) n = ParsesSigned {E = ParseIntError} w64 10 text (Ok (pos n))
+
 -- the number that the words give for `--batch`, or 16 where they give none
 unfoldable pub IsBatchOf : List Text → ℕ → Type 0
 IsBatchOf words n = IsSomeAnd (subcommand_of command_line words) (λ sub.
     IsNumberOr 16 (given_text (codes "batch") sub.1) n)
+
+-- the number that the words give for `--rounds`, or 8 where they give none, as for `replay`
+unfoldable pub IsRoundsOf : List Text → ℕ → Type 0
+IsRoundsOf words n = IsSomeAnd (subcommand_of command_line words) (λ sub.
+    IsSignedOr 8 (given_text (codes "rounds") sub.1) n)
+
+-- whether the words give the subcommand `run`
+unfoldable pub IsThreadsOf : List Text → Bool → Type 0
+IsThreadsOf words threads = IsSomeAnd (subcommand_of command_line words) (λ sub.
+    IsTrue threads ↔ (sub.0 ≡ codes "run"))
 
 -- whether the words give `--closed`
 unfoldable pub IsClosedOf : List Text → Bool → Type 0

@@ -1,8 +1,8 @@
 //! The command line.
 ghost use Rattle.std.specs.Prelude.{◌≡◌, IfOk, map, string_bytes};
 ghost use Rattle.clap.specs.Words.{FailsBy, app_of, fault_of, rule_of};
-ghost use Rattle.tt_cli.specs.CommandLine.{IsBatchOf, IsClosedOf, batch, closed, command_line};
-ghost use Rattle.tt_cli.specs.CommandLine.{replay};
+ghost use Rattle.tt_cli.specs.CommandLine.{IsBatchOf, IsRoundsOf, IsClosedOf, IsThreadsOf};
+ghost use Rattle.tt_cli.specs.CommandLine.{batch, rounds, closed, replay, run, command_line};
 ghost use Rattle.tt_workload.specs.Options.{AreWithin};
 
 use clap::{Arg, ArgAction, Command, Error};
@@ -37,6 +37,8 @@ that workers make, in order:
 The second select reads the rows as they were at time 1, after the first write. The last call makes
 two writes as one action: they take one slot and one time. The repair cancels call 2, the update;
 a member "by" beside "replace" would put another write in its place.
+`run` makes the calls of each worker in a thread of its own, in the worker's order, and then the
+repair beside the calls of its member "meanwhile".
 The report goes to standard output: a line for each call, one for the repair and for each reply
 that it has changed, one for each table, and a last line. With --closed, one for each table of each
 closed generation that is kept follows the changed replies: its rows at that generation's last
@@ -45,6 +47,8 @@ time."#;
 /// What the command line asks for.
 #[derive(Clone, Copy, Debug, PartialEq, Eq)]
 pub struct Cli {
+    /// Whether each worker makes its calls in a thread of its own.
+    pub threads: bool,
     pub options: Options,
 }
 
@@ -57,21 +61,28 @@ pub fn command_of<'a>(alloc: Global, words: &'a [String]) -> Result<Cli, Error>
         IsBatchOf (map string_bytes words.entry.now) cli.options.batch) }
     ensures closed { IfOk result (λ cli.
         IsClosedOf (map string_bytes words.entry.now) cli.options.closed) }
-    ensures rounds { IfOk result (λ cli. cli.options.rounds ≡ 8) }
+    ensures rounds { IfOk result (λ cli.
+        IsRoundsOf (map string_bytes words.entry.now) cli.options.rounds) }
+    ensures threads { IfOk result (λ cli.
+        IsThreadsOf (map string_bytes words.entry.now) cli.threads) }
 {
     let command = command(alloc)?;
     let matches = command.try_get_matches_from(words)?;
-    let Some((_, replay)) = matches.subcommand() else {
+    let Some((name, given)) = matches.subcommand() else {
         unreachable!()
     };
-    let Some(batch) = replay.get_one::<u32>("batch") else {
+    let Some(batch) = given.get_one::<u32>("batch") else {
         unreachable!()
     };
-    let closed = replay.get_flag("closed");
+    let rounds = given
+        .get_one::<u32>("rounds")
+        .unwrap_or(Options::usual().rounds);
+    let closed = given.get_flag("closed");
     Ok(Cli {
+        threads: name == "run",
         options: Options {
             batch,
-            rounds: Options::usual().rounds,
+            rounds,
             closed,
         },
     })
@@ -87,7 +98,8 @@ fn command<'a>(alloc: Global) -> Result<Command<'a>, AllocError>
         .about(ABOUT)
         .after_help(DOCUMENT)
         .subcommand_required(true)
-        .subcommand(replay(alloc)?)
+        .subcommand(replay(alloc)?)?
+        .subcommand(run(alloc)?)
 }
 
 /// The subcommand that runs the calls in one thread.
@@ -98,6 +110,18 @@ fn replay<'a>(alloc: Global) -> Result<Command<'a>, AllocError>
         .about("Runs the calls one after another, in one thread")
         .after_help(DOCUMENT)
         .arg(batch(alloc))?
+        .arg(closed(alloc))
+}
+
+/// The subcommand that runs the calls of each worker in a thread of its own.
+fn run<'a>(alloc: Global) -> Result<Command<'a>, AllocError>
+    ensures { IfOk result (λ command. app_of command ≡ run) }
+{
+    Command::new(alloc, "run")
+        .about("Runs the calls of each worker in a thread of its own, and the repair beside them")
+        .after_help(DOCUMENT)
+        .arg(batch(alloc))?
+        .arg(rounds(alloc))?
         .arg(closed(alloc))
 }
 
@@ -112,6 +136,19 @@ fn batch<'a>(alloc: Global) -> Arg<'a>
         .value_parser(clap::value_parser!(u32).range(1..=10_000))
         .default_value("16")
         .help("The most steps of a repair that are done at once, 1 to 10,000")
+}
+
+/// The option `--rounds`.
+fn rounds<'a>(alloc: Global) -> Arg<'a>
+    ensures { rule_of result ≡ rounds }
+{
+    Arg::new(alloc, "rounds")
+        .long("rounds")
+        .action(ArgAction::Set)
+        .value_name("N")
+        .value_parser(clap::value_parser!(u32).range(0..=1_000))
+        .default_value("8")
+        .help("The most rounds of catching up before a repair is finished, 0 to 1,000")
 }
 
 /// The option `--closed`.

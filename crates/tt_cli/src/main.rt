@@ -10,8 +10,12 @@ use messages::{print_fault, print_usage, print_words_fault};
 use std::alloc::Global;
 use std::process::ExitCode;
 use std::rt::Env;
+use std::sync::Wait;
+use std::thread::Threads;
 use std::{env, io};
-use tt_workload::{RunEnd, run_to_end};
+use tt_store::NoGate;
+use tt_workers::{run_workers, text_of_report};
+use tt_workload::{Options, RunEnd, RunFault, read_document, run_to_end, write_text};
 
 mod command_line;
 mod ending;
@@ -25,13 +29,13 @@ fn main(rt: HostRuntime) -> ExitCode {
 }
 
 /// Runs the command line.
-fn run(rt: &(impl Env + Input + Print + Eprint + AllocGlobal)) -> Ending {
+fn run<R: Env + Input + Print + Eprint + AllocGlobal + Threads + Wait + Sync>(rt: &R) -> Ending {
     let words = match words_of(rt) {
         Ok(words) => words,
         Err(error) => return print_words_fault(rt, &error),
     };
     match command_of(rt.alloc(), words.as_slice()) {
-        Ok(cli) => replay(rt, &cli),
+        Ok(cli) => run_by(rt, &cli),
         Err(error) => print_usage(rt, &error),
     }
 }
@@ -39,6 +43,49 @@ fn run(rt: &(impl Env + Input + Print + Eprint + AllocGlobal)) -> Ending {
 fn words_of(rt: &(impl Env + AllocGlobal)) -> io::Result<Vec<String>> {
     let words = env::args(rt)?.collect(rt.alloc())?;
     Ok(words)
+}
+
+/// Runs the document on standard input, in threads or in one.
+fn run_by<R: Input + Print + Eprint + AllocGlobal + Threads + Wait + Sync>(
+    rt: &R,
+    cli: &Cli,
+) -> Ending
+    requires { AreWithin cli.now.options }
+    ensures { IsEndingOfRun result }
+{
+    if cli.threads {
+        return run_in_threads(rt, cli);
+    }
+    replay(rt, cli)
+}
+
+/// Runs the document on standard input in threads, and prints its report.
+fn run_in_threads<R: Input + Print + Eprint + AllocGlobal + Threads + Wait + Sync>(
+    rt: &R,
+    cli: &Cli,
+) -> Ending
+    requires { AreWithin cli.now.options }
+    ensures { IsEndingOfRun result }
+{
+    match print_report(rt, &cli.options) {
+        Ok(()) => Ending::Done,
+        Err(fault) => print_fault(rt, fault),
+    }
+}
+
+/// Prints the report of a run in threads. Nothing is printed before the whole report is known.
+fn print_report<R: Input + Print + AllocGlobal + Threads + Wait + Sync>(
+    rt: &R,
+    options: &Options,
+) -> Result<(), RunFault>
+    requires { AreWithin options.now }
+{
+    let mut reader = rt.reader();
+    let mut writer = io::writer(rt);
+    let document = read_document(rt.alloc(), &mut reader)?;
+    let report = run_workers(rt, rt.alloc(), &document, options, NoGate)?;
+    let text = text_of_report(rt.alloc(), &report, options.closed)?;
+    write_text(&mut writer, text.as_slice())
 }
 
 /// Runs the document on standard input in one thread, and prints its report.

@@ -1,1 +1,4 @@
 pub mod ChangesLemmas
+pub mod GrowthLemmas
+pub mod RepairLemmas
+pub mod SameLemmas

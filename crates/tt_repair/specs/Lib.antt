@@ -1,2 +1,4 @@
 pub mod Same
 pub mod Changes
+pub mod Growth
+pub mod Repairing

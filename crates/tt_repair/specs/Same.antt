@@ -1,7 +1,6 @@
 -- Whether replies are the same.
-use Rattle.std.specs.Prelude.{Bool, true, false, ◌==◌, ◌&&◌, List, length}
+use Rattle.std.specs.Prelude.{◌≡◌, ◌↔◌, Bool, true, false, ◌==◌, ◌&&◌, List, length}
 use Rattle.std.specs.List.{list_all, zip}
-use Rattle.tt_values.specs.declared.value.Value.{Value}
 use Rattle.tt_values.specs.declared.row.Row.{Row}
 use Rattle.tt_values.specs.declared.reply.Reply.{Reply}
 use Rattle.tt_values.specs.declared.reply.Reply.TheVariants as replies
@@ -27,3 +26,7 @@ is_same_reply a b = false
 -- whether two lists of replies are the same
 abbrev pub are_same : List Reply → List Reply → Bool
 are_same = are_same_by is_same_reply
+
+-- two lists of replies are the same just where they are equal
+abbrev pub SameRepliesAreEqual : Type 0
+SameRepliesAreEqual = (first second : List Reply) → (are_same first second ≡ true) ↔ (first ≡ second)

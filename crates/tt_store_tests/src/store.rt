@@ -35,7 +35,6 @@ use writes::{reads_beside, writes_behind, writes_in_threads};
 enum Scenario {
     ClosesBackwards,
     ClosesLater,
-    SixteenWork,
     FillsHistory,
     FillsTwoSlots,
     FinishesForAnother,
@@ -43,6 +42,7 @@ enum Scenario {
     HasWorkers(u32),
     ReadsBeside,
     RepairsInSteps,
+    SixteenWork,
     WritesBehind,
     WritesInThreads,
 }
@@ -109,7 +109,6 @@ fn play<L: Naming + Send + Sync, T: Threads + Wait + Abort + Sync>(
     match scenario {
         Scenario::ClosesBackwards => closes_backwards(rt, alloc, store, workers),
         Scenario::ClosesLater => closes_later(rt, store, workers),
-        Scenario::SixteenWork => sixteen_work(rt, alloc, store, workers),
         Scenario::FillsHistory => fills_history(rt, alloc, store, workers),
         Scenario::FillsTwoSlots => fills_two_slots(rt, alloc, store, workers),
         Scenario::FinishesForAnother => finishes_for_another(rt, alloc, store, workers),
@@ -117,6 +116,7 @@ fn play<L: Naming + Send + Sync, T: Threads + Wait + Abort + Sync>(
         Scenario::HasWorkers(count) => has_workers(rt, workers, count),
         Scenario::ReadsBeside => reads_beside(rt, alloc, store, workers),
         Scenario::RepairsInSteps => repairs_in_steps(rt, alloc, store, workers),
+        Scenario::SixteenWork => sixteen_work(rt, alloc, store, workers),
         Scenario::WritesBehind => writes_behind(rt, alloc, store, workers),
         Scenario::WritesInThreads => writes_in_threads(rt, alloc, store, workers),
     }

@@ -15,7 +15,9 @@ mod run_fault;
 
 pub use ends::{read_document, write_text};
 pub use options::Options;
-pub use record_text::{text_of, text_of_change};
+pub use record_text::{push_changes, push_records, text_of, text_of_change};
+pub use repair::{edits_of_slots, push_repair};
+pub use report::push_end_of_run;
 pub use run::{RunEnd, run_alone, run_to_end};
 pub use run_fault::RunFault;
 pub use tt_db::Db;

@@ -1,7 +1,7 @@
 //! The lines of records and of changed replies.
 ghost use Rattle.std.specs.Prelude.{◌≡◌, ◌++◌, OnOk, IfOk};
 ghost use Rattle.std.specs.Fmt.{decimal};
-ghost use Rattle.tt_workload.specs.Records.{caller_text, answer_text, reply_at, after_text, text_of_record, text_of_change, text_of_changes};
+ghost use Rattle.tt_workload.specs.Records.{caller_text, answer_text, reply_at, after_text, text_of_record, text_of_records, text_of_change, text_of_changes};
 
 use crate::printing::{push_decimal, push_labelled, push_replies, push_reply};
 use std::alloc::{AllocError, Global};
@@ -24,6 +24,16 @@ pub fn text_of_change(alloc: Global, change: &Changed) -> Result<Vec<u8>, AllocE
     let mut out = Vec::new(alloc);
     push_change(&mut out, change)?;
     Ok(out)
+}
+
+/// Pushes the lines of records.
+pub fn push_records(out: &mut Vec<u8>, records: &[Record]) -> Result<(), AllocError>
+    ensures { OnOk result (out.new.items ≡ out.old.items ++ text_of_records records.now) }
+{
+    for answered in records {
+        push_record(out, answered)?;
+    }
+    Ok(())
 }
 
 /// Pushes the line of a record.
@@ -90,7 +100,7 @@ fn push_reply_at(
 }
 
 /// Pushes the lines of changed replies.
-pub(crate) fn push_changes(out: &mut Vec<u8>, changes: &[Changed]) -> Result<(), AllocError>
+pub fn push_changes(out: &mut Vec<u8>, changes: &[Changed]) -> Result<(), AllocError>
     ensures { OnOk result (out.new.items ≡ out.old.items ++ text_of_changes changes.now) }
 {
     for change in changes {

@@ -55,8 +55,8 @@ fn edit_of_slot(records: &[Record], edit: &Edit) -> Result<Edit, AllocError>
     }
 }
 
-/// The edits of calls, as edits of their slots.
-pub(crate) fn edits_of_slots(
+/// The edits of calls, as edits of the slots that these records tell of.
+pub fn edits_of_slots(
     alloc: Global,
     records: &[Record],
     edits: &[Edit],
@@ -229,8 +229,13 @@ fn push_outcome(out: &mut Vec<u8>, outcome: &Outcome) -> Result<(), AllocError>
     Ok(())
 }
 
-/// Pushes the line of a repair.
-fn push_repair(out: &mut Vec<u8>, generation: u64, slots: u64, rerun: u64) -> Result<(), AllocError>
+/// Pushes the line of a repair, with its line feed.
+pub fn push_repair(
+    out: &mut Vec<u8>,
+    generation: u64,
+    slots: u64,
+    rerun: u64,
+) -> Result<(), AllocError>
     ensures { OnOk result (out.new.items
         ≡ out.old.items ++ repair_text generation slots rerun) }
 {

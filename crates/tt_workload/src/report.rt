@@ -221,7 +221,12 @@ pub(crate) fn report_of(
 
 /// Pushes the lines of the closed generations if these are asked for, those of all tables, and the
 /// last line.
-fn push_end_of_run(alloc: Global, out: &mut Vec<u8>, db: &Db, closed: bool) -> Result<(), RunFault>
+pub fn push_end_of_run(
+    alloc: Global,
+    out: &mut Vec<u8>,
+    db: &Db,
+    closed: bool,
+) -> Result<(), RunFault>
     ensures text { OnOk result (out.new.items
         ≡ out.old.items ++ (closed_lines_if closed db.now ++ last_lines db.now)) }
     ensures err { IfErr result (λ e. e ≡ RunFault.Memory) }

@@ -1,7 +1,8 @@
-use Rattle.std.proofs.Common.{◌≡◌, ◌∙◌, ap, arith, map, refl, rules, string_bytes, subst, sym}
+use Rattle.std.proofs.Common.{◌≡◌, ◌∙◌, ap, arith, map, refl, rules, string_bytes, subst, sym, unwrap_or}
 use Rattle.clap.specs.Words.{App, HasKind, app_of, fault_of}
 use Rattle.tt_cli.specs.CommandLine.{command_line}
-use Rattle.tt_cli.proofs.CommandLemmas.{batch_is, closed_is, enters_replay, is_simple_command, never_none, reads_replay}
+use Rattle.tt_cli.proofs.CommandLemmas.{batch_is, batch_read, closed_is, enters_one, is_simple_command, never_none, rounds_are, rounds_read, threads_is}
+use Rattle.tt_cli.proofs.NumberLemmas.{ReadsRounds}
 use Rattle.tt_cli.proofs.command_line.command_of.Goals as goal
 
 pub returns-in_err-matches-clause-kinds : goal.returns-in_err-matches-clause-kinds
@@ -16,7 +17,7 @@ unreachable-requires c =
     let line_is : app_of c.in_ok-command.command ≡ command_line = c.in_ok-command.ensures in
     let words = map string_bytes c.args.words.now in
     let passes = c.in_ok-matches.ensures.kinds (is_simple_command (app_of c.in_ok-command.command) line_is) in
-    let enters = enters_replay (app_of c.in_ok-command.command) words c.in_ok-matches.matches line_is passes c.in_ok-matches.ensures.matches in
+    let enters = enters_one (app_of c.in_ok-command.command) words c.in_ok-matches.matches line_is passes c.in_ok-matches.ensures.matches in
     never_none words c.in_ok-matches.matches enters c.in_default.ensures.rows
 
 pub unreachable-requires-in_default-get_one : goal.unreachable-requires-in_default-get_one
@@ -24,8 +25,8 @@ unreachable-requires-in_default-get_one c =
     let line_is : app_of c.in_ok-command.command ≡ command_line = c.in_ok-command.ensures in
     let words = map string_bytes c.args.words.now in
     let passes = c.in_ok-matches.ensures.kinds (is_simple_command (app_of c.in_ok-command.command) line_is) in
-    let enters = enters_replay (app_of c.in_ok-command.command) words c.in_ok-matches.matches line_is passes c.in_ok-matches.ensures.matches in
-    let reads = reads_replay words c.in_ok-matches.matches c.in-Some.replay.now c.get_one.result enters c.in-Some.ensures.rows c.get_one.ensures.value in
+    let enters = enters_one (app_of c.in_ok-command.command) words c.in_ok-matches.matches line_is passes c.in_ok-matches.ensures.matches in
+    let reads = batch_read words c.in_ok-matches.matches enters c.in-Some.given.now c.in-Some.ensures.rows c.get_one.result c.get_one.ensures.value in
     let is = c.in_default-get_one.is in
     let number = reads.1 in
     cc
@@ -35,17 +36,22 @@ returns c =
     let line_is : app_of c.in_ok-command.command ≡ command_line = c.in_ok-command.ensures in
     let words = map string_bytes c.args.words.now in
     let passes = c.in_ok-matches.ensures.kinds (is_simple_command (app_of c.in_ok-command.command) line_is) in
-    let enters = enters_replay (app_of c.in_ok-command.command) words c.in_ok-matches.matches line_is passes c.in_ok-matches.ensures.matches in
-    let reads = reads_replay words c.in_ok-matches.matches c.in-Some.replay.now c.get_one.result enters c.in-Some.ensures.rows c.get_one.ensures.value in
-    let batch = c.in-Some-get_one.batch in
+    let enters = enters_one (app_of c.in_ok-command.command) words c.in_ok-matches.matches line_is passes c.in_ok-matches.ensures.matches in
+    let inner = c.in-Some.given.now in
+    let found = c.in-Some.ensures.rows in
+    let batch = batch_read words c.in_ok-matches.matches enters inner found c.get_one.result c.get_one.ensures.value in
+    let number = batch.1 in
     let is = c.in-Some-get_one.is in
-    let number = reads.1 in
-    let same : reads.0 ≡ batch = cc in
-    let rounds : c.usual.result.rounds ≡ 8 = rw c.usual.ensures refl in
+    let same : batch.0 ≡ c.in-Some-get_one.batch = cc in
+    let usual : c.usual.result.rounds ≡ 8 = rw c.usual.ensures refl in
+    let read_is : c.unwrap_or-rounds.result ≡ unwrap_or c.get_one-2.result 8 = c.unwrap_or-rounds.ensures ∙ ap (unwrap_or c.get_one-2.result) usual in
+    let rounds = subst (ReadsRounds enters.1) (sym read_is) (rounds_read words c.in_ok-matches.matches enters inner found c.get_one-2.result c.get_one-2.ensures.none c.get_one-2.ensures.value) in
+    let most = rounds.0 in
     record {
       kinds = sym (ap (λ (a : App). fault_of a words) line_is) ∙ passes;
-      within = record { some_batch = omega arith; batch = omega arith; rounds = omega arith };
-      batch = batch_is words c.in_ok-matches.matches enters c.get_one.result batch reads is;
-      closed = closed_is words c.in_ok-matches.matches c.in-Some.replay.now c.get_flag-closed.result enters c.in-Some.ensures.rows c.get_flag-closed.ensures.value c.get_flag-closed.ensures.other;
-      rounds = rounds;
+      within = record { some_batch = omega arith; batch = omega arith; rounds = most };
+      batch = batch_is words c.in_ok-matches.matches enters c.get_one.result c.in-Some-get_one.batch batch is;
+      closed = closed_is words c.in_ok-matches.matches enters inner found c.get_flag-closed.result c.get_flag-closed.ensures.value c.get_flag-closed.ensures.other;
+      rounds = rounds_are words c.in_ok-matches.matches enters c.unwrap_or-rounds.result rounds;
+      threads = threads_is words c.in_ok-matches.matches enters c.in-Some.name.now c.eq.result c.in-Some.ensures.name (search rules);
     }

@@ -1,10 +1,9 @@
 -- Each thread takes a worker, and a reference to the store.
 use denote.Exit.{yes}
 use denote.Param.{param}
-use denote.Param.Send.{IsSend, IsSync, param_send, param_sync, arg_send, struct_send, sendable}
+use denote.Param.Send.{IsSend, IsSync, param_send, arg_send, sendable}
 use denote.RattleType.{RattleType}
 use Rattle.std.specs.contracts.alloc.Global as heap
-use Rattle.tt_store.specs.contracts.worker.Worker as worker
 use Rattle.tt_store.specs.contracts.store.Store as store
 use Rattle.tt_store_tests.specs.contracts.store.held.Held as held
 use Rattle.tt_store_tests.specs.contracts.store.held.Marks as marks

@@ -1,0 +1,330 @@
+-- What words that the command line takes leave in the rows of the subcommand that they enter.
+use Rattle.std.proofs.Common.{◌≡◌, ◌∷◌, ◌⊎◌, [], arith, ℕ, Bool, List, Option, Some, None, codes, cond, drop, eqb-true, false, find, inl, inr, is_some, length, pos, refl, subst, sym, true, ◌==◌, bytes_eq, option_map}
+use Rattle.std.specs.List.{AllByRecursion as Each}
+use Rattle.clap.specs.Kinds.{Kinds, or_else, range_kinds}
+use Rattle.clap.specs.ValueTests.{is_signed_in}
+use Rattle.clap.specs.Simple.{Shape, built, entered, names_of, subcommand_of}
+use Rattle.clap.specs.Walk.{Row, Rule, Text, Waiting, Held, finished, has_row, idle, nothing_held, answers_to, option, positional, rows_after, settled, subcommand_met, walk, walk_from, with_default}
+use Rattle.clap.specs.Faults.{check_fault, defaults_fault, entered_fault, fault_of, level_fault, other_fault, settle_fault, walk_fault}
+use Rattle.clap.specs.declared.builder.value_parser.Reading.{Reading}
+use Rattle.clap.specs.declared.builder.value_parser.Reading.TheVariants.{AsWritten, WithoutMinus}
+use Rattle.clap.specs.declared.builder.value_parser.ValueParser.TheVariants as parser
+use Rattle.clap.specs.declared.error.kind.ErrorKind.{ErrorKind}
+use Rattle.clap.specs.declared.error.kind.ErrorKind.TheVariants as kind
+use Rattle.clap.specs.declared.parser.matches.ValueSource.TheVariants.{CommandLine}
+use Rattle.tt_cli.specs.CommandLine.{batch, closed, command_line, rounds}
+use Rattle.tt_cli.proofs.RowLemmas.{AllFit, Fits, HasRow, default_has, default_keeps, default_stays, new_row, none_has, use_keeps}
+use Rattle.tt_cli.proofs.WalkLemmas.{Keeps, StopsAt, none_of, settles, walk_keeps, walk_stops}
+
+-- ---- the built command
+
+abbrev top : Shape
+top = (built command_line).top
+
+-- the options, as a subcommand has them once it is built
+abbrev batch_rule : Rule
+batch_rule = record batch { range = Some (record { start_inclusive = 1; end_inclusive = 1 }) }
+
+abbrev rounds_rule : Rule
+rounds_rule = record rounds { range = Some (record { start_inclusive = 1; end_inclusive = 1 }) }
+
+abbrev closed_rule : Rule
+closed_rule = record closed {
+  defaults = codes "false" ∷ [];
+  missing = codes "true" ∷ [];
+  parser = Some parser.Bool;
+  range = Some (record { start_inclusive = 0; end_inclusive = 0 });
+}
+
+abbrev help_rule : Rule
+help_rule = record Rattle.clap.specs.Simple.help_rule { range = Some (record { start_inclusive = 0; end_inclusive = 0 }); parser = Some parser.String }
+
+abbrev first_shape : List Shape → Shape
+first_shape [] = top
+first_shape (s ∷ ss) = s
+
+abbrev second_shape : List Shape → Shape
+second_shape [] = top
+second_shape (s ∷ ss) = first_shape ss
+
+abbrev replay_leaf : Shape
+replay_leaf = first_shape (built command_line).subs
+
+abbrev run_leaf : Shape
+run_leaf = second_shape (built command_line).subs
+
+replay_rules : replay_leaf.rules ≡ batch_rule ∷ closed_rule ∷ help_rule ∷ []
+replay_rules = refl
+
+run_rules : run_leaf.rules ≡ batch_rule ∷ rounds_rule ∷ closed_rule ∷ help_rule ∷ []
+run_rules = refl
+
+-- ---- a use of an option
+
+accepted : (b : Bool) (k : ErrorKind) (more : Kinds) → or_else (cond b [] (k ∷ [])) more ≡ [] → b ≡ true
+accepted true k more e = refl
+accepted false k more e = absurd (cc)
+
+one_value : (n : ℕ) → range_kinds 1 1 n ≡ [] → n ≡ 1
+one_value n e = go (n == 0) (1 == n) refl e
+  where
+    go : (none one : Bool) → (1 == n) ≡ one
+        → cond none (kind.InvalidValue ∷ []) (cond one [] (kind.WrongNumberOfValues ∷ [])) ≡ [] → n ≡ 1
+    go true one is f = absurd (cc)
+    go false true is f = sym (eqb-true 1 n is)
+    go false false is f = absurd (cc)
+
+no_value : (n : ℕ) → range_kinds 0 0 n ≡ [] → n ≡ 0
+no_value n e = go (0 == n) refl e
+  where
+    go : (none : Bool) → (0 == n) ≡ none → cond none [] (kind.WrongNumberOfValues ∷ []) ≡ [] → n ≡ 0
+    go true is f = sym (eqb-true 0 n is)
+    go false is f = absurd (cc)
+
+abbrev pub IsInRange : ℕ → ℕ → Text → Type 0
+IsInRange low high v = is_signed_in (pos low) (pos high) v ≡ true
+
+-- each use of an option keeps what fits an argument, if the row that it adds does
+module _ (id : Text) (how : Reading) (Passes : Text → Type 0) where
+  abbrev BatchFits : Type 0
+  BatchFits = (v : Text) → IsInRange 1 10000 v → Fits id how Passes (new_row (codes "batch") WithoutMinus CommandLine (v ∷ []))
+
+  batch_keeps : BatchFits → Keeps false (AllFit id how Passes) batch_rule
+  batch_keeps fits [] rows p e = absurd (cc)
+  batch_keeps fits (v ∷ []) rows p e =
+      let parts = none_of _ _ e in
+      let passed = accepted (is_signed_in (pos 1) (pos 10000) v) kind.ValueValidation [] parts.1 in
+      use_keeps id how Passes (codes "batch") WithoutMinus CommandLine (v ∷ []) (fits v passed) rows p
+  batch_keeps fits (v ∷ w ∷ rest) rows p e =
+      let parts = none_of (range_kinds 1 1 (length (v ∷ w ∷ rest))) _ e in
+      let one = one_value (length (v ∷ w ∷ rest)) parts.0 in
+      absurd (omega arith)
+
+  abbrev RoundsFit : Type 0
+  RoundsFit = (v : Text) → IsInRange 0 1000 v → Fits id how Passes (new_row (codes "rounds") WithoutMinus CommandLine (v ∷ []))
+
+  rounds_keep : RoundsFit → Keeps false (AllFit id how Passes) rounds_rule
+  rounds_keep fit [] rows p e = absurd (cc)
+  rounds_keep fit (v ∷ []) rows p e =
+      let parts = none_of _ _ e in
+      let passed = accepted (is_signed_in (pos 0) (pos 1000) v) kind.ValueValidation [] parts.1 in
+      use_keeps id how Passes (codes "rounds") WithoutMinus CommandLine (v ∷ []) (fit v passed) rows p
+  rounds_keep fit (v ∷ w ∷ rest) rows p e =
+      let parts = none_of (range_kinds 1 1 (length (v ∷ w ∷ rest))) _ e in
+      let one = one_value (length (v ∷ w ∷ rest)) parts.0 in
+      absurd (omega arith)
+
+  abbrev ClosedFits : Type 0
+  ClosedFits = Fits id how Passes (new_row (codes "closed") AsWritten CommandLine (codes "true" ∷ []))
+
+  closed_keeps : ClosedFits → Keeps false (AllFit id how Passes) closed_rule
+  closed_keeps fits [] rows p e = use_keeps id how Passes (codes "closed") AsWritten CommandLine (codes "true" ∷ []) fits rows p
+  closed_keeps fits (v ∷ rest) rows p e =
+      let parts = none_of (range_kinds 0 0 (length (v ∷ rest))) _ e in
+      let none = no_value (length (v ∷ rest)) parts.0 in
+      absurd (omega arith)
+
+  help_keeps : Keeps false (AllFit id how Passes) help_rule
+  help_keeps values rows p e =
+      let parts = none_of (range_kinds 0 0 (length values)) (kind.DisplayHelp ∷ []) e in
+      let bad : kind.DisplayHelp ∷ [] ≡ [] = parts.1 in
+      absurd (cc)
+
+  replay_uses : BatchFits → ClosedFits → Each (Keeps false (AllFit id how Passes)) replay_leaf.rules
+  replay_uses batch_fits closed_fits = (batch_keeps batch_fits, (closed_keeps closed_fits, (help_keeps, tt)))
+
+  run_uses : BatchFits → RoundsFit → ClosedFits → Each (Keeps false (AllFit id how Passes)) run_leaf.rules
+  run_uses batch_fits rounds_fit closed_fits =
+      (batch_keeps batch_fits, (rounds_keep rounds_fit, (closed_keeps closed_fits, (help_keeps, tt))))
+
+-- the rows of a level before its defaults
+abbrev rows_of : Shape → List Text → List Row
+rows_of s words = (settled s.rules (walk s.rules [] nothing_held words).held).rows
+
+words_fit : (s : Shape) (P : List Row → Type 0) → Each (Keeps s.args_override_self P) s.rules → P [] → (words : List Text)
+    → level_fault s [] nothing_held words false [] ≡ [] → P (rows_of s words)
+words_fit s P uses empty words e =
+    let end = (walk s.rules [] nothing_held words).held in
+    let steps = none_of (walk_fault s [] (walk_from nothing_held) words) _ e in
+    let ends = none_of (settle_fault s.rules s.args_override_self end) _ steps.1 in
+    settles s [] P uses end (walk_keeps s [] P uses words (walk_from nothing_held) empty steps.0) ends.0
+
+-- ---- the rows of one option
+
+abbrev pub IsTrueText : Text → Type 0
+IsTrueText v = v ≡ codes "true"
+
+-- a number in the range from the words, or 16
+abbrev pub HasBatch : List Row → Type 0
+HasBatch = HasRow (codes "batch") WithoutMinus (IsInRange 1 10000) (codes "16")
+
+-- a number in the range from the words, or 8
+abbrev pub HasRounds : List Row → Type 0
+HasRounds = HasRow (codes "rounds") WithoutMinus (IsInRange 0 1000) (codes "8")
+
+abbrev pub HasNoRounds : List Row → Type 0
+HasNoRounds rows = find (λ x. bytes_eq x.id (codes "rounds")) rows ≡ None
+
+-- `true` from the words, or `false`
+abbrev pub HasClosed : List Row → Type 0
+HasClosed = HasRow (codes "closed") AsWritten IsTrueText (codes "false")
+
+abbrev FitBatch : List Row → Type 0
+FitBatch = AllFit (codes "batch") WithoutMinus (IsInRange 1 10000)
+
+abbrev FitRounds : List Row → Type 0
+FitRounds = AllFit (codes "rounds") WithoutMinus (IsInRange 0 1000)
+
+abbrev FitNoRounds : List Row → Type 0
+FitNoRounds = AllFit (codes "rounds") WithoutMinus (λ _. ⊥)
+
+abbrev FitClosed : List Row → Type 0
+FitClosed = AllFit (codes "closed") AsWritten IsTrueText
+
+-- the uses of a subcommand's options keep the property
+abbrev Uses : Shape → (List Row → Type 0) → Type 0
+Uses s P = Each (Keeps false P) s.rules
+
+batch_uses : Uses replay_leaf FitBatch × Uses run_leaf FitBatch
+batch_uses = (
+  replay_uses (codes "batch") WithoutMinus (IsInRange 1 10000) (λ v passed same. (v, refl, refl, refl, passed)) (λ same. absurd (cc)),
+  run_uses (codes "batch") WithoutMinus (IsInRange 1 10000) (λ v passed same. (v, refl, refl, refl, passed))
+      (λ v passed same. absurd (cc)) (λ same. absurd (cc)),
+)
+
+rounds_uses : Uses replay_leaf FitNoRounds × Uses run_leaf FitRounds
+rounds_uses = (
+  replay_uses (codes "rounds") WithoutMinus (λ _. ⊥) (λ v passed same. absurd (cc)) (λ same. absurd (cc)),
+  run_uses (codes "rounds") WithoutMinus (IsInRange 0 1000) (λ v passed same. absurd (cc))
+      (λ v passed same. (v, refl, refl, refl, passed)) (λ same. absurd (cc)),
+)
+
+closed_uses : Uses replay_leaf FitClosed × Uses run_leaf FitClosed
+closed_uses = (
+  replay_uses (codes "closed") AsWritten IsTrueText (λ v passed same. absurd (cc)) (λ same. (codes "true", refl, refl, refl, refl)),
+  run_uses (codes "closed") AsWritten IsTrueText (λ v passed same. absurd (cc))
+      (λ v passed same. absurd (cc)) (λ same. (codes "true", refl, refl, refl, refl)),
+)
+
+same_rows : {X : Type 0} (P : X → Type 0) (b : Bool) (rows : X) → P rows → P (cond b rows rows)
+same_rows P true rows p = p
+same_rows P false rows p = p
+
+-- ---- the defaults
+
+has_batch : (rows : List Row) → FitBatch rows → HasBatch (with_default rows batch_rule)
+has_batch = default_has (codes "batch") WithoutMinus (IsInRange 1 10000) (codes "16") refl
+
+has_rounds : (rows : List Row) → FitRounds rows → HasRounds (with_default rows rounds_rule)
+has_rounds = default_has (codes "rounds") WithoutMinus (IsInRange 0 1000) (codes "8") refl
+
+has_closed : (rows : List Row) → FitClosed rows → HasClosed (with_default rows closed_rule)
+has_closed = default_has (codes "closed") AsWritten IsTrueText (codes "false") refl
+
+-- ---- one level
+
+abbrev pub HasOptions : List Row → Type 0
+HasOptions rows = HasBatch rows × HasClosed rows × (HasRounds rows ⊎ HasNoRounds rows)
+
+replay_has : (rows : List Row) → FitBatch rows → FitClosed rows → FitNoRounds rows → HasOptions (with_default (with_default rows batch_rule) closed_rule)
+replay_has rows batch_fit closed_fit none_fit =
+    let first = with_default rows batch_rule in
+    let last = with_default first closed_rule in
+    let batch_row = default_stays (codes "batch") WithoutMinus (IsInRange 1 10000) (codes "16") (codes "closed") AsWritten (codes "false" ∷ []) first (has_batch rows batch_fit) in
+    let closed_first = default_keeps (codes "closed") AsWritten IsTrueText (codes "batch") WithoutMinus (codes "16" ∷ []) (λ same. absurd (cc)) rows closed_fit in
+    let none_first = default_keeps (codes "rounds") WithoutMinus (λ _. ⊥) (codes "batch") WithoutMinus (codes "16" ∷ []) (λ same. absurd (cc)) rows none_fit in
+    let none_last = default_keeps (codes "rounds") WithoutMinus (λ _. ⊥) (codes "closed") AsWritten (codes "false" ∷ []) (λ same. absurd (cc)) first none_first in
+    (batch_row, has_closed first closed_first, inr (none_has (codes "rounds") WithoutMinus last none_last))
+
+run_has : (rows : List Row) → FitBatch rows → FitRounds rows → FitClosed rows
+    → HasOptions (with_default (with_default (with_default rows batch_rule) rounds_rule) closed_rule)
+run_has rows batch_fit rounds_fit closed_fit =
+    let first = with_default rows batch_rule in
+    let second = with_default first rounds_rule in
+    let batch_second = default_stays (codes "batch") WithoutMinus (IsInRange 1 10000) (codes "16") (codes "rounds") WithoutMinus (codes "8" ∷ []) first (has_batch rows batch_fit) in
+    let batch_row = default_stays (codes "batch") WithoutMinus (IsInRange 1 10000) (codes "16") (codes "closed") AsWritten (codes "false" ∷ []) second batch_second in
+    let rounds_first = default_keeps (codes "rounds") WithoutMinus (IsInRange 0 1000) (codes "batch") WithoutMinus (codes "16" ∷ []) (λ same. absurd (cc)) rows rounds_fit in
+    let rounds_row = default_stays (codes "rounds") WithoutMinus (IsInRange 0 1000) (codes "8") (codes "closed") AsWritten (codes "false" ∷ []) second (has_rounds first rounds_first) in
+    let closed_first = default_keeps (codes "closed") AsWritten IsTrueText (codes "batch") WithoutMinus (codes "16" ∷ []) (λ same. absurd (cc)) rows closed_fit in
+    let closed_second = default_keeps (codes "closed") AsWritten IsTrueText (codes "rounds") WithoutMinus (codes "8" ∷ []) (λ same. absurd (cc)) first closed_first in
+    (batch_row, has_closed second closed_second, inl rounds_row)
+
+at_replay : (words : List Text) → level_fault replay_leaf [] nothing_held words false [] ≡ [] → HasOptions (rows_after replay_leaf.rules [] words)
+at_replay words e =
+    let rows = rows_of replay_leaf words in
+    let batch_fit = words_fit replay_leaf FitBatch batch_uses.0 tt words e in
+    let closed_fit = words_fit replay_leaf FitClosed closed_uses.0 tt words e in
+    let none_fit = words_fit replay_leaf FitNoRounds rounds_uses.0 tt words e in
+    let last = with_default (with_default rows batch_rule) closed_rule in
+    same_rows HasOptions (has_row (codes "help") last) last (replay_has rows batch_fit closed_fit none_fit)
+
+at_run : (words : List Text) → level_fault run_leaf [] nothing_held words false [] ≡ [] → HasOptions (rows_after run_leaf.rules [] words)
+at_run words e =
+    let rows = rows_of run_leaf words in
+    let batch_fit = words_fit run_leaf FitBatch batch_uses.1 tt words e in
+    let rounds_fit = words_fit run_leaf FitRounds rounds_uses.1 tt words e in
+    let closed_fit = words_fit run_leaf FitClosed closed_uses.1 tt words e in
+    let last = with_default (with_default (with_default rows batch_rule) rounds_rule) closed_rule in
+    same_rows HasOptions (has_row (codes "help") last) last (run_has rows batch_fit rounds_fit closed_fit)
+
+-- ---- the subcommand
+
+abbrev label : Text → Text × List Text
+label text = (text, [])
+
+abbrev IsSubcommand : Text → Type 0
+IsSubcommand name = (name ≡ codes "replay") ⊎ (name ≡ codes "run")
+
+enters_one : (waiting : Waiting) (word name : Text) (h : Held) → subcommand_met (names_of (built command_line)) waiting word ≡ Some name
+    → other_fault top (Some name) word h ≡ [] → IsSubcommand name
+enters_one idle word name h met e =
+    go (answers_to word (label (codes "replay"))) (answers_to word (label (codes "run"))) (answers_to word (label (codes "help"))) met
+  where
+    go : (b c d : Bool)
+        → option_map (λ s. s.0) (cond b (Some (label (codes "replay"))) (cond c (Some (label (codes "run"))) (cond d (Some (label (codes "help"))) None))) ≡ Some name
+        → IsSubcommand name
+    go true c d f = inl (cc)
+    go false true d f = inr (cc)
+    go false false true f =
+        let same : name ≡ codes "help" = cc in
+        let bad : kind.DisplayHelp ∷ kind.InvalidSubcommand ∷ [] ≡ [] = subst (λ (x : Text). other_fault top (Some x) word h ≡ []) same e in
+        absurd (cc)
+    go false false false f = absurd (cc)
+enters_one (option waits) word name h met e = absurd (cc)
+enters_one positional word name h met e = absurd (cc)
+
+needs_subcommand : (rows : List Row) (has : Bool) → check_fault top rows has ≡ [] → has ≡ true
+needs_subcommand rows true e = refl
+needs_subcommand rows false e = absurd (cc)
+
+abbrev Takes : Option (Text × List Row) → Type 0
+Takes sub = (name : Text) × (rows : List Row) × (sub ≡ Some (name, rows)) × HasOptions rows
+
+abbrev TakesAt : Text → List Text → Type 0
+TakesAt name rest = entered_fault (built command_line) (Some (name, rest)) ≡ [] → Takes (entered (built command_line) (Some (name, rest)))
+
+takes_at : (name : Text) (rest : List Text) → IsSubcommand name → TakesAt name rest
+takes_at name rest is = elim is [
+  | inl replay ↦
+      subst (λ (x : Text). TakesAt x rest) (sym replay) (λ e. (codes "replay", rows_after replay_leaf.rules [] rest, refl, at_replay rest e))
+  | inr run ↦
+      subst (λ (x : Text). TakesAt x rest) (sym run) (λ e. (codes "run", rows_after run_leaf.rules [] rest, refl, at_run rest e))
+]
+
+at_stop : (stop : Option (Text × List Text)) → StopsAt IsSubcommand stop → is_some (entered (built command_line) stop) ≡ true
+    → entered_fault (built command_line) stop ≡ [] → Takes (entered (built command_line) stop)
+at_stop None at has e = absurd (cc)
+at_stop (Some p) at has e = takes_at p.0 p.1 at e
+
+-- words that the command line takes enter a subcommand, which has a row of each of its options
+pub takes_one : (words : List Text) → fault_of command_line words ≡ [] → Takes (subcommand_of command_line words)
+takes_one words e =
+    let after = drop 1 words in
+    let names = names_of (built command_line) in
+    let stop = (walk top.rules names nothing_held after).stopped in
+    let steps = none_of (walk_fault top names (walk_from nothing_held) after) _ e in
+    let below = none_of (entered_fault (built command_line) stop) _ steps.1 in
+    let ends = none_of (settle_fault top.rules false (walk top.rules names nothing_held after).held) _ below.1 in
+    let checks = none_of (defaults_fault (settled top.rules (walk top.rules names nothing_held after).held).rows top.rules) _ ends.1 in
+    at_stop stop (walk_stops top names IsSubcommand enters_one after (walk_from nothing_held) tt steps.0)
+    (needs_subcommand (finished top.rules (walk top.rules names nothing_held after).held) (is_some (entered (built command_line) stop)) checks.1) below.0

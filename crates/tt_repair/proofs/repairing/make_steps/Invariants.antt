@@ -1,0 +1,6 @@
+-- the publishes so far were of steps
+use Rattle.tt_repair.specs.Growth.{MadeSteps}
+use Rattle.tt_repair.proofs.repairing.make_steps.Given as goal
+
+abbrev pub invariant-loop : goal.invariant-loop
+invariant-loop g l = MadeSteps g.L.Naming.limits l.fn.worker l.worker

@@ -1,0 +1,70 @@
+-- What a worker adds to the history by several calls, beside the entries of others.
+use Rattle.std.specs.Prelude.{◌≡◌, ℕ, ◌+◌, ◌≤◌, List, [], ◌∷◌, ◌++◌, All, ◌⊎◌}
+use mathlib.Core.List.{IsPrefix}
+use Rattle.tt_values.specs.declared.statement.Write.{Write}
+use Rattle.tt_values.specs.Tables.{Tables}
+use Rattle.tt_repair_laws.specs.declared.edit.Edit.{Edit}
+use Rattle.tt_generations.specs.TwoGenerations.{Repairing}
+use Rattle.tt_db.specs.declared.limits.Limits.{Limits}
+use Rattle.tt_db.specs.declared.event.Event.{Event}
+use Rattle.tt_db.specs.declared.event.Event.TheVariants as events
+use Rattle.tt_db.specs.declared.event.Entry.{Entry}
+use Rattle.tt_db.specs.State.{State, after, now_of, slots_left}
+use Rattle.tt_store.specs.declared.errors.StoreError.{StoreError}
+use Rattle.tt_store.specs.History.{entries_by}
+use Rattle.tt_store.specs.Calls.{steps, steps_wanted, events_of}
+use Rattle.tt_store.specs.Workers.{WorkerState, own_entries, IsRefused}
+
+-- what a worker has seen becomes a front that begins with it, and the entries that it made grow by just these
+pub record GrewBy (old new : WorkerState) (made : List Entry) : Type 0 where
+  pub number : new.number ≡ old.number
+  pub seen : IsPrefix old.seen new.seen
+  pub entries : own_entries new ≡ own_entries old ++ made
+
+-- a list has the items of two others, each in its order, and no more
+abbrev pub IsMerged : {X : Type 0} → List X → List X → List X → Type 0
+IsMerged xs ys [] = (xs ≡ []) × (ys ≡ [])
+IsMerged {X} xs ys (z ∷ zs) =
+    ((rest : List X) × (xs ≡ z ∷ rest) × IsMerged rest ys zs) ⊎ ((rest : List X) × (ys ≡ z ∷ rest) × IsMerged xs rest zs)
+
+-- an entry is of an action
+abbrev pub IsWrite : Entry → Type 0
+IsWrite e = (action : List Write) × (e.event ≡ events.Write action)
+
+-- a repair with these edits is under way, and has done so many slots
+pub record HasDone (edits : List Edit) (done : ℕ) (S : State) : Type 0 where
+  pub phase : S.phase ≡ Repairing edits done
+  pub within : done ≤ now_of S
+
+-- a history has gone on by so many steps of a worker and these entries of others. Where the others only wrote, the repair that was under
+-- way still is, and has done that many slots more
+pub record GoesOn (limits : Limits) (worker : ℕ) (count : ℕ) (others : List Entry) (before now : List Entry) : Type 0 where
+  pub since : List Entry
+  pub is : now ≡ before ++ since
+  pub merged : IsMerged (entries_by worker (steps count)) others since
+  pub alone : All IsWrite others → (edits : List Edit) (done : ℕ) → HasDone edits done (after limits before) → HasDone edits (done + count) (after limits now)
+
+-- a worker has made steps, beside entries of others
+pub record MadeSteps (limits : Limits) (old new : WorkerState) : Type 0 where
+  pub count : ℕ
+  pub others : List Entry
+  pub goes_on : GoesOn limits old.number count others old.seen new.seen
+  pub grew : GrewBy old new (entries_by old.number (steps count))
+
+-- the events of a call for at most so many steps, of a state
+abbrev pub step_events : ℕ → State → List Event
+step_events most S = steps (steps_wanted most S)
+
+-- the events of a call that finishes a repair
+abbrev pub finish_events : State → List Event
+finish_events S = steps (slots_left S) ++ events.Switch ∷ []
+
+-- a call that makes these events of a state is refused
+abbrev pub IsRefusedWith : Tables → Limits → (State → List Event) → WorkerState → WorkerState → StoreError → Type 0
+IsRefusedWith tables limits made old new cause = (call : _) × ((S : State) → events_of call S ≡ made S) × IsRefused tables limits call old new cause
+
+-- a worker has made steps, and then a call of it for these events was refused
+pub record StoppedStepping (tables : Tables) (limits : Limits) (made : State → List Event) (old new : WorkerState) (cause : StoreError) : Type 0 where
+  pub middle : WorkerState
+  pub before : MadeSteps limits old middle
+  pub refused : IsRefusedWith tables limits made middle new cause

@@ -1,0 +1,132 @@
+//! A repair by a store's one worker, and which replies it has changed.
+ghost use Rattle.std.specs.Prelude.{◌≡◌};
+ghost use Rattle.std.specs.Arc.{arc_value};
+ghost use Rattle.tt_db.specs.Limits.{usual_limits};
+ghost use Rattle.tt_store.specs.Published.{SaysThat};
+
+use super::{all, bank, delete_bob, one, rows, writes_five_slots};
+use std::alloc::Global;
+use std::marker::Brand;
+use std::process::Abort;
+use std::sync::{Arc, Wait};
+use std::test::*;
+use tt_db::{Db, Limits};
+use tt_repair::{After, Changed, Record, Repaired, What, changes, repair};
+use tt_store::{Naming, NoGate, Opened, Store, Worker};
+use tt_values::{Catalog, Reply, Shared};
+
+#[test]
+fn a_repair_changes_replies(rt: HostRuntime) {
+    let alloc = rt.alloc();
+    let catalog = bank(&rt, alloc);
+    repairs::<Brand, _>(&rt, alloc, Opened::new(1), catalog);
+}
+
+fn repairs<L: Naming, T: Wait + Abort>(rt: &T, alloc: Global, opened: Opened, catalog: Arc<Catalog>)
+    requires book { opened.front.book ≡ L.book }
+    requires tables { arc_value catalog ≡ L.tables }
+    requires limits { usual_limits ≡ L.limits }
+    requires tied { SaysThat L.holds L.book L.tables L.limits }
+    requires name { opened.blank.name ≡ L.name }
+    requires parts { opened.blank.parts ≡ L.parts }
+{
+    let opened = opened.named::<L, NoGate, &T>(rt, alloc, catalog, Limits::usual(), NoGate);
+    let (store, mut workers) = opened.expect(rt, "a store");
+    let mut worker = workers.pop().expect(rt, "a worker");
+    writes_five_slots(rt, alloc, &store, &mut worker);
+    repairs_slot_four(rt, alloc, &store, &mut worker);
+    workers.push(worker).expect(rt, "memory");
+    let db = closed(rt, store, workers);
+    tells_changes(rt, alloc, db.get());
+}
+
+/// Asserts what a repair of the five slots answers.
+fn repairs_slot_four<L: Naming, T: Wait + Abort>(
+    rt: &T,
+    alloc: Global,
+    store: &Store<L, NoGate, &T>,
+    worker: &mut Worker<L>,
+) {
+    let repaired = repair(rt, store, worker, delete_bob(rt, alloc), 2, 0);
+    let want = Repaired {
+        generation: 1,
+        place: 12,
+        slots: 5,
+        rerun: 2,
+    };
+    assert_eq!(rt; repaired, Ok(want));
+}
+
+/// The database of a store that is closed.
+fn closed<L: Naming, T: Wait + Abort>(
+    rt: &T,
+    store: Store<L, NoGate, &T>,
+    workers: Vec<Worker<L>>,
+) -> Shared<Db> {
+    match store.close(rt, workers) {
+        Ok(closed) => closed.db,
+        Err(_) => panic!(rt; "not closed"),
+    }
+}
+
+/// Asserts that the replies of slots 4 and 5 have changed, and nothing else.
+fn tells_changes(rt: &impl Abort, alloc: Global, db: &Db) {
+    let records = [
+        deleted_two(rt, alloc),
+        updated_one(rt, alloc),
+        read_three(rt, alloc),
+    ];
+    let changes = changes(alloc, db, &records).expect(rt, "memory");
+    let want = [
+        changed(rt, alloc, 4, (Reply::Deleted(2), Reply::Deleted(1))),
+        changed(rt, alloc, 5, (Reply::Updated(1), Reply::Updated(2))),
+    ];
+    assert!(rt; changes.as_slice() == want.as_slice());
+}
+
+/// Call 4 deleted the accounts of ann.
+fn deleted_two(rt: &impl Abort, alloc: Global) -> Record {
+    Record {
+        call: 4,
+        worker: 1,
+        what: What::Write {
+            slot: 4,
+            replies: one(rt, alloc, Reply::Deleted(2)),
+        },
+    }
+}
+
+/// Call 5 updated the account of bob.
+fn updated_one(rt: &impl Abort, alloc: Global) -> Record {
+    Record {
+        call: 5,
+        worker: 1,
+        what: What::Write {
+            slot: 5,
+            replies: one(rt, alloc, Reply::Updated(1)),
+        },
+    }
+}
+
+/// Call 6 read all accounts as they were before the delete.
+fn read_three(rt: &impl Abort, alloc: Global) -> Record {
+    let accounts = [(1, "ann", 5), (2, "ann", 6), (3, "bob", 7)];
+    Record {
+        call: 6,
+        worker: 1,
+        what: What::Read {
+            select: all(rt, alloc),
+            time: 3,
+            reply: rows(rt, alloc, &accounts),
+        },
+    }
+}
+
+/// A call whose one reply has become another one.
+fn changed(rt: &impl Abort, alloc: Global, call: u64, (before, after): (Reply, Reply)) -> Changed {
+    Changed {
+        call,
+        before: one(rt, alloc, before),
+        after: After::Replies(one(rt, alloc, after)),
+    }
+}

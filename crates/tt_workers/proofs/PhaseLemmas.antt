@@ -1,0 +1,30 @@
+-- The calls of all workers, each in a thread of its own.
+use Rattle.std.proofs.Common.{◌≡◌, ℕ, zero, suc, ◌+◌, ◌<◌, List, [], ◌∷◌, map, length, get_or, slice_index_or, All, Result, Ok, Err, IfOk, refl, sym, ap, subst, arith}
+use Rattle.tt_db.specs.declared.limits.Limits.{Limits}
+use Rattle.tt_document.specs.declared.document.Call.{Call}
+use Rattle.tt_store.specs.Workers.{WorkerState}
+use Rattle.tt_workload.specs.declared.run_fault.RunFault.{RunFault}
+use Rattle.tt_workers.specs.declared.answered.Answered.{Answered}
+use Rattle.tt_workers.specs.Calls.{Works, AllWork, AllEnd}
+
+-- where no thread has ended in a fault
+pub all_work : {Left : Type 0} (limits : Limits) (number : ℕ) (calls : List Call) (worker : Left → WorkerState) (answers : Left → List Answered) (olds : List WorkerState) (runs : List Left)
+    → AllEnd (λ old run. Works limits number calls old (worker run) (answers run)) olds (map Ok runs) → AllWork limits number calls olds (map worker runs) (map answers runs)
+all_work limits number calls worker answers [] [] h = tt
+all_work limits number calls worker answers [] (r ∷ runs) h = absurd h
+all_work limits number calls worker answers (old ∷ olds) [] h = absurd h
+all_work limits number calls worker answers (old ∷ olds) (r ∷ runs) h = (h.0, all_work limits number calls worker answers olds runs h.1)
+
+-- from what is said of each place
+pub ends_each : {Left : Type 0} (Holds : WorkerState → Left → Type 0) (olds : List WorkerState) (results : List (Result Left RunFault)) → length results ≡ length olds
+    → ((i : ℕ) (w : WorkerState) (d : Result Left RunFault) → i < length olds → IfOk (get_or results i d) (Holds (get_or olds i w))) → AllEnd Holds olds results
+ends_each Holds [] [] is each = tt
+ends_each Holds [] (r ∷ results) is each = absurd (omega (arith, is))
+ends_each Holds (old ∷ olds) [] is each = absurd (omega (arith, is))
+ends_each Holds (old ∷ olds) (r ∷ results) is each =
+    (each 0 old r (omega arith), ends_each Holds olds results (omega (arith, is)) (λ i w d lt. each (suc i) w d (omega (arith, lt))))
+
+-- what holds of each item holds of those behind the first
+pub all_rest : {X : Type 0} (P : X → Type 0) (all rest : List X) (x : X) → all ≡ x ∷ rest → All P all → All P rest
+all_rest P all rest x is h k d lt =
+    subst (λ xs. P (slice_index_or xs (suc k) d)) is (h (suc k) d (omega (arith, lt, ap length is)))

@@ -1,0 +1,34 @@
+-- The workers go to one thread and the administrator to another, and come back with what they have made.
+use denote.Exit.{yes}
+use denote.Param.{param}
+use denote.Param.Send.{IsSend, IsSync, param_send, arg_send, sendable}
+use denote.RattleType.{RattleType}
+use Rattle.std.proofs.Crossing.{crosses, Vec-send}
+use Rattle.std.specs.contracts.result.Result as result
+use Rattle.tt_workload.specs.contracts.run_fault.RunFault as fault
+use Rattle.tt_store.specs.contracts.store.Store as store
+use Rattle.tt_store.proofs.Crossing.{worker_send, store_sync, ref_send}
+use Rattle.tt_workers.specs.contracts.work.Run as run
+use Rattle.tt_workers.specs.contracts.administrator.repair_beside.{G-row}
+use Rattle.tt_workers.proofs.Threads.{heap_sync, answered_send, fault_send, phase_send}
+use Rattle.tt_workers.proofs.administrator.repair_beside.Goals as goal
+
+pub join-runs-requires-send-F : goal.join-runs-requires-send-F
+join-runs-requires-send-F g c κs within =
+    let w = worker_send (param 0 g.row.L) g.L.Naming g.L.Ledger g.L.Protocol c.type_bounds.send-L c.type_bounds.sync-L in
+    let b : (R : RattleType) → IsSend R → IsSync (store.the_row (param 0 g.row.L) (G-row g.row.L g.row.G g.row.R) R g.L.Naming g.L.Ledger g.L.Protocol) =
+    λ R r. store_sync (param 0 g.row.L) R g.L.Naming g.L.Ledger g.L.Protocol c.type_bounds.send-L c.type_bounds.sync-L r (G-row g.row.L g.row.G g.row.R) c.type_bounds.sync-G in
+    let t = c.type_bounds.sync-R in
+    param_send 1 _ (arg_send _ yes _ (phase_send _ _ _ _ _ _ _ _ _ _ _ _ _ _ _ _ _ _ t heap_sync (b _ (ref_send _ _ _ t)) c.type_bounds.sync-G (Vec-send _ w)))
+
+pub join-runs-requires-send-A : goal.join-runs-requires-send-A
+join-runs-requires-send-A g c κs within =
+    let w = worker_send (param 0 g.row.L) g.L.Naming g.L.Ledger g.L.Protocol c.type_bounds.send-L c.type_bounds.sync-L in
+    let a : IsSend (run.the_row (param 0 g.row.L) g.L.Naming g.L.Ledger g.L.Protocol) =
+    search (answered_send, crosses, sendable) depth 60 fits 50000 in
+    let v = Vec-send _ a in
+    let b = fault_send in
+    param_send 3 _ (arg_send _ yes _ (result_send _ _ v b))
+  where
+    result_send : (A B : RattleType) → IsSend A → IsSend B → IsSend (result.the_row A B)
+    result_send A B a b = search (crosses, sendable) depth 20

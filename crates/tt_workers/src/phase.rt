@@ -1,0 +1,88 @@
+//! The calls of all workers, each in a thread of its own.
+ghost use Rattle.std.specs.Prelude.{◌≡◌, ◌+◌, ◌<◌, ◌^◌, length, map, vec_len, Ok, IfOk, IfErr, All};
+ghost use Rattle.tt_workload.specs.Room.{AreAccepted};
+ghost use Rattle.tt_workers.specs.Faults.{IsStoreFault};
+ghost use Rattle.tt_workers.specs.Calls.{Works, EachEnds, EachFails, AllWork};
+
+use crate::work::{Run, work};
+use std::alloc::{AllocError, Global};
+use std::sync::Wait;
+use std::thread::{Threads, map_vec};
+use tt_document::Call;
+use tt_store::{Gate, Naming, Store, Worker};
+use tt_workload::RunFault;
+
+/// Lets each worker make its calls among these in a thread of its own. They are numbered from
+/// `first` on. All threads are joined.
+pub(crate) fn phase<
+    L: Naming + Send + Sync,
+    G: Gate + Copy + Drop + Send + Sync,
+    R: Threads + Wait + Sync,
+>(
+    rt: &R,
+    alloc: Global,
+    store: &Store<L, G, &R>,
+    gate: G,
+    workers: Vec<Worker<L>>,
+    calls: &[Call],
+    first: u64,
+) -> Result<Vec<Run<L>>, RunFault>
+    requires accepted { AreAccepted L.tables calls.now }
+    requires few { first + length calls.now < 2 ^ 64 }
+    ensures worked { IfOk result (λ runs. AllWork L.limits first calls.now workers.items
+        (map (λ run. run.worker) runs.items) (map (λ run. run.answers.items) runs.items)) }
+    ensures fault { IfErr result IsStoreFault }
+{
+    let results = in_threads(rt, alloc, store, gate, workers, calls, first)?;
+    let runs = gathered(alloc, results)?;
+    Ok(runs)
+}
+
+/// What comes of each worker's calls.
+fn in_threads<
+    L: Naming + Send + Sync,
+    G: Gate + Copy + Drop + Send + Sync,
+    R: Threads + Wait + Sync,
+>(
+    rt: &R,
+    alloc: Global,
+    store: &Store<L, G, &R>,
+    gate: G,
+    workers: Vec<Worker<L>>,
+    calls: &[Call],
+    first: u64,
+) -> Result<Vec<Result<Run<L>, RunFault>>, AllocError>
+    requires accepted { AreAccepted L.tables calls.now }
+    requires few { first + length calls.now < 2 ^ 64 }
+    ensures count { IfOk result (λ results. vec_len results ≡ vec_len workers) }
+    ensures worked { IfOk result (λ results. EachEnds (λ old run.
+        Works L.limits first calls.now old run.worker run.answers.items)
+        workers.items results.items) }
+    ensures faults { IfOk result (λ results. EachFails (vec_len workers) results.items) }
+{
+    let results = map_vec(
+        rt,
+        workers,
+        &|worker| work(rt, alloc, store, gate, worker, calls, first),
+    )?;
+    Ok(results)
+}
+
+/// The runs, where all of them have ended well.
+fn gathered<L: Naming>(
+    alloc: Global,
+    results: Vec<Result<Run<L>, RunFault>>,
+) -> Result<Vec<Run<L>>, RunFault>
+    requires faults { All (λ r. IfErr r IsStoreFault) results.items }
+    ensures runs { IfOk result (λ runs. map Ok runs.items ≡ results.items) }
+    ensures fault { IfErr result IsStoreFault }
+{
+    let mut runs = Vec::with_capacity(alloc, results.len())?;
+    for result in results {
+        match result {
+            Ok(run) => runs.push_reserved(run),
+            Err(fault) => return Err(fault),
+        }
+    }
+    Ok(runs)
+}
