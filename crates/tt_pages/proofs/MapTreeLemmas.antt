@@ -1,4 +1,4 @@
--- What a change of one side does to a fork, and what a rotation leaves.
+-- What a change of one side does to a fork, and how trees side by side are parted otherwise.
 use Rattle.std.proofs.Common.{◌≡◌, ℕ, suc, ◌+◌, ◌-◌, ◌<◌, ◌≤◌, false, ℤ, List, [], ◌∷◌, ◌++◌, length, IsTrue, IsSome, Option, None, Some, Result, Ok, Err, OnOk, OnErr, IfOk, IfSome, IfNone, take, drop, refl, sym, ap, ◌∙◌, subst, arith, append_assoc, length-append, length-take, length-drop, take-append-drop}
 use Rattle.std.proofs.lemmas.List.{take_all}
 use Rattle.std.specs.Ordering.{int_cmp, is_lt}
@@ -6,12 +6,23 @@ use Rattle.std.specs.Bool.{if◌then◌else◌}
 use Rattle.std.specs.FinMap.Entries.{find, put, is_sorted}
 use Rattle.tt_pages.specs.declared.map_tree.Node.{Node}
 use Rattle.tt_pages.specs.declared.map_tree.Node.TheVariants.{Leaf, Fork}
+use Rattle.std.specs.Arc.{arc_value}
+use Rattle.std.specs.declared.sync.Arc.{Arc}
+use Rattle.std.specs.declared.alloc.Global.{Global}
+use Rattle.tt_pages.specs.declared.map_tree.Tree.{Tree}
+use Rattle.tt_pages.specs.declared.map_tree.Split.{Split}
+use Rattle.tt_pages.specs.declared.map_tree.Side.{Side}
+use Rattle.tt_pages.specs.declared.map_tree.Side.TheVariants.{Two}
 use Rattle.tt_pages.specs.MapEntries.{first_key, entries_without, keys_of, ChangesAt, IsPageAt}
-use Rattle.tt_pages.specs.MapTree.{entries_of, IsNode, IsPage, IsFork, IsNodeOf, HasMoreBeside, IsSideWithout, IsOtherOfLone}
+use Rattle.tt_pages.specs.MapTree.{entries_of, IsNode, IsPage, IsFork, IsNodeOf, side_entries, AreSides, HasMoreBeside, HasMoreInTree, IsSideWithout, IsOtherOfLone, IsTreeWithout, IsOtherTreeOfLone}
 use Rattle.tt_pages.proofs.MapEntriesLemmas.{is_sorted-left, is_sorted-right, first_key-append, find-left, find-right, put-left, put-right, without-left, without-right, first_key-put, length-put_filled, length-without_ge, without-lone, sorted-put, sorted-without, keys-append, length-keys, sorted-keys, first_key-keys}
 
+none_beside : {X : Type 0} (found : Option X) (P Q : Type 0) → (P → Q) → IfNone found P → IfNone found Q
+none_beside (Some x) P Q f h = tt
+none_beside None P Q f h = f h
+
 module _ {V : Type 0} where
-  -- ---- rotations
+  -- ---- trees parted otherwise
 
   pub fork-low_right : (o : List (ℤ × V)) (a : ℤ) (i : List (ℤ × V)) (k : ℤ) (r : List (ℤ × V)) → IsFork o a i → IsFork (o ++ i) k r → IsFork i k r
   fork-low_right o a i k r inner all = record {
@@ -178,21 +189,9 @@ module _ {V : Type 0} where
           append_nil [] = refl
           append_nil (e ∷ es) = ap (λ rest. e ∷ rest) (append_nil es)
 
-  -- ---- an open tree
-
-  pub record IsOpenFork (entries l : List (ℤ × V)) (k : ℤ) (r : List (ℤ × V)) : Type 0 where
-    pub same : l ++ r ≡ entries
-    pub fork : IsFork l k r
-
-  pub open_fork : (entries : List (ℤ × V)) (node : Node V) (l r : _) (s : _) → entries_of node ≡ entries → IsNode node → node ≡ Fork l s r → IsOpenFork entries l.value s.key r.value
-  open_fork entries node l r s same is_node is = record {
-    same = sym (ap entries_of is) ∙ same;
-    fork = subst IsNode is is_node;
-  }
-
   pub IsNode-sorted : (node : Node V) → IsNode node → IsTrue (is_sorted int_cmp (entries_of node))
   IsNode-sorted (Leaf page) node = node.sorted
-  IsNode-sorted (Fork l s r) node = node.sorted
+  IsNode-sorted (Fork l s r) node = node.fork.sorted
 
   -- ---- parts of a page
 
@@ -222,33 +221,42 @@ module _ {V : Type 0} where
     sorted = sorted-without key es page.sorted;
   }
 
-  -- ---- a side with one entry
+  -- ---- a side with one entry, and a tree with one
 
-  IsNodeOf-subst : (a b : List (ℤ × V)) (node : Node V) → a ≡ b → IsNodeOf a node → IsNodeOf b node
-  IsNodeOf-subst a b node same h = subst (λ es. IsNodeOf es node) same h
+  -- what is left beside it, where it has one entry, and where it has more
+  some_lone : {X : Type 0} (side other all : List (ℤ × V)) (found : Option X) (Has : List (ℤ × V) → X → Type 0) → (length side ≤ 1 → other ≡ all) → IfSome found (λ x. (length side ≤ 1) × Has other x) → IfSome found (Has all)
+  some_lone side other all (Some x) Has same h = subst (λ es. Has es x) (same h.0) h.1
+  some_lone side other all None Has same h = tt
 
-  some_lone : (side other all : List (ℤ × V)) (node : Option (Node V)) → (length side ≤ 1 → other ≡ all) → IfSome node (λ n. (length side ≤ 1) × IsNodeOf other n) → IfSome node (IsNodeOf all)
-  some_lone side other all (Some n) same h = IsNodeOf-subst other all n (same h.0) h.1
-  some_lone side other all None same h = tt
-
-  none_beside : (node : Option (Node V)) (P Q : Type 0) → (P → Q) → IfNone node P → IfNone node Q
-  none_beside (Some n) P Q f h = tt
-  none_beside None P Q f h = f h
-
-  module _ (key : ℤ) (l r : _) (s : _) (fork : IsNode {V = V} (Fork l s r)) (some : IsSome (find int_cmp key (l.value ++ r.value))) where
-    pub IsSideWithout-left : {E : Type 0} (out : Result (Option (Node V)) E) → IsTrue (is_lt (int_cmp key s.key)) → IfOk out (IsOtherOfLone l.value r.value) → IfOk out (IsSideWithout key (Fork l s r))
-    IsSideWithout-left (Ok side) lt h = record {
-      lone = some_lone l.value r.value (entries_without key (l.value ++ r.value)) side (without-lone_left key l.value s.key r.value fork lt some) h.lone;
-      beside = none_beside side (1 < length l.value) (HasMoreBeside key (Fork l s r)) (λ more. subst (λ b. 1 < length (if b then l.value else r.value)) (sym lt) more) h.beside;
+  module _ (key : ℤ) (l r : Side V) (s : Split) (sides : AreSides l s.key r) (some : IsSome (find int_cmp key (side_entries l ++ side_entries r))) where
+    pub IsSideWithout-left : {E : Type 0} (out : Result (Option (Node V)) E) → IsTrue (is_lt (int_cmp key s.key)) → IfOk out (IsOtherOfLone (side_entries l) (side_entries r)) → IfOk out (IsSideWithout key (Fork l s r))
+    IsSideWithout-left (Ok node) lt h = record {
+      lone = some_lone (side_entries l) (side_entries r) (entries_without key (side_entries l ++ side_entries r)) node IsNodeOf (without-lone_left key (side_entries l) s.key (side_entries r) sides.fork lt some) h.lone;
+      beside = none_beside node (1 < length (side_entries l)) (HasMoreBeside key (Fork l s r)) (λ more. subst (λ b. 1 < length (if b then side_entries l else side_entries r)) (sym lt) more) h.beside;
     }
     IsSideWithout-left (Err e) lt h = tt
 
-    pub IsSideWithout-right : {E : Type 0} (out : Result (Option (Node V)) E) → is_lt (int_cmp key s.key) ≡ false → IfOk out (IsOtherOfLone r.value l.value) → IfOk out (IsSideWithout key (Fork l s r))
-    IsSideWithout-right (Ok side) not_lt h = record {
-      lone = some_lone r.value l.value (entries_without key (l.value ++ r.value)) side (without-lone_right key l.value s.key r.value fork not_lt some) h.lone;
-      beside = none_beside side (1 < length r.value) (HasMoreBeside key (Fork l s r)) (λ more. subst (λ b. 1 < length (if b then l.value else r.value)) (sym not_lt) more) h.beside;
+    pub IsSideWithout-right : {E : Type 0} (out : Result (Option (Node V)) E) → is_lt (int_cmp key s.key) ≡ false → IfOk out (IsOtherOfLone (side_entries r) (side_entries l)) → IfOk out (IsSideWithout key (Fork l s r))
+    IsSideWithout-right (Ok node) not_lt h = record {
+      lone = some_lone (side_entries r) (side_entries l) (entries_without key (side_entries l ++ side_entries r)) node IsNodeOf (without-lone_right key (side_entries l) s.key (side_entries r) sides.fork not_lt some) h.lone;
+      beside = none_beside node (1 < length (side_entries r)) (HasMoreBeside key (Fork l s r)) (λ more. subst (λ b. 1 < length (if b then side_entries l else side_entries r)) (sym not_lt) more) h.beside;
     }
     IsSideWithout-right (Err e) not_lt h = tt
+
+  module _ (key : ℤ) (l r : Arc (Tree V) Global) (s : Split) (fork : IsFork l.value s.key r.value) (some : IsSome (find int_cmp key (l.value ++ r.value))) where
+    pub IsTreeWithout-left : {E : Type 0} (out : Result (Option (Arc (Tree V) Global)) E) → IsTrue (is_lt (int_cmp key s.key)) → IfOk out (IsOtherTreeOfLone l.value r.value) → IfOk out (IsTreeWithout key (Two l s r))
+    IsTreeWithout-left (Ok tree) lt h = record {
+      lone = some_lone l.value r.value (entries_without key (l.value ++ r.value)) tree (λ es tree. arc_value tree ≡ es) (without-lone_left key l.value s.key r.value fork lt some) h.lone;
+      beside = none_beside tree (1 < length l.value) (HasMoreInTree key (Two l s r)) (λ more. subst (λ b. 1 < length (if b then l.value else r.value)) (sym lt) more) h.beside;
+    }
+    IsTreeWithout-left (Err e) lt h = tt
+
+    pub IsTreeWithout-right : {E : Type 0} (out : Result (Option (Arc (Tree V) Global)) E) → is_lt (int_cmp key s.key) ≡ false → IfOk out (IsOtherTreeOfLone r.value l.value) → IfOk out (IsTreeWithout key (Two l s r))
+    IsTreeWithout-right (Ok tree) not_lt h = record {
+      lone = some_lone r.value l.value (entries_without key (l.value ++ r.value)) tree (λ es tree. arc_value tree ≡ es) (without-lone_right key l.value s.key r.value fork not_lt some) h.lone;
+      beside = none_beside tree (1 < length r.value) (HasMoreInTree key (Two l s r)) (λ more. subst (λ b. 1 < length (if b then l.value else r.value)) (sym not_lt) more) h.beside;
+    }
+    IsTreeWithout-right (Err e) not_lt h = tt
 
   -- ---- a page at a place
 

@@ -3,3 +3,4 @@ pub mod LogSlice
 pub mod LogTree
 pub mod MapEntries
 pub mod MapTree
+pub mod MapWidening

@@ -8,7 +8,10 @@ mod log;
 mod map;
 mod map_iter;
 mod map_page;
+mod map_removal;
+mod map_splitting;
 mod map_tree;
+mod map_widening;
 
 pub use change::Change;
 pub use kept::Kept;

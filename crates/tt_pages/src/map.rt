@@ -190,7 +190,8 @@ fn put_in_root<V: Kept + Drop>(
             if tree.len() == usize::MAX {
                 return Err(AllocError);
             }
-            put_shared(alloc, tree, key, value)
+            put_shared(alloc, tree, key, value)?;
+            Ok(())
         }
         None => {
             *root = Some(lone_entry(alloc, key, value)?);

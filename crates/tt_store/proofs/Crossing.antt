@@ -23,7 +23,9 @@ use Rattle.tt_values.specs.contracts.table.Column as column_type
 use Rattle.tt_values.specs.contracts.table.TableDef as table_def_type
 use Rattle.tt_values.specs.contracts.catalog.Catalog as catalog_type
 use Rattle.tt_versions.specs.contracts.version.Version as version_type
+use Rattle.tt_versions.specs.contracts.version_log.VersionLog as version_log_type
 use Rattle.tt_versions.specs.contracts.version_chain.VersionChain as chain_type
+use Rattle.tt_versions.specs.contracts.next_chain.NextChain as next_chain_type
 use Rattle.tt_versions.specs.contracts.lineage.Lineage as lineage_type
 use Rattle.tt_versions.specs.contracts.indexed_column.IndexedColumn as indexed_column_type
 use Rattle.tt_versions.specs.contracts.index.Index as index_type
@@ -98,13 +100,13 @@ ruleset tables = (
 module _ (V : RattleType) (s : IsSend V) (y : IsSync V) where
   map_tree_send : IsSend (map_knot.hole-Tree V)
   map_tree_send =
-      map_tree.both_send-Tree V (search (crosses, sendable) depth 20) (search (crosses, sendable) depth 20) (search (crosses, sendable) depth 20) Arc-send (search (crosses, sendable) depth 20)
-      (search (crosses, sendable) depth 20) (search (crosses, sendable) depth 20) (search (crosses, sendable) depth 20) Arc-sync (search (crosses, sendable) depth 20)
+      map_tree.both_send-Tree V (search (crosses, sendable) depth 20) (search (crosses, sendable) depth 20) (search (crosses, sendable) depth 20) Arc-send
+      (search (crosses, sendable) depth 20) (search (crosses, sendable) depth 20) (search (crosses, sendable) depth 20) Arc-sync
 
   map_tree_sync : IsSync (map_knot.hole-Tree V)
   map_tree_sync =
-      map_tree.both_sync-Tree V (search (crosses, sendable) depth 20) (search (crosses, sendable) depth 20) (search (crosses, sendable) depth 20) Arc-send (search (crosses, sendable) depth 20)
-      (search (crosses, sendable) depth 20) (search (crosses, sendable) depth 20) (search (crosses, sendable) depth 20) Arc-sync (search (crosses, sendable) depth 20)
+      map_tree.both_sync-Tree V (search (crosses, sendable) depth 20) (search (crosses, sendable) depth 20) (search (crosses, sendable) depth 20) Arc-send
+      (search (crosses, sendable) depth 20) (search (crosses, sendable) depth 20) (search (crosses, sendable) depth 20) Arc-sync
 
   pub map_send : IsSend (map.the_row V)
   map_send = let a = map_tree_send in let b = map_tree_sync in search (crosses, sendable) depth 20
@@ -227,17 +229,35 @@ version_send = search (row_send, row_sync, crosses, sendable) depth 60 fits 5000
 pub version_sync : IsSync version_type.the_row
 version_sync = search (row_send, row_sync, crosses, sendable) depth 60 fits 50000
 
+pub version_field_send : IsSend (version_type.the_field).row
+version_field_send = search (row_send, row_sync, crosses, sendable) depth 60 fits 50000
+
+pub version_field_sync : IsSync (version_type.the_field).row
+version_field_sync = search (row_send, row_sync, crosses, sendable) depth 60 fits 50000
+
+pub version_log_send : IsSend version_log_type.the_row
+version_log_send = search (log_send, log_sync, version_send, version_sync, crosses, sendable) depth 60 fits 50000
+
+pub version_log_sync : IsSync version_log_type.the_row
+version_log_sync = search (log_send, log_sync, version_send, version_sync, crosses, sendable) depth 60 fits 50000
+
 pub chain_send : IsSend chain_type.the_row
-chain_send = search (log_send, log_sync, version_send, version_sync, crosses, sendable) depth 60 fits 50000
+chain_send = search (version_log_send, version_log_sync, version_send, version_sync, version_field_send, version_field_sync, crosses, sendable) depth 60 fits 50000
 
 pub chain_sync : IsSync chain_type.the_row
-chain_sync = search (log_send, log_sync, version_send, version_sync, crosses, sendable) depth 60 fits 50000
+chain_sync = search (version_log_send, version_log_sync, version_send, version_sync, version_field_send, version_field_sync, crosses, sendable) depth 60 fits 50000
+
+pub next_chain_send : IsSend next_chain_type.the_row
+next_chain_send = search (chain_send, chain_sync, crosses, sendable) depth 60 fits 50000
+
+pub next_chain_sync : IsSync next_chain_type.the_row
+next_chain_sync = search (chain_send, chain_sync, crosses, sendable) depth 60 fits 50000
 
 pub lineage_send : IsSend lineage_type.the_row
-lineage_send = search (chain_send, chain_sync, crosses, sendable) depth 60 fits 50000
+lineage_send = search (chain_send, chain_sync, next_chain_send, next_chain_sync, crosses, sendable) depth 60 fits 50000
 
 pub lineage_sync : IsSync lineage_type.the_row
-lineage_sync = search (chain_send, chain_sync, crosses, sendable) depth 60 fits 50000
+lineage_sync = search (chain_send, chain_sync, next_chain_send, next_chain_sync, crosses, sendable) depth 60 fits 50000
 
 pub indexed_column_send : IsSend indexed_column_type.the_row
 indexed_column_send = search (map_send, map_sync, crosses, sendable) depth 60 fits 50000

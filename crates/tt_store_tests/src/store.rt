@@ -108,7 +108,7 @@ fn play<L: Naming + Send + Sync, T: Threads + Wait + Abort + Sync>(
 ) {
     match scenario {
         Scenario::ClosesBackwards => closes_backwards(rt, alloc, store, workers),
-        Scenario::ClosesLater => closes_later(rt, store, workers),
+        Scenario::ClosesLater => closes_later(rt, alloc, store, workers),
         Scenario::FillsHistory => fills_history(rt, alloc, store, workers),
         Scenario::FillsTwoSlots => fills_two_slots(rt, alloc, store, workers),
         Scenario::FinishesForAnother => finishes_for_another(rt, alloc, store, workers),

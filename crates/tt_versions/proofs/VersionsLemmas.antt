@@ -1,5 +1,5 @@
 -- The row at a time, once a row is written or rolled back, and where the versions of a time stand.
-use Rattle.std.proofs.Common.{◌≡◌, ℕ, zero, suc, ◌+◌, ◌<◌, ◌≤◌, Bool, true, false, cond, ◌&&◌, nat_le, nat_lt, List, [], ◌∷◌, ◌++◌, filter, fold, length, take, drop, slice_get, Option, None, Some, IsTrue, IsFalse, if◌then◌else◌, refl, sym, ap, subst, ◌∙◌, arith, append-nil, length-take, take-append-drop}
+use Rattle.std.proofs.Common.{◌≡◌, ℕ, zero, suc, ◌+◌, ◌<◌, ◌≤◌, Bool, true, false, cond, ◌&&◌, nat_le, nat_lt, List, [], ◌∷◌, ◌++◌, filter, fold, length, take, drop, slice_get, Option, None, Some, Result, Ok, Err, OnOk, OnErr, IsTrue, IsFalse, if◌then◌else◌, refl, sym, ap, subst, ◌∙◌, arith, append-nil, length-take, take-append-drop}
 use Rattle.std.proofs.lemmas.Bool.Decides.{nat_tests}
 use Rattle.std.proofs.lemmas.List.Elements.{filter-append}
 use Rattle.std.proofs.lemmas.List.Sums.{fold-append}
@@ -181,3 +181,37 @@ pub visible_row-at : (vs : List Version) (n count t : ℕ) (v : Version) → sta
 visible_row-at vs n count t v front next there =
     let same : count ≡ suc n = omega (arith, next) in
     ap last_row (front ∙ ap (λ m. take m vs) same) ∙ last_row-from vs n v None there
+
+-- ---- the newest version apart from the others
+
+AllStartFrom-last : (s : ℕ) (vs : List Version) (v : Version) → AllStartFrom s (vs ++ v ∷ []) → s ≤ v.start
+AllStartFrom-last s [] v h = h.0
+AllStartFrom-last s (w ∷ ws) v h = AllStartFrom-last s ws v h.1
+
+AllStartFrom-left : (s : ℕ) (vs ws : List Version) → AllStartFrom s (vs ++ ws) → AllStartFrom s vs
+AllStartFrom-left s [] ws h = tt
+AllStartFrom-left s (v ∷ vs) ws h = (h.0, AllStartFrom-left s vs ws h.1)
+
+-- the starts of a front rise
+pub StartsRise-left : (vs ws : List Version) → StartsRise (vs ++ ws) → StartsRise vs
+StartsRise-left [] ws h = tt
+StartsRise-left (v ∷ vs) ws h = (AllStartFrom-left v.start vs ws h.0, StartsRise-left vs ws h.1)
+
+before : (v : Version) (vs : List Version) (t : ℕ) → v.start < t → started_before t (v ∷ vs) ≡ v ∷ started_before t vs
+before v vs t h = let yes : nat_lt v.start t ≡ true = grind (arith, nat_tests) in ap (λ b. cond b (v ∷ started_before t vs) (started_before t vs)) yes
+
+-- where the last version started before a time, so did all
+pub started_before-whole : (vs : List Version) (v : Version) (t : ℕ) → StartsRise (vs ++ v ∷ []) → v.start < t → started_before t (vs ++ v ∷ []) ≡ vs ++ v ∷ []
+started_before-whole [] v t rise h = before v [] t h
+started_before-whole (w ∷ ws) v t rise h =
+    before w (ws ++ v ∷ []) t (omega (arith, AllStartFrom-last w.start ws v rise.0, h)) ∙ ap (λ rest. w ∷ rest) (started_before-whole ws v t rise.1 h)
+
+-- and so they do where those from a time on were dropped, or all stayed
+pub StartsRise-cut : {A E : Type 0} (r : Result A E) (t : ℕ) (old new : List Version) → OnOk r (new ≡ started_before t old) → OnErr r (new ≡ old) → StartsRise old → StartsRise (new ++ [])
+StartsRise-cut (Ok x) t old new ok err rise = subst StartsRise (sym (append-nil new ∙ ok)) (StartsRise-front t old rise)
+StartsRise-cut (Err e) t old new ok err rise = subst StartsRise (sym (append-nil new ∙ err)) rise
+
+-- and where a version was added, or all stayed
+pub StartsRise-added : {A E : Type 0} (r : Result A E) (old all new : List Version) → OnOk r (new ≡ all) → OnErr r (new ≡ old) → StartsRise all → StartsRise old → StartsRise (new ++ [])
+StartsRise-added (Ok x) old all new ok err rise rise_old = subst StartsRise (sym (append-nil new ∙ ok)) rise
+StartsRise-added (Err e) old all new ok err rise rise_old = subst StartsRise (sym (append-nil new ∙ err)) rise_old

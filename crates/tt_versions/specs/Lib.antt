@@ -1,4 +1,5 @@
 pub mod Versions
+pub mod Chains
 pub mod Lineage
 pub mod Sides
 pub mod RowsByWrites

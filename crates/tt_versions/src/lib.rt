@@ -8,6 +8,7 @@ mod indexed_column;
 pub mod laws;
 mod lineage;
 mod lineages;
+mod next_chain;
 mod pace;
 mod row_write;
 mod side;
@@ -15,6 +16,7 @@ mod table;
 mod taking;
 mod version;
 mod version_chain;
+mod version_log;
 
 pub use side::Side;
 pub use table::Table;

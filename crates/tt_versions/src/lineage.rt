@@ -1,6 +1,7 @@
 ghost use Rattle.std.specs.Prelude.{◌≡◌, None, is_some, IfOk, OnOk};
 ghost use Rattle.std.specs.Option.{option_copied};
 
+use crate::next_chain::NextChain;
 use crate::side::Side;
 use crate::version_chain::VersionChain;
 use std::alloc::{AllocError, Global};
@@ -13,7 +14,7 @@ use tt_values::{Equal, Row, matches};
 pub(crate) struct Lineage {
     current: VersionChain,
     /// The next side's own chain, where the row is split.
-    next: Option<VersionChain>,
+    next: Option<NextChain>,
 }
 
 impl Lineage {
@@ -81,7 +82,7 @@ impl Lineage {
         ensures { result.now ≡ chain_on Side.Next self.now }
     {
         match &self.next {
-            Some(next) => next,
+            Some(next) => next.chain(),
             None => &self.current,
         }
     }
@@ -111,7 +112,7 @@ impl Lineage {
         }
         let mut next = self.current.share()?;
         next.write(row, time)?;
-        self.next = Some(next);
+        self.next = Some(NextChain::new(self.current.allocator(), next)?);
         Ok(())
     }
 
@@ -119,27 +120,13 @@ impl Lineage {
     pub(crate) fn split_back(self, time: u64) -> Result<Lineage, AllocError>
         ensures { IfOk result (λ l. l ≡ split_back time self) }
     {
-        let (current, mut next) = self.both_chains()?;
+        let mut next = self.next_chain().share()?;
         next.drop_writes_from(time)?;
+        let next = NextChain::new(self.current.allocator(), next)?;
         Ok(Lineage {
-            current,
+            current: self.current,
             next: Some(next),
         })
-    }
-
-    /// The chain of each side.
-    fn both_chains(self) -> Result<(VersionChain, VersionChain), AllocError>
-        ensures current { IfOk result (λ both. both.0 ≡ self.current) }
-        ensures next { IfOk result (λ both. both.1 ≡ chain_on Side.Next self) }
-    {
-        let Lineage { current, next } = self;
-        match next {
-            Some(next) => Ok((current, next)),
-            None => {
-                let next = current.share()?;
-                Ok((current, next))
-            }
-        }
     }
 
     /// Both sides share the chain that this one shows.

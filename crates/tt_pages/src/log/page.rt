@@ -6,7 +6,7 @@ use std::alloc::{AllocError, Global};
 use std::marker::Model;
 
 /// The number of items in a full page.
-pub(super) const PAGE_SIZE: usize = 32;
+pub(super) const PAGE_SIZE: usize = 16;
 
 /// A short list of items, in one block of memory.
 #[derive(Drop)]

@@ -31,19 +31,21 @@ fn a_store_with_a_worker_missing_is_handed_back(rt: HostRuntime) {
     plays(&rt, rt.alloc(), 2, Scenario::ClosesLater);
 }
 
-/// A worker is missing at first.
+/// A worker is missing at first. The other one goes on with the store that is handed back.
 pub(super) fn closes_later<L: Naming, T: Wait + Abort>(
     rt: &T,
+    alloc: Global,
     store: Store<L, NoGate, &T>,
     mut workers: Vec<Worker<L>>,
 ) {
     let second = workers.pop().expect(rt, "a second worker");
     let (store, mut workers) = handed_back(rt, store, workers);
-    assert_eq!(rt; workers.len(), 1);
-    workers.push(second).expect(rt, "memory");
-    let closed = closed(rt, store, workers);
-    assert_eq!(rt; closed.db.get().events(), 0);
-    assert!(rt; has_places(&closed.places, &[], &[]));
+    let mut first = workers.pop().expect(rt, "a first worker");
+    inserts(rt, alloc, &store, &mut first, (1, "ann", 10), (1, 1));
+    let both = Vec::from_array(alloc, [first, second]).expect(rt, "memory");
+    let closed = closed(rt, store, both);
+    assert_eq!(rt; closed.db.get().events(), 1);
+    assert!(rt; has_places(&closed.places, &[1], &[]));
 }
 
 /// The store and its workers, of which one is missing.

@@ -28,6 +28,8 @@ struct Marks {
     released: AtomicU64,
     /// How often a state was built.
     built: AtomicU64,
+    /// How often something was published.
+    published: AtomicU64,
     /// How often one of the two waited in vain.
     missed: AtomicU64,
 }
@@ -38,6 +40,7 @@ impl Marks {
             held: AtomicU64::new(0),
             released: AtomicU64::new(0),
             built: AtomicU64::new(0),
+            published: AtomicU64::new(0),
             missed: AtomicU64::new(0),
         }
     }
@@ -63,10 +66,12 @@ impl Marks {
         self.released.fetch_add(1, Ordering::SeqCst);
     }
 
-    /// Asserts that nobody waited in vain, and that a state was built so often.
+    /// Asserts that nobody waited in vain, that a state was built so often, and that the call
+    /// published once.
     fn check(&self, rt: &impl Abort, built: u64) {
         assert_eq!(rt; self.missed.load(Ordering::SeqCst), 0);
         assert_eq!(rt; self.built.load(Ordering::SeqCst), built);
+        assert_eq!(rt; self.published.load(Ordering::SeqCst), 1);
     }
 }
 
@@ -83,8 +88,10 @@ impl Gate for Held<'_> {
             return;
         }
         let marks = self.marks;
-        if point == Point::Building {
-            marks.built.fetch_add(1, Ordering::SeqCst);
+        match point {
+            Point::Building => count(&marks.built),
+            Point::Published => count(&marks.published),
+            _ => (),
         }
         let held = marks.held.load(Ordering::SeqCst);
         if self.points.get(held as usize) == Some(&point) {
@@ -92,6 +99,11 @@ impl Gate for Held<'_> {
             marks.wait_until_past(&marks.released, held);
         }
     }
+}
+
+/// Counts one more.
+fn count(mark: &AtomicU64) {
+    mark.fetch_add(1, Ordering::SeqCst);
 }
 
 /// What worker 2 does while worker 1 is held.

@@ -1,71 +1,143 @@
 use Rattle.std.proofs.Common.{rules, length, ◌≡◌, Some, sym, ap, subst, ◌∙◌, ◌++◌, IsSome, OnOk, int_cmp}
 use Rattle.std.specs.Ordering.{is_lt}
 use Rattle.std.specs.FinMap.Entries.{find, put}
-use Rattle.tt_pages.specs.MapTree.{entries_of, IsNode, IsPage, IsFork}
+use Rattle.tt_pages.specs.MapTree.{entries_of, IsNode, IsSide, IsPage, IsFork, side_entries}
 use Rattle.tt_pages.proofs.MapEntriesLemmas.{length-put_present}
 use Rattle.tt_pages.proofs.MapTreeLemmas.{either, on_ok, IsPage-put, IsFork-put_left, IsFork-put_right, fork_find-left, fork_find-right, fork_put-left, fork_put-right, IsNode-sorted}
 use Rattle.tt_pages.proofs.map_tree.+map_swap.Goals as goal
 
-pub Node::swap-swap_shared-requires : goal.Node::swap-swap_shared-requires
-Node::swap-swap_shared-requires g t c κs within =
-    let fork = subst IsNode c.in-Fork.is c.requires.node in
+pub Node::swap-swap-requires : goal.Node::swap-swap-requires
+Node::swap-swap-requires g t c κs within =
+    let sides = subst IsNode c.in-Fork.is c.requires.node in
+    let fork = sides.fork in
     let lt = ap is_lt (sym c.cmp.ensures) ∙ sym c.is_lt.ensures ∙ c.if-is_lt.true in
     let some = subst (λ node. IsSome (find int_cmp c.args.key.now (entries_of node))) c.in-Fork.is c.requires.present in
-    (search rules, (search rules, subst (λ o. IsSome o) (fork_find-left c.args.key.now c.in-Fork.left.value c.in-Fork.split.key c.in-Fork.right.value fork lt) some))
+    (search rules, (search rules, (sides.left_side, subst (λ o. IsSome o) (fork_find-left c.args.key.now (side_entries c.in-Fork.left) c.in-Fork.split.key (side_entries c.in-Fork.right) fork lt) some)))
 
-pub Node::swap-swap_shared-requires-else-is_lt : goal.Node::swap-swap_shared-requires-else-is_lt
-Node::swap-swap_shared-requires-else-is_lt g t c κs within =
-    let fork = subst IsNode c.in-Fork.is c.requires.node in
+pub Node::swap-swap-requires-else-is_lt : goal.Node::swap-swap-requires-else-is_lt
+Node::swap-swap-requires-else-is_lt g t c κs within =
+    let sides = subst IsNode c.in-Fork.is c.requires.node in
+    let fork = sides.fork in
     let not_lt = ap is_lt (sym c.cmp.ensures) ∙ sym c.is_lt.ensures ∙ c.if-is_lt.false in
     let some = subst (λ node. IsSome (find int_cmp c.args.key.now (entries_of node))) c.in-Fork.is c.requires.present in
-    (search rules, (search rules, subst (λ o. IsSome o) (fork_find-right c.args.key.now c.in-Fork.left.value c.in-Fork.split.key c.in-Fork.right.value fork not_lt) some))
+    (search rules, (search rules, (sides.right_side, subst (λ o. IsSome o) (fork_find-right c.args.key.now (side_entries c.in-Fork.left) c.in-Fork.split.key (side_entries c.in-Fork.right) fork not_lt) some)))
+
+pub Node::swap-returns-then-is_lt-clause-node : goal.Node::swap-returns-then-is_lt-clause-node
+Node::swap-returns-then-is_lt-clause-node g t c =
+    let sides = subst IsNode c.in-Fork.is c.requires.node in
+    let fork = sides.fork in
+    let lt = ap is_lt (sym c.cmp.ensures) ∙ sym c.is_lt.ensures ∙ c.if-is_lt.true in
+    let after = IsFork-put_left c.args.key.now (side_entries c.in-Fork.left) c.in-Fork.split.key (side_entries c.in-Fork.right) fork lt c.args.value.now in
+    record {
+      left_side = c.swap.ensures.side;
+      right_side = sides.right_side;
+      fork = either c.swap.result (side_entries c.swap.new.self) _ _ (λ es. IsFork es c.in-Fork.split.key (side_entries c.in-Fork.right)) c.swap.ensures.tree c.swap.ensures.err after fork;
+    }
+
+pub Node::swap-returns-then-is_lt-clause-tree : goal.Node::swap-returns-then-is_lt-clause-tree
+Node::swap-returns-then-is_lt-clause-tree g t c =
+    let sides = subst IsNode c.in-Fork.is c.requires.node in
+    let fork = sides.fork in
+    let lt = ap is_lt (sym c.cmp.ensures) ∙ sym c.is_lt.ensures ∙ c.if-is_lt.true in
+    let all = fork_put-left c.args.key.now (side_entries c.in-Fork.left) c.in-Fork.split.key (side_entries c.in-Fork.right) fork lt c.args.value.now in
+    on_ok c.swap.result (side_entries c.swap.new.self) _ (λ es. es ++ (side_entries c.in-Fork.right)) _ c.swap.ensures.tree (all ∙ ap (λ node. put int_cmp c.args.key.now c.args.value.now (entries_of node)) (sym c.in-Fork.is))
+
+pub Node::swap-returns-then-is_lt-clause-value : goal.Node::swap-returns-then-is_lt-clause-value
+Node::swap-returns-then-is_lt-clause-value g t c =
+    let sides = subst IsNode c.in-Fork.is c.requires.node in
+    let fork = sides.fork in
+    let lt = ap is_lt (sym c.cmp.ensures) ∙ sym c.is_lt.ensures ∙ c.if-is_lt.true in
+    let same = sym (fork_find-left c.args.key.now (side_entries c.in-Fork.left) c.in-Fork.split.key (side_entries c.in-Fork.right) fork lt) ∙ ap (λ node. find int_cmp c.args.key.now (entries_of node)) (sym c.in-Fork.is) in
+    subst (λ found. OnOk c.swap.result (found ≡ Some c.swap.new.value)) same c.swap.ensures.value
+
+pub Node::swap-returns-else-is_lt-clause-node : goal.Node::swap-returns-else-is_lt-clause-node
+Node::swap-returns-else-is_lt-clause-node g t c =
+    let sides = subst IsNode c.in-Fork.is c.requires.node in
+    let fork = sides.fork in
+    let not_lt = ap is_lt (sym c.cmp.ensures) ∙ sym c.is_lt.ensures ∙ c.if-is_lt.false in
+    let after = IsFork-put_right c.args.key.now (side_entries c.in-Fork.left) c.in-Fork.split.key (side_entries c.in-Fork.right) fork not_lt c.args.value.now in
+    record {
+      left_side = sides.left_side;
+      right_side = c.swap-else-is_lt.ensures.side;
+      fork = either c.swap-else-is_lt.result (side_entries c.swap-else-is_lt.new.self) _ _ (λ es. IsFork (side_entries c.in-Fork.left) c.in-Fork.split.key es) c.swap-else-is_lt.ensures.tree c.swap-else-is_lt.ensures.err after fork;
+    }
+
+pub Node::swap-returns-else-is_lt-clause-tree : goal.Node::swap-returns-else-is_lt-clause-tree
+Node::swap-returns-else-is_lt-clause-tree g t c =
+    let sides = subst IsNode c.in-Fork.is c.requires.node in
+    let fork = sides.fork in
+    let not_lt = ap is_lt (sym c.cmp.ensures) ∙ sym c.is_lt.ensures ∙ c.if-is_lt.false in
+    let all = fork_put-right c.args.key.now (side_entries c.in-Fork.left) c.in-Fork.split.key (side_entries c.in-Fork.right) fork not_lt c.args.value.now in
+    on_ok c.swap-else-is_lt.result (side_entries c.swap-else-is_lt.new.self) _ (λ es. (side_entries c.in-Fork.left) ++ es) _ c.swap-else-is_lt.ensures.tree (all ∙ ap (λ node. put int_cmp c.args.key.now c.args.value.now (entries_of node)) (sym c.in-Fork.is))
+
+pub Node::swap-returns-else-is_lt-clause-value : goal.Node::swap-returns-else-is_lt-clause-value
+Node::swap-returns-else-is_lt-clause-value g t c =
+    let sides = subst IsNode c.in-Fork.is c.requires.node in
+    let fork = sides.fork in
+    let not_lt = ap is_lt (sym c.cmp.ensures) ∙ sym c.is_lt.ensures ∙ c.if-is_lt.false in
+    let same = sym (fork_find-right c.args.key.now (side_entries c.in-Fork.left) c.in-Fork.split.key (side_entries c.in-Fork.right) fork not_lt) ∙ ap (λ node. find int_cmp c.args.key.now (entries_of node)) (sym c.in-Fork.is) in
+    subst (λ found. OnOk c.swap-else-is_lt.result (found ≡ Some c.swap-else-is_lt.new.value)) same c.swap-else-is_lt.ensures.value
+
+pub Side::swap-swap_shared-requires-then-is_lt : goal.Side::swap-swap_shared-requires-then-is_lt
+Side::swap-swap_shared-requires-then-is_lt g t c κs within =
+    let fork = subst IsSide c.in-Two.is c.requires.side in
+    let lt = ap is_lt (sym c.cmp.ensures) ∙ sym c.is_lt.ensures ∙ c.if-is_lt.true in
+    let some = subst (λ side. IsSome (find int_cmp c.args.key.now (side_entries side))) c.in-Two.is c.requires.present in
+    (search rules, (search rules, subst (λ o. IsSome o) (fork_find-left c.args.key.now c.in-Two.left.value c.in-Two.split.key c.in-Two.right.value fork lt) some))
+
+pub Side::swap-swap_shared-requires-else-is_lt : goal.Side::swap-swap_shared-requires-else-is_lt
+Side::swap-swap_shared-requires-else-is_lt g t c κs within =
+    let fork = subst IsSide c.in-Two.is c.requires.side in
+    let not_lt = ap is_lt (sym c.cmp.ensures) ∙ sym c.is_lt.ensures ∙ c.if-is_lt.false in
+    let some = subst (λ side. IsSome (find int_cmp c.args.key.now (side_entries side))) c.in-Two.is c.requires.present in
+    (search rules, (search rules, subst (λ o. IsSome o) (fork_find-right c.args.key.now c.in-Two.left.value c.in-Two.split.key c.in-Two.right.value fork not_lt) some))
+
+pub Side::swap-returns-then-is_lt-clause-side : goal.Side::swap-returns-then-is_lt-clause-side
+Side::swap-returns-then-is_lt-clause-side g t c =
+    let fork = subst IsSide c.in-Two.is c.requires.side in
+    let lt = ap is_lt (sym c.cmp.ensures) ∙ sym c.is_lt.ensures ∙ c.if-is_lt.true in
+    let after = IsFork-put_left c.args.key.now c.in-Two.left.value c.in-Two.split.key c.in-Two.right.value fork lt c.args.value.now in
+    either c.swap_shared-then-is_lt.result c.swap_shared-then-is_lt.new.this.value _ _ (λ es. IsFork es c.in-Two.split.key c.in-Two.right.value) c.swap_shared-then-is_lt.ensures.tree c.swap_shared-then-is_lt.ensures.err after fork
+
+pub Side::swap-returns-then-is_lt-clause-tree : goal.Side::swap-returns-then-is_lt-clause-tree
+Side::swap-returns-then-is_lt-clause-tree g t c =
+    let fork = subst IsSide c.in-Two.is c.requires.side in
+    let lt = ap is_lt (sym c.cmp.ensures) ∙ sym c.is_lt.ensures ∙ c.if-is_lt.true in
+    let all = fork_put-left c.args.key.now c.in-Two.left.value c.in-Two.split.key c.in-Two.right.value fork lt c.args.value.now in
+    on_ok c.swap_shared-then-is_lt.result c.swap_shared-then-is_lt.new.this.value _ (λ es. es ++ c.in-Two.right.value) _ c.swap_shared-then-is_lt.ensures.tree (all ∙ ap (λ side. put int_cmp c.args.key.now c.args.value.now (side_entries side)) (sym c.in-Two.is))
+
+pub Side::swap-returns-then-is_lt-clause-value : goal.Side::swap-returns-then-is_lt-clause-value
+Side::swap-returns-then-is_lt-clause-value g t c =
+    let fork = subst IsSide c.in-Two.is c.requires.side in
+    let lt = ap is_lt (sym c.cmp.ensures) ∙ sym c.is_lt.ensures ∙ c.if-is_lt.true in
+    let same = sym (fork_find-left c.args.key.now c.in-Two.left.value c.in-Two.split.key c.in-Two.right.value fork lt) ∙ ap (λ side. find int_cmp c.args.key.now (side_entries side)) (sym c.in-Two.is) in
+    subst (λ found. OnOk c.swap_shared-then-is_lt.result (found ≡ Some c.swap_shared-then-is_lt.new.value)) same c.swap_shared-then-is_lt.ensures.value
+
+pub Side::swap-returns-else-is_lt-clause-side : goal.Side::swap-returns-else-is_lt-clause-side
+Side::swap-returns-else-is_lt-clause-side g t c =
+    let fork = subst IsSide c.in-Two.is c.requires.side in
+    let not_lt = ap is_lt (sym c.cmp.ensures) ∙ sym c.is_lt.ensures ∙ c.if-is_lt.false in
+    let after = IsFork-put_right c.args.key.now c.in-Two.left.value c.in-Two.split.key c.in-Two.right.value fork not_lt c.args.value.now in
+    either c.swap_shared-else-is_lt.result c.swap_shared-else-is_lt.new.this.value _ _ (λ es. IsFork c.in-Two.left.value c.in-Two.split.key es) c.swap_shared-else-is_lt.ensures.tree c.swap_shared-else-is_lt.ensures.err after fork
+
+pub Side::swap-returns-else-is_lt-clause-tree : goal.Side::swap-returns-else-is_lt-clause-tree
+Side::swap-returns-else-is_lt-clause-tree g t c =
+    let fork = subst IsSide c.in-Two.is c.requires.side in
+    let not_lt = ap is_lt (sym c.cmp.ensures) ∙ sym c.is_lt.ensures ∙ c.if-is_lt.false in
+    let all = fork_put-right c.args.key.now c.in-Two.left.value c.in-Two.split.key c.in-Two.right.value fork not_lt c.args.value.now in
+    on_ok c.swap_shared-else-is_lt.result c.swap_shared-else-is_lt.new.this.value _ (λ es. c.in-Two.left.value ++ es) _ c.swap_shared-else-is_lt.ensures.tree (all ∙ ap (λ side. put int_cmp c.args.key.now c.args.value.now (side_entries side)) (sym c.in-Two.is))
+
+pub Side::swap-returns-else-is_lt-clause-value : goal.Side::swap-returns-else-is_lt-clause-value
+Side::swap-returns-else-is_lt-clause-value g t c =
+    let fork = subst IsSide c.in-Two.is c.requires.side in
+    let not_lt = ap is_lt (sym c.cmp.ensures) ∙ sym c.is_lt.ensures ∙ c.if-is_lt.false in
+    let same = sym (fork_find-right c.args.key.now c.in-Two.left.value c.in-Two.split.key c.in-Two.right.value fork not_lt) ∙ ap (λ side. find int_cmp c.args.key.now (side_entries side)) (sym c.in-Two.is) in
+    subst (λ found. OnOk c.swap_shared-else-is_lt.result (found ≡ Some c.swap_shared-else-is_lt.new.value)) same c.swap_shared-else-is_lt.ensures.value
 
 pub Node::swap-returns-in-Leaf-clause-node : goal.Node::swap-returns-in-Leaf-clause-node
 Node::swap-returns-in-Leaf-clause-node g t c =
     let page = subst IsNode c.in-Leaf.is c.requires.node in
     subst IsPage (sym c.swap_in.ensures.page) (IsPage-put c.args.key.now c.args.value.now _ page)
-
-pub Node::swap-returns-then-is_lt-clause-node : goal.Node::swap-returns-then-is_lt-clause-node
-Node::swap-returns-then-is_lt-clause-node g t c =
-    let fork = subst IsNode c.in-Fork.is c.requires.node in
-    let lt = ap is_lt (sym c.cmp.ensures) ∙ sym c.is_lt.ensures ∙ c.if-is_lt.true in
-    let after = IsFork-put_left c.args.key.now c.in-Fork.left.value c.in-Fork.split.key c.in-Fork.right.value fork lt c.args.value.now in
-    either c.swap_shared.result c.swap_shared.new.this.value _ _ (λ es. IsFork es c.in-Fork.split.key c.in-Fork.right.value) c.swap_shared.ensures.tree c.swap_shared.ensures.err after fork
-
-pub Node::swap-returns-then-is_lt-clause-tree : goal.Node::swap-returns-then-is_lt-clause-tree
-Node::swap-returns-then-is_lt-clause-tree g t c =
-    let fork = subst IsNode c.in-Fork.is c.requires.node in
-    let lt = ap is_lt (sym c.cmp.ensures) ∙ sym c.is_lt.ensures ∙ c.if-is_lt.true in
-    let all = fork_put-left c.args.key.now c.in-Fork.left.value c.in-Fork.split.key c.in-Fork.right.value fork lt c.args.value.now in
-    on_ok c.swap_shared.result c.swap_shared.new.this.value _ (λ es. es ++ c.in-Fork.right.value) _ c.swap_shared.ensures.tree (all ∙ ap (λ node. put int_cmp c.args.key.now c.args.value.now (entries_of node)) (sym c.in-Fork.is))
-
-pub Node::swap-returns-then-is_lt-clause-value : goal.Node::swap-returns-then-is_lt-clause-value
-Node::swap-returns-then-is_lt-clause-value g t c =
-    let fork = subst IsNode c.in-Fork.is c.requires.node in
-    let lt = ap is_lt (sym c.cmp.ensures) ∙ sym c.is_lt.ensures ∙ c.if-is_lt.true in
-    let same = sym (fork_find-left c.args.key.now c.in-Fork.left.value c.in-Fork.split.key c.in-Fork.right.value fork lt) ∙ ap (λ node. find int_cmp c.args.key.now (entries_of node)) (sym c.in-Fork.is) in
-    subst (λ found. OnOk c.swap_shared.result (found ≡ Some c.swap_shared.new.value)) same c.swap_shared.ensures.value
-
-pub Node::swap-returns-else-is_lt-clause-node : goal.Node::swap-returns-else-is_lt-clause-node
-Node::swap-returns-else-is_lt-clause-node g t c =
-    let fork = subst IsNode c.in-Fork.is c.requires.node in
-    let not_lt = ap is_lt (sym c.cmp.ensures) ∙ sym c.is_lt.ensures ∙ c.if-is_lt.false in
-    let after = IsFork-put_right c.args.key.now c.in-Fork.left.value c.in-Fork.split.key c.in-Fork.right.value fork not_lt c.args.value.now in
-    either c.swap_shared-else-is_lt.result c.swap_shared-else-is_lt.new.this.value _ _ (λ es. IsFork c.in-Fork.left.value c.in-Fork.split.key es) c.swap_shared-else-is_lt.ensures.tree c.swap_shared-else-is_lt.ensures.err after fork
-
-pub Node::swap-returns-else-is_lt-clause-tree : goal.Node::swap-returns-else-is_lt-clause-tree
-Node::swap-returns-else-is_lt-clause-tree g t c =
-    let fork = subst IsNode c.in-Fork.is c.requires.node in
-    let not_lt = ap is_lt (sym c.cmp.ensures) ∙ sym c.is_lt.ensures ∙ c.if-is_lt.false in
-    let all = fork_put-right c.args.key.now c.in-Fork.left.value c.in-Fork.split.key c.in-Fork.right.value fork not_lt c.args.value.now in
-    on_ok c.swap_shared-else-is_lt.result c.swap_shared-else-is_lt.new.this.value _ (λ es. c.in-Fork.left.value ++ es) _ c.swap_shared-else-is_lt.ensures.tree (all ∙ ap (λ node. put int_cmp c.args.key.now c.args.value.now (entries_of node)) (sym c.in-Fork.is))
-
-pub Node::swap-returns-else-is_lt-clause-value : goal.Node::swap-returns-else-is_lt-clause-value
-Node::swap-returns-else-is_lt-clause-value g t c =
-    let fork = subst IsNode c.in-Fork.is c.requires.node in
-    let not_lt = ap is_lt (sym c.cmp.ensures) ∙ sym c.is_lt.ensures ∙ c.if-is_lt.false in
-    let same = sym (fork_find-right c.args.key.now c.in-Fork.left.value c.in-Fork.split.key c.in-Fork.right.value fork not_lt) ∙ ap (λ node. find int_cmp c.args.key.now (entries_of node)) (sym c.in-Fork.is) in
-    subst (λ found. OnOk c.swap_shared-else-is_lt.result (found ≡ Some c.swap_shared-else-is_lt.new.value)) same c.swap_shared-else-is_lt.ensures.value
 
 pub Tree::swap-invariant_of-self : goal.Tree::swap-invariant_of-self
 Tree::swap-invariant_of-self g t c =

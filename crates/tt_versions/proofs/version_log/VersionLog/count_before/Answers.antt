@@ -1,7 +1,7 @@
 use Rattle.std.proofs.Common.{◌≡◌, arith, ap, ◌∙◌}
 use Rattle.tt_versions.specs.Versions.{started_before}
 use Rattle.tt_versions.proofs.VersionsLemmas.{started_before-zero}
-use Rattle.tt_versions.proofs.version_chain.VersionChain.count_before.Goals as goal
+use Rattle.tt_versions.proofs.version_log.VersionLog.count_before.Goals as goal
 
 pub returns-in-None : goal.returns-in-None
 returns-in-None c =

@@ -2,7 +2,7 @@
 use Rattle.std.proofs.Common.{◌≡◌, arith, drop, subst}
 use Rattle.tt_versions.specs.Versions.{NoneHasStarted}
 use Rattle.tt_versions.proofs.VersionsLemmas.{started_by-front, started_by-length}
-use Rattle.tt_versions.proofs.version_chain.VersionChain.count_by.Goals as goal
+use Rattle.tt_versions.proofs.version_log.VersionLog.count_by.Goals as goal
 
 pub returns-clause-front : goal.returns-clause-front
 returns-clause-front c =

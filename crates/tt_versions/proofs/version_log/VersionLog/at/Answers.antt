@@ -2,7 +2,7 @@
 use Rattle.std.proofs.Common.{arith, sym, ◌∙◌}
 use Rattle.std.proofs.lemmas.Grind.{common_steps}
 use Rattle.tt_versions.proofs.VersionsLemmas.{visible_row-at}
-use Rattle.tt_versions.proofs.version_chain.VersionChain.at.Goals as goal
+use Rattle.tt_versions.proofs.version_log.VersionLog.at.Goals as goal
 
 pub returns-in-Some : goal.returns-in-Some
 returns-in-Some c =

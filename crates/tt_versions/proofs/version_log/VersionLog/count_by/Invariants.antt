@@ -1,7 +1,7 @@
 -- the versions in front of `low` started by the time, and those from `high` on did not
 use Rattle.std.proofs.Common.{◌-◌, ◌≤◌, length, take, drop}
 use Rattle.tt_versions.specs.Versions.{HaveStarted, NoneHasStarted}
-use Rattle.tt_versions.proofs.version_chain.VersionChain.count_by.Given as goal
+use Rattle.tt_versions.proofs.version_log.VersionLog.count_by.Given as goal
 
 abbrev pub invariant-loop-low : goal.invariant-loop-low
 invariant-loop-low l = record {
