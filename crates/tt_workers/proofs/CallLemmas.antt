@@ -1,6 +1,5 @@
 -- One call of a worker: what a store does for it is what was asked for.
-use Rattle.std.proofs.Common.{◌≡◌, ℕ, zero, suc, ◌+◌, ◌-◌, ◌≤◌, nat_lt, Bool, true, false, if◌then◌else◌, List, [], ◌∷◌, ◌++◌, take, length, Option, None, Some, Result, Ok, Err, refl, sym, ap, subst, ◌∙◌, arith, length-append}
-use mathlib.Core.List.{IsPrefix}
+use Rattle.std.proofs.Common.{◌≡◌, ℕ, zero, suc, ◌+◌, ◌-◌, ◌≤◌, nat_lt, Bool, true, false, if◌then◌else◌, List, [], ◌∷◌, ◌++◌, take, length, Option, None, Some, Result, Ok, Err, refl, sym, ap, subst, ◌∙◌, arith, length-append, append-nil}
 use Rattle.tt_values.specs.declared.statement.Write.{Write}
 use Rattle.tt_values.specs.declared.statement.Select.{Select}
 use Rattle.tt_values.specs.declared.reply.Reply.{Reply}
@@ -32,9 +31,8 @@ use Rattle.tt_store.specs.Workers.{WorkerState, Looks, AnswersRightly}
 use Rattle.tt_store.specs.Store.{Wrote}
 use Rattle.tt_store.proofs.Prefixes.{prefix_length}
 use Rattle.tt_workload.specs.Records.{read_in, preview_in, answer_in}
-use Rattle.tt_workload.specs.History.{entries_of_ask, entries_of}
-use Rattle.tt_workers.specs.declared.answered.Answered.{Answered}
-use Rattle.tt_workers.specs.Calls.{IsMade, Makes, behind, record_at, what_of_read, what_of_preview}
+use Rattle.tt_workload.specs.History.{entries_of_ask}
+use Rattle.tt_workers.specs.Calls.{IsMade, Makes, behind, what_of_read, what_of_preview}
 
 pub take_front : {A : Type 0} (xs ys : List A) → take (length xs) (xs ++ ys) ≡ xs
 take_front [] ys = refl
@@ -64,10 +62,12 @@ made_action tables limits action old new w wrote =
     let front : take (w.place - 1) new.seen ≡ wrote.front =
     ap (λ n. take n new.seen) front_is ∙ ap (take (length wrote.front)) p.seen ∙ take_front wrote.front (entry ∷ []) in
     let right = what_written action (after limits wrote.front) w.slot w.replies wrote.outcome in
+    let seen : length new.seen ≡ w.place - 1 + 1 = omega (arith, front_is, ap length p.seen, length-append wrote.front (entry ∷ [])) in
     record {
       grew = grew_one tables limits (events.Write action) old new wrote.front w.place p;
       later = omega (arith, front_is, prefix_length old.seen wrote.front p.later);
-      seen = omega (arith, front_is, ap length p.seen, length-append wrote.front (entry ∷ []));
+      seen = seen;
+      entry = ap (λ n. take n new.seen) (sym seen) ∙ take_whole new.seen ∙ p.seen ∙ ap (λ es. es ++ entry ∷ []) (sym front);
       right = right ∙ ap (λ (f : List Entry). answer_in (after limits f) (asks.Write action)) (sym front);
     }
 
@@ -78,6 +78,7 @@ made_reading limits ask old new what front looks is none reads right = record {
   grew = subst (λ es. GrewBy old new es) (sym none) (grew_none old new looks);
   later = omega (arith, is, prefix_length old.seen new.seen looks.seen);
   seen = sym (reads ∙ is);
+  entry = ap (λ n. take n new.seen) reads ∙ sym (ap (λ es. take front new.seen ++ es) none ∙ append-nil (take front new.seen));
   right = right ∙ ap (λ (f : List Entry). answer_in (after limits f) ask) (sym (ap (λ n. take n new.seen) is ∙ take_whole new.seen));
 }
 
@@ -210,5 +211,6 @@ makes_call limits number call old new what front own made = record {
   grew = subst (λ n. GrewBy old new (entries_of_ask n call.ask)) (sym own) made.grew;
   later = made.later;
   seen = made.seen;
+  entry = made.entry ∙ ap (λ n. take front new.seen ++ entries_of_ask n call.ask) (sym own);
   right = ap (λ (w : What). record { call = number; worker = call.worker; what = w }) made.right;
 }

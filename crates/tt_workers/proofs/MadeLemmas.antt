@@ -1,14 +1,12 @@
 -- What workers have made: the entries of their calls, and no others that bear their numbers.
-use Rattle.std.proofs.Common.{◌≡◌, ℕ, zero, suc, ◌+◌, ◌-◌, ◌<◌, ◌≤◌, ◌==◌, Bool, true, false, cond, if◌then◌else◌, List, [], ◌∷◌, ◌++◌, map, length, slice_get, filter, Option, None, Some, refl, sym, ap, subst, ◌∙◌, ⊎_elim, arith, append_assoc, length-append}
-use Rattle.std.specs.List.{cons_option, flat_map}
+use Rattle.std.proofs.Common.{◌≡◌, ℕ, zero, suc, ◌+◌, ◌≤◌, ◌==◌, Bool, true, false, cond, if◌then◌else◌, List, [], ◌∷◌, ◌++◌, length, slice_get, Some, refl, sym, ap, ◌∙◌, ⊎_elim, arith, append_assoc, length-append}
+use Rattle.std.specs.List.{cons_option}
 use Rattle.std.proofs.lemmas.List.{append-nil}
 use Rattle.std.proofs.lemmas.List.Elements.{filter-append}
-use mathlib.Core.List.{IsPrefix}
 use Rattle.tt_db.specs.declared.limits.Limits.{Limits}
 use Rattle.tt_db.specs.declared.event.Entry.{Entry}
 use Rattle.tt_db.specs.Database.{nth_item}
 use Rattle.tt_document.specs.declared.document.Call.{Call}
-use Rattle.tt_repair.specs.Growth.{GrewBy}
 use Rattle.tt_store.specs.History.{places_from, places_of}
 use Rattle.tt_store.specs.Own.{entries_at}
 use Rattle.tt_store.specs.Workers.{WorkerState, IsAmong, own_entries}
@@ -16,7 +14,7 @@ use Rattle.tt_store.specs.Opening.{new_worker, new_workers}
 use Rattle.tt_store.specs.Closing.{IsPartOf}
 use Rattle.tt_workload.specs.History.{entries_of, history_of}
 use Rattle.tt_workers.specs.declared.answered.Answered.{Answered}
-use Rattle.tt_workers.specs.Calls.{made_by, Works, AllWork}
+use Rattle.tt_workers.specs.Calls.{made_by, AllWork}
 use Rattle.tt_workers.proofs.MergingLemmas.{NumberedFrom}
 
 -- workers, numbered from this number on, have made the entries of their calls among these, and nothing else

@@ -1,17 +1,15 @@
 -- The answers of all workers by rising call: each is right at its front.
-use Rattle.std.proofs.Common.{◌≡◌, ◌≢◌, ℕ, zero, suc, ◌+◌, ◌-◌, ◌<◌, ◌≤◌, ◌==◌, Bool, true, false, if◌then◌else◌, MatchBool, List, [], ◌∷◌, ◌++◌, drop, set, map, length, slice_get, Option, None, Some, refl, sym, ap, subst, ◌∙◌, arith, length-append}
+use Rattle.std.proofs.Common.{◌≡◌, ℕ, zero, suc, ◌+◌, ◌-◌, ◌<◌, ◌≤◌, ◌==◌, Bool, true, false, if◌then◌else◌, MatchBool, List, [], ◌∷◌, ◌++◌, set, map, length, slice_get, Some, refl, sym, ap, subst, ◌∙◌, arith}
 use Rattle.std.proofs.lemmas.Bool.Decides.{Decides-eqb}
-use Rattle.std.specs.List.{AllByRecursion as Each}
 use mathlib.Core.List.{IsPrefix}
 use Rattle.tt_db.specs.declared.limits.Limits.{Limits}
 use Rattle.tt_db.specs.declared.event.Entry.{Entry}
 use Rattle.tt_document.specs.declared.document.Call.{Call}
-use Rattle.tt_repair.specs.declared.record.Record.{Record}
 use Rattle.tt_store.specs.Workers.{WorkerState}
 use Rattle.tt_workers.specs.declared.answered.Answered.{Answered}
-use Rattle.tt_workers.specs.Calls.{behind, IsRight, AreAnswers, Works, AllWork}
+use Rattle.tt_workers.specs.Calls.{behind, IsRight, AreAnswers, AllWork}
 use Rattle.tt_workers.specs.Merging.{AreOf, first_of, rest_of, without_first, merged}
-use Rattle.tt_workers.specs.Report.{with_seen, IsAnswered, AreAnswered}
+use Rattle.tt_workers.specs.Report.{with_seen, AreAnswered}
 use Rattle.tt_workers.proofs.WorkLemmas.{answers_longer}
 
 -- there is one answer for each call, right at its front; this much each worker had seen at first, and that much at last
@@ -130,7 +128,7 @@ merged_answered limits history n number from to [] [] h = tt
 merged_answered limits history n number from to [] (a ∷ answers) h = absurd h
 merged_answered limits history n number from to (c ∷ calls) [] h = absurd h
 merged_answered limits history n number from to (c ∷ calls) (a ∷ answers) h =
-    (record { later = h.0.later; within = h.0.within; right = h.0.right }, merged_answered limits history n (number + 1) (with_seen from c.worker (behind c.ask a.front)) to calls answers h.1)
+    (record { later = h.0.later; within = h.0.within; entry = h.0.entry; right = h.0.right }, merged_answered limits history n (number + 1) (with_seen from c.worker (behind c.ask a.front)) to calls answers h.1)
 
 -- workers may have seen less at first
 abbrev pub IsLower : ℕ → (ℕ → ℕ) → (ℕ → ℕ) → Type 0
@@ -149,7 +147,7 @@ merged_lower limits history n number low from to [] [] le of h = λ w some last.
 merged_lower limits history n number low from to [] (a ∷ answers) le of h = absurd h
 merged_lower limits history n number low from to (c ∷ calls) [] le of h = absurd h
 merged_lower limits history n number low from to (c ∷ calls) (a ∷ answers) le of h = (
-  record { later = omega (arith, h.0.later, le c.worker of.0 of.1); within = h.0.within; right = h.0.right },
+  record { later = omega (arith, h.0.later, le c.worker of.0 of.1); within = h.0.within; entry = h.0.entry; right = h.0.right },
   merged_lower limits history n (number + 1) (with_seen low c.worker (behind c.ask a.front)) (with_seen from c.worker (behind c.ask a.front)) to calls answers
       (lower_seen n low from c.worker (behind c.ask a.front) le) of.2 h.1,
 )

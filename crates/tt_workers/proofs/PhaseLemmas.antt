@@ -1,5 +1,5 @@
 -- The calls of all workers, each in a thread of its own.
-use Rattle.std.proofs.Common.{◌≡◌, ℕ, zero, suc, ◌+◌, ◌<◌, List, [], ◌∷◌, map, length, get_or, slice_index_or, All, Result, Ok, Err, IfOk, refl, sym, ap, subst, arith}
+use Rattle.std.proofs.Common.{◌≡◌, ℕ, suc, ◌<◌, List, [], ◌∷◌, map, length, get_or, slice_index_or, All, Result, Ok, IfOk, ap, subst, arith}
 use Rattle.tt_db.specs.declared.limits.Limits.{Limits}
 use Rattle.tt_document.specs.declared.document.Call.{Call}
 use Rattle.tt_store.specs.Workers.{WorkerState}

@@ -1,5 +1,5 @@
 -- A whole run: what its workers leave is a report of the document.
-use Rattle.std.proofs.Common.{◌≡◌, ℕ, zero, suc, ◌+◌, ◌-◌, ◌<◌, ◌≤◌, ◌==◌, List, [], ◌∷◌, ◌++◌, map, length, slice_get, All, Option, None, Some, IfSome, Result, Ok, Err, IfOk, refl, sym, ap, subst, ◌∙◌, arith, append_assoc, length-append}
+use Rattle.std.proofs.Common.{◌≡◌, ℕ, zero, suc, ◌+◌, ◌-◌, ◌<◌, ◌≤◌, List, [], ◌∷◌, ◌++◌, map, length, slice_get, All, Option, None, Some, IfSome, Result, Ok, Err, IfOk, refl, sym, ap, subst, ◌∙◌, arith, append_assoc, length-append}
 use Rattle.std.specs.List.{AllByRecursion as Each}
 use Rattle.std.proofs.lemmas.List.{append-nil, length-map, map-append}
 use Rattle.std.proofs.lemmas.List.Elements.{recursion_from_All}
@@ -22,7 +22,6 @@ use Rattle.tt_document.specs.Document.{IsValidCall, IsValidEdit, IsValidPlan, Is
 use Rattle.tt_repair.specs.declared.record.Record.{Record}
 use Rattle.tt_repair.specs.declared.repaired.Repaired.{Repaired}
 use Rattle.tt_repair.specs.Changes.{changes_of}
-use Rattle.tt_repair.specs.Growth.{GrewBy}
 use Rattle.tt_repair.specs.Repairing.{HasRepaired, begun_steps, entry_by}
 use Rattle.tt_store.specs.History.{entries_by, places_of}
 use Rattle.tt_store.specs.Calls.{numbers_from}
@@ -39,7 +38,7 @@ use Rattle.tt_workers.specs.Calls.{made_by, behind, AllWork}
 use Rattle.tt_workers.specs.Merging.{AreOf, first_of, without_first, merged}
 use Rattle.tt_workers.specs.Running.{MadeCalls, MadeRepair, MadeRepairIf, MadeAll}
 use Rattle.tt_workers.specs.Report.{with_seen, AreAnswered, nothing_seen, all_calls, meanwhile_of, IsRepaired, IsRepairOf, IsReportOf}
-use Rattle.tt_workers.proofs.MergingLemmas.{AreMerged, HasQueues, HaveSeen, seen_by, has_queues, merged_right, merged_answered, merged_lower, merged_append, length-merged}
+use Rattle.tt_workers.proofs.MergingLemmas.{AreMerged, HaveSeen, seen_by, has_queues, merged_right, merged_answered, merged_lower, merged_append, length-merged}
 use Rattle.tt_workers.proofs.MadeLemmas.{HaveMade, numbered, made_more, length-work, length-new_workers, new_made, all_own}
 
 -- ---- lists of workers

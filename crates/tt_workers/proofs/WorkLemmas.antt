@@ -1,8 +1,7 @@
 -- The calls of one worker, one after another.
-use Rattle.std.proofs.Common.{◌≡◌, ℕ, zero, suc, drop, ◌+◌, ◌≤◌, ◌==◌, Bool, true, false, cond, MatchBool, List, [], ◌∷◌, ◌++◌, take, length, filter, refl, sym, ap, subst, ◌∙◌, arith, append_assoc, length-append}
+use Rattle.std.proofs.Common.{◌≡◌, ℕ, zero, suc, drop, ◌+◌, ◌≤◌, ◌==◌, Bool, true, false, cond, MatchBool, List, [], ◌∷◌, ◌++◌, take, length, refl, sym, ap, subst, ◌∙◌, arith, append_assoc}
 use Rattle.std.proofs.lemmas.List.{append-nil}
 use Rattle.std.proofs.lemmas.List.Elements.{filter-append}
-use Rattle.std.proofs.lemmas.Bool.Decides.{Decides-eqb}
 use mathlib.Core.List.{IsPrefix}
 use Rattle.tt_db.specs.declared.limits.Limits.{Limits}
 use Rattle.tt_db.specs.declared.event.Entry.{Entry}
@@ -10,15 +9,14 @@ use Rattle.tt_db.specs.State.{after}
 use Rattle.tt_document.specs.declared.document.Call.{Call}
 use Rattle.tt_document.specs.declared.document.Ask.{Ask}
 use Rattle.tt_document.specs.declared.document.Ask.TheVariants as asks
-use Rattle.tt_repair.specs.declared.record.Record.{Record}
 use Rattle.tt_repair.specs.Growth.{GrewBy}
 use Rattle.tt_repair.proofs.GrowthLemmas.{grew_then}
 use Rattle.tt_store.specs.Workers.{WorkerState, own_entries}
-use Rattle.tt_store.proofs.Prefixes.{prefix_self, prefix_trans, prefix_length}
+use Rattle.tt_store.proofs.Prefixes.{prefix_self, prefix_length}
 use Rattle.tt_workload.specs.Records.{record_in}
 use Rattle.tt_workload.specs.History.{entries_of, history_of}
 use Rattle.tt_workers.specs.declared.answered.Answered.{Answered}
-use Rattle.tt_workers.specs.Calls.{made_by, behind, record_at, Makes, IsRight, AreAnswers, Works, GoesOn}
+use Rattle.tt_workers.specs.Calls.{made_by, behind, Makes, IsRight, AreAnswers, Works, GoesOn}
 use Rattle.tt_workers.proofs.CallLemmas.{take_longer}
 
 pub behind_more : (ask : Ask) (front : ℕ) → front ≤ behind ask front
@@ -32,9 +30,11 @@ pub right_longer : (limits : Limits) (history longer : List Entry) (number : ℕ
 right_longer limits history longer number call from a p h =
     let within : a.front ≤ length history = omega (arith, behind_more call.ask a.front, h.within) in
     let same : take a.front longer ≡ take a.front history = ap (take a.front) (sym p.1) ∙ take_longer a.front history p.0 within in
+    let all : take (behind call.ask a.front) longer ≡ take (behind call.ask a.front) history = ap (take (behind call.ask a.front)) (sym p.1) ∙ take_longer (behind call.ask a.front) history p.0 h.within in
     record {
       later = h.later;
       within = omega (arith, h.within, prefix_length history longer p);
+      entry = all ∙ h.entry ∙ ap (λ es. es ++ entries_of call) (sym same);
       right = h.right ∙ ap (λ (f : List Entry). record_in number (after limits f) call) (sym same);
     }
 
@@ -78,7 +78,7 @@ answers_lower limits history worker number low from (c ∷ calls) (a ∷ answers
         → (b : Bool)
         → MatchBool b (IsRight limits history number c from a × AreAnswers limits history worker (number + 1) (behind c.ask a.front) calls answers to) (AreAnswers limits history worker (number + 1) from calls (a ∷ answers) to)
         → MatchBool b (IsRight limits history number c low a × AreAnswers limits history worker (number + 1) (behind c.ask a.front) calls answers to) (AreAnswers limits history worker (number + 1) low calls (a ∷ answers) to)
-    by others true h = (record { later = omega (arith, h.0.later, le); within = h.0.within; right = h.0.right }, h.1)
+    by others true h = (record { later = omega (arith, h.0.later, le); within = h.0.within; entry = h.0.entry; right = h.0.right }, h.1)
     by others false h = others h
 
 -- the entries of a call are its worker's
@@ -127,7 +127,7 @@ works_call limits number call calls old middle new before now answers goes works
         let answered : AreAnswers limits new.seen old.number (number + 1) (behind call.ask a.front) calls answers (length new.seen) =
         subst (λ n. AreAnswers limits new.seen old.number (number + 1) n calls answers (length new.seen)) made.seen
         (subst (λ n. AreAnswers limits new.seen n (number + 1) (length middle.seen) calls answers (length new.seen)) same works.answered) in
-        let here : IsRight limits middle.seen number call (length old.seen) a = record { later = made.later; within = omega (arith, made.seen); right = made.right } in
+        let here : IsRight limits middle.seen number call (length old.seen) a = record { later = made.later; within = omega (arith, made.seen); entry = made.entry; right = made.right } in
         let right = right_longer limits middle.seen new.seen number call (length old.seen) a works.grew.seen here in (
           a ∷ answers,
           record {

@@ -1,6 +1,5 @@
 -- The calls of a worker: what they are answered, the fronts that this is right at, and the entries that they add to the history.
 use Rattle.std.specs.Prelude.{◌≡◌, ℕ, ◌+◌, ◌≤◌, ◌==◌, List, [], ◌∷◌, ◌++◌, length, take, filter, MatchBool, Option, None, Some, Result, Ok, Err, IfOk, IfErr, ◌<◌, slice_index_or}
-use mathlib.Core.List.{IsPrefix}
 use Rattle.tt_values.specs.declared.statement.Select.{Select}
 use Rattle.tt_db.specs.declared.limits.Limits.{Limits}
 use Rattle.tt_db.specs.declared.event.Entry.{Entry}
@@ -42,6 +41,7 @@ pub record IsMade (limits : Limits) (ask : Ask) (old new : WorkerState) (what : 
   pub grew : GrewBy old new (entries_of_ask old.number ask)
   pub later : length old.seen ≤ front
   pub seen : length new.seen ≡ behind ask front
+  pub entry : take (behind ask front) new.seen ≡ take front new.seen ++ entries_of_ask old.number ask
   pub right : what ≡ answer_in (after limits (take front new.seen)) ask
 
 -- the same, of the call of a number, as it is recorded
@@ -49,6 +49,7 @@ pub record Makes (limits : Limits) (number : ℕ) (call : Call) (old new : Worke
   pub grew : GrewBy old new (entries_of call)
   pub later : length old.seen ≤ a.front
   pub seen : length new.seen ≡ behind call.ask a.front
+  pub entry : take (behind call.ask a.front) new.seen ≡ take a.front new.seen ++ entries_of call
   pub right : a.told ≡ record_at limits new.seen number call a.front
 
 -- what a select is, as it was answered, unless it was refused otherwise than as later
@@ -64,10 +65,11 @@ what_of_preview (Err read_errors.NotRepairing) = Some whats.NotRepairing
 what_of_preview (Err error) = None
 
 -- an answer to the call of a number is right at a front of a history. The front isn't shorter than this, and with the entry of an
--- action it is within the history
+-- action, which stands behind it, it is within the history
 pub record IsRight (limits : Limits) (history : List Entry) (number : ℕ) (call : Call) (from : ℕ) (a : Answered) : Type 0 where
   pub later : from ≤ a.front
   pub within : behind call.ask a.front ≤ length history
+  pub entry : take (behind call.ask a.front) history ≡ take a.front history ++ entries_of call
   pub right : a.told ≡ record_at limits history number call a.front
 
 -- the answers of a worker to its calls among these, numbered from this number on: each is right at a front, which isn't shorter than what

@@ -1,5 +1,5 @@
 -- The report of a document whose calls are made in threads: what holds of its records, its repair and its history, and its text.
-use Rattle.std.specs.Prelude.{◌≡◌, ℕ, ◌+◌, ◌≤◌, ◌==◌, Bool, List, [], ◌∷◌, ◌++◌, length, map, All, Option, None, Some, if◌then◌else◌}
+use Rattle.std.specs.Prelude.{◌≡◌, ℕ, ◌+◌, ◌≤◌, ◌==◌, Bool, List, [], ◌∷◌, ◌++◌, length, take, map, All, Option, None, Some, if◌then◌else◌}
 use Rattle.tt_db.specs.declared.event.Event.TheVariants.{Switch}
 use Rattle.tt_db.specs.declared.event.Entry.{Entry}
 use Rattle.tt_db.specs.declared.outcome.Outcome.TheVariants.{Switched}
@@ -7,7 +7,6 @@ use Rattle.tt_db.specs.declared.limits.Limits.{Limits}
 use Rattle.tt_db.specs.Limits.{usual_limits}
 use Rattle.tt_db.specs.State.{after, outcome_of}
 use Rattle.tt_db.specs.Database.{state_of}
-use Rattle.tt_repair_laws.specs.declared.edit.Edit.{Edit}
 use Rattle.tt_repair.specs.declared.record.Record.{Record}
 use Rattle.tt_repair.specs.declared.repaired.Repaired.{Repaired}
 use Rattle.tt_repair.specs.Changes.{changes_of}
@@ -18,7 +17,7 @@ use Rattle.tt_document.specs.declared.document.Document.{Document}
 use Rattle.tt_document.specs.declared.document.Plan.{Plan}
 use Rattle.tt_document.specs.declared.document.Call.{Call}
 use Rattle.tt_workload.specs.Records.{text_of_records, text_of_changes}
-use Rattle.tt_workload.specs.History.{history_of, edit_of_slot, administrator}
+use Rattle.tt_workload.specs.History.{entries_of, history_of, edit_of_slot, administrator}
 use Rattle.tt_workload.specs.Report.{repair_text, closed_lines_if, last_lines}
 use Rattle.tt_workers.specs.declared.report.Report.{Report}
 use Rattle.tt_workers.specs.Calls.{made_by, behind, record_at}
@@ -28,10 +27,11 @@ abbrev pub with_seen : (ℕ → ℕ) → ℕ → ℕ → ℕ → ℕ
 with_seen seen worker length other = if other == worker then length else seen other
 
 -- a call is answered rightly at the front of this length: that isn't shorter than what its worker had seen, and with the entry of an
--- action it is within the history
+-- action, which stands behind it, it is within the history
 pub record IsAnswered (limits : Limits) (history : List Entry) (seen : ℕ → ℕ) (number : ℕ) (call : Call) (told : Record) (front : ℕ) : Type 0 where
   pub later : seen call.worker ≤ front
   pub within : behind call.ask front ≤ length history
+  pub entry : take (behind call.ask front) history ≡ take front history ++ entries_of call
   pub right : told ≡ record_at limits history number call front
 
 -- there is one record for each of these calls, numbered from this number on, and one length of a front: each is answered rightly there,

@@ -5,7 +5,6 @@ use Rattle.tt_db.specs.declared.limits.Limits.{Limits}
 use Rattle.tt_document.specs.declared.document.Document.{Document}
 use Rattle.tt_document.specs.declared.document.Plan.{Plan}
 use Rattle.tt_document.specs.declared.document.Call.{Call}
-use Rattle.tt_repair.specs.declared.record.Record.{Record}
 use Rattle.tt_repair.specs.declared.repaired.Repaired.{Repaired}
 use Rattle.tt_repair.specs.Repairing.{HasRepaired}
 use Rattle.tt_store.specs.Workers.{WorkerState, Looks}

@@ -5,7 +5,6 @@ use denote.Param.Send.{IsSend, IsSync, param_send, arg_send, sendable}
 use denote.RattleType.{RattleType}
 use Rattle.std.proofs.Crossing.{crosses, Vec-send}
 use Rattle.std.specs.contracts.result.Result as result
-use Rattle.tt_workload.specs.contracts.run_fault.RunFault as fault
 use Rattle.tt_store.specs.contracts.store.Store as store
 use Rattle.tt_store.proofs.Crossing.{worker_send, store_sync, ref_send}
 use Rattle.tt_workers.specs.contracts.work.Run as run

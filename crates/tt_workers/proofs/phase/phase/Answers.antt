@@ -1,6 +1,6 @@
 -- no thread has ended in a fault
 use denote.Param.{param}
-use Rattle.std.proofs.Common.{List, Ok, IfErr, map, sym, subst, arith}
+use Rattle.std.proofs.Common.{List, sym, subst, arith}
 use Rattle.tt_store.specs.Workers.{WorkerState}
 use Rattle.tt_workers.specs.Calls.{Works, AllEnd}
 use Rattle.tt_workers.specs.declared.answered.Answered.{Answered}
