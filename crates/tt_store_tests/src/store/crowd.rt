@@ -18,10 +18,10 @@ const ADMINISTRATOR: u32 = 16;
 const WRITERS: u32 = 5;
 
 /// How often each of them writes.
-const WRITES: u32 = 400;
+const WRITES: u32 = 1_000;
 
 /// How often each of the others reads.
-const READS: u32 = 5_000;
+const READS: u32 = 10_000;
 
 /// A worker that has done its work, and what it was told of its writes.
 #[derive(Drop)]
@@ -171,8 +171,8 @@ fn is_as_told(rt: &impl Abort, alloc: Global, closed: &Db, written: &[Written]) 
     for told in written {
         has_outcome(rt, &outcomes, told);
     }
-    assert_eq!(rt; written.len(), 2000);
-    assert_eq!(rt; (db.now(), db.generation()), (2005, 4));
+    assert_eq!(rt; written.len(), 5000);
+    assert_eq!(rt; (db.now(), db.generation()), (5005, 4));
     let all = all(rt, alloc);
     let rows = db.select(&all).expect(rt, "a select");
     assert_eq!(rt; closed.select(&all).expect(rt, "a select"), rows);
