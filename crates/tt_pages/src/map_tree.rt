@@ -1,5 +1,5 @@
-// The tree of a map: its leaves are pages, and a fork has two sides, each with one tree or two. Each
-// tree has owners of its own.
+// The tree of a map: its leaves are pages, and a fork has two sides, each with one tree or two.
+// Each tree has owners of its own.
 ghost use Rattle.std.specs.Prelude.{◌≡◌, ◌+◌, ◌<◌, [], ◌∷◌, ◌++◌, ◌^◌, length, IsTrue, IsSome, Some, IfSome, IfOk, OnOk, OnErr};
 ghost use Rattle.std.specs.Arc.{arc_value as entries};
 ghost use Rattle.std.specs.Option.{option_copied};

@@ -172,7 +172,8 @@ fn keep_before(
     older: &mut Option<Arc<VersionLog>>,
     time: u64,
 ) -> Result<(), AllocError>
-    ensures ok { OnOk result (log_versions older.new ≡ started_before time (log_versions older.old)) }
+    ensures ok { OnOk result
+        (log_versions older.new ≡ started_before time (log_versions older.old)) }
     ensures err { OnErr result (log_versions older.new ≡ log_versions older.old) }
 {
     let Some(log) = older else {
