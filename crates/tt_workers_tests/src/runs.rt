@@ -1,4 +1,5 @@
 //! Runs of documents in threads.
+ghost use Rattle.std.specs.Prelude.{◌≤◌};
 ghost use Rattle.tt_document.specs.Document.{IsValidDocument};
 
 mod answers;
@@ -82,9 +83,23 @@ fn report_of<R: Threads + Wait + Abort + Sync, G: Gate + Copy + Drop + Send + Sy
 ) -> Report
     requires { IsValidDocument document.now }
 {
+    report_in_rounds(rt, alloc, document, 1, gate)
+}
+
+/// The same, with so many rounds.
+fn report_in_rounds<R: Threads + Wait + Abort + Sync, G: Gate + Copy + Drop + Send + Sync>(
+    rt: &R,
+    alloc: Global,
+    document: &Document,
+    rounds: u32,
+    gate: G,
+) -> Report
+    requires document { IsValidDocument document.now }
+    requires rounds { rounds ≤ 1000 }
+{
     let options = Options {
         batch: 2,
-        rounds: 1,
+        rounds,
         closed: false,
     };
     match run_workers(rt, alloc, document, &options, gate) {

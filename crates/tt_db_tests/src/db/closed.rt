@@ -1,14 +1,14 @@
 //! Reads of generations that a switch has closed, and how many of them are kept.
 use super::repairs::{
-    FIVE_SLOTS_HAD, begin_and_step, delete_bob, finish, repair, switched, write_five_slots,
+    FIVE_SLOTS_HAD, begin_and_step, delete_bob, repair, switched, write_five_slots,
 };
 use super::{
-    ACCT, ANN, Account, LOAN, add_to_balance, any_account, bank, done, id_is, made, new_db, open,
-    rows, select_all, set_balance, update, write,
+    ACCT, Account, LOAN, any_account, bank, done, made, new_db, open, rows, select_all,
+    set_balance, update, write,
 };
 use std::alloc::Global;
 use std::process::Abort;
-use tt_db::{Db, Edit, Event, Limits, MAX_EDITS, MAX_EVENTS, MAX_KEEP, MAX_SLOTS, ReadError};
+use tt_db::{Db, Event, Limits, MAX_EDITS, MAX_EVENTS, MAX_KEEP, MAX_SLOTS, ReadError};
 use tt_values::{CheckError, Reply};
 
 /// The accounts of the five slots once the delete is repaired.
@@ -82,25 +82,6 @@ fn a_closed_generation_stays_readable(rt: HostRuntime) {
 }
 
 #[test]
-fn a_generation_is_there_from_its_switch_on(rt: HostRuntime) {
-    let alloc = rt.alloc();
-    let mut db = new_db(&rt, alloc);
-    write_five_slots(&rt, alloc, &mut db);
-    let edit = delete_bob(&rt, alloc);
-    begin_and_step(&rt, alloc, &mut db, [edit], 5);
-    let missing = ReadError::NoGeneration {
-        oldest: 0,
-        newest: 0,
-    };
-    refuses(&rt, alloc, &db, 1, 5, missing);
-    had_in(&rt, alloc, &db, 0, 5, &[(3, "bob", 8)]);
-    refuses(&rt, alloc, &db, 0, 6, ReadError::Later { now: 5 });
-    assert_eq!(rt; made(&rt, &mut db, Event::Switch), switched(1, 5, 2));
-    had_in(&rt, alloc, &db, 1, 5, &REPAIRED);
-    done(db);
-}
-
-#[test]
 fn none_is_kept(rt: HostRuntime) {
     let alloc = rt.alloc();
     let mut db = keeping(&rt, alloc, 0);
@@ -147,24 +128,6 @@ fn a_write_leaves_closed_generations(rt: HostRuntime) {
     had_in(&rt, alloc, &db, 1, 5, &REPAIRED);
     had_in(&rt, alloc, &db, 1, 6, &[(1, "ann", 0), (2, "ann", 0)]);
     refuses(&rt, alloc, &db, 1, 7, ReadError::Later { now: 6 });
-    done(db);
-}
-
-#[test]
-fn a_write_during_the_repair_is_in_both_generations(rt: HostRuntime) {
-    let alloc = rt.alloc();
-    let mut db = new_db(&rt, alloc);
-    open(&rt, alloc, &mut db, ANN);
-    let emptied = update(&rt, alloc, set_balance(0), id_is(&rt, alloc, 1));
-    write(&rt, alloc, &mut db, [emptied], [Reply::Updated(1)]);
-    begin_and_step(&rt, alloc, &mut db, [Edit::Cancel(2)], 2);
-    let further = add_to_balance(&rt, alloc, 1, 1);
-    write(&rt, alloc, &mut db, [further], [Reply::Updated(1)]);
-    assert_eq!(rt; finish(&rt, &mut db), switched(1, 3, 2));
-    had_in(&rt, alloc, &db, 0, 2, &[(1, "ann", 0)]);
-    had_in(&rt, alloc, &db, 0, 3, &[(1, "ann", 1)]);
-    had_in(&rt, alloc, &db, 1, 2, &[ANN]);
-    had_in(&rt, alloc, &db, 1, 3, &[(1, "ann", 11)]);
     done(db);
 }
 

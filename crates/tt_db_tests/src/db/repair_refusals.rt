@@ -1,14 +1,11 @@
 //! Why events of a repair are refused, in the order of the reasons, and limits in a repair.
-use super::repairs::{begin, begin_and_step, finish, five_slots, switched};
-use super::{
-    ACCT, ANN, BOB, LOAN, action, answer_to, bank, done, has, insert, made, new_db, open, previews,
-};
+use super::repairs::{begin, begin_and_step, five_slots, switched};
+use super::{ANN, answer_to, bank, done, has, made, new_db, open, previews};
 use std::alloc::Global;
 use std::process::Abort;
 use tt_db::{
     Db, DbError, Edit, Event, Limits, MAX_EDITS, MAX_EVENTS, MAX_KEEP, MAX_SLOTS, Outcome,
 };
-use tt_values::{CheckError, Items, Write};
 
 /// Asserts that an event is refused, and changes nothing of the counts.
 fn refused(rt: &impl Abort, db: &mut Db, event: Event, want: DbError) {
@@ -83,49 +80,6 @@ fn a_repair_goes_in_order(rt: HostRuntime) {
     done(db);
 }
 
-/// A replacement of slot 1 by an insert into a table that isn't there.
-fn bad_replacement(rt: &impl Abort, alloc: Global) -> Edit {
-    Edit::Replace(1, action(rt, alloc, [insert(rt, alloc, LOAN, ANN)]))
-}
-
-#[test]
-fn the_first_reason_decides_during_a_repair(rt: HostRuntime) {
-    let alloc = rt.alloc();
-    let mut db = new_db(&rt, alloc);
-    open(&rt, alloc, &mut db, ANN);
-    begin_and_step(&rt, alloc, &mut db, [Edit::Cancel(1)], 0);
-    let event = begin(&rt, alloc, [Edit::Cancel(9), bad_replacement(&rt, alloc)]);
-    refused(&rt, &mut db, event, DbError::Statement(CheckError::NoTable));
-    let event = begin(&rt, alloc, [Edit::Cancel(9)]);
-    refused(&rt, &mut db, event, DbError::Repairing);
-    let event = begin(&rt, alloc, [Edit::Cancel(1), Edit::Cancel(1)]);
-    refused(&rt, &mut db, event, DbError::Repairing);
-    done(db);
-}
-
-/// Seventeen inserts, one more than an action may have.
-fn seventeen_writes(rt: &impl Abort, alloc: Global) -> Items<Write> {
-    let mut writes = Vec::new(alloc);
-    for id in 0..17 {
-        let insert = insert(rt, alloc, ACCT, (id, "ann", 1));
-        writes.push(insert).expect(rt, "memory");
-    }
-    Items::new(alloc, writes).expect(rt, "memory")
-}
-
-#[test]
-fn a_replacement_has_sixteen_writes_at_most(rt: HostRuntime) {
-    let alloc = rt.alloc();
-    let mut db = new_db(&rt, alloc);
-    open(&rt, alloc, &mut db, ANN);
-    let edit = Edit::Replace(1, seventeen_writes(&rt, alloc));
-    let event = begin(&rt, alloc, [edit, bad_replacement(&rt, alloc)]);
-    let fault = DbError::Statement(CheckError::TooManyWrites);
-    refused(&rt, &mut db, event, fault);
-    assert_eq!(rt; db.repair(), None);
-    done(db);
-}
-
 #[test]
 fn a_repair_has_so_many_edits_at_most(rt: HostRuntime) {
     let alloc = rt.alloc();
@@ -146,29 +100,6 @@ fn a_repair_has_so_many_edits_at_most(rt: HostRuntime) {
 }
 
 #[test]
-fn bad_edits_come_before_too_many(rt: HostRuntime) {
-    let alloc = rt.alloc();
-    let limits = Limits {
-        slots: MAX_SLOTS,
-        events: MAX_EVENTS,
-        edits: 1,
-        keep: MAX_KEEP,
-    };
-    let mut db = limited_db(&rt, alloc, limits);
-    open(&rt, alloc, &mut db, ANN);
-    open(&rt, alloc, &mut db, BOB);
-    let event = begin(&rt, alloc, [Edit::Cancel(1), Edit::Cancel(9)]);
-    refused(&rt, &mut db, event, DbError::NoSlot { t: 9 });
-    let event = begin(&rt, alloc, [Edit::Cancel(1), Edit::Cancel(1)]);
-    refused(&rt, &mut db, event, DbError::EditTwice { t: 1 });
-    let event = begin(&rt, alloc, [Edit::Cancel(1), Edit::Cancel(2)]);
-    refused(&rt, &mut db, event, DbError::TooManyEdits);
-    let event = begin(&rt, alloc, [Edit::Cancel(2)]);
-    assert_eq!(rt; made(&rt, &mut db, event), Outcome::Begun);
-    done(db);
-}
-
-#[test]
 fn a_full_history_takes_no_switch_and_no_abort(rt: HostRuntime) {
     let alloc = rt.alloc();
     let limits = Limits {
@@ -184,27 +115,5 @@ fn a_full_history_takes_no_switch_and_no_abort(rt: HostRuntime) {
     refused(&rt, &mut db, Event::Abort, DbError::Full { limit: 3 });
     previews(&rt, alloc, &db, &[ANN]);
     has(&rt, alloc, &db, &[ANN]);
-    done(db);
-}
-
-#[test]
-fn a_repair_of_full_slots_can_be_finished(rt: HostRuntime) {
-    let alloc = rt.alloc();
-    let limits = Limits {
-        slots: 2,
-        events: MAX_EVENTS,
-        edits: MAX_EDITS,
-        keep: MAX_KEEP,
-    };
-    let mut db = limited_db(&rt, alloc, limits);
-    open(&rt, alloc, &mut db, ANN);
-    begin_and_step(&rt, alloc, &mut db, [Edit::Cancel(1)], 1);
-    open(&rt, alloc, &mut db, BOB);
-    let event = Event::Write(action(&rt, alloc, [insert(&rt, alloc, ACCT, (3, "eve", 1))]));
-    refused(&rt, &mut db, event, DbError::Full { limit: 2 });
-    assert_eq!(rt; finish(&rt, &mut db), switched(1, 2, 1));
-    has(&rt, alloc, &db, &[BOB]);
-    let event = Event::Write(action(&rt, alloc, []));
-    refused(&rt, &mut db, event, DbError::Full { limit: 2 });
     done(db);
 }

@@ -58,35 +58,6 @@ fn a_cancelled_slot_is_replaced(rt: HostRuntime) {
 }
 
 #[test]
-fn a_replaced_slot_is_cancelled(rt: HostRuntime) {
-    let alloc = rt.alloc();
-    let mut db = three_slots(&rt, alloc);
-    let edit = update_by(&rt, alloc, 7);
-    assert_eq!(rt; repair(&rt, alloc, &mut db, [edit]), switched(1, 3, 1));
-    has(&rt, alloc, &db, &[(1, "ann", 17), BOB]);
-    assert_eq!(rt;
-        repair(&rt, alloc, &mut db, [Edit::Cancel(2)]),
-        switched(2, 3, 1)
-    );
-    is_cancelled(&rt, &db, 2);
-    has(&rt, alloc, &db, &[ANN, BOB]);
-    done(db);
-}
-
-#[test]
-fn a_slot_is_replaced_by_its_own_action(rt: HostRuntime) {
-    let alloc = rt.alloc();
-    let mut db = three_slots(&rt, alloc);
-    let edit = insert_at(&rt, alloc, 1, ANN);
-    assert_eq!(rt; repair(&rt, alloc, &mut db, [edit]), switched(1, 3, 2));
-    replied(&rt, alloc, &db, 1, [Reply::Inserted]);
-    replied(&rt, alloc, &db, 2, [Reply::Updated(1)]);
-    had(&rt, alloc, &db, 1, &[ANN]);
-    has(&rt, alloc, &db, &[(1, "ann", 15), BOB]);
-    done(db);
-}
-
-#[test]
 fn the_first_slot_is_edited_in_three_generations(rt: HostRuntime) {
     let alloc = rt.alloc();
     let mut db = three_slots(&rt, alloc);
@@ -105,53 +76,5 @@ fn the_first_slot_is_edited_in_three_generations(rt: HostRuntime) {
     replied(&rt, alloc, &db, 2, [Reply::Updated(1)]);
     replied(&rt, alloc, &db, 3, [Reply::Inserted]);
     has(&rt, alloc, &db, &[(1, "ann", 6), BOB]);
-    done(db);
-}
-
-#[test]
-fn the_last_slot_is_edited(rt: HostRuntime) {
-    let alloc = rt.alloc();
-    let mut db = three_slots(&rt, alloc);
-    let edit = insert_at(&rt, alloc, 3, (1, "eve", 1));
-    assert_eq!(rt; repair(&rt, alloc, &mut db, [edit]), switched(1, 3, 1));
-    replied(&rt, alloc, &db, 3, [Reply::Duplicate]);
-    has(&rt, alloc, &db, &[(1, "ann", 15)]);
-    assert_eq!(rt;
-        repair(&rt, alloc, &mut db, [Edit::Cancel(3)]),
-        switched(2, 3, 1)
-    );
-    is_cancelled(&rt, &db, 3);
-    has(&rt, alloc, &db, &[(1, "ann", 15)]);
-    done(db);
-}
-
-#[test]
-fn the_order_of_edits_does_not_matter(rt: HostRuntime) {
-    let alloc = rt.alloc();
-    let mut db = three_slots(&rt, alloc);
-    let edits = [Edit::Cancel(3), Edit::Cancel(1)];
-    assert_eq!(rt; repair(&rt, alloc, &mut db, edits), switched(1, 3, 3));
-    has(&rt, alloc, &db, &[]);
-    let edits = [insert_at(&rt, alloc, 3, BOB), insert_at(&rt, alloc, 1, ANN)];
-    assert_eq!(rt; repair(&rt, alloc, &mut db, edits), switched(2, 3, 3));
-    has(&rt, alloc, &db, &[(1, "ann", 15), BOB]);
-    done(db);
-}
-
-#[test]
-fn writes_go_on_after_a_repair(rt: HostRuntime) {
-    let alloc = rt.alloc();
-    let mut db = three_slots(&rt, alloc);
-    assert_eq!(rt;
-        repair(&rt, alloc, &mut db, [Edit::Cancel(1)]),
-        switched(1, 3, 2)
-    );
-    open(&rt, alloc, &mut db, (1, "eve", 1));
-    had(&rt, alloc, &db, 3, &[BOB]);
-    has(&rt, alloc, &db, &[(1, "eve", 1), BOB]);
-    let edit = insert_at(&rt, alloc, 1, ANN);
-    assert_eq!(rt; repair(&rt, alloc, &mut db, [edit]), switched(2, 4, 3));
-    replied(&rt, alloc, &db, 4, [Reply::Duplicate]);
-    has(&rt, alloc, &db, &[(1, "ann", 15), BOB]);
     done(db);
 }

@@ -3,8 +3,8 @@ use super::repairs::{
     FIVE_SLOTS_HAD, begin, begin_and_step, delete_bob, finish, five_slots, switched,
 };
 use super::{
-    ACCT, ANN, add, add_to_balance, any_account, done, had, has, id_is, made, new_db, open,
-    previews, select_all, set_balance, set_owner, update, write,
+    ACCT, ANN, add_to_balance, done, had, has, id_is, made, new_db, open, previews, select_all,
+    set_balance, set_owner, update, write,
 };
 use std::alloc::Global;
 use std::process::Abort;
@@ -105,17 +105,4 @@ fn a_repair_can_be_given_up_at_each_step(rt: HostRuntime) {
         has(&rt, alloc, &db, &[(1, "ann", 6), (2, "ann", 7)]);
         done(db);
     }
-}
-
-#[test]
-fn a_write_during_a_repair_stays_after_an_abort(rt: HostRuntime) {
-    let alloc = rt.alloc();
-    let mut db = written_during_a_repair(&rt, alloc);
-    assert_eq!(rt; made(&rt, &mut db, Event::Abort), Outcome::Aborted);
-    had(&rt, alloc, &db, 2, &[(1, "ann", 0)]);
-    has(&rt, alloc, &db, &[(1, "ann", 1)]);
-    let all = update(&rt, alloc, add(1), any_account(&rt, alloc));
-    write(&rt, alloc, &mut db, [all], [Reply::Updated(1)]);
-    has(&rt, alloc, &db, &[(1, "ann", 2)]);
-    done(db);
 }

@@ -104,3 +104,40 @@ impl Gate for BesideTheRepair<'_> {
         }
     }
 }
+
+/// Counts what one worker publishes.
+#[derive(Clone, Copy)]
+pub(crate) struct Publishes<'a> {
+    pub(crate) worker: u32,
+    pub(crate) count: &'a AtomicU64,
+}
+
+impl Gate for Publishes<'_> {
+    fn at(&self, worker: u32, point: Point) {
+        if worker == self.worker && point == Point::Published {
+            self.count.fetch_add(1, Ordering::SeqCst);
+        }
+    }
+}
+
+/// Holds worker 2 where it builds its second state until worker 1 has five answers, and counts what
+/// worker 2 publishes.
+#[derive(Clone, Copy)]
+pub(crate) struct BehindTheCalls<'a> {
+    pub(crate) marks: &'a Marks,
+    pub(crate) publishes: Publishes<'a>,
+}
+
+impl Gate for BehindTheCalls<'_> {
+    fn at(&self, worker: u32, point: Point) {
+        let marks = self.marks;
+        self.publishes.at(worker, point);
+        let [first, second] = &marks.passed;
+        if worker == 1 && point == Point::Answered && first.fetch_add(1, Ordering::SeqCst) == 4 {
+            marks.arrive();
+        }
+        if worker == 2 && point == Point::Building && second.fetch_add(1, Ordering::SeqCst) == 1 {
+            marks.wait_for(1);
+        }
+    }
+}

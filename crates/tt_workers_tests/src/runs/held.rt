@@ -1,6 +1,14 @@
-//! Threads of a run that are held until others have come as far: one thread can't pass.
-use super::gates::{AfterTheOther, BesideTheRepair, Marks, Together};
-use super::{MEANWHILE, TWO_WORKERS, ends, report};
+//! Threads of a run that are held until others have come as far: one thread can't pass. And in how
+//! many publishes the administrator makes its repair.
+ghost use Rattle.std.specs.Prelude.{◌≤◌};
+
+use super::gates::{AfterTheOther, BehindTheCalls, BesideTheRepair, Marks, Publishes, Together};
+use super::{FIVE_WRITES, MEANWHILE, TWO_WORKERS, document, ends, report, report_in_rounds};
+use std::alloc::Global;
+use std::process::Abort;
+use std::sync::Wait;
+use std::sync::atomic::{AtomicU64, Ordering};
+use std::thread::Threads;
 
 #[test]
 fn a_write_waits_for_another_workers_answer(rt: HostRuntime) {
@@ -35,4 +43,53 @@ fn a_call_is_made_within_the_repair(rt: HostRuntime) {
         &report,
         "table acct rows 1 [1,\"ann\",11]\nend generation 1 time 3\n",
     );
+}
+
+/// Begin, the steps of five slots by two, and the switch.
+#[test]
+fn a_run_steps_in_batches(rt: HostRuntime) {
+    let count = AtomicU64::new(0);
+    let gate = Publishes {
+        worker: 3,
+        count: &count,
+    };
+    let _report = report(&rt, rt.alloc(), FIVE_WRITES, gate);
+    assert_eq!(rt; count.load(Ordering::SeqCst), 5);
+}
+
+/// Begin, the steps of the slots before it, a round for the write meanwhile, and the switch.
+#[test]
+fn a_run_catches_up_in_rounds(rt: HostRuntime) {
+    assert_eq!(rt; publishes_behind_the_calls(&rt, rt.alloc(), 1), 4);
+}
+
+/// Without a round, the step of the write meanwhile is published with the switch.
+#[test]
+fn a_run_makes_no_more_rounds(rt: HostRuntime) {
+    assert_eq!(rt; publishes_behind_the_calls(&rt, rt.alloc(), 0), 3);
+}
+
+/// How often the administrator publishes in so many rounds where all calls are made before its
+/// first step.
+fn publishes_behind_the_calls<R: Threads + Wait + Abort + Sync>(
+    rt: &R,
+    alloc: Global,
+    rounds: u32,
+) -> u64
+    requires { rounds ≤ 1000 }
+{
+    let marks = Marks::new();
+    let count = AtomicU64::new(0);
+    let publishes = Publishes {
+        worker: 2,
+        count: &count,
+    };
+    let gate = BehindTheCalls {
+        marks: &marks,
+        publishes,
+    };
+    let document = document(rt, alloc, MEANWHILE);
+    let _report = report_in_rounds(rt, alloc, &document, rounds, gate);
+    marks.check(rt, 1);
+    count.load(Ordering::SeqCst)
 }
