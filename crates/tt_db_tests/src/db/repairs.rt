@@ -1,7 +1,7 @@
 //! Repairs from begin to switch: the rows, the replies and the counts that they lead to.
 use super::{
-    ACCT, Account, action, add, any_account, delete, done, has, made, new_db, open, owner_is,
-    replies, update, write,
+    ACCT, ANN, Account, SAME_KEY, action, add, any_account, delete, done, had, has, id_is, insert,
+    made, new_db, open, owner_is, replies, set_balance, set_owner, update, write,
 };
 use std::alloc::Global;
 use std::process::Abort;
@@ -127,6 +127,63 @@ fn a_new_database_can_be_repaired(rt: HostRuntime) {
     done(db);
 }
 
+#[test]
+fn a_duplicate_whose_key_gets_free_is_inserted(rt: HostRuntime) {
+    let alloc = rt.alloc();
+    let mut db = new_db(&rt, alloc);
+    open(&rt, alloc, &mut db, ANN);
+    let duplicate = insert(&rt, alloc, ACCT, SAME_KEY);
+    write(&rt, alloc, &mut db, [duplicate], [Reply::Duplicate]);
+    assert_eq!(rt;
+        repair(&rt, alloc, &mut db, [Edit::Cancel(1)]),
+        switched(1, 2, 2)
+    );
+    has(&rt, alloc, &db, &[SAME_KEY]);
+    is_cancelled(&rt, &db, 1);
+    replied(&rt, alloc, &db, 2, [Reply::Inserted]);
+    done(db);
+}
+
+#[test]
+fn a_row_that_another_owner_had_is_followed(rt: HostRuntime) {
+    let alloc = rt.alloc();
+    let mut db = new_db(&rt, alloc);
+    open(&rt, alloc, &mut db, ANN);
+    let moved = update(
+        &rt,
+        alloc,
+        set_owner(&rt, alloc, "eve"),
+        id_is(&rt, alloc, 1),
+    );
+    write(&rt, alloc, &mut db, [moved], [Reply::Updated(1)]);
+    let of_eve = update(&rt, alloc, set_balance(0), owner_is(&rt, alloc, "eve"));
+    write(&rt, alloc, &mut db, [of_eve], [Reply::Updated(1)]);
+    let of_ann = update(&rt, alloc, add(7), owner_is(&rt, alloc, "ann"));
+    write(&rt, alloc, &mut db, [of_ann], [Reply::Updated(0)]);
+    has(&rt, alloc, &db, &[(1, "eve", 0)]);
+    assert_eq!(rt;
+        repair(&rt, alloc, &mut db, [Edit::Cancel(2)]),
+        switched(1, 4, 3)
+    );
+    has(&rt, alloc, &db, &[(1, "ann", 17)]);
+    replied(&rt, alloc, &db, 3, [Reply::Updated(0)]);
+    replied(&rt, alloc, &db, 4, [Reply::Updated(1)]);
+    done(db);
+}
+
+#[test]
+fn a_delete_is_replaced(rt: HostRuntime) {
+    let alloc = rt.alloc();
+    let mut db = five_slots(&rt, alloc);
+    has(&rt, alloc, &db, &[(3, "bob", 8)]);
+    let edit = delete_bob(&rt, alloc);
+    assert_eq!(rt; repair(&rt, alloc, &mut db, [edit]), switched(1, 5, 2));
+    has(&rt, alloc, &db, &[(1, "ann", 6), (2, "ann", 7)]);
+    replied(&rt, alloc, &db, 4, [Reply::Deleted(1)]);
+    replied(&rt, alloc, &db, 5, [Reply::Updated(2)]);
+    done(db);
+}
+
 /// The account of ann, a hundred accounts of bob, and a hundred updates of these.
 fn many_slots(rt: &impl Abort, alloc: Global) -> Db {
     let mut db = new_db(rt, alloc);
@@ -160,5 +217,23 @@ fn slots_that_nothing_affects_are_passed_over(rt: HostRuntime) {
         wants.push((id, "bob", 100)).expect(&rt, "memory");
     }
     has(&rt, alloc, &db, wants.as_slice());
+    done(db);
+}
+
+#[test]
+fn times_before_the_edit_stay(rt: HostRuntime) {
+    let alloc = rt.alloc();
+    let mut db = new_db(&rt, alloc);
+    open(&rt, alloc, &mut db, ANN);
+    let delete = delete(id_is(&rt, alloc, 1));
+    write(&rt, alloc, &mut db, [delete], [Reply::Deleted(1)]);
+    open(&rt, alloc, &mut db, (1, "bob", 5));
+    assert_eq!(rt;
+        repair(&rt, alloc, &mut db, [Edit::Cancel(3)]),
+        switched(1, 3, 1)
+    );
+    had(&rt, alloc, &db, 1, &[ANN]);
+    had(&rt, alloc, &db, 2, &[]);
+    had(&rt, alloc, &db, 3, &[]);
     done(db);
 }
