@@ -24,7 +24,6 @@ use tt_values::{Catalog, Reply, Select, Shared, Write, check_action, check_selec
 use tt_versions::Table;
 
 /// A database: a catalog, limits, and the history of the accepted events.
-#[derive(Drop)]
 pub struct Db {
     alloc: Global,
     limits: Limits,
@@ -33,6 +32,20 @@ pub struct Db {
     generation: u64,
     /// The closed generations that are kept, the oldest first.
     closed: PagedLog<ClosedGeneration>,
+}
+
+// Written out, so that each place that lets a database go calls one function.
+impl Drop for Db {
+    fn drop(self) {
+        let Db {
+            alloc: _,
+            limits: _,
+            history: _,
+            generations: _,
+            generation: _,
+            closed: _,
+        } = self;
+    }
 }
 
 impl Model for Db {

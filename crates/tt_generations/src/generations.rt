@@ -29,9 +29,15 @@ use tt_versions::{Side, Table};
 
 /// The slots of the current generation with the rows that they leave, and a repair that builds the
 /// next one beside it, while one is under way.
-#[derive(Drop)]
 pub struct Generations {
     state: State,
+}
+
+// Written out, so that each place that lets generations go calls one function.
+impl Drop for Generations {
+    fn drop(self) {
+        let Generations { state: _ } = self;
+    }
 }
 
 /// What generations consist of. While it is changed, its parts needn't fit together.
@@ -213,7 +219,7 @@ impl Generations {
         ensures state { IfOk result (λ r. r.0 ≡ with_action self action) }
         ensures replies { IfOk result (λ r. r.1 ≡ replies_of action (last_content self.slots)) }
     {
-        let mut state = self.state;
+        let Generations { mut state } = self;
         let replies = state.add_action(action)?;
         Ok((Generations { state }, replies))
     }
@@ -225,7 +231,7 @@ impl Generations {
         requires accepted { All (HasNoFault self.catalog) edits }
         ensures { IfOk result (λ g. g ≡ with_repair self edits) }
     {
-        let mut state = self.state;
+        let Generations { mut state } = self;
         let repair = Repair::new(state.alloc, &state.catalog, edits, &state.slots)?;
         state.repair = Some(repair);
         Ok(Generations { state })
@@ -237,7 +243,7 @@ impl Generations {
         ensures state { IfOk result (λ r. r.0 ≡ after_step self) }
         ensures due { IfOk result (λ r. r.1 ≡ is_next_due self) }
     {
-        let mut state = self.state;
+        let Generations { mut state } = self;
         let is_due = state.step()?;
         Ok((Generations { state }, is_due))
     }
@@ -247,7 +253,7 @@ impl Generations {
         requires { left_of self.phase self.slots ≡ 0 }
         ensures { IfOk result (λ g. g ≡ after_switch self) }
     {
-        let mut state = self.state;
+        let Generations { mut state } = self;
         state.rows.unsplit(Side::Next)?;
         let state = State {
             alloc: state.alloc,
@@ -264,7 +270,7 @@ impl Generations {
     pub fn aborted(self) -> Result<Generations, AllocError>
         ensures { IfOk result (λ g. g ≡ after_abort self) }
     {
-        let mut state = self.state;
+        let Generations { mut state } = self;
         state.rows.unsplit(Side::Current)?;
         state.repair = None;
         Ok(Generations { state })

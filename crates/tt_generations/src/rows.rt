@@ -11,13 +11,23 @@ use tt_values::{Catalog, Column, Row, TableDef};
 use tt_versions::{Side, Table};
 
 /// The rows of all tables with their versions on both sides.
-#[derive(Drop)]
 pub(crate) struct Rows {
     alloc: Global,
     /// By position. A table past the end was never written.
     tables: Vec<Table>,
     /// Stands for each table past the end.
     empty: Table,
+}
+
+// Written out, so that each place that lets rows go calls one function.
+impl Drop for Rows {
+    fn drop(self) {
+        let Rows {
+            alloc: _,
+            tables: _,
+            empty: _,
+        } = self;
+    }
 }
 
 impl Model for Rows {

@@ -1,13 +1,24 @@
 use tt_values::{Items, Reply, Select};
 
 /// A call as it was answered.
-#[derive(Debug, PartialEq, Drop)]
+#[derive(Debug, PartialEq)]
 pub struct Record {
     /// The number of the call, from 1.
     pub call: u64,
     /// The number of the worker that made it, from 1.
     pub worker: u32,
     pub what: What,
+}
+
+// Written out, so that each place that lets a record go calls one function.
+impl Drop for Record {
+    fn drop(self) {
+        let Record {
+            call: _,
+            worker: _,
+            what: _,
+        } = self;
+    }
 }
 
 /// What a call asked for, and its answer.
