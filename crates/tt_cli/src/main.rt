@@ -21,8 +21,6 @@ mod command_line;
 mod ending;
 mod messages;
 mod status;
-#[cfg(test)]
-mod tests;
 
 fn main(rt: HostRuntime) -> ExitCode {
     ExitCode::from(run(&rt).exit_status())

@@ -41,13 +41,25 @@ impl Drop for Generations {
 }
 
 /// What generations consist of. While it is changed, its parts needn't fit together.
-#[derive(Drop)]
 struct State {
     alloc: Global,
     catalog: Shared<Catalog>,
     slots: PagedLog<KeptSlot>,
     rows: Rows,
     repair: Option<Repair>,
+}
+
+// Written out, so that each place that lets one go calls one function.
+impl Drop for State {
+    fn drop(self) {
+        let State {
+            alloc: _,
+            catalog: _,
+            slots: _,
+            rows: _,
+            repair: _,
+        } = self;
+    }
 }
 
 impl Model for Generations {
@@ -255,13 +267,7 @@ impl Generations {
     {
         let Generations { mut state } = self;
         state.rows.unsplit(Side::Next)?;
-        let state = State {
-            alloc: state.alloc,
-            catalog: state.catalog,
-            slots: next_slots(state.repair, state.slots),
-            rows: state.rows,
-            repair: None,
-        };
+        let state = state.into_next();
         Ok(Generations { state })
     }
 
@@ -293,6 +299,29 @@ impl State {
             rows,
             repair,
         })
+    }
+
+    /// The slots of the next generation become those of the current one, and there is no repair.
+    fn into_next(self) -> State
+        ensures { result ≡ record self {
+          slots = next_slots self.repair self.slots;
+          repair = None;
+        } }
+    {
+        let State {
+            alloc,
+            catalog,
+            slots,
+            rows,
+            repair,
+        } = self;
+        State {
+            alloc,
+            catalog,
+            slots: next_slots(repair, slots),
+            rows,
+            repair: None,
+        }
     }
 
     /// Adds a slot of this action, and answers the replies to its writes.
@@ -371,7 +400,7 @@ fn next_slots(repair: Option<Repair>, slots: PagedLog<KeptSlot>) -> PagedLog<Kep
     ensures { result ≡ next_slots repair slots }
 {
     match repair {
-        Some(repair) => repair.slots,
+        Some(repair) => repair.into_slots(),
         None => slots,
     }
 }

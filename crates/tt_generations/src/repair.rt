@@ -26,7 +26,6 @@ use tt_values::{Catalog, Items, Shared, Write};
 use tt_versions::Side;
 
 /// A repair under way.
-#[derive(Drop)]
 pub(crate) struct Repair {
     pub(crate) edits: Items<Edit>,
     /// By the numbers of their slots.
@@ -38,6 +37,20 @@ pub(crate) struct Repair {
     pub(crate) dirty: Dirty,
     /// The slots done as the next generation has them, and then the others of the current one.
     pub(crate) slots: PagedLog<KeptSlot>,
+}
+
+// Written out, so that each place that lets one go calls one function.
+impl Drop for Repair {
+    fn drop(self) {
+        let Repair {
+            edits: _,
+            replacements: _,
+            done: _,
+            rerun: _,
+            dirty: _,
+            slots: _,
+        } = self;
+    }
 }
 
 impl Repair {
@@ -86,6 +99,21 @@ impl Repair {
             dirty,
             slots,
         })
+    }
+
+    /// The slots done as the next generation has them, and then the others of the current one.
+    pub(crate) fn into_slots(self) -> PagedLog<KeptSlot>
+        ensures { result ≡ self.slots }
+    {
+        let Repair {
+            edits: _,
+            replacements: _,
+            done: _,
+            rerun: _,
+            dirty: _,
+            slots,
+        } = self;
+        slots
     }
 
     /// Adds a slot, which is added to the current generation too.

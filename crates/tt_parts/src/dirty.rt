@@ -16,12 +16,24 @@ use tt_values::{Catalog, Column, Equal, Row, Shared, TableDef, Value, Write};
 
 /// A set of dirty rows and partitions, of the tables of one catalog. Contracts speak only of its
 /// members. Sets that come from one another share pages.
-#[derive(Debug, Drop)]
+#[derive(Debug)]
 pub struct Dirty {
     alloc: Global,
     catalog: Shared<Catalog>,
     rows: DirtyRows,
     partitions: DirtyPartitions,
+}
+
+// Written out, so that each place that lets one go calls one function.
+impl Drop for Dirty {
+    fn drop(self) {
+        let Dirty {
+            alloc: _,
+            catalog: _,
+            rows: _,
+            partitions: _,
+        } = self;
+    }
 }
 
 impl Model for Dirty {

@@ -23,7 +23,6 @@ use tt_db::Outcome;
 
 /// The latest state, the word that counts the history, and the sum of what the workers made, with
 /// how many workers there are and a share of the ledger without parts. Contracts see its history.
-#[derive(Drop)]
 pub(crate) struct Core<L: Naming, R: Wait + Drop> {
     lane: Option<Lane<L, R>>,
     head: Head,
@@ -31,6 +30,20 @@ pub(crate) struct Core<L: Naming, R: Wait + Drop> {
     book: Book<L>,
     workers: u32,
     empty: Share<L>,
+}
+
+// Written out, so that each place that lets one go calls one function.
+impl<L: Naming, R: Wait + Drop> Drop for Core<L, R> {
+    fn drop(self) {
+        let Core {
+            lane: _,
+            head: _,
+            latest: _,
+            book: _,
+            workers: _,
+            empty: _,
+        } = self;
+    }
 }
 
 impl<L: Naming, R: Wait + Drop> Model for Core<L, R> {

@@ -13,10 +13,16 @@ use tt_db::Db;
 use tt_values::Shared;
 
 /// A database, with its history as a beginning of the one history.
-#[derive(Drop)]
 pub struct Shown {
     db: Shared<Db>,
     front: Front,
+}
+
+// Written out, so that each place that lets one go calls one function.
+impl Drop for Shown {
+    fn drop(self) {
+        let Shown { db: _, front: _ } = self;
+    }
 }
 
 impl Model for Shown {
@@ -48,7 +54,8 @@ impl Shown {
     pub(crate) fn into_db(self) -> Shared<Db>
         ensures { result ≡ self.db }
     {
-        self.db
+        let Self { db, front: _ } = self;
+        db
     }
 
     /// How many entries its history has.

@@ -24,11 +24,21 @@ const TRIES: u32 = 4;
 
 /// A database that several threads share: one history, to which workers add by calls of the store,
 /// and which they read without it.
-#[derive(Drop)]
 pub struct Store<L: Naming, G: Gate + Drop, R: Wait + Drop> {
     alloc: Global,
     core: Mutex<Core<L, R>>,
     gate: G,
+}
+
+// Written out, so that each place that lets one go calls one function.
+impl<L: Naming, G: Gate + Drop, R: Wait + Drop> Drop for Store<L, G, R> {
+    fn drop(self) {
+        let Store {
+            alloc: _,
+            core: _,
+            gate: _,
+        } = self;
+    }
 }
 
 impl<L: Naming, G: Gate + Drop, R: Wait + Drop> Store<L, G, R> {

@@ -33,13 +33,25 @@ use tt_values::{Reply, Select, Shared, check_select};
 /// A worker of a store. It has seen a front, which is a beginning of the one history and only grows,
 /// and has made some of its entries. Its reads take no lock and wait for nobody. It keeps the last
 /// state that it has seen, so one that is idle keeps that in memory.
-#[derive(Drop)]
 pub struct Worker<L: Naming> {
     number: u32,
     reader: Option<Reader<Shown, (), L>>,
     seen: Shown,
     own: Vec<u64>,
     share: Share<L>,
+}
+
+// Written out, so that each place that lets one go calls one function.
+impl<L: Naming> Drop for Worker<L> {
+    fn drop(self) {
+        let Worker {
+            number: _,
+            reader: _,
+            seen: _,
+            own: _,
+            share: _,
+        } = self;
+    }
 }
 
 impl<L: Naming> Model for Worker<L> {
@@ -286,7 +298,14 @@ impl<L: Naming> Worker<L> {
         ensures parts { result.1.parts ≡ 1 }
         ensures amount { result.1.amount ≡ length self.own }
     {
-        (self.own, self.share)
+        let Self {
+            number: _,
+            reader: _,
+            seen: _,
+            own,
+            share,
+        } = self;
+        (own, share)
     }
 
     /// What the events of a call lead to, from what it has seen; None where there are no events.

@@ -33,17 +33,20 @@ fn tag(row: Option<&Row>) -> i64 {
     }
 }
 
+/// The side has key 1 with that tag, or not at all, at the time, and no other key.
+fn expect_at(rt: &impl Abort, table: &Table, side: Side, time: u64, want: i64) {
+    assert_eq!(rt; tag(table.at(1, time, side)), want);
+    let rows = table.rows_at(time, side).expect(rt, "memory");
+    assert!(rt; rows.is_empty() == (want == NONE));
+    for (key, row) in &rows {
+        assert_eq!(rt; (*key, tag(Some(*row))), (1, want));
+    }
+}
+
 /// The side has key 1 with these tags, or not at all, at the times 1 to 5.
 fn expect_side(rt: &impl Abort, table: &Table, side: Side, wanted: [i64; 5]) {
     for (index, want) in wanted.iter().enumerate() {
-        let time = index as u64 + 1;
-        assert_eq!(rt; tag(table.at(1, time, side)), *want);
-        let rows = table.rows_at(time, side).expect(rt, "memory");
-        assert_eq!(rt; rows.is_empty(), *want == NONE);
-        for (key, row) in &rows {
-            assert_eq!(rt; *key, 1);
-            assert_eq!(rt; tag(Some(*row)), *want);
-        }
+        expect_at(rt, table, side, index as u64 + 1, *want);
     }
 }
 
@@ -78,14 +81,18 @@ fn each_side_is_written_on_its_own(rt: HostRuntime) {
     expect_sides(&rt, &split, [A, A, B, B, NONE], [A, A, A, C, C]);
 }
 
+/// Key 1 is split as in `two_sides`, and then each key has a row that is written at time 4.
+fn written_together(rt: &impl Abort, alloc: Global) -> Table {
+    let rows = vec![in alloc; (1, row(rt, alloc, 1, C)), (2, row(rt, alloc, 2, A))];
+    let table = a_then_b(rt, alloc).split_back(1, 2).expect(rt, "memory");
+    table
+        .into_all_written(rows.expect(rt, "memory"), 4)
+        .expect(rt, "memory")
+}
+
 #[test]
 fn rows_of_one_time_are_written_together(rt: HostRuntime) {
-    let alloc = rt.alloc();
-    let rows = vec![in alloc; (1, row(&rt, alloc, 1, C)), (2, row(&rt, alloc, 2, A))];
-    let table = a_then_b(&rt, alloc).split_back(1, 2).expect(&rt, "memory");
-    let table = table
-        .into_all_written(rows.expect(&rt, "memory"), 4)
-        .expect(&rt, "memory");
+    let table = written_together(&rt, rt.alloc());
     for (key, side, before, after) in [
         (1, Side::Current, B, C),
         (1, Side::Next, A, A),
@@ -97,36 +104,46 @@ fn rows_of_one_time_are_written_together(rt: HostRuntime) {
     }
 }
 
-#[test]
-fn rows_are_found_by_key_by_value_and_among_all(rt: HostRuntime) {
-    let alloc = rt.alloc();
-    let mut table = Table::with_columns(alloc, &[1]).expect(&rt, "memory");
+/// A value of a column, a time, and how many current rows have that value then.
+type ColumnCase = (u16, i64, u64, usize);
+
+const BY_COLUMN: [ColumnCase; 7] = [
+    (0, 1, 3, 1),
+    (0, 3, 3, 0),
+    (1, A, 2, 2),
+    (1, A, 3, 1),
+    (1, B, 3, 1),
+    (1, C, 3, 0),
+    (7, A, 3, 0),
+];
+
+/// Key 1 has tag a from time 1 and tag b from time 3, and key 2 has tag a from time 2. The tags are
+/// indexed.
+fn indexed(rt: &impl Abort, alloc: Global) -> Table {
+    let mut table = Table::with_columns(alloc, &[1]).expect(rt, "memory");
     for (key, tag, time) in [(1, A, 1), (2, A, 2), (1, B, 3)] {
         table = table
-            .into_written(key, row(&rt, alloc, key, tag), time)
-            .expect(&rt, "memory");
+            .into_written(key, row(rt, alloc, key, tag), time)
+            .expect(rt, "memory");
     }
-    for (column, value, time, wanted) in [
-        (0, 1, 3, 1),
-        (0, 3, 3, 0),
-        (1, A, 2, 2),
-        (1, A, 3, 1),
-        (1, B, 3, 1),
-        (1, C, 3, 0),
-        (7, A, 3, 0),
-    ] {
-        let equals = [Equal {
-            column,
-            value: Value::Int(value),
-        }];
-        let rows = table
-            .rows_matching(&equals, time, Side::Current)
-            .expect(&rt, "memory");
-        assert_eq!(rt;
-            rows.len(),
-            wanted,
-            "column {column} value {value} time {time}"
-        );
+    table
+}
+
+fn expect_matching(rt: &impl Abort, table: &Table, case: ColumnCase) {
+    let (column, value, time, wanted) = case;
+    let equals = [Equal {
+        column,
+        value: Value::Int(value),
+    }];
+    let rows = table.rows_matching(&equals, time, Side::Current);
+    assert_eq!(rt; rows.expect(rt, "memory").len(), wanted, "{case:?}");
+}
+
+#[test]
+fn rows_are_found_by_key_by_value_and_among_all(rt: HostRuntime) {
+    let table = indexed(&rt, rt.alloc());
+    for case in BY_COLUMN {
+        expect_matching(&rt, &table, case);
     }
     let all = table
         .rows_matching(&[], 3, Side::Next)
@@ -155,6 +172,13 @@ fn many_rows(rt: &impl Abort, alloc: Global) -> Table {
     table
 }
 
+/// The row of a key: it isn't split, and has tag c if it is a third one, else tag b.
+fn expect_third(rt: &impl Abort, table: &Table, key: i64, row: &Row) {
+    assert!(rt; !table.is_split(key));
+    let want = if key % 3 == 0 { C } else { B };
+    assert_eq!(rt; tag(Some(row)), want);
+}
+
 /// Both sides have keys 0 to 29 at time 2, every third one with tag c and the others with tag b.
 fn expect_many(rt: &impl Abort, table: &Table) {
     for side in [Side::Current, Side::Next] {
@@ -162,11 +186,8 @@ fn expect_many(rt: &impl Abort, table: &Table) {
         assert_eq!(rt; rows.len(), 30);
         let mut wanted = 0;
         for (key, row) in &rows {
-            assert_eq!(rt; *key, wanted);
-            assert!(rt; wanted < 30);
-            assert!(rt; !table.is_split(*key));
-            let tag_wanted = if wanted % 3 == 0 { C } else { B };
-            assert_eq!(rt; tag(Some(*row)), tag_wanted);
+            assert!(rt; *key == wanted && wanted < 30);
+            expect_third(rt, table, *key, *row);
             wanted += 1;
         }
     }

@@ -38,9 +38,16 @@ pub enum CatalogError {
 }
 
 /// The tables of a database, in order of declaration, with their names.
-#[derive(Debug, Drop)]
+#[derive(Debug)]
 pub struct Catalog {
     tables: IndexMap<String, TableDef>,
+}
+
+// Written out, so that each place that lets one go calls one function.
+impl Drop for Catalog {
+    fn drop(self) {
+        let Catalog { tables: _ } = self;
+    }
 }
 
 impl Model for Catalog {

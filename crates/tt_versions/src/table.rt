@@ -18,10 +18,20 @@ use tt_values::{Equal, Row, matches};
 /// A changing call answers a new table, and its only error is that there is no memory. Tables share
 /// what they have in common. A call on `&self` leaves this table as it is; one whose name begins
 /// with `into` takes it over, and copies only what other tables share with it.
-#[derive(Debug, Drop)]
+#[derive(Debug)]
 pub struct Table {
     alloc: Global,
     lineages: Lineages,
+}
+
+// Written out, so that each place that lets one go calls one function.
+impl Drop for Table {
+    fn drop(self) {
+        let Table {
+            alloc: _,
+            lineages: _,
+        } = self;
+    }
 }
 
 impl Model for Table {
@@ -291,11 +301,9 @@ impl Table {
         ensures next_adds { IfOk result (λ t. AddsRowWritesOf (next_of self) (next_of t)
             (whole_among (is_split self) rows.items) time) }
     {
-        let lineages = self.lineages.with_writes(Side::Current, rows, time)?;
-        Ok(Table {
-            alloc: self.alloc,
-            lineages,
-        })
+        let Table { alloc, lineages } = self;
+        let lineages = lineages.with_writes(Side::Current, rows, time)?;
+        Ok(Table { alloc, lineages })
     }
 
     /// The row is split, and its next side is rolled back: from the time on it is what it was just
@@ -322,11 +330,9 @@ impl Table {
         ensures next_drops { IfOk result (λ t.
             DropsRowWrites (next_of self) (next_of t) key time) }
     {
-        let lineages = self.lineages.split_back(key, time)?;
-        Ok(Table {
-            alloc: self.alloc,
-            lineages,
-        })
+        let Table { alloc, lineages } = self;
+        let lineages = lineages.split_back(key, time)?;
+        Ok(Table { alloc, lineages })
     }
 
     /// The key has that row, or none, from the time on, only on the next side.
@@ -380,11 +386,9 @@ impl Table {
         ensures next_adds { IfOk result (λ t.
             AddsRowWritesOf (next_of self) (next_of t) rows.items time) }
     {
-        let lineages = self.lineages.with_writes(Side::Next, rows, time)?;
-        Ok(Table {
-            alloc: self.alloc,
-            lineages,
-        })
+        let Table { alloc, lineages } = self;
+        let lineages = lineages.with_writes(Side::Next, rows, time)?;
+        Ok(Table { alloc, lineages })
     }
 
     /// The next side becomes the current one, and no row is split. Takes time for the split rows
@@ -441,11 +445,9 @@ impl Table {
             let lineage = with_write_on side row time (lineage_at self key) in
             t ≡ sorted.put int_cmp key lineage self) }
     {
-        let lineages = self.lineages.with_write(side, key, row, time)?;
-        Ok(Table {
-            alloc: self.alloc,
-            lineages,
-        })
+        let Table { alloc, lineages } = self;
+        let lineages = lineages.with_write(side, key, row, time)?;
+        Ok(Table { alloc, lineages })
     }
 
     /// Both sides show what this one shows, and no row is split.
@@ -455,11 +457,9 @@ impl Table {
         ensures next { IfOk result (λ t. next_of t ≡ side_of self side) }
         ensures split { IfOk result (λ t. is_split t ≡ none_split) }
     {
-        let lineages = self.lineages.unsplit(side)?;
-        Ok(Table {
-            alloc: self.alloc,
-            lineages,
-        })
+        let Table { alloc, lineages } = self;
+        let lineages = lineages.unsplit(side)?;
+        Ok(Table { alloc, lineages })
     }
 
     /// The lineage of the row with the key, if it was ever written.

@@ -14,14 +14,12 @@ fn numbers(rt: &impl Abort, alloc: Global, count: u64) -> PagedLog<u64> {
 #[test]
 fn reads_and_replaces_items(rt: HostRuntime) {
     let old = numbers(&rt, rt.alloc(), 65);
-    assert_eq!(rt; old.len(), 65);
-    if old.len() == 65 {
-        let seven = 7u64.kept().expect(&rt, "memory");
-        let new = old.replaced(64, seven).expect(&rt, "memory");
-        assert_eq!(rt; new.get(64), Some(&7));
-    }
+    assert!(rt; old.len() == 65);
+    let seven = 7u64.kept().expect(&rt, "memory");
+    let new = old.replaced(64, seven).expect(&rt, "memory");
+    assert_eq!(rt; new.get(64), Some(&7));
     assert_eq!(rt; old.get(64), Some(&64));
-    assert_eq!(rt; old.get(65), None);
+    assert!(rt; old.get(65).is_none());
 }
 
 #[test]
@@ -37,12 +35,17 @@ fn shared_logs_stay_the_same(rt: HostRuntime) {
         }
     }
     for (round, share) in shares.iter().enumerate() {
-        let mut count = 0;
-        for item in share.iter() {
-            assert_eq!(rt; *item, count);
-            count = count.wrapping_add(1);
-        }
-        assert_eq!(rt; count, (round as u64).wrapping_mul(37));
-        assert_eq!(rt; share.len() as u64, count);
+        let count = (round as u64).wrapping_mul(37);
+        expect_numbers(&rt, share, count);
     }
+}
+
+/// The list has the numbers from 0 up to `count`.
+fn expect_numbers(rt: &impl Abort, log: &PagedLog<u64>, count: u64) {
+    let mut want = 0;
+    for item in log.iter() {
+        assert_eq!(rt; *item, want);
+        want = want.wrapping_add(1);
+    }
+    assert_eq!(rt; (log.len() as u64, want), (count, count));
 }

@@ -8,9 +8,9 @@ fn expect_entries(rt: &impl Abort, map: &PagedMap<u64>, reference: &BTreeMap<i64
     assert_eq!(rt; map.len(), reference.len());
     let mut entries = map.iter();
     for (key, value) in reference {
-        let (entry_key, entry_value) = entries.next().expect(rt, "an entry");
-        assert_eq!(rt; (*entry_key, *entry_value), (*key, *value));
-        assert_eq!(rt; map.get(*key), Some(value));
+        let entry = entries.next().expect(rt, "an entry");
+        assert_eq!(rt; entry, (key, value));
+        assert!(rt; map.get(*key) == Some(value));
     }
     assert!(rt; entries.next().is_none());
 }
@@ -82,12 +82,12 @@ fn least_and_largest_keys_are_first_and_last(rt: HostRuntime) {
     for (key, value) in [(i64::MAX, 3), (0, 2), (i64::MIN, 1)] {
         map = map.with(key, value).expect(&rt, "memory");
     }
-    let mut entries = map.iter();
-    assert_eq!(rt; entries.next(), Some((&i64::MIN, &1)));
-    assert_eq!(rt; entries.next(), Some((&0, &2)));
-    assert_eq!(rt; entries.next(), Some((&i64::MAX, &3)));
-    assert!(rt; entries.next().is_none());
     assert!(rt; !map.is_empty());
+    let mut entries = map.iter();
+    for entry in [(&i64::MIN, &1), (&0, &2), (&i64::MAX, &3)] {
+        assert_eq!(rt; entries.next(), Some(entry));
+    }
+    assert!(rt; entries.next().is_none());
 }
 
 /// The next of a row of numbers without an order.

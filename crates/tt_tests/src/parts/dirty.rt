@@ -1,3 +1,5 @@
+ghost use Rattle.std.specs.Prelude.{◌≡◌, length};
+
 use super::Plain::{self, Number, Words};
 use super::{ANN, PlainPartition, delete, done, insert, nothing_dirty, partition_reads, row};
 use std::alloc::Global;
@@ -111,19 +113,34 @@ const DELETES: &[(&[(u16, Plain)], bool)] = &[
     (&[(2, Number(10)), (0, Number(2)), (1, Words("eve"))], true),
 ];
 
-#[test]
-fn a_write_is_clear_by_what_it_reads(rt: HostRuntime) {
-    let alloc = rt.alloc();
-    let (ann, eve) = (row(&rt, alloc, ANN), row(&rt, alloc, EVE));
-    let mut dirty = nothing_dirty(&rt, alloc);
+/// Account 1 went from Ann to Eve.
+fn ann_to_eve(rt: &impl Abort, alloc: Global) -> Dirty
+    ensures { length result.catalog ≡ 2 }
+{
+    let (ann, eve) = (row(rt, alloc, ANN), row(rt, alloc, EVE));
+    let mut dirty = nothing_dirty(rt, alloc);
     let added = dirty.add_row(0, 1, Some(&ann), Some(&eve));
-    added.expect(&rt, "memory");
+    added.expect(rt, "memory");
+    dirty
+}
+
+#[test]
+fn a_delete_is_clear_by_what_it_reads(rt: HostRuntime) {
+    let alloc = rt.alloc();
+    let dirty = ann_to_eve(&rt, alloc);
     for (pairs, want) in DELETES {
         let delete = delete(&rt, alloc, 0, pairs);
         assert_eq!(rt; dirty.is_clear(&delete), *want, "{pairs:?}");
     }
     let of_parcels = delete(&rt, alloc, 1, &[]);
     assert!(rt; dirty.is_clear(&of_parcels));
+    done(dirty);
+}
+
+#[test]
+fn an_insert_is_clear_by_its_key(rt: HostRuntime) {
+    let alloc = rt.alloc();
+    let dirty = ann_to_eve(&rt, alloc);
     let first = insert(&rt, alloc, 1);
     let second = insert(&rt, alloc, 2);
     assert!(rt; dirty.is_clear(&second) && !dirty.is_clear(&first));

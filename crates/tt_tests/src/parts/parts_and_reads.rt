@@ -52,7 +52,7 @@ const OF_PARCELS: &[WriteCase] = &[
 ];
 
 #[test]
-fn a_write_reads_its_partitions_or_its_table(rt: HostRuntime) {
+fn a_write_reads_its_partitions(rt: HostRuntime) {
     let alloc = rt.alloc();
     let def = parcel(&rt, alloc);
     for (pairs, want) in OF_PARCELS {
@@ -60,11 +60,22 @@ fn a_write_reads_its_partitions_or_its_table(rt: HostRuntime) {
         let reads = reads_of(alloc, &def, &delete).expect(&rt, "memory");
         assert_eq!(rt; reads, partition_reads(&rt, alloc, want), "{pairs:?}");
     }
+}
+
+#[test]
+fn a_write_without_partitions_reads_its_table(rt: HostRuntime) {
+    let alloc = rt.alloc();
+    let def = parcel(&rt, alloc);
     for pairs in [&[][..], &[(2, Words("left"))]] {
         let delete = delete(&rt, alloc, 4, pairs);
         let reads = reads_of(alloc, &def, &delete).expect(&rt, "memory");
         assert_eq!(rt; reads, Reads::All { table: 4 }, "{pairs:?}");
     }
+}
+
+#[test]
+fn an_insert_reads_its_key(rt: HostRuntime) {
+    let alloc = rt.alloc();
     let insert = insert(&rt, alloc, i64::MAX);
     let reads = reads_of(alloc, &acct(&rt, alloc), &insert).expect(&rt, "memory");
     let key = partition_reads(&rt, alloc, &[(0, 0, Number(i64::MAX))]);

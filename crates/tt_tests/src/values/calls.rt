@@ -1,5 +1,9 @@
 //! Each public call once, with ample memory.
+ghost use Rattle.tt_values.specs.Check.{HasKey};
+
 use super::{catalog, def, items, owner_is, row, text};
+use std::alloc::Global;
+use std::process::Abort;
 use std::sync::Arc;
 use tt_values::{
     Catalog, CatalogError, Change, CheckError, Kind, Reply, Select, Shared, Value, Write, changed,
@@ -37,8 +41,16 @@ fn a_shared_int(rt: HostRuntime) {
     let shared = Shared::from_arc(owner);
     let further = shared.clone().expect(&rt, "memory");
     assert_eq!(rt; *shared.get(), *further.get());
+}
+
+#[test]
+fn the_owner_of_a_shared_int(rt: HostRuntime) {
     let owner = Shared::new(rt.alloc(), 8).expect(&rt, "memory").into_arc();
     assert_eq!(rt; *owner, 8);
+}
+
+#[test]
+fn the_value_of_a_shared_int(rt: HostRuntime) {
     let shared = Shared::new(rt.alloc(), 9_u64).expect(&rt, "memory");
     let further = shared.clone().expect(&rt, "memory");
     assert_eq!(rt; shared.into_value().expect(&rt, "memory"), 9);
@@ -65,6 +77,11 @@ fn catalogs(rt: HostRuntime) {
     assert_eq!(rt; same, Err(CatalogError::SameTable));
     assert_eq!(rt; catalog.len(), 1);
     assert!(rt; !catalog.is_empty());
+}
+
+#[test]
+fn names_of_tables(rt: HostRuntime) {
+    let catalog = catalog(&rt, rt.alloc());
     assert_eq!(rt; catalog.find("acct"), Some(0));
     assert_eq!(rt; catalog.name(0), Some("acct"));
     let acct = catalog.table(0).expect(&rt, "a table");
@@ -86,30 +103,45 @@ fn changes(rt: HostRuntime) {
     assert!(rt; !matches(&[owner_is(&rt, alloc, "ann")], &eves));
 }
 
+/// An insert that `catalog` takes.
+fn insert(rt: &impl Abort, alloc: Global) -> Write
+    ensures { HasKey result }
+{
+    Write::Insert {
+        table: 0,
+        row: row(rt, alloc, 1, "ann"),
+    }
+}
+
 #[test]
-fn statements(rt: HostRuntime) {
+fn writes(rt: HostRuntime) {
     let alloc = rt.alloc();
-    let catalog = catalog(&rt, alloc);
+    let insert = insert(&rt, alloc).copy().expect(&rt, "memory");
+    assert_eq!(rt; insert.table(), 0);
+    assert_eq!(rt; check(&catalog(&rt, alloc), &insert), Ok(()));
+    assert_ne!(rt; Reply::Updated(1), Reply::Deleted(1));
+}
+
+#[test]
+fn actions(rt: HostRuntime) {
+    let alloc = rt.alloc();
+    let action = [insert(&rt, alloc), insert(&rt, alloc)];
+    assert_eq!(rt; check_action(&catalog(&rt, alloc), &action), Ok(()));
+    let no_table = Err(CheckError::NoTable);
+    assert_eq!(rt; check_action(&Catalog::new(alloc), &action), no_table);
+}
+
+#[test]
+fn selects(rt: HostRuntime) {
+    let alloc = rt.alloc();
     let equal = owner_is(&rt, alloc, "ann").copy().expect(&rt, "memory");
     let select = Select {
         table: 0,
         equals: items(&rt, alloc, vec![in alloc; equal].expect(&rt, "memory")),
     };
-    let insert = Write::Insert {
-        table: 0,
-        row: row(&rt, alloc, 1, "ann"),
-    };
     let select = select.copy().expect(&rt, "memory");
-    let insert = insert.copy().expect(&rt, "memory");
-    assert_eq!(rt; insert.table(), 0);
-    assert_eq!(rt; check(&catalog, &insert), Ok(()));
-    let action = [insert.copy().expect(&rt, "memory"), insert];
-    assert_eq!(rt; check_action(&catalog, &action), Ok(()));
-    let no_table = Err(CheckError::NoTable);
-    assert_eq!(rt; check_action(&Catalog::new(alloc), &action), no_table);
-    assert_eq!(rt; check_select(&catalog, &select), Ok(()));
+    assert_eq!(rt; check_select(&catalog(&rt, alloc), &select), Ok(()));
     assert!(rt; check_select(&Catalog::new(alloc), &select).is_err());
-    assert_ne!(rt; Reply::Updated(1), Reply::Deleted(1));
 }
 
 #[test]

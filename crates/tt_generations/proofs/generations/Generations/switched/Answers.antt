@@ -8,10 +8,10 @@ pub invariant_of-result : goal.invariant_of-result
 invariant_of-result c =
     let g = c.self.inside.state in
     let left = subst (λ (G : TwoGenerations). left_of G.phase G.slots ≡ 0) (sym c.self.view_is) c.requires in
-    rw (c.next_slots.ensures) (AreGenerations-switched g.catalog g.slots g.rows c.unsplit.new.self g.repair c.self.invariant left c.in_ok-unsplit.ensures)
+    rw (c.into_next-state.ensures) (AreGenerations-switched g.catalog g.slots g.rows c.unsplit.new.self g.repair c.self.invariant left c.in_ok-unsplit.ensures)
 
 pub returns : goal.returns
 returns c =
     let g = c.self.inside.state in
     let left = subst (λ (G : TwoGenerations). left_of G.phase G.slots ≡ 0) (sym c.self.view_is) c.requires in
-    rw (c.next_slots.ensures) ((λ i. record { catalog = g.catalog; slots = actions-next g.catalog g.slots g.rows g.repair c.self.invariant left i; phase = Idle }) ∙ ap after_switch c.self.view_is)
+    rw (c.into_next-state.ensures) ((λ i. record { catalog = g.catalog; slots = actions-next g.catalog g.slots g.rows g.repair c.self.invariant left i; phase = Idle }) ∙ ap after_switch c.self.view_is)
