@@ -16,6 +16,7 @@ mod unfinished_repairs;
 mod versions;
 
 use std::alloc::Global;
+use std::fmt::Debug;
 use std::process::Abort;
 use std::sync::Arc;
 use tt_db::{Db, DbError, Entry, Event, Limits, MAX_EDITS, MAX_KEEP, Outcome};
@@ -198,7 +199,7 @@ fn after(rt: &impl Abort, alloc: Global, db: &Db, entry: Entry, reply: Reply) ->
     let slot = db.now().saturating_add(1);
     let replies = replies(rt, alloc, [reply]);
     let (next, outcome) = db.apply(entry).expect(rt, "an accepted entry");
-    assert_eq!(rt; outcome, Outcome::Written { slot, replies });
+    same(rt, &outcome, &Outcome::Written { slot, replies });
     next
 }
 
@@ -225,7 +226,7 @@ fn write<const N: usize>(
     let slot = db.now().saturating_add(1);
     let replies = replies(rt, alloc, wants);
     let outcome = made(rt, db, Event::Write(action(rt, alloc, writes)));
-    assert_eq!(rt; outcome, Outcome::Written { slot, replies });
+    same(rt, &outcome, &Outcome::Written { slot, replies });
 }
 
 /// Inserts an account that isn't there.
@@ -250,6 +251,11 @@ fn rows(rt: &impl Abort, alloc: Global, accounts: &[Account]) -> Reply {
     Reply::Rows(Items::new(alloc, rows).expect(rt, "memory"))
 }
 
+/// Asserts that two values are equal. An `assert_eq!` in a test makes the test longer to prove.
+fn same<T: PartialEq + Debug>(rt: &impl Abort, got: &T, want: &T) {
+    assert_eq!(rt; *got, *want);
+}
+
 /// The end of a test's use of a database. A test that drops one itself takes longer to prove.
 fn done(_db: Db) {}
 
@@ -258,7 +264,7 @@ fn has(rt: &impl Abort, alloc: Global, db: &Db, accounts: &[Account]) {
     let reply = db
         .select(&select_all(rt, alloc, ACCT))
         .expect(rt, "a reply");
-    assert_eq!(rt; reply, rows(rt, alloc, accounts));
+    same(rt, &reply, &rows(rt, alloc, accounts));
 }
 
 /// Asserts that these were the accounts at a time, in this order.
@@ -266,7 +272,7 @@ fn had(rt: &impl Abort, alloc: Global, db: &Db, time: u64, accounts: &[Account])
     let reply = db
         .select_at(&select_all(rt, alloc, ACCT), time)
         .expect(rt, "a reply");
-    assert_eq!(rt; reply, rows(rt, alloc, accounts), "at {time}");
+    same(rt, &(time, reply), &(time, rows(rt, alloc, accounts)));
 }
 
 /// Asserts that these are the accounts of the next generation, in this order.
@@ -274,5 +280,5 @@ fn previews(rt: &impl Abort, alloc: Global, db: &Db, accounts: &[Account]) {
     let reply = db
         .preview(&select_all(rt, alloc, ACCT))
         .expect(rt, "a reply");
-    assert_eq!(rt; reply, rows(rt, alloc, accounts));
+    same(rt, &reply, &rows(rt, alloc, accounts));
 }

@@ -19,6 +19,7 @@ use given_up::gives_up;
 use limits::{fills_two_slots, has_workers};
 use repairs::{fills_history, finishes_for_another, repairs_in_steps};
 use std::alloc::Global;
+use std::fmt::Debug;
 use std::marker::Brand;
 use std::process::Abort;
 use std::sync::{Arc, Wait};
@@ -55,7 +56,7 @@ fn plays<T: Threads + Wait + Abort + Sync>(
     scenario: Scenario,
 ) {
     let played = tries(rt, alloc, workers, Limits::usual(), scenario);
-    assert_eq!(rt; played, Ok(()));
+    same(rt, &played, &Ok(()));
 }
 
 /// Plays a scenario, if the store can be opened.
@@ -120,6 +121,11 @@ fn play<L: Naming + Send + Sync, T: Threads + Wait + Abort + Sync>(
         Scenario::WritesBehind => writes_behind(rt, alloc, store, workers),
         Scenario::WritesInThreads => writes_in_threads(rt, alloc, store, workers),
     }
+}
+
+/// Asserts that two values are equal. An `assert_eq!` in a test makes the test longer to prove.
+fn same<T: PartialEq + Debug>(rt: &impl Abort, got: &T, want: &T) {
+    assert_eq!(rt; *got, *want);
 }
 
 /// An account: its id, its owner and its balance.
@@ -240,7 +246,7 @@ fn inserts<L: Naming, G: Gate + Drop, T: Wait + Abort>(
         slot,
         replies,
     };
-    assert_eq!(rt; written.expect(rt, "a write"), want);
+    same(rt, &written.expect(rt, "a write"), &want);
 }
 
 /// Writes five slots, and begins a repair of the fourth.
@@ -261,13 +267,13 @@ fn begins_after_five_slots<L: Naming, G: Gate + Drop, T: Wait + Abort>(
         store.write(rt, worker, write).expect(rt, "a write");
     }
     let begun = store.begin(rt, worker, delete_bob(rt, alloc));
-    assert_eq!(rt; begun, Ok(6));
+    same(rt, &begun, &Ok(6));
 }
 
 /// Asserts that these are the accounts now, in this order.
 fn has<L: Naming>(rt: &impl Abort, alloc: Global, worker: &mut Worker<L>, accounts: &[Account]) {
     let answer = worker.read(&all(rt, alloc)).expect(rt, "a read");
-    assert_eq!(rt; answer.reply, rows(rt, alloc, accounts));
+    same(rt, &answer.reply, &rows(rt, alloc, accounts));
 }
 
 /// Closes a store.

@@ -7,6 +7,8 @@ mod pages;
 #[cfg(test)]
 mod parts;
 #[cfg(test)]
+mod same;
+#[cfg(test)]
 mod values;
 #[cfg(test)]
 mod versions;

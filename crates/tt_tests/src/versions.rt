@@ -1,3 +1,4 @@
+use crate::same::same;
 use std::alloc::Global;
 use std::process::Abort;
 use tt_values::{Equal, Items, Row, Value};
@@ -35,11 +36,11 @@ fn tag(row: Option<&Row>) -> i64 {
 
 /// The side has key 1 with that tag, or not at all, at the time, and no other key.
 fn expect_at(rt: &impl Abort, table: &Table, side: Side, time: u64, want: i64) {
-    assert_eq!(rt; tag(table.at(1, time, side)), want);
+    same(rt, &tag(table.at(1, time, side)), &want);
     let rows = table.rows_at(time, side).expect(rt, "memory");
     assert!(rt; rows.is_empty() == (want == NONE));
     for (key, row) in &rows {
-        assert_eq!(rt; (*key, tag(Some(*row))), (1, want));
+        same(rt, &(*key, tag(Some(*row))), &(1, want));
     }
 }
 
@@ -99,8 +100,8 @@ fn rows_of_one_time_are_written_together(rt: HostRuntime) {
         (2, Side::Current, NONE, A),
         (2, Side::Next, NONE, A),
     ] {
-        assert_eq!(rt; tag(table.at(key, 3, side)), before);
-        assert_eq!(rt; tag(table.at(key, 4, side)), after);
+        same(&rt, &tag(table.at(key, 3, side)), &before);
+        same(&rt, &tag(table.at(key, 4, side)), &after);
     }
 }
 
@@ -148,7 +149,7 @@ fn rows_are_found_by_key_by_value_and_among_all(rt: HostRuntime) {
     let all = table
         .rows_matching(&[], 3, Side::Next)
         .expect(&rt, "memory");
-    assert_eq!(rt; all.len(), 2);
+    same(&rt, &all.len(), &2);
 }
 
 /// Keys 0 to 29 have tag a at time 1 and b from time 2; every third one is split, with c from
@@ -176,14 +177,14 @@ fn many_rows(rt: &impl Abort, alloc: Global) -> Table {
 fn expect_third(rt: &impl Abort, table: &Table, key: i64, row: &Row) {
     assert!(rt; !table.is_split(key));
     let want = if key % 3 == 0 { C } else { B };
-    assert_eq!(rt; tag(Some(row)), want);
+    same(rt, &tag(Some(row)), &want);
 }
 
 /// Both sides have keys 0 to 29 at time 2, every third one with tag c and the others with tag b.
 fn expect_many(rt: &impl Abort, table: &Table) {
     for side in [Side::Current, Side::Next] {
         let rows = table.rows_at(2, side).expect(rt, "memory");
-        assert_eq!(rt; rows.len(), 30);
+        same(rt, &rows.len(), &30);
         let mut wanted = 0;
         for (key, row) in &rows {
             assert!(rt; *key == wanted && wanted < 30);

@@ -3,7 +3,7 @@ use super::repairs::{
     FIVE_SLOTS_HAD, begin_and_step, delete_bob, repair, switched, write_five_slots,
 };
 use super::{
-    ACCT, Account, LOAN, any_account, bank, done, made, new_db, open, rows, select_all,
+    ACCT, Account, LOAN, any_account, bank, done, made, new_db, open, rows, same, select_all,
     set_balance, update, write,
 };
 use std::alloc::Global;
@@ -30,7 +30,7 @@ fn keeping(rt: &impl Abort, alloc: Global, keep: u32) -> Db {
 fn write_and_repair(rt: &impl Abort, alloc: Global, db: &mut Db) {
     write_five_slots(rt, alloc, db);
     let edit = delete_bob(rt, alloc);
-    assert_eq!(rt; repair(rt, alloc, db, [edit]), switched(1, 5, 2));
+    same(rt, &repair(rt, alloc, db, [edit]), &switched(1, 5, 2));
 }
 
 /// Asserts that these were the accounts of a generation at a time, in this order.
@@ -45,17 +45,15 @@ fn had_in(
     let reply = db
         .select_in(generation, &select_all(rt, alloc, ACCT), time)
         .expect(rt, "a reply");
-    assert_eq!(rt;
-        reply,
-        rows(rt, alloc, accounts),
-        "in {generation} at {time}"
-    );
+    let want = rows(rt, alloc, accounts);
+    same(rt, &(generation, time, reply), &(generation, time, want));
 }
 
 /// Asserts that a read in a generation at a time is refused.
 fn refuses(rt: &impl Abort, alloc: Global, db: &Db, generation: u64, time: u64, error: ReadError) {
     let answer = db.select_in(generation, &select_all(rt, alloc, ACCT), time);
-    assert_eq!(rt; answer.err(), Some(error), "in {generation} at {time}");
+    let want = (generation, time, Some(error));
+    same(rt, &(generation, time, answer.err()), &want);
 }
 
 #[test]
@@ -63,7 +61,7 @@ fn a_closed_generation_stays_readable(rt: HostRuntime) {
     let alloc = rt.alloc();
     let mut db = new_db(&rt, alloc);
     write_and_repair(&rt, alloc, &mut db);
-    assert_eq!(rt; db.oldest(), 0);
+    same(&rt, &db.oldest(), &0);
     for (time, accounts) in FIVE_SLOTS_HAD.iter().enumerate() {
         had_in(&rt, alloc, &db, 0, time as u64, accounts);
     }
@@ -77,7 +75,11 @@ fn a_closed_generation_stays_readable(rt: HostRuntime) {
     refuses(&rt, alloc, &db, 2, 9, missing);
     refuses(&rt, alloc, &db, u64::MAX, 0, missing);
     let bad = db.select_in(2, &select_all(&rt, alloc, LOAN), 9);
-    assert_eq!(rt; bad.err(), Some(ReadError::Statement(CheckError::NoTable)));
+    same(
+        &rt,
+        &bad.err(),
+        &Some(ReadError::Statement(CheckError::NoTable)),
+    );
     done(db);
 }
 
@@ -85,9 +87,9 @@ fn a_closed_generation_stays_readable(rt: HostRuntime) {
 fn none_is_kept(rt: HostRuntime) {
     let alloc = rt.alloc();
     let mut db = keeping(&rt, alloc, 0);
-    assert_eq!(rt; db.oldest(), 0);
+    same(&rt, &db.oldest(), &0);
     write_and_repair(&rt, alloc, &mut db);
-    assert_eq!(rt; db.oldest(), 1);
+    same(&rt, &db.oldest(), &1);
     let missing = ReadError::NoGeneration {
         oldest: 1,
         newest: 1,
@@ -102,10 +104,10 @@ fn one_is_kept(rt: HostRuntime) {
     let alloc = rt.alloc();
     let mut db = keeping(&rt, alloc, 1);
     write_and_repair(&rt, alloc, &mut db);
-    assert_eq!(rt; db.oldest(), 0);
+    same(&rt, &db.oldest(), &0);
     had_in(&rt, alloc, &db, 0, 5, &[(3, "bob", 8)]);
-    assert_eq!(rt; repair(&rt, alloc, &mut db, []), switched(2, 5, 0));
-    assert_eq!(rt; db.oldest(), 1);
+    same(&rt, &repair(&rt, alloc, &mut db, []), &switched(2, 5, 0));
+    same(&rt, &db.oldest(), &1);
     let missing = ReadError::NoGeneration {
         oldest: 1,
         newest: 2,
@@ -140,7 +142,7 @@ fn an_abort_closes_no_generation(rt: HostRuntime) {
         let edit = delete_bob(&rt, alloc);
         begin_and_step(&rt, alloc, &mut db, [edit], steps);
         made(&rt, &mut db, Event::Abort);
-        assert_eq!(rt; db.oldest(), 0);
+        same(&rt, &db.oldest(), &0);
         had_in(&rt, alloc, &db, 0, 5, &[(3, "bob", 8)]);
         let missing = ReadError::NoGeneration {
             oldest: 0,
@@ -157,7 +159,7 @@ fn switch_often(rt: &impl Abort, alloc: Global, db: &mut Db) {
     for generation in 1..18 {
         open(rt, alloc, db, (generation as i64, "ann", 10));
         let outcome = repair(rt, alloc, db, []);
-        assert_eq!(rt; outcome, switched(generation, generation, 0));
+        same(rt, &outcome, &switched(generation, generation, 0));
     }
 }
 
@@ -166,8 +168,8 @@ fn seventeen_switches_keep_sixteen_generations(rt: HostRuntime) {
     let alloc = rt.alloc();
     let mut db = keeping(&rt, alloc, MAX_KEEP);
     switch_often(&rt, alloc, &mut db);
-    assert_eq!(rt; db.generation(), 17);
-    assert_eq!(rt; db.oldest(), 1);
+    same(&rt, &db.generation(), &17);
+    same(&rt, &db.oldest(), &1);
     let missing = ReadError::NoGeneration {
         oldest: 1,
         newest: 17,

@@ -1,4 +1,6 @@
-use super::{ACCT, ANN, BOB, SAME_KEY, action, after, done, entry, has, insert, new_db, replies};
+use super::{
+    ACCT, ANN, BOB, SAME_KEY, action, after, done, entry, has, insert, new_db, replies, same,
+};
 use tt_db::Slot;
 use tt_values::Reply;
 
@@ -15,8 +17,8 @@ fn the_old_database_stays(rt: HostRuntime) {
     );
     done(empty);
     let new = after(&rt, alloc, &old, entry(&rt, alloc, 1, BOB), Reply::Inserted);
-    assert_eq!(rt; old.now(), 1);
-    assert_eq!(rt; old.events(), 1);
+    same(&rt, &old.now(), &1);
+    same(&rt, &old.events(), &1);
     assert!(rt; old.slot(2).is_none() && old.entry(2).is_none());
     has(&rt, alloc, &old, &[ANN]);
     has(&rt, alloc, &new, &[ANN, BOB]);
@@ -62,8 +64,8 @@ fn a_duplicate_has_a_slot_and_an_entry(rt: HostRuntime) {
         action: Some(action(&rt, alloc, [insert(&rt, alloc, ACCT, SAME_KEY)])),
         replies: Some(replies(&rt, alloc, [Reply::Duplicate])),
     };
-    assert_eq!(rt; db.slot(2), Some(&second));
-    assert_eq!(rt; db.entry(2), Some(&entry(&rt, alloc, 4, SAME_KEY)));
+    same(&rt, &db.slot(2), &Some(&second));
+    same(&rt, &db.entry(2), &Some(&entry(&rt, alloc, 4, SAME_KEY)));
     for number in [0, 3, u64::MAX] {
         assert!(rt; db.slot(number).is_none(), "slot {number}");
         assert!(rt; db.entry(number).is_none(), "entry {number}");

@@ -2,7 +2,7 @@
 use super::repairs::{begin, is_cancelled, replied, switched};
 use super::{
     ACCT, Account, action, add, add_to_balance, answer_to, done, had, has, id_is, insert, made,
-    new_db, owner_is, previews, set_balance, set_owner, update, write,
+    new_db, owner_is, previews, same, set_balance, set_owner, update, write,
 };
 use std::alloc::Global;
 use std::process::Abort;
@@ -50,21 +50,21 @@ fn steps(
 ) {
     let (done, left, reruns) = progress;
     let outcome = made(rt, db, Event::Step);
-    assert_eq!(rt; outcome, Outcome::Stepped { slot: done, rerun });
+    same(rt, &outcome, &Outcome::Stepped { slot: done, rerun });
     let progress = Progress {
         done,
         left,
         rerun: reruns,
     };
-    assert_eq!(rt; db.repair(), Some(progress));
+    same(rt, &db.repair(), &Some(progress));
     previews(rt, alloc, db, preview);
 }
 
 /// Asserts whether the rows of the accounts 1 and 2 are split.
 fn are_split(rt: &impl Abort, db: &Db, first: bool, second: bool) {
     let table = db.versions(ACCT).expect(rt, "a table");
-    assert_eq!(rt; table.is_split(1), first);
-    assert_eq!(rt; table.is_split(2), second);
+    same(rt, &table.is_split(1), &first);
+    same(rt, &table.is_split(2), &second);
 }
 
 #[test]
@@ -82,7 +82,7 @@ fn the_account_is_given_back(rt: HostRuntime) {
     let updated = [Reply::Updated(1), Reply::Updated(1)];
     write(&rt, alloc, &mut db, payment(&rt, alloc), updated);
     let early = answer_to(&rt, &mut db, Event::Switch);
-    assert_eq!(rt; early, Err(DbError::NotCaughtUp { left: 3 }));
+    same(&rt, &early, &Err(DbError::NotCaughtUp { left: 3 }));
     steps(&rt, alloc, &mut db, true, (4, 2, 2), &interest);
     steps(
         &rt,
@@ -97,7 +97,7 @@ fn the_account_is_given_back(rt: HostRuntime) {
     steps(&rt, alloc, &mut db, true, (6, 0, 4), &repaired);
     are_split(&rt, &db, true, true);
     has(&rt, alloc, &db, &[(1, "eve", 10), (2, "bob", 35)]);
-    assert_eq!(rt; made(&rt, &mut db, Event::Switch), switched(1, 6, 4));
+    same(&rt, &made(&rt, &mut db, Event::Switch), &switched(1, 6, 4));
     are_split(&rt, &db, false, false);
     are_repaired(&rt, alloc, &db);
     done(db);

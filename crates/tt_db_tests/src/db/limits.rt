@@ -1,4 +1,4 @@
-use super::{ANN, Account, BOB, after, done, entry, has, small_db};
+use super::{ANN, Account, BOB, after, done, entry, has, same, small_db};
 use std::alloc::Global;
 use std::process::Abort;
 use tt_db::{Db, DbError, Limits, MAX_EVENTS};
@@ -55,7 +55,7 @@ fn refuses(rt: &impl Abort, alloc: Global, db: &Db, limit: u64) {
             done(next);
             panic!(rt; "an insert past the limit {limit}");
         }
-        Err(error) => assert_eq!(rt; error, DbError::Full { limit }),
+        Err(error) => same(rt, &error, &DbError::Full { limit }),
     }
 }
 
@@ -68,7 +68,7 @@ fn a_full_database_refuses(rt: HostRuntime) {
         refuses(&rt, alloc, &db, limit);
         let next = entry(&rt, alloc, 1, (3, "cat", 30));
         let (db, answer) = db.advanced(next).expect(&rt, "memory");
-        assert_eq!(rt; answer.err(), Some(DbError::Full { limit }));
+        same(&rt, &answer.err(), &Some(DbError::Full { limit }));
         has(&rt, alloc, &db, filling.accounts);
         done(db);
     }
@@ -77,10 +77,10 @@ fn a_full_database_refuses(rt: HostRuntime) {
 #[test]
 fn limits_fit_up_to_the_largest(rt: HostRuntime) {
     let usual = Limits::usual();
-    assert_eq!(rt; usual.slots, 1_000_000);
-    assert_eq!(rt; usual.events, 4_000_000);
-    assert_eq!(rt; usual.edits, 10_000);
-    assert_eq!(rt; usual.keep, 4);
+    same(&rt, &usual.slots, &1_000_000);
+    same(&rt, &usual.events, &4_000_000);
+    same(&rt, &usual.edits, &10_000);
+    same(&rt, &usual.keep, &4);
     for (slots, events, edits, keep, fits) in [
         (1_000_000, 4_000_000, 10_000, 4, true),
         (1_000_000, 4_000_000, 10_000, 16, true),

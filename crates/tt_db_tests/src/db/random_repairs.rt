@@ -1,7 +1,7 @@
 //! Long runs of all events, beside a plain list of the slots. A fresh database that is given the
 //! slots of the list as actions, and never a repair, has to answer the same.
 use super::random::{Random, edit_of};
-use super::{ACCT, action, answer_to, done, made, new_db, select_all};
+use super::{ACCT, action, answer_to, done, made, new_db, same, select_all};
 use std::alloc::Global;
 use std::process::Abort;
 use tt_db::{Db, Edit, Entry, Event, Outcome, Slot};
@@ -89,8 +89,8 @@ fn count(rt: &impl Abort, run: &mut Run, before: u64, outcome: &Outcome) {
         rerun,
     } = outcome
     {
-        assert_eq!(rt; *generation, before.saturating_add(1));
-        assert_eq!(rt; *slots, run.slots.len() as u64);
+        same(rt, generation, &before.saturating_add(1));
+        same(rt, slots, &(run.slots.len() as u64));
         run.rerun = run.rerun.saturating_add(*rerun);
     }
 }
@@ -138,8 +138,8 @@ fn has_slots(rt: &impl Abort, run: &Run, fresh: &Db) {
 fn is_current(rt: &impl Abort, alloc: Global, run: &Run) {
     let now = run.db.now();
     let fresh = fresh_db(rt, alloc, run.slots.as_slice(), now);
-    assert_eq!(rt; run.slots.len() as u64, now);
-    assert_eq!(rt; fresh.now(), now);
+    same(rt, &(run.slots.len() as u64), &now);
+    same(rt, &fresh.now(), &now);
     for time in 0..now.saturating_add(1) {
         let accounts = accounts_at(rt, alloc, &run.db, time);
         assert_eq!(rt; accounts, accounts_at(rt, alloc, &fresh, time), "at {time}");
@@ -154,7 +154,7 @@ fn is_next(rt: &impl Abort, alloc: Global, run: &Run) {
         let fresh = fresh_db(rt, alloc, run.edited.as_slice(), progress.done);
         let preview = run.db.preview(&select_all(rt, alloc, ACCT));
         let preview = preview.expect(rt, "a reply");
-        assert_eq!(rt; preview, accounts_at(rt, alloc, &fresh, progress.done));
+        same(rt, &preview, &accounts_at(rt, alloc, &fresh, progress.done));
         done(fresh);
     }
 }

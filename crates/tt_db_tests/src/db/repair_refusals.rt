@@ -1,6 +1,6 @@
 //! Why events of a repair are refused, in the order of the reasons, and limits in a repair.
 use super::repairs::{begin, begin_and_step, five_slots, switched};
-use super::{ANN, answer_to, bank, done, has, made, new_db, open, previews};
+use super::{ANN, answer_to, bank, done, has, made, new_db, open, previews, same};
 use std::alloc::Global;
 use std::process::Abort;
 use tt_db::{
@@ -11,9 +11,9 @@ use tt_db::{
 fn refused(rt: &impl Abort, db: &mut Db, event: Event, want: DbError) {
     let events = db.events();
     let repair = db.repair();
-    assert_eq!(rt; answer_to(rt, db, event), Err(want));
-    assert_eq!(rt; db.events(), events);
-    assert_eq!(rt; db.repair(), repair);
+    same(rt, &answer_to(rt, db, event), &Err(want));
+    same(rt, &db.events(), &events);
+    same(rt, &db.repair(), &repair);
 }
 
 /// A new database with the table `acct` and these limits.
@@ -38,7 +38,7 @@ fn an_edit_of_no_slot_and_a_second_edit_are_refused(rt: HostRuntime) {
         [Edit::Cancel(3), Edit::Cancel(3), Edit::Cancel(9)],
     );
     refused(&rt, &mut db, event, DbError::NoSlot { t: 9 });
-    assert_eq!(rt; db.repair(), None);
+    same(&rt, &db.repair(), &None);
     has(&rt, alloc, &db, &[(3, "bob", 8)]);
     done(db);
 }
@@ -60,7 +60,7 @@ fn a_repair_goes_in_order(rt: HostRuntime) {
     let mut db = new_db(&rt, alloc);
     open(&rt, alloc, &mut db, ANN);
     let event = begin(&rt, alloc, []);
-    assert_eq!(rt; made(&rt, &mut db, event), Outcome::Begun);
+    same(&rt, &made(&rt, &mut db, event), &Outcome::Begun);
     let event = begin(&rt, alloc, []);
     refused(&rt, &mut db, event, DbError::Repairing);
     refused(
@@ -73,9 +73,9 @@ fn a_repair_goes_in_order(rt: HostRuntime) {
         slot: 1,
         rerun: false,
     };
-    assert_eq!(rt; made(&rt, &mut db, Event::Step), stepped);
+    same(&rt, &made(&rt, &mut db, Event::Step), &stepped);
     refused(&rt, &mut db, Event::Step, DbError::NothingLeft);
-    assert_eq!(rt; made(&rt, &mut db, Event::Switch), switched(1, 1, 0));
+    same(&rt, &made(&rt, &mut db, Event::Switch), &switched(1, 1, 0));
     refused(&rt, &mut db, Event::Abort, DbError::NotRepairing);
     done(db);
 }
@@ -91,11 +91,11 @@ fn a_repair_has_so_many_edits_at_most(rt: HostRuntime) {
     };
     let mut db = limited_db(&rt, alloc, limits);
     open(&rt, alloc, &mut db, ANN);
-    assert_eq!(rt; db.now(), 1);
+    same(&rt, &db.now(), &1);
     let event = begin(&rt, alloc, [Edit::Cancel(1)]);
     refused(&rt, &mut db, event, DbError::TooManyEdits);
     let event = begin(&rt, alloc, []);
-    assert_eq!(rt; made(&rt, &mut db, event), Outcome::Begun);
+    same(&rt, &made(&rt, &mut db, event), &Outcome::Begun);
     done(db);
 }
 

@@ -1,7 +1,7 @@
 //! Repairs from begin to switch: the rows, the replies and the counts that they lead to.
 use super::{
     ACCT, ANN, Account, SAME_KEY, action, add, any_account, delete, done, had, has, id_is, insert,
-    made, new_db, open, owner_is, replies, set_balance, set_owner, update, write,
+    made, new_db, open, owner_is, replies, same, set_balance, set_owner, update, write,
 };
 use std::alloc::Global;
 use std::process::Abort;
@@ -24,7 +24,7 @@ pub(super) fn begin_and_step<const N: usize>(
     steps: u64,
 ) {
     let begun = made(rt, db, begin(rt, alloc, edits));
-    assert_eq!(rt; begun, Outcome::Begun);
+    same(rt, &begun, &Outcome::Begun);
     for _ in 0..steps {
         made(rt, db, Event::Step);
     }
@@ -120,9 +120,9 @@ fn a_new_database_can_be_repaired(rt: HostRuntime) {
     let alloc = rt.alloc();
     let mut db = new_db(&rt, alloc);
     has(&rt, alloc, &db, &[]);
-    assert_eq!(rt; db.now(), 0);
-    assert_eq!(rt; repair(&rt, alloc, &mut db, []), switched(1, 0, 0));
-    assert_eq!(rt; db.generation(), 1);
+    same(&rt, &db.now(), &0);
+    same(&rt, &repair(&rt, alloc, &mut db, []), &switched(1, 0, 0));
+    same(&rt, &db.generation(), &1);
     has(&rt, alloc, &db, &[]);
     done(db);
 }
@@ -134,9 +134,10 @@ fn a_duplicate_whose_key_gets_free_is_inserted(rt: HostRuntime) {
     open(&rt, alloc, &mut db, ANN);
     let duplicate = insert(&rt, alloc, ACCT, SAME_KEY);
     write(&rt, alloc, &mut db, [duplicate], [Reply::Duplicate]);
-    assert_eq!(rt;
-        repair(&rt, alloc, &mut db, [Edit::Cancel(1)]),
-        switched(1, 2, 2)
+    same(
+        &rt,
+        &repair(&rt, alloc, &mut db, [Edit::Cancel(1)]),
+        &switched(1, 2, 2),
     );
     has(&rt, alloc, &db, &[SAME_KEY]);
     is_cancelled(&rt, &db, 1);
@@ -161,9 +162,10 @@ fn a_row_that_another_owner_had_is_followed(rt: HostRuntime) {
     let of_ann = update(&rt, alloc, add(7), owner_is(&rt, alloc, "ann"));
     write(&rt, alloc, &mut db, [of_ann], [Reply::Updated(0)]);
     has(&rt, alloc, &db, &[(1, "eve", 0)]);
-    assert_eq!(rt;
-        repair(&rt, alloc, &mut db, [Edit::Cancel(2)]),
-        switched(1, 4, 3)
+    same(
+        &rt,
+        &repair(&rt, alloc, &mut db, [Edit::Cancel(2)]),
+        &switched(1, 4, 3),
     );
     has(&rt, alloc, &db, &[(1, "ann", 17)]);
     replied(&rt, alloc, &db, 3, [Reply::Updated(0)]);
@@ -177,7 +179,11 @@ fn a_delete_is_replaced(rt: HostRuntime) {
     let mut db = five_slots(&rt, alloc);
     has(&rt, alloc, &db, &[(3, "bob", 8)]);
     let edit = delete_bob(&rt, alloc);
-    assert_eq!(rt; repair(&rt, alloc, &mut db, [edit]), switched(1, 5, 2));
+    same(
+        &rt,
+        &repair(&rt, alloc, &mut db, [edit]),
+        &switched(1, 5, 2),
+    );
     has(&rt, alloc, &db, &[(1, "ann", 6), (2, "ann", 7)]);
     replied(&rt, alloc, &db, 4, [Reply::Deleted(1)]);
     replied(&rt, alloc, &db, 5, [Reply::Updated(2)]);
@@ -211,7 +217,11 @@ fn slots_that_nothing_affects_are_passed_over(rt: HostRuntime) {
     let mut db = many_slots(&rt, alloc);
     begin_and_step(&rt, alloc, &mut db, [Edit::Cancel(1)], 201);
     only_ann_is_split(&rt, db.versions(ACCT).expect(&rt, "a table"));
-    assert_eq!(rt; made(&rt, &mut db, Event::Switch), switched(1, 201, 1));
+    same(
+        &rt,
+        &made(&rt, &mut db, Event::Switch),
+        &switched(1, 201, 1),
+    );
     let mut wants = Vec::new(alloc);
     for id in 2..102 {
         wants.push((id, "bob", 100)).expect(&rt, "memory");
@@ -228,9 +238,10 @@ fn times_before_the_edit_stay(rt: HostRuntime) {
     let delete = delete(id_is(&rt, alloc, 1));
     write(&rt, alloc, &mut db, [delete], [Reply::Deleted(1)]);
     open(&rt, alloc, &mut db, (1, "bob", 5));
-    assert_eq!(rt;
-        repair(&rt, alloc, &mut db, [Edit::Cancel(3)]),
-        switched(1, 3, 1)
+    same(
+        &rt,
+        &repair(&rt, alloc, &mut db, [Edit::Cancel(3)]),
+        &switched(1, 3, 1),
     );
     had(&rt, alloc, &db, 1, &[ANN]);
     had(&rt, alloc, &db, 2, &[]);

@@ -1,7 +1,8 @@
 //! Repairs of generations that came out of repairs.
 use super::repairs::{is_cancelled, repair, replied, switched};
 use super::{
-    ACCT, ANN, Account, BOB, action, add_to_balance, done, had, has, insert, new_db, open, write,
+    ACCT, ANN, Account, BOB, action, add_to_balance, done, had, has, insert, new_db, open, same,
+    write,
 };
 use std::alloc::Global;
 use std::process::Abort;
@@ -34,7 +35,7 @@ fn a_cancelled_slot_is_cancelled_again(rt: HostRuntime) {
     let mut db = three_slots(&rt, alloc);
     for generation in 1..4 {
         let outcome = repair(&rt, alloc, &mut db, [Edit::Cancel(2)]);
-        assert_eq!(rt; outcome, switched(generation, 3, 1));
+        same(&rt, &outcome, &switched(generation, 3, 1));
         is_cancelled(&rt, &db, 2);
         has(&rt, alloc, &db, &[ANN, BOB]);
     }
@@ -45,12 +46,17 @@ fn a_cancelled_slot_is_cancelled_again(rt: HostRuntime) {
 fn a_cancelled_slot_is_replaced(rt: HostRuntime) {
     let alloc = rt.alloc();
     let mut db = three_slots(&rt, alloc);
-    assert_eq!(rt;
-        repair(&rt, alloc, &mut db, [Edit::Cancel(2)]),
-        switched(1, 3, 1)
+    same(
+        &rt,
+        &repair(&rt, alloc, &mut db, [Edit::Cancel(2)]),
+        &switched(1, 3, 1),
     );
     let edit = update_by(&rt, alloc, 7);
-    assert_eq!(rt; repair(&rt, alloc, &mut db, [edit]), switched(2, 3, 1));
+    same(
+        &rt,
+        &repair(&rt, alloc, &mut db, [edit]),
+        &switched(2, 3, 1),
+    );
     replied(&rt, alloc, &db, 2, [Reply::Updated(1)]);
     had(&rt, alloc, &db, 2, &[(1, "ann", 17)]);
     has(&rt, alloc, &db, &[(1, "ann", 17), BOB]);
@@ -61,18 +67,27 @@ fn a_cancelled_slot_is_replaced(rt: HostRuntime) {
 fn the_first_slot_is_edited_in_three_generations(rt: HostRuntime) {
     let alloc = rt.alloc();
     let mut db = three_slots(&rt, alloc);
-    assert_eq!(rt;
-        repair(&rt, alloc, &mut db, [Edit::Cancel(1)]),
-        switched(1, 3, 2)
+    same(
+        &rt,
+        &repair(&rt, alloc, &mut db, [Edit::Cancel(1)]),
+        &switched(1, 3, 2),
     );
     replied(&rt, alloc, &db, 2, [Reply::Updated(0)]);
     has(&rt, alloc, &db, &[BOB]);
     let edit = insert_at(&rt, alloc, 1, (2, "eve", 1));
-    assert_eq!(rt; repair(&rt, alloc, &mut db, [edit]), switched(2, 3, 2));
+    same(
+        &rt,
+        &repair(&rt, alloc, &mut db, [edit]),
+        &switched(2, 3, 2),
+    );
     replied(&rt, alloc, &db, 3, [Reply::Duplicate]);
     has(&rt, alloc, &db, &[(2, "eve", 1)]);
     let edit = insert_at(&rt, alloc, 1, (1, "ann", 1));
-    assert_eq!(rt; repair(&rt, alloc, &mut db, [edit]), switched(3, 3, 3));
+    same(
+        &rt,
+        &repair(&rt, alloc, &mut db, [edit]),
+        &switched(3, 3, 3),
+    );
     replied(&rt, alloc, &db, 2, [Reply::Updated(1)]);
     replied(&rt, alloc, &db, 3, [Reply::Inserted]);
     has(&rt, alloc, &db, &[(1, "ann", 6), BOB]);

@@ -1,10 +1,10 @@
 use super::{
     ACCT, ANN, Account, BOB, LOAN, SAME_KEY, action, add_to_balance, bad_entry, done, entry, has,
-    insert, replies, small_db,
+    insert, replies, same, small_db,
 };
 use std::alloc::Global;
 use std::process::Abort;
-use tt_db::{DbError, Entry, Event, MAX_EVENTS, Outcome};
+use tt_db::{Db, DbError, Entry, Event, MAX_EVENTS, Outcome};
 use tt_values::{CheckError, Reply};
 
 const CAT: Account = (3, "cat", 30);
@@ -70,23 +70,36 @@ fn mixed_answers(rt: &impl Abort, alloc: Global) -> Vec<Result<Outcome, DbError>
     Vec::from_array(alloc, answers).expect(rt, "memory")
 }
 
+/// Applies those entries.
+fn answers_each(rt: &impl Abort, alloc: Global, db: &mut Db) {
+    let answers = db
+        .apply_all(mixed_entries(rt, alloc).as_slice())
+        .expect(rt, "memory");
+    same(
+        rt,
+        &answers.as_slice(),
+        &mixed_answers(rt, alloc).as_slice(),
+    );
+}
+
+/// Asserts that the history has the three entries that were accepted.
+fn has_what_was_accepted(rt: &impl Abort, db: &Db) {
+    same(rt, &(db.now(), db.events()), &(3, 3));
+    for (place, worker) in [(1, 1), (2, 3), (3, 4)] {
+        let entry = db.entry(place).expect(rt, "an entry");
+        same(rt, &(place, entry.worker), &(place, worker));
+    }
+    assert!(rt; db.entry(4).is_none());
+}
+
 #[test]
 fn a_run_answers_each_entry(rt: HostRuntime) {
     let alloc = rt.alloc();
     let mut db = small_db(&rt, alloc, 3, MAX_EVENTS);
-    let answers = db
-        .apply_all(mixed_entries(&rt, alloc).as_slice())
-        .expect(&rt, "memory");
-    assert_eq!(rt; answers.as_slice(), mixed_answers(&rt, alloc).as_slice());
-    assert_eq!(rt; db.now(), 3);
-    assert_eq!(rt; db.events(), 3);
+    answers_each(&rt, alloc, &mut db);
+    has_what_was_accepted(&rt, &db);
     has(&rt, alloc, &db, &[ANN_15, BOB]);
-    for (place, worker) in [(1, 1), (2, 3), (3, 4)] {
-        let entry = db.entry(place).expect(&rt, "an entry");
-        assert_eq!(rt; entry.worker, worker, "at {place}");
-    }
-    assert!(rt; db.entry(4).is_none());
     let answers = db.apply_all(&[]).expect(&rt, "memory");
-    assert_eq!(rt; answers.len(), 0);
+    assert!(rt; answers.is_empty());
     done(db);
 }

@@ -1,4 +1,4 @@
-use super::{ACCT, after, entry, new_db, select_all};
+use super::{ACCT, after, entry, new_db, same, select_all};
 use std::alloc::Global;
 use std::process::Abort;
 use tt_db::Db;
@@ -42,9 +42,9 @@ fn many_states_share_what_they_have_in_common(rt: HostRuntime) {
     let alloc = rt.alloc();
     let states = all_states(&rt, alloc);
     for (time, db) in states.iter().enumerate() {
-        assert_eq!(rt; db.now(), time as u64);
+        same(&rt, &db.now(), &(time as u64));
         if time % 1_000 == 7 {
-            assert_eq!(rt; count(&rt, alloc, db), time);
+            same(&rt, &count(&rt, alloc, db), &time);
         }
     }
 }

@@ -3,8 +3,8 @@ use super::repairs::{
     FIVE_SLOTS_HAD, begin, begin_and_step, delete_bob, finish, five_slots, switched,
 };
 use super::{
-    ACCT, ANN, add_to_balance, done, had, has, id_is, made, new_db, open, previews, select_all,
-    set_balance, set_owner, update, write,
+    ACCT, ANN, add_to_balance, done, had, has, id_is, made, new_db, open, previews, same,
+    select_all, set_balance, set_owner, update, write,
 };
 use std::alloc::Global;
 use std::process::Abort;
@@ -22,12 +22,12 @@ fn the_current_generation_stays_until_the_switch(rt: HostRuntime) {
         left: 1,
         rerun: 1,
     };
-    assert_eq!(rt; db.repair(), Some(progress));
+    same(&rt, &db.repair(), &Some(progress));
     has(&rt, alloc, &db, &[(3, "bob", 8)]);
     open(&rt, alloc, &mut db, (4, "dan", 1));
     previews(&rt, alloc, &db, &[(1, "ann", 5), (2, "ann", 6)]);
     has(&rt, alloc, &db, &[(3, "bob", 8), (4, "dan", 1)]);
-    assert_eq!(rt; finish(&rt, &mut db), switched(1, 6, 2));
+    same(&rt, &finish(&rt, &mut db), &switched(1, 6, 2));
     has(
         &rt,
         alloc,
@@ -55,7 +55,7 @@ fn a_write_during_a_repair_is_caught_up_with(rt: HostRuntime) {
     let mut db = written_during_a_repair(&rt, alloc);
     has(&rt, alloc, &db, &[(1, "ann", 1)]);
     previews(&rt, alloc, &db, &[ANN]);
-    assert_eq!(rt; finish(&rt, &mut db), switched(1, 3, 2));
+    same(&rt, &finish(&rt, &mut db), &switched(1, 3, 2));
     has(&rt, alloc, &db, &[(1, "ann", 11)]);
     done(db);
 }
@@ -72,7 +72,7 @@ fn two_writes_during_a_repair_are_caught_up_with(rt: HostRuntime) {
     );
     write(&rt, alloc, &mut db, [moved], [Reply::Updated(1)]);
     has(&rt, alloc, &db, &[(1, "eve", 1)]);
-    assert_eq!(rt; finish(&rt, &mut db), switched(1, 4, 3));
+    same(&rt, &finish(&rt, &mut db), &switched(1, 4, 3));
     has(&rt, alloc, &db, &[(1, "eve", 11)]);
     had(&rt, alloc, &db, 3, &[(1, "ann", 11)]);
     done(db);
@@ -83,11 +83,11 @@ fn is_as_before(rt: &impl Abort, alloc: Global, db: &Db) {
     for (time, accounts) in FIVE_SLOTS_HAD.iter().enumerate() {
         had(rt, alloc, db, time as u64, accounts);
     }
-    assert_eq!(rt; db.now(), 5);
-    assert_eq!(rt; db.generation(), 0);
-    assert_eq!(rt; db.repair(), None);
+    same(rt, &db.now(), &5);
+    same(rt, &db.generation(), &0);
+    same(rt, &db.repair(), &None);
     let preview = db.preview(&select_all(rt, alloc, ACCT));
-    assert_eq!(rt; preview.err(), Some(ReadError::NotRepairing));
+    same(rt, &preview.err(), &Some(ReadError::NotRepairing));
 }
 
 #[test]
@@ -97,10 +97,10 @@ fn a_repair_can_be_given_up_at_each_step(rt: HostRuntime) {
         let mut db = five_slots(&rt, alloc);
         let edit = delete_bob(&rt, alloc);
         begin_and_step(&rt, alloc, &mut db, [edit], steps);
-        assert_eq!(rt; made(&rt, &mut db, Event::Abort), Outcome::Aborted);
+        same(&rt, &made(&rt, &mut db, Event::Abort), &Outcome::Aborted);
         is_as_before(&rt, alloc, &db);
         let again = begin(&rt, alloc, [delete_bob(&rt, alloc)]);
-        assert_eq!(rt; made(&rt, &mut db, again), Outcome::Begun);
+        same(&rt, &made(&rt, &mut db, again), &Outcome::Begun);
         assert_eq!(rt; finish(&rt, &mut db), switched(1, 5, 2), "after {steps}");
         has(&rt, alloc, &db, &[(1, "ann", 6), (2, "ann", 7)]);
         done(db);

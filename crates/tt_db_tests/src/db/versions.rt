@@ -1,9 +1,9 @@
-use super::{ACCT, ANN, BOB, LOAN, after, bank, done, entry, row};
+use super::{ACCT, ANN, BOB, LOAN, after, bank, done, entry, row, same};
 use std::alloc::Global;
 use std::process::Abort;
 use tt_db::{Db, Limits};
 use tt_values::{Reply, Row};
-use tt_versions::Side;
+use tt_versions::{Side, Table};
 
 /// A database of `acct` and `loan`, with two accounts and no loan.
 fn accounts(rt: &impl Abort, alloc: Global) -> Db {
@@ -15,24 +15,23 @@ fn accounts(rt: &impl Abort, alloc: Global) -> Db {
     second
 }
 
+/// Asserts what a side of `acct` has of `BOB` at some times.
+fn shows_bob(rt: &impl Abort, alloc: Global, versions: &Table, side: Side) {
+    let bob = row(rt, alloc, BOB);
+    let wants: [(u64, Option<&Row>); 4] = [(0, None), (1, None), (2, Some(&bob)), (9, Some(&bob))];
+    for (time, want) in wants {
+        same(rt, &(time, versions.at(2, time, side)), &(time, want));
+    }
+}
+
 fn has_its_versions(rt: &impl Abort, alloc: Global, db: &Db) {
     let versions = db.versions(ACCT).expect(rt, "a table");
-    let bob = row(rt, alloc, BOB);
-    for side in [Side::Current, Side::Next] {
-        let wants: [(u64, Option<&Row>); 4] = [
-            (0, None),
-            (1, None),
-            (2, Some(&bob)),
-            (9, Some(&bob)),
-        ];
-        for (time, want) in wants {
-            assert_eq!(rt; versions.at(2, time, side), want, "at {time}");
-        }
-    }
+    shows_bob(rt, alloc, versions, Side::Current);
+    shows_bob(rt, alloc, versions, Side::Next);
     assert!(rt; !versions.is_split(1) && !versions.is_split(2));
     let loans = db.versions(LOAN).expect(rt, "a table");
     let rows = loans.rows_at(2, Side::Current).expect(rt, "memory");
-    assert_eq!(rt; rows.len(), 0);
+    assert!(rt; rows.is_empty());
     for table in [2, u16::MAX] {
         assert!(rt; db.versions(table).is_none(), "table {table}");
     }

@@ -1,4 +1,4 @@
-use super::{Scenario, closed, has_places, inserts, plays};
+use super::{Scenario, closed, has_places, inserts, plays, same};
 use std::alloc::Global;
 use std::process::Abort;
 use std::sync::Wait;
@@ -22,7 +22,7 @@ pub(super) fn closes_backwards<L: Naming, T: Wait + Abort>(
     inserts(rt, alloc, &store, &mut first, (1, "ann", 10), (1, 1));
     let both = Vec::from_array(alloc, [second, first]).expect(rt, "memory");
     let closed = closed(rt, store, both);
-    assert_eq!(rt; closed.db.get().events(), 1);
+    same(rt, &closed.db.get().events(), &1);
     assert!(rt; has_places(&closed.places, &[1], &[]));
 }
 
@@ -44,7 +44,7 @@ pub(super) fn closes_later<L: Naming, T: Wait + Abort>(
     inserts(rt, alloc, &store, &mut first, (1, "ann", 10), (1, 1));
     let both = Vec::from_array(alloc, [first, second]).expect(rt, "memory");
     let closed = closed(rt, store, both);
-    assert_eq!(rt; closed.db.get().events(), 1);
+    same(rt, &closed.db.get().events(), &1);
     assert!(rt; has_places(&closed.places, &[1], &[]));
 }
 

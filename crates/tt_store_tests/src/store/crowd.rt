@@ -1,6 +1,6 @@
 //! Sixteen workers in threads: five write and ten read, while one repairs.
 use super::{
-    Scenario, add_to_all, all, bank, begins_after_five_slots, closed, delete, insert, plays,
+    Scenario, add_to_all, all, bank, begins_after_five_slots, closed, delete, insert, plays, same,
 };
 use std::alloc::Global;
 use std::process::Abort;
@@ -108,7 +108,7 @@ fn finishes<L: Naming, T: Wait + Abort>(
         }
     }
     let finished = store.finish(rt, worker).expect(rt, "a switch");
-    assert_eq!(rt; finished.generation, generation);
+    same(rt, &finished.generation, &generation);
 }
 
 /// Writes, and keeps what it is told.
@@ -171,11 +171,11 @@ fn is_as_told(rt: &impl Abort, alloc: Global, closed: &Db, written: &[Written]) 
     for told in written {
         has_outcome(rt, &outcomes, told);
     }
-    assert_eq!(rt; written.len(), 5000);
-    assert_eq!(rt; (db.now(), db.generation()), (5005, 4));
+    same(rt, &written.len(), &5000);
+    same(rt, &(db.now(), db.generation()), &(5005, 4));
     let all = all(rt, alloc);
     let rows = db.select(&all).expect(rt, "a select");
-    assert_eq!(rt; closed.select(&all).expect(rt, "a select"), rows);
+    same(rt, &closed.select(&all).expect(rt, "a select"), &rows);
 }
 
 /// A database of one thread that is given a history, and the outcomes of its entries.
@@ -202,5 +202,5 @@ fn has_outcome(rt: &impl Abort, outcomes: &[Outcome], told: &Written) {
         slot: told.slot,
         replies,
     };
-    assert_eq!(rt; *outcome, want);
+    same(rt, outcome, &want);
 }

@@ -1,4 +1,4 @@
-use super::{Scenario, all, begins_after_five_slots, delete_bob, has, plays};
+use super::{Scenario, all, begins_after_five_slots, delete_bob, has, plays, same};
 use std::alloc::Global;
 use std::process::Abort;
 use std::sync::Wait;
@@ -40,20 +40,24 @@ fn gives_up_after<L: Naming, T: Wait + Abort>(
     let done = u64::from(steps);
     let progress = store.step(rt, worker, steps).expect(rt, "steps");
     let left = 5u64.saturating_sub(done);
-    assert_eq!(rt; (progress.done, progress.left), (done, left));
-    assert_eq!(rt; store.abort(rt, worker), Ok(done.saturating_add(7)));
-    assert_eq!(rt; worker.progress(), None);
+    same(rt, &(progress.done, progress.left), &(done, left));
+    same(rt, &store.abort(rt, worker), &Ok(done.saturating_add(7)));
+    same(rt, &worker.progress(), &None);
 }
 
 /// Asserts that there is generation 0, and none behind it.
 fn has_no_next_generation<L: Naming>(rt: &impl Abort, alloc: Global, worker: &mut Worker<L>) {
     let all = all(rt, alloc);
-    assert_eq!(rt; worker.preview(&all).err(), Some(ReadError::NotRepairing));
+    same(
+        rt,
+        &worker.preview(&all).err(),
+        &Some(ReadError::NotRepairing),
+    );
     let missing = ReadError::NoGeneration {
         oldest: 0,
         newest: 0,
     };
-    assert_eq!(rt; worker.read_in(1, &all, 0).err(), Some(missing));
+    same(rt, &worker.read_in(1, &all, 0).err(), &Some(missing));
 }
 
 /// Begins a repair behind the one that was given up after so many steps.
@@ -65,5 +69,5 @@ fn begins_another<L: Naming, T: Wait + Abort>(
     steps: u32,
 ) {
     let begun = store.begin(rt, worker, delete_bob(rt, alloc));
-    assert_eq!(rt; begun, Ok(u64::from(steps).saturating_add(8)));
+    same(rt, &begun, &Ok(u64::from(steps).saturating_add(8)));
 }

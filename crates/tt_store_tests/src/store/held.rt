@@ -4,7 +4,7 @@ ghost use Rattle.std.specs.Arc.{arc_value};
 ghost use Rattle.tt_db.specs.Limits.{usual_limits};
 ghost use Rattle.tt_store.specs.Published.{SaysThat};
 
-use super::{all, bank, begins_after_five_slots, has, inserts};
+use super::{all, bank, begins_after_five_slots, has, inserts, same};
 use std::alloc::Global;
 use std::marker::Brand;
 use std::process::Abort;
@@ -69,9 +69,9 @@ impl Marks {
     /// Asserts that nobody waited in vain, that a state was built so often, and that the call
     /// published once.
     fn check(&self, rt: &impl Abort, built: u64) {
-        assert_eq!(rt; self.missed.load(Ordering::SeqCst), 0);
-        assert_eq!(rt; self.built.load(Ordering::SeqCst), built);
-        assert_eq!(rt; self.published.load(Ordering::SeqCst), 1);
+        same(rt, &self.missed.load(Ordering::SeqCst), &0);
+        same(rt, &self.built.load(Ordering::SeqCst), &built);
+        same(rt, &self.published.load(Ordering::SeqCst), &1);
     }
 }
 
@@ -266,8 +266,8 @@ fn steps<L: Naming, T: Wait + Abort>(
         left: 4,
         rerun: 0,
     };
-    assert_eq!(rt; store.step(rt, &mut worker, 2), Ok(progress));
-    assert_eq!(rt; worker.seen(), 9);
+    same(rt, &store.step(rt, &mut worker, 2), &Ok(progress));
+    same(rt, &worker.seen(), &9);
     worker
 }
 

@@ -1,4 +1,4 @@
-use super::{Scenario, has, insert, inserts, plays, tries};
+use super::{Scenario, has, insert, inserts, plays, same, tries};
 use std::alloc::Global;
 use std::process::Abort;
 use std::sync::Wait;
@@ -14,15 +14,15 @@ fn a_store_has_one_to_sixteen_workers(rt: HostRuntime) {
     for workers in [0, 17] {
         let scenario = Scenario::HasWorkers(workers);
         let tried = tries(&rt, alloc, workers, Limits::usual(), scenario);
-        assert_eq!(rt; tried, Err(OpenError::Workers));
+        same(&rt, &tried, &Err(OpenError::Workers));
     }
 }
 
 /// There are so many workers, with their numbers.
 pub(super) fn has_workers<L: Naming, T: Wait + Abort>(rt: &T, workers: Vec<Worker<L>>, count: u32) {
-    assert_eq!(rt; workers.len(), count as usize);
+    same(rt, &workers.len(), &(count as usize));
     for (position, worker) in workers.iter().enumerate() {
-        assert_eq!(rt; worker.number() as usize, position.saturating_add(1));
+        same(rt, &(worker.number() as usize), &position.saturating_add(1));
     }
 }
 
@@ -33,7 +33,7 @@ fn a_third_slot_of_two_is_refused(rt: HostRuntime) {
         ..Limits::usual()
     };
     let tried = tries(&rt, rt.alloc(), 1, limits, Scenario::FillsTwoSlots);
-    assert_eq!(rt; tried, Ok(()));
+    same(&rt, &tried, &Ok(()));
 }
 
 /// There is room for two slots.
@@ -48,6 +48,6 @@ pub(super) fn fills_two_slots<L: Naming, T: Wait + Abort>(
     inserts(rt, alloc, &store, &mut worker, (2, "bob", 20), (2, 2));
     let third = store.write(rt, &mut worker, insert(rt, alloc, (3, "eve", 30)));
     let full = StoreError::Db(DbError::Full { limit: 2 });
-    assert_eq!(rt; third.err(), Some(full));
+    same(rt, &third.err(), &Some(full));
     has(rt, alloc, &mut worker, &[(1, "ann", 10), (2, "bob", 20)]);
 }

@@ -1,6 +1,6 @@
 use super::{
     Scenario, all, begins_after_five_slots, closed, delete_bob, has, has_places, inserts, plays,
-    rows, tries,
+    rows, same, tries,
 };
 use std::alloc::Global;
 use std::process::Abort;
@@ -29,7 +29,7 @@ pub(super) fn repairs_in_steps<L: Naming, T: Wait + Abort>(
     has(rt, alloc, &mut worker, &[(3, "bob", 8)]);
     previews(rt, alloc, &mut worker);
     finishes(rt, &store, &mut worker);
-    assert_eq!(rt; (worker.seen(), worker.made()), (12, 12));
+    same(rt, &(worker.seen(), worker.made()), &(12, 12));
     reads_the_closed_generation(rt, alloc, &mut worker);
 }
 
@@ -40,8 +40,8 @@ fn is_idle<L: Naming, T: Wait + Abort>(
     worker: &mut Worker<L>,
 ) {
     let refused = StoreError::Db(DbError::NotRepairing);
-    assert_eq!(rt; store.step(rt, worker, 0), Err(refused));
-    assert_eq!(rt; store.finish(rt, worker), Err(refused));
+    same(rt, &store.step(rt, worker, 0), &Err(refused));
+    same(rt, &store.finish(rt, worker), &Err(refused));
 }
 
 /// Makes no step of five, and then four of them.
@@ -51,23 +51,23 @@ fn steps<L: Naming, T: Wait + Abort>(rt: &T, store: &Store<L, NoGate, &T>, worke
         left: 5,
         rerun: 0,
     };
-    assert_eq!(rt; store.step(rt, worker, 0), Ok(before));
-    assert_eq!(rt; worker.seen(), 6);
+    same(rt, &store.step(rt, worker, 0), &Ok(before));
+    same(rt, &worker.seen(), &6);
     let progress = Progress {
         done: 4,
         left: 1,
         rerun: 1,
     };
-    assert_eq!(rt; store.step(rt, worker, 4), Ok(progress));
-    assert_eq!(rt; worker.seen(), 10);
+    same(rt, &store.step(rt, worker, 4), &Ok(progress));
+    same(rt, &worker.seen(), &10);
 }
 
 /// Asserts what the next generation shows after four slots.
 fn previews<L: Naming>(rt: &impl Abort, alloc: Global, worker: &mut Worker<L>) {
     let next = worker.preview(&all(rt, alloc)).expect(rt, "a preview");
-    assert_eq!(rt; next.time, 4);
+    same(rt, &next.time, &4);
     let accounts = [(1, "ann", 5), (2, "ann", 6)];
-    assert_eq!(rt; next.reply, rows(rt, alloc, &accounts));
+    same(rt, &next.reply, &rows(rt, alloc, &accounts));
 }
 
 /// Makes the step that is left, and the switch.
@@ -82,21 +82,21 @@ fn finishes<L: Naming, T: Wait + Abort>(
         slots: 5,
         rerun: 2,
     };
-    assert_eq!(rt; store.finish(rt, worker), Ok(finished));
+    same(rt, &store.finish(rt, worker), &Ok(finished));
 }
 
 /// Asserts what is shown of the generation before the repair, and that there is no third one.
 fn reads_the_closed_generation<L: Naming>(rt: &impl Abort, alloc: Global, worker: &mut Worker<L>) {
     let all = all(rt, alloc);
     let old = worker.read_in(0, &all, 5).expect(rt, "a read");
-    assert_eq!(rt; old.reply, rows(rt, alloc, &[(3, "bob", 8)]));
+    same(rt, &old.reply, &rows(rt, alloc, &[(3, "bob", 8)]));
     let later = worker.read_in(0, &all, 6);
-    assert_eq!(rt; later.err(), Some(ReadError::Later { now: 5 }));
+    same(rt, &later.err(), &Some(ReadError::Later { now: 5 }));
     let missing = ReadError::NoGeneration {
         oldest: 0,
         newest: 1,
     };
-    assert_eq!(rt; worker.read_in(2, &all, 5).err(), Some(missing));
+    same(rt, &worker.read_in(2, &all, 5).err(), &Some(missing));
 }
 
 #[test]
@@ -116,7 +116,7 @@ pub(super) fn finishes_for_another<L: Naming, T: Wait + Abort>(
     begins_after_five_slots(rt, alloc, &store, &mut first);
     is_refused_another(rt, alloc, &store, &mut second);
     let progress = store.step(rt, &mut second, 4).expect(rt, "four steps");
-    assert_eq!(rt; (progress.done, progress.left), (4, 1));
+    same(rt, &(progress.done, progress.left), &(4, 1));
     finishes(rt, &store, &mut second);
     workers.push(first).expect(rt, "memory");
     workers.push(second).expect(rt, "memory");
@@ -132,13 +132,14 @@ fn is_refused_another<L: Naming, T: Wait + Abort>(
     store: &Store<L, NoGate, &T>,
     worker: &mut Worker<L>,
 ) {
-    assert_eq!(rt; store.refresh(rt, worker), Ok(6));
+    same(rt, &store.refresh(rt, worker), &Ok(6));
     let refused = StoreError::Db(DbError::Repairing);
-    assert_eq!(rt;
-        store.begin(rt, worker, delete_bob(rt, alloc)),
-        Err(refused)
+    same(
+        rt,
+        &store.begin(rt, worker, delete_bob(rt, alloc)),
+        &Err(refused),
     );
-    assert_eq!(rt; (worker.seen(), worker.made()), (6, 0));
+    same(rt, &(worker.seen(), worker.made()), &(6, 0));
 }
 
 #[test]
@@ -148,7 +149,7 @@ fn a_full_history_stops_a_repair(rt: HostRuntime) {
         ..Limits::usual()
     };
     let tried = tries(&rt, rt.alloc(), 1, limits, Scenario::FillsHistory);
-    assert_eq!(rt; tried, Ok(()));
+    same(&rt, &tried, &Ok(()));
 }
 
 /// There is room for four entries.
@@ -174,7 +175,7 @@ fn begins<L: Naming, T: Wait + Abort>(
 ) {
     let edits = Vec::from_array(alloc, [Edit::Cancel(1)]).expect(rt, "memory");
     let edits = Items::new(alloc, edits).expect(rt, "memory");
-    assert_eq!(rt; store.begin(rt, worker, edits), Ok(3));
+    same(rt, &store.begin(rt, worker, edits), &Ok(3));
 }
 
 /// Asserts that there is room for one step of two, and then for none.
@@ -184,9 +185,9 @@ fn is_full_after_a_step<L: Naming, T: Wait + Abort>(
     worker: &mut Worker<L>,
 ) {
     let full = StoreError::Db(DbError::Full { limit: 4 });
-    assert_eq!(rt; store.step(rt, worker, 2), Err(full));
+    same(rt, &store.step(rt, worker, 2), &Err(full));
     let progress = store.step(rt, worker, 1).expect(rt, "a step");
-    assert_eq!(rt; (progress.done, progress.left), (1, 1));
-    assert_eq!(rt; store.finish(rt, worker), Err(full));
-    assert_eq!(rt; worker.seen(), 4);
+    same(rt, &(progress.done, progress.left), &(1, 1));
+    same(rt, &store.finish(rt, worker), &Err(full));
+    same(rt, &worker.seen(), &4);
 }

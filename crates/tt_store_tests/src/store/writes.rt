@@ -1,4 +1,4 @@
-use super::{Scenario, all, closed, has, has_places, insert, inserts, plays, rows};
+use super::{Scenario, all, closed, has, has_places, insert, inserts, plays, rows, same};
 use std::alloc::Global;
 use std::process::Abort;
 use std::sync::Wait;
@@ -24,7 +24,7 @@ pub(super) fn reads_beside<L: Naming, T: Wait + Abort>(
     inserts(rt, alloc, &store, &mut first, (1, "ann", 10), (1, 1));
     shows_the_account(rt, alloc, &mut first);
     reads_either(rt, alloc, &mut second);
-    assert_eq!(rt; store.refresh(rt, &mut second), Ok(1));
+    same(rt, &store.refresh(rt, &mut second), &Ok(1));
     shows_the_account(rt, alloc, &mut second);
     reads_at_other_times(rt, alloc, &mut second);
     made_nothing(rt, alloc, &second);
@@ -38,8 +38,8 @@ pub(super) fn reads_beside<L: Naming, T: Wait + Abort>(
 /// Asserts that the account is read, at time 1.
 fn shows_the_account<L: Naming>(rt: &impl Abort, alloc: Global, worker: &mut Worker<L>) {
     let answer = worker.read(&all(rt, alloc)).expect(rt, "a read");
-    assert_eq!(rt; answer.time, 1);
-    assert_eq!(rt; answer.reply, rows(rt, alloc, &[(1, "ann", 10)]));
+    same(rt, &answer.time, &1);
+    same(rt, &answer.reply, &rows(rt, alloc, &[(1, "ann", 10)]));
 }
 
 /// Asserts that a worker that wasn't told of the account reads it, or nothing at time 0.
@@ -55,29 +55,29 @@ fn reads_either<L: Naming>(rt: &impl Abort, alloc: Global, worker: &mut Worker<L
 fn reads_at_other_times<L: Naming>(rt: &impl Abort, alloc: Global, worker: &mut Worker<L>) {
     let all = all(rt, alloc);
     let before = worker.read_at(&all, 0).expect(rt, "a read");
-    assert_eq!(rt; before.time, 0);
-    assert_eq!(rt; before.reply, rows(rt, alloc, &[]));
+    same(rt, &before.time, &0);
+    same(rt, &before.reply, &rows(rt, alloc, &[]));
     let later = worker.read_at(&all, 2);
-    assert_eq!(rt; later.err(), Some(ReadError::Later { now: 1 }));
+    same(rt, &later.err(), &Some(ReadError::Later { now: 1 }));
 }
 
 /// Asserts that a worker has seen the insert of worker 1, and has made nothing.
 fn made_nothing<L: Naming>(rt: &impl Abort, alloc: Global, worker: &Worker<L>) {
-    assert_eq!(rt; (worker.seen(), worker.made()), (1, 0));
+    same(rt, &(worker.seen(), worker.made()), &(1, 0));
     let want = Entry {
         worker: 1,
         event: Event::Write(insert(rt, alloc, (1, "ann", 10))),
     };
     let entry = worker.seen_entry(1).expect(rt, "an entry");
-    assert_eq!(rt; *entry, want);
+    same(rt, entry, &want);
     assert!(rt; worker.seen_entry(2).is_none());
 }
 
 /// Asserts that a worker has made the only entry that it has seen.
 fn made_the_first<L: Naming>(rt: &impl Abort, worker: &Worker<L>) {
-    assert_eq!(rt; (worker.seen(), worker.made()), (1, 1));
-    assert_eq!(rt; (worker.place(0), worker.place(1)), (None, Some(1)));
-    assert_eq!(rt; worker.place(2), None);
+    same(rt, &(worker.seen(), worker.made()), &(1, 1));
+    same(rt, &(worker.place(0), worker.place(1)), &(None, Some(1)));
+    same(rt, &worker.place(2), &None);
 }
 
 #[test]
@@ -99,15 +99,19 @@ pub(super) fn writes_behind<L: Naming, T: Wait + Abort>(
     has(rt, alloc, &mut first, &[(1, "ann", 10), (2, "bob", 20)]);
     made_one(rt, &first, 1);
     made_one(rt, &second, 2);
-    assert_eq!(rt; store.refresh(rt, &mut first), Ok(2));
+    same(rt, &store.refresh(rt, &mut first), &Ok(2));
 }
 
 /// Asserts that a worker has seen two entries, and has made the one at this place.
 fn made_one<L: Naming>(rt: &impl Abort, worker: &Worker<L>, place: u64) {
-    assert_eq!(rt; (worker.seen(), worker.made()), (2, 1));
-    assert_eq!(rt; (worker.place(1), worker.place(2)), (Some(place), None));
+    same(rt, &(worker.seen(), worker.made()), &(2, 1));
+    same(
+        rt,
+        &(worker.place(1), worker.place(2)),
+        &(Some(place), None),
+    );
     let entry = worker.seen_entry(place).expect(rt, "an entry");
-    assert_eq!(rt; entry.worker, worker.number());
+    same(rt, &entry.worker, &worker.number());
 }
 
 #[test]
@@ -125,8 +129,8 @@ pub(super) fn writes_in_threads<L: Naming + Send + Sync, T: Threads + Wait + Abo
     let second = workers.pop().expect(rt, "a second worker");
     let first = workers.pop().expect(rt, "a first worker");
     let (mut one, two) = in_threads(rt, alloc, &store, first, second);
-    assert_eq!(rt; (one.made(), two.made()), (500, 500));
-    assert_eq!(rt; store.refresh(rt, &mut one), Ok(1000));
+    same(rt, &(one.made(), two.made()), &(500, 500));
+    same(rt, &store.refresh(rt, &mut one), &Ok(1000));
 }
 
 /// Lets two workers write 500 accounts each, in threads.

@@ -1,3 +1,4 @@
+use crate::same::same;
 use std::alloc::Global;
 use std::process::Abort;
 use tt_pages::{Kept, PagedLog};
@@ -17,8 +18,8 @@ fn reads_and_replaces_items(rt: HostRuntime) {
     assert!(rt; old.len() == 65);
     let seven = 7u64.kept().expect(&rt, "memory");
     let new = old.replaced(64, seven).expect(&rt, "memory");
-    assert_eq!(rt; new.get(64), Some(&7));
-    assert_eq!(rt; old.get(64), Some(&64));
+    same(&rt, &new.get(64), &Some(&7));
+    same(&rt, &old.get(64), &Some(&64));
     assert!(rt; old.get(65).is_none());
 }
 
@@ -44,8 +45,8 @@ fn shared_logs_stay_the_same(rt: HostRuntime) {
 fn expect_numbers(rt: &impl Abort, log: &PagedLog<u64>, count: u64) {
     let mut want = 0;
     for item in log.iter() {
-        assert_eq!(rt; *item, want);
+        same(rt, item, &want);
         want = want.wrapping_add(1);
     }
-    assert_eq!(rt; (log.len() as u64, want), (count, count));
+    same(rt, &(log.len() as u64, want), &(count, count));
 }

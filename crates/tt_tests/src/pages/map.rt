@@ -1,3 +1,4 @@
+use crate::same::same;
 use std::alloc::{AllocError, Global};
 use std::collections::BTreeMap;
 use std::process::Abort;
@@ -5,11 +6,11 @@ use tt_pages::{Change, PagedMap};
 
 /// That the map has the entries of the other, in its order.
 fn expect_entries(rt: &impl Abort, map: &PagedMap<u64>, reference: &BTreeMap<i64, u64>) {
-    assert_eq!(rt; map.len(), reference.len());
+    same(rt, &map.len(), &reference.len());
     let mut entries = map.iter();
     for (key, value) in reference {
         let entry = entries.next().expect(rt, "an entry");
-        assert_eq!(rt; entry, (key, value));
+        same(rt, &entry, &(key, value));
         assert!(rt; map.get(*key) == Some(value));
     }
     assert!(rt; entries.next().is_none());
@@ -62,8 +63,8 @@ fn expect_without_even(rt: &impl Abort, map: &PagedMap<u64>, alloc: Global) {
     }
     expect_entries(rt, &odd, &numbers(rt, alloc, true));
     expect_entries(rt, map, &numbers(rt, alloc, false));
-    let same = odd.without(2).expect(rt, "memory");
-    assert_eq!(rt; same.len(), 100);
+    let unchanged = odd.without(2).expect(rt, "memory");
+    same(rt, &unchanged.len(), &100);
 }
 
 #[test]
@@ -85,7 +86,7 @@ fn least_and_largest_keys_are_first_and_last(rt: HostRuntime) {
     assert!(rt; !map.is_empty());
     let mut entries = map.iter();
     for entry in [(&i64::MIN, &1), (&0, &2), (&i64::MAX, &3)] {
-        assert_eq!(rt; entries.next(), Some(entry));
+        same(&rt, &entries.next(), &Some(entry));
     }
     assert!(rt; entries.next().is_none());
 }
@@ -164,10 +165,10 @@ fn expect_changes(rt: &impl Abort, map: &PagedMap<u64>, key: i64, value: u64) {
         copy.get(key).expect(rt, "no entry at the key");
         let change = Exchange { from, to };
         copy.change(key, change).expect(rt, "memory");
-        assert_eq!(rt; copy.get(key), Some(&to));
+        same(rt, &copy.get(key), &Some(&to));
     }
-    assert_eq!(rt; copy.len(), map.len());
-    assert_eq!(rt; map.get(key), Some(&value));
+    same(rt, &copy.len(), &map.len());
+    same(rt, &map.get(key), &Some(&value));
 }
 
 /// The map of these entries.
@@ -197,5 +198,5 @@ fn a_map_prints_as_one(rt: HostRuntime) {
     let alloc = rt.alloc();
     let map = small_map(&rt, alloc, [(2, 20), (1, 10)]);
     let text = format!(in alloc; "{map:?}").expect(&rt, "memory");
-    assert_eq!(rt; text.as_str(), "{1: 10, 2: 20}");
+    same(&rt, &text.as_str(), &"{1: 10, 2: 20}");
 }

@@ -2,6 +2,7 @@ ghost use Rattle.std.specs.Prelude.{◌≡◌, length};
 
 use super::Plain::{self, Number, Words};
 use super::{ANN, PlainPartition, delete, done, insert, nothing_dirty, partition_reads, row};
+use crate::same::same;
 use std::alloc::Global;
 use std::process::Abort;
 use tt_parts::{Dirty, Reads};
@@ -33,7 +34,7 @@ const BY_ANN_AND_EVE: Clear = &[
 fn a_row_gets_dirty_with_its_partitions(rt: HostRuntime) {
     let alloc = rt.alloc();
     let nothing = nothing_dirty(&rt, alloc);
-    assert_eq!(rt; nothing.catalog().len(), 2);
+    same(&rt, &nothing.catalog().len(), &2);
     let (ann, eve) = (row(&rt, alloc, ANN), row(&rt, alloc, EVE));
     let dirty = nothing.with_row(0, 1, Some(&ann), Some(&eve));
     let dirty = dirty.expect(&rt, "memory");

@@ -2,6 +2,7 @@ use super::Plain::{self, Number, Words};
 use super::{
     ANN, PlainPartition, acct, delete, insert, parcel, partition_reads, partitions, row, tables,
 };
+use crate::same::same;
 use tt_parts::{Reads, parts_of, reads_of};
 
 /// A table, a row of it, and the partitions that the row lies in.
@@ -79,5 +80,5 @@ fn an_insert_reads_its_key(rt: HostRuntime) {
     let insert = insert(&rt, alloc, i64::MAX);
     let reads = reads_of(alloc, &acct(&rt, alloc), &insert).expect(&rt, "memory");
     let key = partition_reads(&rt, alloc, &[(0, 0, Number(i64::MAX))]);
-    assert_eq!(rt; reads, key);
+    same(&rt, &reads, &key);
 }

@@ -2,6 +2,7 @@
 ghost use Rattle.tt_values.specs.Check.{HasKey};
 
 use super::{catalog, def, items, owner_is, row, text};
+use crate::same::same;
 use std::alloc::Global;
 use std::process::Abort;
 use std::sync::Arc;
@@ -14,11 +15,11 @@ use tt_values::{
 fn texts(rt: HostRuntime) {
     let alloc = rt.alloc();
     let ann = text(&rt, alloc, "ann");
-    assert_eq!(rt; ann.len(), 3);
+    same(&rt, &ann.len(), &3);
     assert!(rt; !ann.is_empty());
     assert!(rt; ann == ann.clone().expect(&rt, "memory"));
     assert!(rt; ann != text(&rt, alloc, "Ann"));
-    assert_eq!(rt; ann.as_str(), "ann");
+    same(&rt, &ann.as_str(), &"ann");
 }
 
 #[test]
@@ -28,11 +29,11 @@ fn items_of_ints(rt: HostRuntime) {
         rt.alloc(),
         vec![in rt.alloc(); 7, 8].expect(&rt, "memory"),
     );
-    assert_eq!(rt; list.len(), 2);
+    same(&rt, &list.len(), &2);
     assert!(rt; !list.is_empty());
-    assert_eq!(rt; list.get(1).copied(), Some(8));
+    same(&rt, &list.get(1).copied(), &Some(8));
     assert!(rt; list == list.clone().expect(&rt, "memory"));
-    assert_eq!(rt; list.as_slice(), [7, 8].as_slice());
+    same(&rt, &list.as_slice(), &[7, 8].as_slice());
 }
 
 #[test]
@@ -40,21 +41,21 @@ fn a_shared_int(rt: HostRuntime) {
     let owner = Arc::new(rt.alloc(), 7).expect(&rt, "memory");
     let shared = Shared::from_arc(owner);
     let further = shared.clone().expect(&rt, "memory");
-    assert_eq!(rt; *shared.get(), *further.get());
+    same(&rt, shared.get(), further.get());
 }
 
 #[test]
 fn the_owner_of_a_shared_int(rt: HostRuntime) {
     let owner = Shared::new(rt.alloc(), 8).expect(&rt, "memory").into_arc();
-    assert_eq!(rt; *owner, 8);
+    same(&rt, &*owner, &8);
 }
 
 #[test]
 fn the_value_of_a_shared_int(rt: HostRuntime) {
     let shared = Shared::new(rt.alloc(), 9_u64).expect(&rt, "memory");
     let further = shared.clone().expect(&rt, "memory");
-    assert_eq!(rt; shared.into_value().expect(&rt, "memory"), 9);
-    assert_eq!(rt; further.into_value().expect(&rt, "memory"), 9);
+    same(&rt, &shared.into_value().expect(&rt, "memory"), &9);
+    same(&rt, &further.into_value().expect(&rt, "memory"), &9);
 }
 
 #[test]
@@ -64,7 +65,7 @@ fn values_and_rows(rt: HostRuntime) {
     let ann = row(&rt, alloc, -7, "ann");
     assert!(rt; int.is_of_kind(Kind::Int));
     assert!(rt; int.is_same(&int.copy().expect(&rt, "memory")));
-    assert_eq!(rt; ann.key(), -7);
+    same(&rt, &ann.key(), &-7);
     assert!(rt; ann == ann.copy().expect(&rt, "memory"));
     assert!(rt; ann != row(&rt, alloc, -7, "eve"));
 }
@@ -73,19 +74,19 @@ fn values_and_rows(rt: HostRuntime) {
 fn catalogs(rt: HostRuntime) {
     let alloc = rt.alloc();
     let mut catalog = catalog(&rt, alloc);
-    let same = catalog.add("acct", def(&rt, alloc));
-    assert_eq!(rt; same, Err(CatalogError::SameTable));
-    assert_eq!(rt; catalog.len(), 1);
+    let again = catalog.add("acct", def(&rt, alloc));
+    same(&rt, &again, &Err(CatalogError::SameTable));
+    same(&rt, &catalog.len(), &1);
     assert!(rt; !catalog.is_empty());
 }
 
 #[test]
 fn names_of_tables(rt: HostRuntime) {
     let catalog = catalog(&rt, rt.alloc());
-    assert_eq!(rt; catalog.find("acct"), Some(0));
-    assert_eq!(rt; catalog.name(0), Some("acct"));
+    same(&rt, &catalog.find("acct"), &Some(0));
+    same(&rt, &catalog.name(0), &Some("acct"));
     let acct = catalog.table(0).expect(&rt, "a table");
-    assert_eq!(rt; acct.find("owner"), Some(1));
+    same(&rt, &acct.find("owner"), &Some(1));
 }
 
 #[test]
@@ -117,8 +118,8 @@ fn insert(rt: &impl Abort, alloc: Global) -> Write
 fn writes(rt: HostRuntime) {
     let alloc = rt.alloc();
     let insert = insert(&rt, alloc).copy().expect(&rt, "memory");
-    assert_eq!(rt; insert.table(), 0);
-    assert_eq!(rt; check(&catalog(&rt, alloc), &insert), Ok(()));
+    same(&rt, &insert.table(), &0);
+    same(&rt, &check(&catalog(&rt, alloc), &insert), &Ok(()));
     assert_ne!(rt; Reply::Updated(1), Reply::Deleted(1));
 }
 
@@ -126,9 +127,9 @@ fn writes(rt: HostRuntime) {
 fn actions(rt: HostRuntime) {
     let alloc = rt.alloc();
     let action = [insert(&rt, alloc), insert(&rt, alloc)];
-    assert_eq!(rt; check_action(&catalog(&rt, alloc), &action), Ok(()));
+    same(&rt, &check_action(&catalog(&rt, alloc), &action), &Ok(()));
     let no_table = Err(CheckError::NoTable);
-    assert_eq!(rt; check_action(&Catalog::new(alloc), &action), no_table);
+    same(&rt, &check_action(&Catalog::new(alloc), &action), &no_table);
 }
 
 #[test]
@@ -140,7 +141,7 @@ fn selects(rt: HostRuntime) {
         equals: items(&rt, alloc, vec![in alloc; equal].expect(&rt, "memory")),
     };
     let select = select.copy().expect(&rt, "memory");
-    assert_eq!(rt; check_select(&catalog(&rt, alloc), &select), Ok(()));
+    same(&rt, &check_select(&catalog(&rt, alloc), &select), &Ok(()));
     assert!(rt; check_select(&Catalog::new(alloc), &select).is_err());
 }
 

@@ -1,5 +1,6 @@
 //! Printed texts.
 use super::items;
+use crate::same::same;
 use tt_values::{CatalogError, Change, CheckError, Equal, Value, Write};
 
 #[test]
@@ -26,7 +27,7 @@ fn faults_of_tables(rt: HostRuntime) {
         (CatalogError::Memory, "out of memory"),
     ] {
         let text = format!(in rt.alloc(); "{error}").expect(&rt, "memory");
-        assert_eq!(rt; text.as_str(), expected);
+        same(&rt, &text.as_str(), &expected);
     }
 }
 
@@ -44,7 +45,7 @@ fn faults_of_statements(rt: HostRuntime) {
         (CheckError::TooManyWrites, "too many writes"),
     ] {
         let text = format!(in rt.alloc(); "{error}").expect(&rt, "memory");
-        assert_eq!(rt; text.as_str(), expected);
+        same(&rt, &text.as_str(), &expected);
     }
 }
 
@@ -65,5 +66,9 @@ fn a_write(rt: HostRuntime) {
     let changes = "Items { items: [Add { column: 2, by: 5 }] }";
     let equals = "Items { items: [Equal { column: 0, value: Int(1) }] }";
     let expected = format!(in alloc; "Update {{ table: 0, changes: {changes}, equals: {equals} }}");
-    assert_eq!(rt; text.as_str(), expected.expect(&rt, "memory").as_str());
+    same(
+        &rt,
+        &text.as_str(),
+        &expected.expect(&rt, "memory").as_str(),
+    );
 }
