@@ -47,11 +47,12 @@ replay = with_rule (with_rule (new_app (codes "replay")) batch) closed
 abbrev pub run : App
 run = with_rule (with_rule (with_rule (new_app (codes "run")) batch) rounds) closed
 
+-- the command without its subcommands
+abbrev pub program : App
+program = requiring_subcommand (with_version (new_app (codes "timetravel")))
+
 abbrev pub command_line : App
-command_line =
-    with_subcommand
-    (with_subcommand (requiring_subcommand (with_version (new_app (codes "timetravel")))) replay.top)
-    run.top
+command_line = with_subcommand (with_subcommand program replay.top) run.top
 
 -- the text that the words give for an option; a default is none
 abbrev pub given_text : Text → List Row → Option Text

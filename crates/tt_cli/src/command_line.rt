@@ -2,7 +2,7 @@
 ghost use Rattle.std.specs.Prelude.{◌≡◌, IfOk, map, string_bytes};
 ghost use Rattle.clap.specs.Words.{FailsBy, app_of, fault_of, rule_of};
 ghost use Rattle.tt_cli.specs.CommandLine.{IsBatchOf, IsRoundsOf, IsClosedOf, IsThreadsOf};
-ghost use Rattle.tt_cli.specs.CommandLine.{batch, rounds, closed, replay, run, command_line};
+ghost use Rattle.tt_cli.specs.CommandLine.{batch, rounds, closed, replay, run, program, command_line};
 ghost use Rattle.tt_workload.specs.Options.{AreWithin};
 
 use clap::{Arg, ArgAction, Command, Error};
@@ -45,7 +45,7 @@ closed generation that is kept follows the changed replies: its rows at that gen
 time."#;
 
 /// What the command line asks for.
-#[derive(Clone, Copy, Debug, PartialEq, Eq)]
+#[derive(Clone, Copy)]
 pub struct Cli {
     /// Whether each worker makes its calls in a thread of its own.
     pub threads: bool,
@@ -92,14 +92,23 @@ pub fn command_of<'a>(alloc: Global, words: &'a [String]) -> Result<Cli, Error>
 fn command<'a>(alloc: Global) -> Result<Command<'a>, AllocError>
     ensures { IfOk result (λ command. app_of command ≡ command_line) }
 {
-    Command::new(alloc, "timetravel")
-        .bin_name("timetravel")?
-        .version(VERSION)
-        .about(ABOUT)
-        .after_help(DOCUMENT)
-        .subcommand_required(true)
+    program(alloc)?
         .subcommand(replay(alloc)?)?
         .subcommand(run(alloc)?)
+}
+
+/// The program's command, without its subcommands.
+fn program<'a>(alloc: Global) -> Result<Command<'a>, AllocError>
+    ensures { IfOk result (λ command. app_of command ≡ program) }
+{
+    Ok(
+        Command::new(alloc, "timetravel")
+            .bin_name("timetravel")?
+            .version(VERSION)
+            .about(ABOUT)
+            .after_help(DOCUMENT)
+            .subcommand_required(true),
+    )
 }
 
 /// The subcommand that runs the calls in one thread.

@@ -6,7 +6,7 @@ use std::io;
 use tt_workload::RunFault;
 
 /// What the program has come to when it ends.
-#[derive(Debug, PartialEq, Drop)]
+#[derive(Drop)]
 pub enum Ending {
     /// The report is printed.
     Done,

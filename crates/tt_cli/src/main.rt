@@ -1,6 +1,7 @@
 //! The program `timetravel`.
 #![tactic(auto)]
 
+ghost use Rattle.tt_document.specs.Document.{IsValidDocument};
 ghost use Rattle.tt_workload.specs.Options.{AreWithin};
 ghost use Rattle.tt_cli.specs.Ending.{IsEndingOfRun};
 
@@ -15,7 +16,7 @@ use std::thread::Threads;
 use std::{env, io};
 use tt_store::NoGate;
 use tt_workers::{run_workers, text_of_report};
-use tt_workload::{Options, RunEnd, RunFault, read_document, run_to_end, write_text};
+use tt_workload::{Document, Options, RunEnd, RunFault, read_document, run_to_end, write_text};
 
 mod command_line;
 mod ending;
@@ -79,11 +80,24 @@ fn print_report<R: Input + Print + AllocGlobal + Threads + Wait + Sync>(
     requires { AreWithin options.now }
 {
     let mut reader = rt.reader();
-    let mut writer = io::writer(rt);
     let document = read_document(rt.alloc(), &mut reader)?;
-    let report = run_workers(rt, rt.alloc(), &document, options, NoGate)?;
-    let text = text_of_report(rt.alloc(), &report, options.closed)?;
+    let text = text_of_run(rt, rt.alloc(), &document, options)?;
+    let mut writer = io::writer(rt);
     write_text(&mut writer, text.as_slice())
+}
+
+/// The report of a run of a document in threads.
+fn text_of_run(
+    rt: &(impl Threads + Wait + Sync),
+    alloc: Global,
+    document: &Document,
+    options: &Options,
+) -> Result<Vec<u8>, RunFault>
+    requires valid { IsValidDocument document.now }
+    requires options { AreWithin options.now }
+{
+    let report = run_workers(rt, alloc, document, options, NoGate)?;
+    text_of_report(alloc, &report, options.closed)
 }
 
 /// Runs the document on standard input in one thread, and prints its report.

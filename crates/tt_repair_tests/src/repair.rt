@@ -5,6 +5,7 @@ mod held;
 mod refused;
 
 use std::alloc::Global;
+use std::fmt::Debug;
 use std::process::Abort;
 use std::sync::{Arc, Wait};
 use tt_db::Edit;
@@ -12,6 +13,11 @@ use tt_store::{Gate, Naming, Store, Worker};
 use tt_values::{
     Catalog, Change, Column, Equal, Items, Kind, Reply, Row, Select, TableDef, Text, Value, Write,
 };
+
+/// Asserts that two values are equal. An `assert_eq!` in a test makes the test longer to prove.
+fn same<T: PartialEq + Debug>(rt: &impl Abort, got: &T, want: &T) {
+    assert_eq!(rt; *got, *want);
+}
 
 /// An account: its id, its owner and its balance.
 type Account = (i64, &'static str, i64);

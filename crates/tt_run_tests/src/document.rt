@@ -1,4 +1,5 @@
 //! What runs of the program don't show: the values of a document.
+use crate::same::same;
 use serde_json::Value as Json;
 use std::alloc::Global;
 use std::process::Abort;
@@ -29,7 +30,7 @@ fn text(rt: &impl Abort, alloc: Global, words: &str) -> Text {
 /// The second column of the first table is the owner.
 fn has_owner(rt: &impl Abort, alloc: Global, catalog: &Catalog) {
     let table = catalog.table(0).expect(rt, "a table");
-    assert_eq!(rt; table.columns.len(), 3);
+    same(rt, &table.columns.len(), &3);
     let owner = Column {
         name: text(rt, alloc, "owner"),
         kind: Kind::Text,
@@ -126,7 +127,7 @@ fn document_of(rt: &impl Abort, alloc: Global, version: u32, call: &str) -> Stri
 fn is_call(rt: &impl Abort, alloc: Global, version: u32, call: &str, expected: Call) {
     let text = document_of(rt, alloc, version, call);
     let document = read(rt, alloc, text.as_str());
-    assert_eq!(rt; document.workers, 15);
+    same(rt, &document.workers, &15);
     assert!(rt;
         document.calls.as_slice() == [expected].as_slice(),
         "{call}"
@@ -141,13 +142,13 @@ fn tables_and_calls(rt: HostRuntime) {
         call_of(&rt, alloc, [insert_of_ann(&rt, alloc)]),
         select_of_ann(&rt, alloc),
     ];
-    assert_eq!(rt; document.workers, 1);
-    assert_eq!(rt; document.calls.len(), 2);
+    same(&rt, &document.workers, &1);
+    same(&rt, &document.calls.len(), &2);
     assert!(rt; !document.calls.is_empty());
     assert!(rt; document.calls.as_slice() == calls.as_slice());
     let catalog = document.catalog.get();
-    assert_eq!(rt; catalog.len(), 1);
-    assert_eq!(rt; catalog.name(0), Some("acct"));
+    same(&rt, &catalog.len(), &1);
+    same(&rt, &catalog.name(0), &Some("acct"));
     has_owner(&rt, alloc, catalog);
 }
 
@@ -181,8 +182,8 @@ fn actions_of_version_2(rt: HostRuntime) {
     let Err(DocFault::At { path, cause }) = Document::from_value(alloc, &value) else {
         return assert!(rt; false, "a fault");
     };
-    assert_eq!(rt; path.as_str(), "$.calls[0].do[1].row[2]");
-    assert_eq!(rt; cause.as_str(), "wrong type");
+    same(&rt, &path.as_str(), &"$.calls[0].do[1].row[2]");
+    same(&rt, &cause.as_str(), &"wrong type");
 }
 
 #[test]
@@ -191,8 +192,8 @@ fn faults_of_documents(rt: HostRuntime) {
     let DocFault::At { path, cause } = fault else {
         return assert!(rt; false, "no memory");
     };
-    assert_eq!(rt; path.as_str(), "$");
-    assert_eq!(rt; cause.as_str(), "not JSON");
+    same(&rt, &path.as_str(), &"$");
+    same(&rt, &cause.as_str(), &"not JSON");
 }
 
 #[test]

@@ -6,4 +6,6 @@
 #[cfg(test)]
 mod document;
 #[cfg(test)]
+mod same;
+#[cfg(test)]
 mod workload;

@@ -2,7 +2,7 @@
 use crate::error::ServiceError;
 use std::alloc::{AllocError, Global};
 use tt_values::{
-    Catalog, Change, Column, Equal, Items, Kind, Row, Select, TableDef, Text, Value, Write,
+    Catalog, Change, Column, Equal, Items, Kind, Reply, Row, Select, TableDef, Text, Value, Write,
 };
 
 /// How many clerks book payments. Each has one account, with the clerk's number as its id.
@@ -18,15 +18,19 @@ const BALANCE: u16 = 2;
 
 /// A catalog with the one table.
 pub(crate) fn catalog(alloc: Global) -> Result<Catalog, ServiceError> {
+    let columns = columns(alloc)?;
+    let mut catalog = Catalog::new(alloc);
+    catalog.add("account", TableDef { columns })?;
+    Ok(catalog)
+}
+
+fn columns(alloc: Global) -> Result<Items<Column>, AllocError> {
     let columns = [
         column(alloc, "id", Kind::Int, false)?,
         column(alloc, "owner", Kind::Text, true)?,
         column(alloc, "balance", Kind::Int, false)?,
     ];
-    let columns = Items::new(alloc, Vec::from_array(alloc, columns)?)?;
-    let mut catalog = Catalog::new(alloc);
-    catalog.add("account", TableDef { columns })?;
-    Ok(catalog)
+    Items::new(alloc, Vec::from_array(alloc, columns)?)
 }
 
 fn column(alloc: Global, name: &str, kind: Kind, partition: bool) -> Result<Column, AllocError> {
@@ -115,5 +119,13 @@ pub(crate) fn balance_of(row: &Row) -> Option<i64> {
     match row.values.get(usize::from(BALANCE))? {
         Value::Int(balance) => Some(*balance),
         Value::Text(_) => None,
+    }
+}
+
+/// The balance of the first account in a reply.
+pub(crate) fn balance_in(reply: &Reply) -> Option<i64> {
+    match reply {
+        Reply::Rows(rows) => balance_of(rows.get(0)?),
+        _ => None,
     }
 }

@@ -1,7 +1,7 @@
 //! The administrator: a thread that repairs a mistake while the clerks go on.
 use crate::accounts::pay;
 use crate::error::ServiceError;
-use std::alloc::Global;
+use std::alloc::{AllocError, Global};
 use std::sync::Wait;
 use tt_db::Edit;
 use tt_store::{Naming, NoGate, Store, Worker};
@@ -22,15 +22,18 @@ pub(crate) fn repair_fee<L: Naming, R: Wait>(
     worker: &mut Worker<L>,
     slot: u64,
 ) -> Result<(), ServiceError> {
-    let meant = Edit::Replace(slot, pay(alloc, -5, Some(3))?);
-    let edits = Items::new(alloc, Vec::from_array(alloc, [meant])?)?;
-    store.begin(rt, worker, edits)?;
+    store.begin(rt, worker, meant_instead(alloc, slot)?)?;
     for _ in 0..ROUNDS {
-        let progress = store.step(rt, worker, BATCH)?;
-        if progress.left == 0 {
+        if store.step(rt, worker, BATCH)?.left == 0 {
             break;
         }
     }
     store.finish(rt, worker)?;
     Ok(())
+}
+
+/// The fee that was meant, in the place of the one in a slot.
+fn meant_instead(alloc: Global, slot: u64) -> Result<Items<Edit>, AllocError> {
+    let edit = Edit::Replace(slot, pay(alloc, -5, Some(3))?);
+    Items::new(alloc, Vec::from_array(alloc, [edit])?)
 }

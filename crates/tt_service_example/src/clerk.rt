@@ -1,10 +1,9 @@
 //! A clerk: a thread that books payments to one account and reads its balance.
-use crate::accounts::{balance_of, pay, select};
+use crate::accounts::{balance_in, pay, select};
 use crate::error::ServiceError;
 use std::alloc::Global;
 use std::sync::Wait;
 use tt_store::{Naming, NoGate, Store, Worker};
-use tt_values::Reply;
 
 /// How many payments a clerk books.
 const PAYMENTS: u32 = 100;
@@ -20,14 +19,20 @@ pub(crate) fn book_payments<L: Naming, R: Wait>(
     store.refresh(rt, worker)?;
     let mut balance = read_balance(alloc, worker, account)?;
     for _ in 0..PAYMENTS {
+        let before = balance;
         store.write(rt, worker, pay(alloc, 1, Some(account))?)?;
-        let next = read_balance(alloc, worker, account)?;
-        if next <= balance {
-            return Err(ServiceError::Reply);
-        }
-        balance = next;
+        balance = read_balance(alloc, worker, account)?;
+        has_risen(before, balance)?;
     }
     Ok(())
+}
+
+fn has_risen(before: i64, after: i64) -> Result<(), ServiceError> {
+    if before < after {
+        Ok(())
+    } else {
+        Err(ServiceError::Reply)
+    }
 }
 
 /// The balance of an account as it is now. This takes no lock.
@@ -37,11 +42,5 @@ fn read_balance<L: Naming>(
     account: i64,
 ) -> Result<i64, ServiceError> {
     let answer = worker.read(&select(alloc, Some(account))?)?;
-    let Reply::Rows(rows) = answer.reply else {
-        return Err(ServiceError::Reply);
-    };
-    match rows.get(0) {
-        Some(row) => balance_of(row).ok_or(ServiceError::Reply),
-        None => Err(ServiceError::Reply),
-    }
+    balance_in(&answer.reply).ok_or(ServiceError::Reply)
 }

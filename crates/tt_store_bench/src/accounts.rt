@@ -15,15 +15,19 @@ const BALANCE: u16 = 2;
 
 /// A catalog with the one table.
 pub(crate) fn catalog(alloc: Global) -> Result<Catalog, BenchError> {
+    let columns = columns(alloc)?;
+    let mut catalog = Catalog::new(alloc);
+    catalog.add("account", TableDef { columns })?;
+    Ok(catalog)
+}
+
+fn columns(alloc: Global) -> Result<Items<Column>, AllocError> {
     let columns = [
         column(alloc, "id", Kind::Int, false)?,
         column(alloc, "owner", Kind::Text, true)?,
         column(alloc, "balance", Kind::Int, false)?,
     ];
-    let columns = Items::new(alloc, Vec::from_array(alloc, columns)?)?;
-    let mut catalog = Catalog::new(alloc);
-    catalog.add("account", TableDef { columns })?;
-    Ok(catalog)
+    Items::new(alloc, Vec::from_array(alloc, columns)?)
 }
 
 fn column(alloc: Global, name: &str, kind: Kind, partition: bool) -> Result<Column, AllocError> {

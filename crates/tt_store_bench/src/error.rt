@@ -6,7 +6,7 @@ use tt_store::{OpenError, StoreError};
 use tt_values::CatalogError;
 
 /// Why there is no measurement.
-#[derive(Clone, Copy, Debug, PartialEq, Eq, Error)]
+#[derive(Clone, Copy, Debug, Error)]
 pub(crate) enum BenchError {
     #[error("the table of accounts is refused")]
     Catalog,

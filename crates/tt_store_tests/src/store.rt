@@ -93,33 +93,45 @@ fn plays_named<L: Naming + Send + Sync, T: Threads + Wait + Abort + Sync>(
     let opened = opened.named::<L, NoGate, &T>(rt, alloc, catalog, limits, NoGate);
     match opened {
         Ok((store, workers)) => {
-            play(rt, alloc, store, workers, scenario);
+            let scene = Scene {
+                rt,
+                alloc,
+                store,
+                workers,
+            };
+            play(scene, scenario);
             Ok(())
         }
         Err(error) => Err(error),
     }
 }
 
-fn play<L: Naming + Send + Sync, T: Threads + Wait + Abort + Sync>(
-    rt: &T,
+/// Where a scenario is played: a store that was just opened, and its workers.
+#[derive(Drop)]
+struct Scene<'a, L: Naming, T: Wait> {
+    rt: &'a T,
     alloc: Global,
-    store: Store<L, NoGate, &T>,
+    store: Store<L, NoGate, &'a T>,
     workers: Vec<Worker<L>>,
+}
+
+fn play<L: Naming + Send + Sync, T: Threads + Wait + Abort + Sync>(
+    scene: Scene<'_, L, T>,
     scenario: Scenario,
 ) {
     match scenario {
-        Scenario::ClosesBackwards => closes_backwards(rt, alloc, store, workers),
-        Scenario::ClosesLater => closes_later(rt, alloc, store, workers),
-        Scenario::FillsHistory => fills_history(rt, alloc, store, workers),
-        Scenario::FillsTwoSlots => fills_two_slots(rt, alloc, store, workers),
-        Scenario::FinishesForAnother => finishes_for_another(rt, alloc, store, workers),
-        Scenario::GivesUp { steps } => gives_up(rt, alloc, store, workers, steps),
-        Scenario::HasWorkers(count) => has_workers(rt, workers, count),
-        Scenario::ReadsBeside => reads_beside(rt, alloc, store, workers),
-        Scenario::RepairsInSteps => repairs_in_steps(rt, alloc, store, workers),
-        Scenario::SixteenWork => sixteen_work(rt, alloc, store, workers),
-        Scenario::WritesBehind => writes_behind(rt, alloc, store, workers),
-        Scenario::WritesInThreads => writes_in_threads(rt, alloc, store, workers),
+        Scenario::ClosesBackwards => closes_backwards(scene),
+        Scenario::ClosesLater => closes_later(scene),
+        Scenario::FillsHistory => fills_history(scene),
+        Scenario::FillsTwoSlots => fills_two_slots(scene),
+        Scenario::FinishesForAnother => finishes_for_another(scene),
+        Scenario::GivesUp { steps } => gives_up(scene, steps),
+        Scenario::HasWorkers(count) => has_workers(scene, count),
+        Scenario::ReadsBeside => reads_beside(scene),
+        Scenario::RepairsInSteps => repairs_in_steps(scene),
+        Scenario::SixteenWork => sixteen_work(scene),
+        Scenario::WritesBehind => writes_behind(scene),
+        Scenario::WritesInThreads => writes_in_threads(scene),
     }
 }
 
@@ -229,6 +241,11 @@ fn delete_bob(rt: &impl Abort, alloc: Global) -> Items<Edit> {
     Items::new(alloc, edits).expect(rt, "memory")
 }
 
+/// The last of the workers.
+fn last_of<L: Naming>(rt: &impl Abort, workers: &mut Vec<Worker<L>>) -> Worker<L> {
+    workers.pop().expect(rt, "a worker")
+}
+
 /// Inserts an account, which takes this place and this slot.
 fn inserts<L: Naming, G: Gate + Drop, T: Wait + Abort>(
     rt: &T,
@@ -286,6 +303,23 @@ fn closed<L: Naming, G: Gate + Drop, T: Wait + Abort>(
         Ok(closed) => closed,
         Err(_) => panic!(rt; "not closed"),
     }
+}
+
+/// Closes a store of two workers. Asserts that their entries have these places, and that there are
+/// no others.
+fn closes<L: Naming, G: Gate + Drop, T: Wait + Abort>(
+    rt: &T,
+    alloc: Global,
+    store: Store<L, G, &T>,
+    workers: [Worker<L>; 2],
+    first: &[u64],
+    second: &[u64],
+) {
+    let workers = Vec::from_array(alloc, workers).expect(rt, "memory");
+    let closed = closed(rt, store, workers);
+    assert!(rt; has_places(&closed.places, first, second));
+    let places = first.len().saturating_add(second.len());
+    same(rt, &closed.db.get().events(), &(places as u64));
 }
 
 /// Whether there are two lists of places, and these.

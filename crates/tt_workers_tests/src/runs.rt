@@ -12,6 +12,7 @@ mod replay;
 mod reports;
 
 use std::alloc::Global;
+use std::fmt::Debug;
 use std::process::Abort;
 use std::sync::Wait;
 use std::thread::Threads;
@@ -51,6 +52,11 @@ const FIVE_WRITES: &str =
 {"worker":2,"delete":"acct","where":[["owner","ann"]]},
 {"worker":1,"update":"acct","change":[["add","bal",1]],"where":[]}],
 "repair":{"edits":[{"replace":4,"by":{"delete":"acct","where":[["owner","bob"]]}}]}}"#;
+
+/// Asserts that two values are equal. An `assert_eq!` in a test makes the test longer to prove.
+fn same<T: PartialEq + Debug>(rt: &impl Abort, got: &T, want: &T) {
+    assert_eq!(rt; *got, *want);
+}
 
 /// The document of a text.
 fn document(rt: &impl Abort, alloc: Global, text: &str) -> Document

@@ -4,7 +4,7 @@ ghost use Rattle.std.specs.Arc.{arc_value};
 ghost use Rattle.tt_db.specs.Limits.{usual_limits};
 ghost use Rattle.tt_store.specs.Published.{SaysThat};
 
-use super::{all, bank, delete_bob, one, rows, writes_five_slots};
+use super::{all, bank, delete_bob, one, rows, same, writes_five_slots};
 use std::alloc::Global;
 use std::marker::Brand;
 use std::process::Abort;
@@ -54,7 +54,7 @@ fn repairs_slot_four<L: Naming, T: Wait + Abort>(
         slots: 5,
         rerun: 2,
     };
-    assert_eq!(rt; repaired, Ok(want));
+    same(rt, &repaired, &Ok(want));
 }
 
 /// The database of a store that is closed.

@@ -5,7 +5,7 @@ ghost use Rattle.tt_db.specs.Limits.{usual_limits};
 ghost use Rattle.tt_store.specs.Published.{SaysThat};
 
 use super::held::{Held, Marks};
-use super::{bank, delete_bob, done, insert, writes_five_slots};
+use super::{bank, delete_bob, done, insert, same, writes_five_slots};
 use std::alloc::Global;
 use std::marker::Brand;
 use std::process::Abort;
@@ -111,7 +111,7 @@ fn repairs_six_slots<L: Naming, T: Wait + Abort>(
         slots: 6,
         rerun: 2,
     };
-    assert_eq!(rt; repaired, Ok(want));
+    same(rt, &repaired, &Ok(want));
     worker
 }
 
@@ -126,7 +126,7 @@ fn inserts_meanwhile<L: Naming, T: Wait + Abort>(
     marks.wait_until_held();
     let written = store.write(rt, &mut worker, insert(rt, alloc, (4, "dan", 1)));
     let written = written.expect(rt, "a write");
-    assert_eq!(rt; (written.place, written.slot), (7, 6));
+    same(rt, &(written.place, written.slot), &(7, 6));
     marks.release();
     worker
 }
@@ -181,7 +181,7 @@ fn is_stopped<L: Naming, T: Wait + Abort>(
         still_open: false,
         cause: StoreError::Db(DbError::NotRepairing),
     };
-    assert_eq!(rt; repaired, Err(fault));
+    same(rt, &repaired, &Err(fault));
     worker
 }
 
@@ -193,8 +193,8 @@ fn gives_up<L: Naming, T: Wait + Abort>(
     marks: &Marks,
 ) -> Worker<L> {
     marks.wait_until_held();
-    assert_eq!(rt; store.refresh(rt, &mut worker), Ok(6));
-    assert_eq!(rt; store.abort(rt, &mut worker), Ok(7));
+    same(rt, &store.refresh(rt, &mut worker), &Ok(6));
+    same(rt, &store.abort(rt, &mut worker), &Ok(7));
     marks.release();
     worker
 }

@@ -1,4 +1,5 @@
 //! A gate that holds worker 1 at its second new state of a repair, until worker 2 lets it go on.
+use super::same;
 use std::process::Abort;
 use std::sync::atomic::{AtomicU64, Ordering};
 use std::thread::yield_now;
@@ -58,9 +59,9 @@ impl Marks {
 
     /// Asserts that nobody waited in vain, and how often worker 1 has published in its repair.
     pub(super) fn check(&self, rt: &impl Abort, published: u64) {
-        assert_eq!(rt; self.missed.load(Ordering::SeqCst), 0);
+        same(rt, &self.missed.load(Ordering::SeqCst), &0);
         let publishes = self.published.load(Ordering::SeqCst);
-        assert_eq!(rt; publishes.checked_sub(BEFORE), Some(published));
+        same(rt, &publishes.checked_sub(BEFORE), &Some(published));
     }
 }
 

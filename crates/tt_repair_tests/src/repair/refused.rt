@@ -4,7 +4,7 @@ ghost use Rattle.std.specs.Arc.{arc_value};
 ghost use Rattle.tt_db.specs.Limits.{usual_limits};
 ghost use Rattle.tt_store.specs.Published.{SaysThat};
 
-use super::{bank, delete_bob, done, writes_five_slots};
+use super::{bank, delete_bob, done, same, writes_five_slots};
 use std::alloc::Global;
 use std::marker::Brand;
 use std::process::Abort;
@@ -53,7 +53,7 @@ fn begins<L: Naming, T: Wait + Abort>(
     worker: &mut Worker<L>,
 ) {
     let begun = store.begin(rt, worker, delete_bob(rt, alloc));
-    assert_eq!(rt; begun, Ok(6));
+    same(rt, &begun, &Ok(6));
 }
 
 /// Asserts that a worker that has seen all can't begin another repair, nor make one.
@@ -63,15 +63,15 @@ fn is_refused<L: Naming, T: Wait + Abort>(
     store: &Store<L, NoGate, &T>,
     worker: &mut Worker<L>,
 ) {
-    assert_eq!(rt; store.refresh(rt, worker), Ok(6));
+    same(rt, &store.refresh(rt, worker), &Ok(6));
     let cause = StoreError::Db(DbError::Repairing);
     let begun = store.begin(rt, worker, delete_bob(rt, alloc));
-    assert_eq!(rt; begun, Err(cause));
+    same(rt, &begun, &Err(cause));
     let repaired = repair(rt, store, worker, delete_bob(rt, alloc), 2, 0);
     let fault = RepairFault {
         phase: Phase::Begin,
         still_open: false,
         cause,
     };
-    assert_eq!(rt; repaired, Err(fault));
+    same(rt, &repaired, &Err(fault));
 }

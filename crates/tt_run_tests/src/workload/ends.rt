@@ -1,5 +1,6 @@
 use super::devices::{Faltering, Sink, Source};
 use super::{EMPTY, STORED};
+use crate::same::same;
 use std::alloc::Global;
 use std::process::Abort;
 use tt_workload::{DocFault, Document, RunFault, read_document, write_text};
@@ -9,8 +10,8 @@ const LONG: usize = 400_000;
 fn refuses(rt: &impl Abort, outcome: Result<Document, RunFault>, because: &str) {
     match outcome {
         Err(RunFault::Document(DocFault::At { path, cause })) => {
-            assert_eq!(rt; path.as_str(), "$");
-            assert_eq!(rt; cause.as_str(), because);
+            same(rt, &path.as_str(), &"$");
+            same(rt, &cause.as_str(), &because);
         }
         _ => assert!(rt; false, "no fault of the document"),
     }
@@ -33,14 +34,14 @@ fn long_text(rt: &impl Abort, alloc: Global) -> Vec<u8> {
 fn a_document_is_read(rt: HostRuntime) {
     let mut bytes = STORED.as_bytes();
     let whole = read_document(rt.alloc(), &mut bytes).expect(&rt, "a document");
-    assert_eq!(rt; whole.workers, 1);
-    assert_eq!(rt; whole.calls.len(), 2);
-    assert_eq!(rt; whole.catalog.get().name(0), Some("acct"));
+    same(&rt, &whole.workers, &1);
+    same(&rt, &whole.calls.len(), &2);
+    same(&rt, &whole.catalog.get().name(0), &Some("acct"));
     assert!(rt; bytes.is_empty());
     let mut source = Source::slow(STORED.as_bytes(), usize::MAX);
     let slow = read_document(rt.alloc(), &mut source).expect(&rt, "a document");
     assert!(rt; slow.calls.as_slice() == whole.calls.as_slice());
-    assert_eq!(rt; slow.catalog.get().len(), 1);
+    same(&rt, &slow.catalog.get().len(), &1);
 }
 
 #[test]
@@ -67,7 +68,7 @@ fn a_text_is_written_and_flushed(rt: HostRuntime) {
     let mut sink = Sink::new(rt.alloc(), 65_536, usize::MAX);
     assert!(rt; write_text(&mut sink, &text).is_ok());
     assert!(rt; sink.written.as_slice() == text.as_slice());
-    assert_eq!(rt; sink.flushed, LONG);
+    same(&rt, &sink.flushed, &LONG);
 }
 
 #[test]
@@ -109,5 +110,5 @@ fn the_longest_document(rt: HostRuntime) {
     let mut source = Source::padded(40_000_000);
     let outcome = read_document(rt.alloc(), &mut source);
     refuses(&rt, outcome, "longer than 16777216 bytes");
-    assert_eq!(rt; source.spaces, 40_000_000 - 16_777_217);
+    same(&rt, &source.spaces, &(40_000_000 - 16_777_217));
 }

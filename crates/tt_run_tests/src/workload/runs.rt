@@ -1,5 +1,6 @@
 use super::devices::{Sink, Source};
 use super::{EMPTY, STORED};
+use crate::same::same;
 use tt_workload::{Options, RunFault, run_alone};
 
 const END: &str = "end generation 0 time 0\n";
@@ -24,7 +25,7 @@ fn one_byte_at_a_time(rt: HostRuntime) {
     let outcome = run_alone(rt.alloc(), &mut reader, &mut writer, &options);
     assert!(rt; outcome.is_ok());
     assert!(rt; writer.written.as_slice() == REPORT.as_bytes());
-    assert_eq!(rt; writer.flushed, REPORT.len());
+    same(&rt, &writer.flushed, &REPORT.len());
 }
 
 #[test]

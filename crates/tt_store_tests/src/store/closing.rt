@@ -1,4 +1,4 @@
-use super::{Scenario, closed, has_places, inserts, plays, same};
+use super::{Scenario, Scene, closes, inserts, last_of, plays};
 use std::alloc::Global;
 use std::process::Abort;
 use std::sync::Wait;
@@ -11,19 +11,17 @@ fn a_store_is_closed_in_any_order(rt: HostRuntime) {
 }
 
 /// The workers are handed in by falling number.
-pub(super) fn closes_backwards<L: Naming, T: Wait + Abort>(
-    rt: &T,
-    alloc: Global,
-    store: Store<L, NoGate, &T>,
-    mut workers: Vec<Worker<L>>,
-) {
-    let second = workers.pop().expect(rt, "a second worker");
-    let mut first = workers.pop().expect(rt, "a first worker");
+pub(super) fn closes_backwards<L: Naming, T: Wait + Abort>(scene: Scene<'_, L, T>) {
+    let Scene {
+        rt,
+        alloc,
+        store,
+        mut workers,
+    } = scene;
+    let second = last_of(rt, &mut workers);
+    let mut first = last_of(rt, &mut workers);
     inserts(rt, alloc, &store, &mut first, (1, "ann", 10), (1, 1));
-    let both = Vec::from_array(alloc, [second, first]).expect(rt, "memory");
-    let closed = closed(rt, store, both);
-    same(rt, &closed.db.get().events(), &1);
-    assert!(rt; has_places(&closed.places, &[1], &[]));
+    closes(rt, alloc, store, [second, first], &[1], &[]);
 }
 
 #[test]
@@ -32,20 +30,18 @@ fn a_store_with_a_worker_missing_is_handed_back(rt: HostRuntime) {
 }
 
 /// A worker is missing at first. The other one goes on with the store that is handed back.
-pub(super) fn closes_later<L: Naming, T: Wait + Abort>(
-    rt: &T,
-    alloc: Global,
-    store: Store<L, NoGate, &T>,
-    mut workers: Vec<Worker<L>>,
-) {
-    let second = workers.pop().expect(rt, "a second worker");
+pub(super) fn closes_later<L: Naming, T: Wait + Abort>(scene: Scene<'_, L, T>) {
+    let Scene {
+        rt,
+        alloc,
+        store,
+        mut workers,
+    } = scene;
+    let second = last_of(rt, &mut workers);
     let (store, mut workers) = handed_back(rt, store, workers);
-    let mut first = workers.pop().expect(rt, "a first worker");
+    let mut first = last_of(rt, &mut workers);
     inserts(rt, alloc, &store, &mut first, (1, "ann", 10), (1, 1));
-    let both = Vec::from_array(alloc, [first, second]).expect(rt, "memory");
-    let closed = closed(rt, store, both);
-    same(rt, &closed.db.get().events(), &1);
-    assert!(rt; has_places(&closed.places, &[1], &[]));
+    closes(rt, alloc, store, [first, second], &[1], &[]);
 }
 
 /// The store and its workers, of which one is missing.

@@ -1,6 +1,7 @@
 //! Sixteen workers in threads: five write and ten read, while one repairs.
 use super::{
-    Scenario, add_to_all, all, bank, begins_after_five_slots, closed, delete, insert, plays, same,
+    Scenario, Scene, add_to_all, all, bank, begins_after_five_slots, closed, delete, insert,
+    last_of, plays, same,
 };
 use std::alloc::Global;
 use std::process::Abort;
@@ -37,12 +38,15 @@ fn sixteen_workers_work_in_threads(rt: HostRuntime) {
 
 /// Sixteen workers do their work in threads.
 pub(super) fn sixteen_work<L: Naming + Send + Sync, T: Threads + Wait + Abort + Sync>(
-    rt: &T,
-    alloc: Global,
-    store: Store<L, NoGate, &T>,
-    mut workers: Vec<Worker<L>>,
+    scene: Scene<'_, L, T>,
 ) {
-    let mut administrator = workers.pop().expect(rt, "an administrator");
+    let Scene {
+        rt,
+        alloc,
+        store,
+        mut workers,
+    } = scene;
+    let mut administrator = last_of(rt, &mut workers);
     begins_after_five_slots(rt, alloc, &store, &mut administrator);
     workers.push(administrator).expect(rt, "memory");
     let shifts = in_threads(rt, alloc, &store, workers);

@@ -1,4 +1,4 @@
-use super::{Scenario, all, begins_after_five_slots, delete_bob, has, plays, same};
+use super::{Scenario, Scene, all, begins_after_five_slots, delete_bob, has, last_of, plays, same};
 use std::alloc::Global;
 use std::process::Abort;
 use std::sync::Wait;
@@ -15,14 +15,14 @@ fn a_repair_is_given_up_after_any_step(rt: HostRuntime) {
 }
 
 /// A repair is given up after so many of its five steps, and another one is begun.
-pub(super) fn gives_up<L: Naming, T: Wait + Abort>(
-    rt: &T,
-    alloc: Global,
-    store: Store<L, NoGate, &T>,
-    mut workers: Vec<Worker<L>>,
-    steps: u32,
-) {
-    let mut worker = workers.pop().expect(rt, "a worker");
+pub(super) fn gives_up<L: Naming, T: Wait + Abort>(scene: Scene<'_, L, T>, steps: u32) {
+    let Scene {
+        rt,
+        alloc,
+        store,
+        mut workers,
+    } = scene;
+    let mut worker = last_of(rt, &mut workers);
     begins_after_five_slots(rt, alloc, &store, &mut worker);
     gives_up_after(rt, &store, &mut worker, steps);
     has(rt, alloc, &mut worker, &[(3, "bob", 8)]);

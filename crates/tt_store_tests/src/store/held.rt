@@ -4,7 +4,7 @@ ghost use Rattle.std.specs.Arc.{arc_value};
 ghost use Rattle.tt_db.specs.Limits.{usual_limits};
 ghost use Rattle.tt_store.specs.Published.{SaysThat};
 
-use super::{all, bank, begins_after_five_slots, has, inserts, same};
+use super::{all, bank, begins_after_five_slots, has, inserts, last_of, same};
 use std::alloc::Global;
 use std::marker::Brand;
 use std::process::Abort;
@@ -145,8 +145,8 @@ fn holds_named<L: Naming + Send + Sync, T: Threads + Wait + Abort + Sync>(
 {
     let opened = opened.named::<L, Held<'_>, &T>(rt, alloc, catalog, Limits::usual(), gate);
     let (store, mut workers) = opened.expect(rt, "a store");
-    let second = workers.pop().expect(rt, "a second worker");
-    let first = workers.pop().expect(rt, "a first worker");
+    let second = last_of(rt, &mut workers);
+    let first = last_of(rt, &mut workers);
     let marks = gate.marks;
     match beside {
         Beside::Reads => reads_beside_a_write(rt, alloc, &store, first, second, marks),

@@ -1,4 +1,4 @@
-use super::{Scenario, has, insert, inserts, plays, same, tries};
+use super::{Scenario, Scene, has, insert, inserts, last_of, plays, same, tries};
 use std::alloc::Global;
 use std::process::Abort;
 use std::sync::Wait;
@@ -19,7 +19,9 @@ fn a_store_has_one_to_sixteen_workers(rt: HostRuntime) {
 }
 
 /// There are so many workers, with their numbers.
-pub(super) fn has_workers<L: Naming, T: Wait + Abort>(rt: &T, workers: Vec<Worker<L>>, count: u32) {
+pub(super) fn has_workers<L: Naming, T: Wait + Abort>(scene: Scene<'_, L, T>, count: u32) {
+    let rt = scene.rt;
+    let workers = &scene.workers;
     same(rt, &workers.len(), &(count as usize));
     for (position, worker) in workers.iter().enumerate() {
         same(rt, &(worker.number() as usize), &position.saturating_add(1));
@@ -37,13 +39,14 @@ fn a_third_slot_of_two_is_refused(rt: HostRuntime) {
 }
 
 /// There is room for two slots.
-pub(super) fn fills_two_slots<L: Naming, T: Wait + Abort>(
-    rt: &T,
-    alloc: Global,
-    store: Store<L, NoGate, &T>,
-    mut workers: Vec<Worker<L>>,
-) {
-    let mut worker = workers.pop().expect(rt, "a worker");
+pub(super) fn fills_two_slots<L: Naming, T: Wait + Abort>(scene: Scene<'_, L, T>) {
+    let Scene {
+        rt,
+        alloc,
+        store,
+        mut workers,
+    } = scene;
+    let mut worker = last_of(rt, &mut workers);
     inserts(rt, alloc, &store, &mut worker, (1, "ann", 10), (1, 1));
     inserts(rt, alloc, &store, &mut worker, (2, "bob", 20), (2, 2));
     let third = store.write(rt, &mut worker, insert(rt, alloc, (3, "eve", 30)));

@@ -1,6 +1,6 @@
 use super::{
-    Scenario, all, begins_after_five_slots, closed, delete_bob, has, has_places, inserts, plays,
-    rows, same, tries,
+    Scenario, Scene, all, begins_after_five_slots, closes, delete_bob, has, inserts, last_of,
+    plays, rows, same, tries,
 };
 use std::alloc::Global;
 use std::process::Abort;
@@ -16,13 +16,14 @@ fn a_repair_is_made_in_steps(rt: HostRuntime) {
 }
 
 /// A repair is made in steps, previewed and finished.
-pub(super) fn repairs_in_steps<L: Naming, T: Wait + Abort>(
-    rt: &T,
-    alloc: Global,
-    store: Store<L, NoGate, &T>,
-    mut workers: Vec<Worker<L>>,
-) {
-    let mut worker = workers.pop().expect(rt, "a worker");
+pub(super) fn repairs_in_steps<L: Naming, T: Wait + Abort>(scene: Scene<'_, L, T>) {
+    let Scene {
+        rt,
+        alloc,
+        store,
+        mut workers,
+    } = scene;
+    let mut worker = last_of(rt, &mut workers);
     is_idle(rt, &store, &mut worker);
     begins_after_five_slots(rt, alloc, &store, &mut worker);
     steps(rt, &store, &mut worker);
@@ -105,24 +106,23 @@ fn a_repair_is_finished_by_another_worker(rt: HostRuntime) {
 }
 
 /// Worker 2 finishes the repair that worker 1 began.
-pub(super) fn finishes_for_another<L: Naming, T: Wait + Abort>(
-    rt: &T,
-    alloc: Global,
-    store: Store<L, NoGate, &T>,
-    mut workers: Vec<Worker<L>>,
-) {
-    let mut second = workers.pop().expect(rt, "a second worker");
-    let mut first = workers.pop().expect(rt, "a first worker");
+pub(super) fn finishes_for_another<L: Naming, T: Wait + Abort>(scene: Scene<'_, L, T>) {
+    let Scene {
+        rt,
+        alloc,
+        store,
+        mut workers,
+    } = scene;
+    let mut second = last_of(rt, &mut workers);
+    let mut first = last_of(rt, &mut workers);
     begins_after_five_slots(rt, alloc, &store, &mut first);
     is_refused_another(rt, alloc, &store, &mut second);
     let progress = store.step(rt, &mut second, 4).expect(rt, "four steps");
     same(rt, &(progress.done, progress.left), &(4, 1));
     finishes(rt, &store, &mut second);
-    workers.push(first).expect(rt, "memory");
-    workers.push(second).expect(rt, "memory");
-    let closed = closed(rt, store, workers);
-    let (first, second) = (&[1, 2, 3, 4, 5, 6], &[7, 8, 9, 10, 11, 12]);
-    assert!(rt; has_places(&closed.places, first, second));
+    let before = &[1, 2, 3, 4, 5, 6];
+    let behind = &[7, 8, 9, 10, 11, 12];
+    closes(rt, alloc, store, [first, second], before, behind);
 }
 
 /// Asserts that a worker is told of the repair of another one, and can't begin one beside it.
@@ -153,13 +153,14 @@ fn a_full_history_stops_a_repair(rt: HostRuntime) {
 }
 
 /// There is room for four entries.
-pub(super) fn fills_history<L: Naming, T: Wait + Abort>(
-    rt: &T,
-    alloc: Global,
-    store: Store<L, NoGate, &T>,
-    mut workers: Vec<Worker<L>>,
-) {
-    let mut worker = workers.pop().expect(rt, "a worker");
+pub(super) fn fills_history<L: Naming, T: Wait + Abort>(scene: Scene<'_, L, T>) {
+    let Scene {
+        rt,
+        alloc,
+        store,
+        mut workers,
+    } = scene;
+    let mut worker = last_of(rt, &mut workers);
     inserts(rt, alloc, &store, &mut worker, (1, "ann", 10), (1, 1));
     inserts(rt, alloc, &store, &mut worker, (2, "bob", 20), (2, 2));
     begins(rt, alloc, &store, &mut worker);

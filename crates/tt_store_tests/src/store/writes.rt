@@ -1,4 +1,4 @@
-use super::{Scenario, all, closed, has, has_places, insert, inserts, plays, rows, same};
+use super::{Scenario, Scene, all, closes, has, insert, inserts, last_of, plays, rows, same};
 use std::alloc::Global;
 use std::process::Abort;
 use std::sync::Wait;
@@ -13,14 +13,15 @@ fn a_worker_sees_what_another_one_wrote(rt: HostRuntime) {
 }
 
 /// Worker 2 reads what worker 1 wrote.
-pub(super) fn reads_beside<L: Naming, T: Wait + Abort>(
-    rt: &T,
-    alloc: Global,
-    store: Store<L, NoGate, &T>,
-    mut workers: Vec<Worker<L>>,
-) {
-    let mut second = workers.pop().expect(rt, "a second worker");
-    let mut first = workers.pop().expect(rt, "a first worker");
+pub(super) fn reads_beside<L: Naming, T: Wait + Abort>(scene: Scene<'_, L, T>) {
+    let Scene {
+        rt,
+        alloc,
+        store,
+        mut workers,
+    } = scene;
+    let mut second = last_of(rt, &mut workers);
+    let mut first = last_of(rt, &mut workers);
     inserts(rt, alloc, &store, &mut first, (1, "ann", 10), (1, 1));
     shows_the_account(rt, alloc, &mut first);
     reads_either(rt, alloc, &mut second);
@@ -29,10 +30,7 @@ pub(super) fn reads_beside<L: Naming, T: Wait + Abort>(
     reads_at_other_times(rt, alloc, &mut second);
     made_nothing(rt, alloc, &second);
     made_the_first(rt, &first);
-    workers.push(first).expect(rt, "memory");
-    workers.push(second).expect(rt, "memory");
-    let closed = closed(rt, store, workers);
-    assert!(rt; has_places(&closed.places, &[1], &[]));
+    closes(rt, alloc, store, [first, second], &[1], &[]);
 }
 
 /// Asserts that the account is read, at time 1.
@@ -86,14 +84,15 @@ fn a_worker_that_is_behind_writes(rt: HostRuntime) {
 }
 
 /// Both workers write, each behind what the other one wrote.
-pub(super) fn writes_behind<L: Naming, T: Wait + Abort>(
-    rt: &T,
-    alloc: Global,
-    store: Store<L, NoGate, &T>,
-    mut workers: Vec<Worker<L>>,
-) {
-    let mut second = workers.pop().expect(rt, "a second worker");
-    let mut first = workers.pop().expect(rt, "a first worker");
+pub(super) fn writes_behind<L: Naming, T: Wait + Abort>(scene: Scene<'_, L, T>) {
+    let Scene {
+        rt,
+        alloc,
+        store,
+        mut workers,
+    } = scene;
+    let mut second = last_of(rt, &mut workers);
+    let mut first = last_of(rt, &mut workers);
     inserts(rt, alloc, &store, &mut first, (1, "ann", 10), (1, 1));
     inserts(rt, alloc, &store, &mut second, (2, "bob", 20), (2, 2));
     has(rt, alloc, &mut first, &[(1, "ann", 10), (2, "bob", 20)]);
@@ -121,13 +120,16 @@ fn two_threads_write(rt: HostRuntime) {
 
 /// Two workers write 500 accounts each, in threads.
 pub(super) fn writes_in_threads<L: Naming + Send + Sync, T: Threads + Wait + Abort + Sync>(
-    rt: &T,
-    alloc: Global,
-    store: Store<L, NoGate, &T>,
-    mut workers: Vec<Worker<L>>,
+    scene: Scene<'_, L, T>,
 ) {
-    let second = workers.pop().expect(rt, "a second worker");
-    let first = workers.pop().expect(rt, "a first worker");
+    let Scene {
+        rt,
+        alloc,
+        store,
+        mut workers,
+    } = scene;
+    let second = last_of(rt, &mut workers);
+    let first = last_of(rt, &mut workers);
     let (mut one, two) = in_threads(rt, alloc, &store, first, second);
     same(rt, &(one.made(), two.made()), &(500, 500));
     same(rt, &store.refresh(rt, &mut one), &Ok(1000));

@@ -1,4 +1,5 @@
 //! Gates that hold threads until others have come as far.
+use super::same;
 use std::process::Abort;
 use std::sync::atomic::{AtomicU64, Ordering};
 use std::thread::yield_now;
@@ -45,8 +46,8 @@ impl Marks {
 
     /// Asserts that nobody has waited in vain, and that so many have come as far.
     pub(crate) fn check(&self, rt: &impl Abort, count: u64) {
-        assert_eq!(rt; self.missed.load(Ordering::SeqCst), 0);
-        assert_eq!(rt; self.there.load(Ordering::SeqCst), count);
+        same(rt, &self.missed.load(Ordering::SeqCst), &0);
+        same(rt, &self.there.load(Ordering::SeqCst), &count);
     }
 }
 

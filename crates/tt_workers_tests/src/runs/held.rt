@@ -3,7 +3,7 @@
 ghost use Rattle.std.specs.Prelude.{◌≤◌};
 
 use super::gates::{AfterTheOther, BehindTheCalls, BesideTheRepair, Marks, Publishes, Together};
-use super::{FIVE_WRITES, MEANWHILE, TWO_WORKERS, document, ends, report, report_in_rounds};
+use super::{FIVE_WRITES, MEANWHILE, TWO_WORKERS, document, ends, report, report_in_rounds, same};
 use std::alloc::Global;
 use std::process::Abort;
 use std::sync::Wait;
@@ -54,19 +54,19 @@ fn a_run_steps_in_batches(rt: HostRuntime) {
         count: &count,
     };
     let _report = report(&rt, rt.alloc(), FIVE_WRITES, gate);
-    assert_eq!(rt; count.load(Ordering::SeqCst), 5);
+    same(&rt, &count.load(Ordering::SeqCst), &5);
 }
 
 /// Begin, the steps of the slots before it, a round for the write meanwhile, and the switch.
 #[test]
 fn a_run_catches_up_in_rounds(rt: HostRuntime) {
-    assert_eq!(rt; publishes_behind_the_calls(&rt, rt.alloc(), 1), 4);
+    same(&rt, &publishes_behind_the_calls(&rt, rt.alloc(), 1), &4);
 }
 
 /// Without a round, the step of the write meanwhile is published with the switch.
 #[test]
 fn a_run_makes_no_more_rounds(rt: HostRuntime) {
-    assert_eq!(rt; publishes_behind_the_calls(&rt, rt.alloc(), 0), 3);
+    same(&rt, &publishes_behind_the_calls(&rt, rt.alloc(), 0), &3);
 }
 
 /// How often the administrator publishes in so many rounds where all calls are made before its

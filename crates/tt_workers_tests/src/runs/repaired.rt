@@ -1,5 +1,6 @@
 //! What a history and a report tell of the repair of a document.
 use super::answers::Next;
+use super::same;
 use std::process::Abort;
 use tt_db::{Db, Edit, Event, Outcome, ReadError, Slot};
 use tt_document::{Document, Plan};
@@ -56,7 +57,7 @@ pub(super) fn has_repaired(rt: &impl Abort, document: &Document, report: &Report
         switches: 1,
         aborts: 0,
     };
-    assert_eq!(rt; kinds(report.db.get()), want);
+    same(rt, &kinds(report.db.get()), &want);
     for place in 0..report.db.get().events() {
         let entry = report
             .db
@@ -157,7 +158,7 @@ pub(super) fn tells_changes(rt: &impl Abort, db: &Db, report: &Report) {
             position = position.saturating_add(1);
         }
     }
-    assert_eq!(rt; position, report.changes.len());
+    same(rt, &position, &report.changes.len());
 }
 
 /// Whether a database answers otherwise now.

@@ -2,6 +2,7 @@
 //! history.
 use super::answers::{Next, is_right_at};
 use super::repaired::{has_repaired, is_told, tells_changes};
+use super::same;
 use std::alloc::Global;
 use std::process::Abort;
 use tt_db::{Db, Entry, Limits};
@@ -41,11 +42,11 @@ fn all_calls<'a>(rt: &impl Abort, alloc: Global, document: &'a Document) -> Vec<
 
 /// Asserts that each call has its record.
 fn has_records(rt: &impl Abort, calls: &[&Call], records: &[Record]) {
-    assert_eq!(rt; records.len(), calls.len());
+    same(rt, &records.len(), &calls.len());
     let mut number = 0u64;
     for (call, record) in calls.iter().zip(records) {
         number = number.saturating_add(1);
-        assert_eq!(rt; (record.call, record.worker), (number, call.worker));
+        same(rt, &(record.call, record.worker), &(number, call.worker));
     }
 }
 
@@ -129,7 +130,7 @@ fn are_right(
 /// Asserts that two databases have a history of the same length, and are at the same time of the
 /// same generation.
 fn ends_alike(rt: &impl Abort, one: &Db, other: &Db) {
-    assert_eq!(rt; one.events(), other.events());
-    assert_eq!(rt; one.now(), other.now());
-    assert_eq!(rt; one.generation(), other.generation());
+    same(rt, &one.events(), &other.events());
+    same(rt, &one.now(), &other.now());
+    same(rt, &one.generation(), &other.generation());
 }

@@ -1,5 +1,5 @@
 //! The lines of runs that no schedule changes.
-use super::{FIVE_WRITES, MEANWHILE, STORED, ends, prints, report};
+use super::{FIVE_WRITES, MEANWHILE, STORED, ends, prints, report, same};
 use tt_store::NoGate;
 
 #[test]
@@ -20,7 +20,7 @@ fn five_writes_and_a_repair(rt: HostRuntime) {
     let alloc = rt.alloc();
     let report = report(&rt, alloc, FIVE_WRITES, NoGate);
     ends(&rt, alloc, &report, "end generation 1 time 5\n");
-    assert_eq!(rt; report.db.get().events(), 12);
+    same(&rt, &report.db.get().events(), &12);
 }
 
 #[test]
