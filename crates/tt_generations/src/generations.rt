@@ -326,7 +326,8 @@ impl State {
 
     /// Adds a slot of this action, and answers the replies to its writes.
     fn add_action(&mut self, action: Items<Write>) -> Result<Items<Reply>, AllocError>
-        requires parts { AreGenerations self.old.catalog self.old.slots self.old.rows self.old.repair }
+        requires parts { AreGenerations
+            self.old.catalog self.old.slots self.old.rows self.old.repair }
         requires accepted { action_fault self.old.catalog action ≡ None }
         requires room { length self.old.slots < max_slots }
         ensures parts { OnOk result
@@ -350,7 +351,8 @@ impl State {
 
     /// Does one slot of the repair. Answers whether it was due.
     fn step(&mut self) -> Result<bool, AllocError>
-        requires parts { AreGenerations self.old.catalog self.old.slots self.old.rows self.old.repair }
+        requires parts { AreGenerations
+            self.old.catalog self.old.slots self.old.rows self.old.repair }
         requires left { 0 < left_of (phase_of self.old.repair) (actions_of self.old.slots) }
         ensures parts { OnOk result
             (AreGenerations self.new.catalog self.new.slots self.new.rows self.new.repair) }

@@ -97,7 +97,8 @@ impl Reexecution {
         time: u64,
     ) -> Result<(), AllocError>
         requires { HasKey write.now }
-        ensures { OnOk result (SplitsForRun self.old self.new (matched_keys write.now effect.now) time) }
+        ensures { OnOk result
+            (SplitsForRun self.old self.new (matched_keys write.now effect.now) time) }
     {
         let matched = matched_keys(alloc, write, effect)?;
         self.split_rows(catalog, &matched, time)?;

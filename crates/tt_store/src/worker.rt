@@ -68,7 +68,8 @@ impl<L: Naming> Model for Worker<L> {
     } };
 
     ghost invariant = { λ w. SaysThat L.holds L.book L.tables L.limits
-        × IsWorker L.book L.tables L.limits w.number w.seen w.own.items w.share.parts w.share.amount };
+        × IsWorker L.book L.tables L.limits w.number w.seen w.own.items
+        w.share.parts w.share.amount };
 }
 
 /// What a reading tells: that what is published is of the store.
