@@ -1,6 +1,7 @@
 //! The accounts of a bank, five slots of which the fourth is repaired, and what tests assert of that.
 mod alone;
 mod beside;
+mod full;
 mod held;
 mod refused;
 

@@ -1,6 +1,7 @@
 //! What runs of the program don't show: readers and writers that are slow, interrupted or broken.
 mod devices;
 mod ends;
+mod lines;
 mod runs;
 
 const EMPTY: &str = r#"{"version":1,"tables":[],"workers":1,"calls":[]}"#;

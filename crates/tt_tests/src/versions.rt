@@ -82,6 +82,58 @@ fn each_side_is_written_on_its_own(rt: HostRuntime) {
     expect_sides(&rt, &split, [A, A, B, B, NONE], [A, A, A, C, C]);
 }
 
+#[test]
+fn a_rollback_leaves_the_current_side(rt: HostRuntime) {
+    let table = a_then_b(&rt, rt.alloc());
+    assert!(rt; !table.is_split(1));
+    let split = table.split_back(1, 2).expect(&rt, "memory");
+    assert!(rt; split.is_split(1) && !table.is_split(1));
+    expect_sides(&rt, &split, [A, A, B, B, B], [A, A, A, A, A]);
+}
+
+#[test]
+fn a_switch_keeps_the_next_side(rt: HostRuntime) {
+    let split = two_sides(&rt, rt.alloc());
+    let table = split.switched().expect(&rt, "memory");
+    assert!(rt; split.is_split(1) && !table.is_split(1));
+    expect_sides(&rt, &table, [A, A, A, C, C], [A, A, A, C, C]);
+}
+
+#[test]
+fn an_abort_keeps_the_current_side(rt: HostRuntime) {
+    let split = two_sides(&rt, rt.alloc());
+    let table = split.aborted().expect(&rt, "memory");
+    assert!(rt; split.is_split(1) && !table.is_split(1));
+    expect_sides(&rt, &table, [A, A, B, B, NONE], [A, A, B, B, NONE]);
+}
+
+#[test]
+fn a_row_that_was_deleted_stays_deleted(rt: HostRuntime) {
+    let alloc = rt.alloc();
+    let mut table = Table::new(alloc);
+    for (version, time) in [
+        (row(&rt, alloc, 1, A), 1),
+        (None, 2),
+        (row(&rt, alloc, 1, B), 3),
+    ] {
+        table = table.written(1, version, time).expect(&rt, "memory");
+    }
+    let split = table.split_back(1, 3).expect(&rt, "memory");
+    let next = [A, NONE, NONE, NONE, NONE];
+    expect_sides(&rt, &split, [A, NONE, B, B, B], next);
+}
+
+#[test]
+fn a_split_row_without_versions_stays_apart(rt: HostRuntime) {
+    let alloc = rt.alloc();
+    let split = Table::new(alloc).split_back(1, 1).expect(&rt, "memory");
+    assert!(rt; split.is_split(1));
+    let table = split
+        .written(1, row(&rt, alloc, 1, A), 2)
+        .expect(&rt, "memory");
+    expect_sides(&rt, &table, [NONE, A, A, A, A], [NONE; 5]);
+}
+
 /// Key 1 is split as in `two_sides`, and then each key has a row that is written at time 4.
 fn written_together(rt: &impl Abort, alloc: Global) -> Table {
     let rows = vec![in alloc; (1, row(rt, alloc, 1, C)), (2, row(rt, alloc, 2, A))];

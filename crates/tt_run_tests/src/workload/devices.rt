@@ -148,3 +148,58 @@ impl<T: Write> Write for Faltering<T> {
         self.inner.flush()
     }
 }
+
+/// Fails once, after some calls, and then goes on.
+#[derive(Drop)]
+pub(super) struct FailingOnce<T> {
+    pub(super) inner: T,
+    kind: ErrorKind,
+    calls: usize,
+    has_failed: bool,
+}
+
+impl<T> FailingOnce<T> {
+    pub(super) fn new(inner: T, kind: ErrorKind, calls: usize) -> Self {
+        FailingOnce {
+            inner,
+            kind,
+            calls,
+            has_failed: false,
+        }
+    }
+
+    fn fails(&mut self) -> bool {
+        if self.has_failed {
+            return false;
+        }
+        self.has_failed = self.calls == 0;
+        self.calls = self.calls.saturating_sub(1);
+        self.has_failed
+    }
+}
+
+impl<T: Read> Read for FailingOnce<T> {
+    fn read(&mut self, buf: &mut [u8]) -> io::Result<usize> {
+        if self.fails() {
+            return Err(io::Error::from(self.kind));
+        }
+        let count = self.inner.read(buf)?;
+        Ok(count.min(buf.len()))
+    }
+}
+
+impl<T: Write> Write for FailingOnce<T> {
+    fn write(&mut self, buf: &[u8]) -> io::Result<usize> {
+        if self.fails() {
+            return Err(io::Error::from(self.kind));
+        }
+        self.inner.write(buf)
+    }
+
+    fn flush(&mut self) -> io::Result<()> {
+        if self.fails() {
+            return Err(io::Error::from(self.kind));
+        }
+        self.inner.flush()
+    }
+}

@@ -1,11 +1,32 @@
-use super::devices::{Faltering, Sink, Source};
+use super::devices::{FailingOnce, Faltering, Sink, Source};
 use super::{EMPTY, STORED};
 use crate::same::same;
 use std::alloc::Global;
+use std::io::ErrorKind;
 use std::process::Abort;
 use tt_workload::{DocFault, Document, RunFault, read_document, write_text};
 
 const LONG: usize = 400_000;
+
+/// Errors that are no interruption.
+const KINDS: [ErrorKind; 16] = [
+    ErrorKind::NotFound,
+    ErrorKind::PermissionDenied,
+    ErrorKind::ConnectionReset,
+    ErrorKind::NotConnected,
+    ErrorKind::BrokenPipe,
+    ErrorKind::WouldBlock,
+    ErrorKind::IsADirectory,
+    ErrorKind::InvalidInput,
+    ErrorKind::InvalidData,
+    ErrorKind::TimedOut,
+    ErrorKind::WriteZero,
+    ErrorKind::StorageFull,
+    ErrorKind::ResourceBusy,
+    ErrorKind::UnexpectedEof,
+    ErrorKind::OutOfMemory,
+    ErrorKind::Other,
+];
 
 fn refuses(rt: &impl Abort, outcome: Result<Document, RunFault>, because: &str) {
     match outcome {
@@ -53,6 +74,22 @@ fn a_reader_fails(rt: HostRuntime) {
     }
 }
 
+/// A document isn't read by a reader that fails once, at any of its calls.
+fn gives_up_reading(rt: &impl Abort, alloc: Global, kind: ErrorKind) {
+    for reads in 0..=EMPTY.len() {
+        let source = Source::slow(EMPTY.as_bytes(), usize::MAX);
+        let outcome = read_document(alloc, &mut FailingOnce::new(source, kind, reads));
+        assert!(rt; is_read_fault(&outcome), "after {reads} reads");
+    }
+}
+
+#[test]
+fn a_reader_fails_once(rt: HostRuntime) {
+    for kind in KINDS {
+        gives_up_reading(&rt, rt.alloc(), kind);
+    }
+}
+
 #[test]
 fn interrupted_reads(rt: HostRuntime) {
     let mut source = Faltering::new(Source::padded(LONG), 1_000, 250);
@@ -81,6 +118,23 @@ fn a_writer_fails(rt: HostRuntime) {
     }
     let mut full = Sink::new(rt.alloc(), 0, usize::MAX);
     assert!(rt; write_text(&mut full, text) == Err(RunFault::Write));
+}
+
+/// A text isn't written by a writer that fails once, at any of its calls; the flush is the last.
+fn gives_up_writing(rt: &impl Abort, alloc: Global, kind: ErrorKind) {
+    let text = EMPTY.as_bytes();
+    for writes in 0..=text.len() {
+        let mut sink = FailingOnce::new(Sink::new(alloc, 1, usize::MAX), kind, writes);
+        assert!(rt; write_text(&mut sink, text) == Err(RunFault::Write));
+        assert!(rt; sink.inner.written.as_slice() == &text[..writes]);
+    }
+}
+
+#[test]
+fn a_writer_fails_once(rt: HostRuntime) {
+    for kind in KINDS {
+        gives_up_writing(&rt, rt.alloc(), kind);
+    }
 }
 
 #[test]

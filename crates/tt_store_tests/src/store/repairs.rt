@@ -1,6 +1,6 @@
 use super::{
-    Scenario, Scene, all, begins_after_five_slots, closes, delete_bob, has, inserts, last_of,
-    plays, rows, same, tries,
+    Scenario, Scene, all, begins_after_five_slots, closed, closes, delete_bob, has, inserts,
+    last_of, plays, rows, same, tries,
 };
 use std::alloc::Global;
 use std::process::Abort;
@@ -53,6 +53,7 @@ fn steps<L: Naming, T: Wait + Abort>(rt: &T, store: &Store<L, NoGate, &T>, worke
         rerun: 0,
     };
     same(rt, &store.step(rt, worker, 0), &Ok(before));
+    same(rt, &worker.progress(), &Some(before));
     same(rt, &worker.seen(), &6);
     let progress = Progress {
         done: 4,
@@ -117,8 +118,9 @@ pub(super) fn finishes_for_another<L: Naming, T: Wait + Abort>(scene: Scene<'_, 
     let mut first = last_of(rt, &mut workers);
     begins_after_five_slots(rt, alloc, &store, &mut first);
     is_refused_another(rt, alloc, &store, &mut second);
-    let progress = store.step(rt, &mut second, 4).expect(rt, "four steps");
-    same(rt, &(progress.done, progress.left), &(4, 1));
+    steps(rt, &store, &mut second);
+    has(rt, alloc, &mut second, &[(3, "bob", 8)]);
+    previews(rt, alloc, &mut second);
     finishes(rt, &store, &mut second);
     let before = &[1, 2, 3, 4, 5, 6];
     let behind = &[7, 8, 9, 10, 11, 12];
@@ -165,6 +167,8 @@ pub(super) fn fills_history<L: Naming, T: Wait + Abort>(scene: Scene<'_, L, T>) 
     inserts(rt, alloc, &store, &mut worker, (2, "bob", 20), (2, 2));
     begins(rt, alloc, &store, &mut worker);
     is_full_after_a_step(rt, &store, &mut worker);
+    let workers = Vec::from_array(alloc, [worker]).expect(rt, "memory");
+    same(rt, &closed(rt, store, workers).db.get().events(), &4);
 }
 
 /// Begins a repair that cancels the first slot.

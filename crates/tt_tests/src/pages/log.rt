@@ -24,6 +24,17 @@ fn reads_and_replaces_items(rt: HostRuntime) {
 }
 
 #[test]
+fn pushes_items_beside_the_old_log(rt: HostRuntime) {
+    let mut log = PagedLog::new(rt.alloc());
+    for number in 0..65 {
+        let longer = log.pushed(number).expect(&rt, "memory");
+        expect_numbers(&rt, &log, number);
+        log = longer;
+    }
+    expect_numbers(&rt, &log, 65);
+}
+
+#[test]
 fn shared_logs_stay_the_same(rt: HostRuntime) {
     let alloc = rt.alloc();
     let mut log = PagedLog::new(alloc);

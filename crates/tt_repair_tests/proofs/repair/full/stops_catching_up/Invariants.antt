@@ -1,0 +1,13 @@
+-- the store that was just opened
+use Rattle.std.specs.Arc.{arc_value}
+use Rattle.tt_store.specs.Published.{IsOf}
+use Rattle.tt_repair_tests.proofs.repair.full.stops_catching_up.Given as goal
+
+abbrev pub ghosts-fills_beside_an_insert-L-Naming : goal.ghosts-fills_beside_an_insert-L-Naming
+ghosts-fills_beside_an_insert-L-Naming g a = record { book = a.opened.front.book; tables = arc_value a.catalog; limits = a.limits }
+
+abbrev pub ghosts-fills_beside_an_insert-L-Ledger : goal.ghosts-fills_beside_an_insert-L-Ledger
+ghosts-fills_beside_an_insert-L-Ledger g a = record { name = a.opened.blank.name; parts = a.opened.blank.parts }
+
+abbrev pub ghosts-fills_beside_an_insert-L-Protocol : goal.ghosts-fills_beside_an_insert-L-Protocol
+ghosts-fills_beside_an_insert-L-Protocol g a = record { holds = λ shown known. IsOf a.opened.front.book (arc_value a.catalog) a.limits shown; first = tt }
