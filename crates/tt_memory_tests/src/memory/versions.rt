@@ -1,0 +1,139 @@
+//! Tables of versions, where one growth is refused.
+use super::{mark, row, same};
+use std::alloc::{AllocError, Global};
+use std::process::Abort;
+use tt_values::{Row, Value};
+use tt_versions::{Side, Table};
+
+/// The row of ann with this balance.
+fn ann(rt: &impl Abort, alloc: Global, balance: i64) -> Option<Row> {
+    Some(row(rt, alloc, 1, "ann", balance))
+}
+
+fn balance(row: Option<&Row>) -> i64 {
+    let Some(row) = row else {
+        return 0;
+    };
+    match row.values.get(2) {
+        Some(Value::Int(balance)) => *balance,
+        _ => -1,
+    }
+}
+
+/// Ann's balances at the times 1 to 3, on the current side and on the next one; 0 for no row.
+fn shows(rt: &impl Abort, table: &Table, current: [i64; 3], next: [i64; 3]) {
+    for (side, wanted) in [(Side::Current, current), (Side::Next, next)] {
+        for (index, want) in wanted.iter().enumerate() {
+            let shown = table.at(1, index as u64 + 1, side);
+            same(rt, &balance(shown), want);
+        }
+    }
+}
+
+/// A row that was written twice, if the calls find memory, or are made again.
+fn written_twice(rt: &impl Abort, alloc: Global) -> Table {
+    let empty = Table::new(alloc);
+    let five = ann(rt, alloc, 5);
+    mark(alloc);
+    let one = empty.written(1, five, 1);
+    mark(alloc);
+    shows(rt, &empty, [0, 0, 0], [0, 0, 0]);
+    let one = match one {
+        Ok(table) => table,
+        Err(AllocError) => empty
+            .written(1, ann(rt, alloc, 5), 1)
+            .expect(rt, "a second call"),
+    };
+    let six = ann(rt, alloc, 6);
+    mark(alloc);
+    let two = one.written(1, six, 3);
+    mark(alloc);
+    shows(rt, &one, [5, 5, 5], [5, 5, 5]);
+    match two {
+        Ok(table) => table,
+        Err(AllocError) => one
+            .written(1, ann(rt, alloc, 6), 3)
+            .expect(rt, "a second call"),
+    }
+}
+
+/// That row, rolled back to before time 2 on the next side.
+fn rolled_back(rt: &impl Abort, alloc: Global) -> Table {
+    let old = written_twice(rt, alloc);
+    mark(alloc);
+    let split = old.split_back(1, 2);
+    mark(alloc);
+    assert!(rt; !old.is_split(1));
+    shows(rt, &old, [5, 5, 6], [5, 5, 6]);
+    match split {
+        Ok(table) => table,
+        Err(AllocError) => old.split_back(1, 2).expect(rt, "a second call"),
+    }
+}
+
+/// The same, written on the next side at time 2.
+fn written_apart(rt: &impl Abort, alloc: Global) -> Table {
+    let old = rolled_back(rt, alloc);
+    shows(rt, &old, [5, 5, 6], [5, 5, 5]);
+    assert!(rt; old.is_split(1));
+    let seven = ann(rt, alloc, 7);
+    mark(alloc);
+    let next = old.next_written(1, seven, 2);
+    mark(alloc);
+    shows(rt, &old, [5, 5, 6], [5, 5, 5]);
+    match next {
+        Ok(table) => table,
+        Err(AllocError) => old
+            .next_written(1, ann(rt, alloc, 7), 2)
+            .expect(rt, "a second call"),
+    }
+}
+
+#[test]
+fn a_table_is_switched(rt: HostRuntime) {
+    let alloc = rt.alloc();
+    let old = written_apart(&rt, alloc);
+    mark(alloc);
+    let switched = old.switched();
+    mark(alloc);
+    shows(&rt, &old, [5, 5, 6], [5, 7, 7]);
+    let switched = match switched {
+        Ok(table) => table,
+        Err(AllocError) => old.switched().expect(&rt, "a second call"),
+    };
+    shows(&rt, &switched, [5, 7, 7], [5, 7, 7]);
+    assert!(rt; old.is_split(1) && !switched.is_split(1));
+}
+
+#[test]
+fn a_table_is_aborted(rt: HostRuntime) {
+    let alloc = rt.alloc();
+    let old = written_apart(&rt, alloc);
+    mark(alloc);
+    let aborted = old.aborted();
+    mark(alloc);
+    shows(&rt, &old, [5, 5, 6], [5, 7, 7]);
+    let aborted = match aborted {
+        Ok(table) => table,
+        Err(AllocError) => old.aborted().expect(&rt, "a second call"),
+    };
+    shows(&rt, &aborted, [5, 5, 6], [5, 5, 6]);
+    assert!(rt; old.is_split(1) && !aborted.is_split(1));
+}
+
+#[test]
+fn the_rows_of_a_table(rt: HostRuntime) {
+    let alloc = rt.alloc();
+    let table = written_apart(&rt, alloc);
+    mark(alloc);
+    let rows = table.rows_at(3, Side::Next);
+    mark(alloc);
+    let count = match rows {
+        Ok(rows) => rows.len(),
+        Err(AllocError) => table
+            .rows_at(3, Side::Next)
+            .expect(&rt, "a second call")
+            .len(),
+    };
+    same(&rt, &count, &1);
+}

@@ -1,0 +1,241 @@
+#!/usr/bin/env python3
+"""Hostile use of the built program and libraries: documents that are cut off, the largest document,
+and memory that runs out at each growth, of a run or of a call.
+
+  tests/hostile.py PROGRAM [SCENARIOS]
+
+PROGRAM is the built program; SCENARIOS are the built tests of tt_memory_tests, which mark the calls
+in which a growth is refused.
+
+Each line says what was tried and how often. The status is 0 where every answer was lawful, 1 where
+one wasn't, 2 where the tests can't be run.
+"""
+import itertools
+import os
+import shutil
+import subprocess
+import sys
+import tempfile
+from concurrent.futures import ThreadPoolExecutor
+
+ROOT = os.path.dirname(os.path.dirname(os.path.realpath(__file__)))
+SECONDS = 60  # that a run may take
+NOT_JSON = (1, b'', b'timetravel: $: not JSON\n')
+WANT_OF_MEMORY = (3, b'', b'timetravel: want of memory\n')
+LONGEST = 16_777_216  # bytes of a document
+
+# Those of which every proper prefix is tried.
+SMALL = ['examples/first', 'examples/empty', 'examples/transfer',
+         'tests/reports/delete_is_replaced_by_another',
+         'tests/reports/write_to_a_row_under_repair',
+         'tests/reports/escapes_in_a_row',
+         'tests/reports/cancelled_insert_frees_its_key',
+         'tests/reports/action_in_place_of_each_kind_of_write']
+
+# Those that are run with too little memory. In threads the reports of the last three depend on the
+# schedule.
+RUN = ['examples/first', 'examples/transfer', 'examples/two_workers', 'examples/incident',
+       'examples/intruder']
+OF_ONE_WORKER = RUN[:2]
+
+
+class Hostile:
+    def __init__(self, program, folder):
+        self.program, self.folder = program, folder
+        self.failures = 0
+        self.pool = ThreadPoolExecutor(os.cpu_count())
+
+    def run(self, words, document, environment=None, program=None):
+        """The status, standard output and standard error of one run."""
+        try:
+            ran = subprocess.run([program or self.program, *words], input=document,
+                                 capture_output=True, env=environment, timeout=SECONDS)
+        except subprocess.TimeoutExpired:
+            return ('no end', b'', b'')
+        return (ran.returncode, ran.stdout, ran.stderr)
+
+    def check(self, is_lawful, what, answer):
+        if not is_lawful:
+            self.failures += 1
+            status, output, error = answer
+            print(f'{what}: status {status}, {output[-200:]!r}, {error[-200:]!r}', file=sys.stderr)
+
+    # Documents
+
+    def prefixes(self, name):
+        """Every proper prefix of a document is no JSON."""
+        document = read(f'{name}.json').rstrip(b'\n')
+        lengths = range(len(document))
+        answers = self.pool.map(lambda it: self.run(['replay'], document[:it]), lengths)
+        for length, answer in zip(lengths, answers):
+            self.check(answer == NOT_JSON, f'the first {length} bytes of {name}', answer)
+        return len(lengths)
+
+    def no_text(self):
+        """A document that isn't UTF-8 is no JSON, wherever the byte is."""
+        document = read('examples/first.json')
+        for odd in (document.replace(b'"ann"', b'"an\xff"', 1), b'\xff' + document,
+                    b'\xef\xbb\xbf' + document, document.decode().encode('utf-16')):
+            answer = self.run(['replay'], odd)
+            self.check(answer == NOT_JSON, 'a document that is not UTF-8', answer)
+
+    def longest(self):
+        """A document may have 16,777,216 bytes, and no more."""
+        document = read('examples/empty.json').rstrip(b'\n')
+        want = (0, read('examples/empty.report'), b'')
+        refusal = (1, b'', b'timetravel: $: longer than 16777216 bytes\n')
+        for command in ('replay', 'run'):
+            answer = self.run([command], document.ljust(LONGEST))
+            self.check(answer == want, f'{command} of {LONGEST} bytes', answer)
+            answer = self.run([command], document.ljust(LONGEST + 1))
+            self.check(answer == refusal, f'{command} of {LONGEST + 1} bytes', answer)
+
+    # Memory
+
+    def build_refusal(self):
+        """The shared object that refuses growths."""
+        made = f'{self.folder}/refuse_growth.so'
+        for compiler in compilers():
+            words = [compiler, '-O1', '-shared', '-fPIC', '-fno-builtin', '-nostdlib', '-o', made,
+                     f'{ROOT}/tests/refuse_growth.c']
+            if subprocess.run(words, capture_output=True).returncode == 0:
+                return made
+        return None
+
+    def refused(self, library, words, document, first, last, number, scenarios=None):
+        """A run in which the growths from first to last are refused; None where none was met."""
+        mark = f'{self.folder}/refused.{number}'
+        environment = {'LD_PRELOAD': library, 'REFUSE_FROM': str(first), 'REFUSE_TO': str(last),
+                       'REFUSED': mark}
+        if scenarios:
+            environment['BETWEEN_MARKS'] = '1'
+        answer = self.run(words, document, environment, scenarios)
+        if not os.path.exists(mark):
+            return None
+        os.remove(mark)
+        return answer
+
+    def each_growth(self, library, words, name, is_report, all_behind):
+        """Refuses each growth of a run in turn, or all from it on, until a run meets none."""
+        document, refused = read(f'{name}.json'), 0
+        numbers = itertools.count(1)
+
+        def one(number):
+            last = 10 ** 12 if all_behind else number
+            return self.refused(library, words, document, number, last, number)
+
+        while True:
+            some = list(itertools.islice(numbers, 64))
+            for number, answer in zip(some, self.pool.map(one, some)):
+                if answer is None:
+                    continue
+                refused += 1
+                status, output, error = answer
+                is_lawful = (answer == WANT_OF_MEMORY
+                             or status == 0 and is_report(output) and error == b''
+                             or words[0] == 'run' and status == 4 and output == b''
+                             and error.startswith(b'timetravel: store: '))
+                which = f'from growth {number} on' if all_behind else f'at growth {number}'
+                self.check(is_lawful, f'{" ".join(words)} of {name}, {which}', answer)
+            if answer is None:
+                return refused
+
+    def each_growth_of_calls(self, library, scenarios, name):
+        """Refuses each growth in turn within the calls of a scenario, until a run meets none."""
+        refused, numbers = 0, itertools.count(1)
+        while True:
+            some = list(itertools.islice(numbers, 16))
+            answers = self.pool.map(
+                lambda it: self.refused(library, [name], b'', it, it, it, scenarios), some)
+            for number, answer in zip(some, answers):
+                if answer is None:
+                    continue
+                refused += 1
+                self.check(answer[0] == 0, f'{name}, at growth {number} of its calls', answer)
+            if answer is None:
+                return refused
+
+    def calls(self, library, scenarios):
+        """The scenarios of calls, each with all its growths refused in turn."""
+        listed = self.run(['--list'], b'', program=scenarios)[1].decode()
+        names = [line.removesuffix(': test') for line in listed.splitlines()
+                 if line.endswith(': test')]
+        if not names:
+            raise Untestable(f'{scenarios} lists no tests')
+        for name in names:
+            print(f'{name}: {self.each_growth_of_calls(library, scenarios, name)} growths refused '
+                  'within its calls')
+
+    def library(self):
+        library = self.build_refusal()
+        if library is None:
+            raise Untestable('no C compiler builds tests/refuse_growth.c')
+        return library
+
+    def runs(self, library):
+        """Whole runs, each with all its growths refused in turn."""
+        for name, words in itertools.product(RUN, (['replay'], ['replay', '--closed'], ['run'],
+                                                   ['run', '--closed'])):
+            report = self.run(words, read(f'{name}.json'))[1]
+            is_report = report.__eq__
+            if words[0] == 'run' and name not in OF_ONE_WORKER:
+                is_report = looks_like(report)
+            one_by_one = self.each_growth(library, words, name, is_report, False)
+            from_it_on = self.each_growth(library, words, name, is_report, True)
+            print(f'{" ".join(words)} of {name}: {one_by_one} growths refused one at a time, '
+                  f'{from_it_on} with all after them')
+
+
+class Untestable(Exception):
+    pass
+
+
+def read(path):
+    with open(f'{ROOT}/{path}', 'rb') as file:
+        return file.read()
+
+
+def looks_like(report):
+    """Whether another report is of the same document: its lines begin in the same way."""
+    def heads(text):
+        lines = [line.split() for line in text.splitlines()]
+        lines = [line[:4] if line[0] == b'call' else line[:2] for line in lines
+                 if line[0] not in (b'changed', b'closed')]
+        return lines, text.endswith(b'\n')
+    return lambda other: heads(other) == heads(report)
+
+
+def compilers():
+    """The commands that may build C: the system's, and the kit's clang."""
+    found = [it for it in ('cc', 'gcc', 'clang') if shutil.which(it)]
+    rt = shutil.which('rt')
+    if rt:
+        page = subprocess.run([rt, 'doc'], capture_output=True, text=True).stdout.strip()
+        found.append(f'{os.path.dirname(page)}/toolchain/bin/clang')
+    return [it for it in found if shutil.which(it)]
+
+
+def main():
+    if len(sys.argv) not in (2, 3) or sys.argv[1].startswith('-'):
+        print(__doc__, file=sys.stderr)
+        return 2
+    with tempfile.TemporaryDirectory(prefix='hostile.') as folder:
+        hostile = Hostile(os.path.abspath(sys.argv[1]), folder)
+        try:
+            tried = sum(hostile.prefixes(name) for name in SMALL)
+            print(f'{tried} prefixes of {len(SMALL)} documents')
+            hostile.no_text()
+            hostile.longest()
+            library = hostile.library()
+            hostile.runs(library)
+            if len(sys.argv) == 3:
+                hostile.calls(library, os.path.abspath(sys.argv[2]))
+        except Untestable as why:
+            print(f'hostile: {why}', file=sys.stderr)
+            return 2
+    print(f'unlawful answers: {hostile.failures}')
+    return 1 if hostile.failures else 0
+
+
+if __name__ == '__main__':
+    sys.exit(main())
