@@ -1,0 +1,276 @@
+# shellcheck shell=bash disable=SC2154
+# The documents and command lines that the program is tested on, for ./test, which reads this file.
+# Each is a case: what the program is given, and the status, standard output and standard error
+# that it has to answer with. `collect_cases` writes them into the folder `cases`:
+#
+#   cases/given/N       standard input            cases/given/N.args   the arguments, one a line
+#   cases/wanted/N.out  standard output; without this file, the text of help
+#   cases/wanted/N.err  standard error; without this file, any text that isn't empty
+#   cases/wanted/N.status                         cases/wanted/N.label what a failure is told by
+
+number=0
+
+# A case of these arguments, with what follows on standard input. It is the next number.
+add_case() {
+  number=$((number + 1))
+  at=$(printf '%04d' "$number")
+  printf '%s\n' "${@:2}" >"$cases/given/$at.args"
+  [ $# -gt 1 ] || : >"$cases/given/$at.args"
+  cat >"$cases/given/$at"
+  echo "$1" >"$cases/wanted/$at.status"
+  echo "timetravel ${*:2}" >"$cases/wanted/$at.label"
+}
+
+# The document on standard input is answered with this report.
+reports() {
+  add_case 0 "${@:2}"
+  cp "$1" "$cases/wanted/$at.out"
+  : >"$cases/wanted/$at.err"
+  echo "timetravel ${*:2}, wanted: $1" >"$cases/wanted/$at.label"
+}
+
+# A faulty document: status 1, nothing on standard output, and one line on standard error. It is
+# given to both commands, or to one, in turn, where that is enough (`by_one_command`).
+refuses_document() {
+  local command commands=(replay run)
+  if $by_one_command; then
+    commands=("${commands[number % 2]}")
+  fi
+  for command in "${commands[@]}"; do
+    add_case 1 "$command" < <(printf '%s' "$1")
+    : >"$cases/wanted/$at.out"
+    echo "timetravel: $2" >"$cases/wanted/$at.err"
+    echo "timetravel $command: should refuse ${1:0:1000} with $2" >"$cases/wanted/$at.label"
+  done
+}
+
+# Help or the version: status 0, on standard output only.
+answers_help() {
+  add_case 0 "$@" </dev/null
+  : >"$cases/wanted/$at.err"
+}
+answers_version() {
+  answers_help "$@"
+  echo "timetravel $VERSION" >"$cases/wanted/$at.out"
+}
+
+# A command line that can't be carried out: status 2, and a message on standard error only.
+refuses_usage() {
+  add_case 2 "$@" <<<"unread"
+  : >"$cases/wanted/$at.out"
+}
+
+# In threads the report of a document is always the same one where one worker makes all its calls
+# before its repair.
+has_one_order() {
+  tr -d '[:space:]' <"$1" | grep -q '"workers":1[,}]' && ! grep -q '"meanwhile"' "$1"
+}
+
+# Each document is answered with its report, with the options of the command line in NAME.options,
+# and where it has one order, in threads, too. If several workers make the calls and the report is
+# the same one in any order, NAME.run has a line for each run in threads, with its options.
+collect_documents() {
+  local document name options
+  for document in examples/*.json tests/reports/*.json; do
+    name=${document%.json}
+    read -ra options < <(cat "$name.options" 2>/dev/null)
+    reports "$name.report" replay "${options[@]}" <"$document"
+    if has_one_order "$document"; then
+      reports "$name.report" run "${options[@]}" <"$document"
+    fi
+    [ -e "$name.run" ] || continue
+    while read -ra options; do
+      reports "$name.report" run "${options[@]}" <"$document"
+    done <"$name.run"
+  done
+}
+
+# Numbers at the ends of their ranges, and numbers with a sign: the report of a document whose
+# repair has no calls beside it is the same one.
+collect_options() {
+  local name=tests/reports/each_kind_of_write_is_cancelled command
+  takes() {
+    reports "$name.report" "$@" <"$name.json"
+  }
+  for command in replay run; do
+    takes "$command" --batch 1
+    takes "$command" --batch=10000
+  done
+  takes run --rounds 0
+  takes run --rounds=-0
+  takes run --rounds +7
+  takes run --rounds=1000 --batch 2
+}
+
+# A block of code of a page: the N-th.
+block_of() {
+  awk -v wanted="$2" '/^```/ { inside = !inside; number += inside; next } inside && number == wanted' "$1"
+}
+
+# The document that the manual begins with, and the one that help shows, have their reports.
+collect_documents_of_manual() {
+  local command
+  block_of docs/DOCUMENT.md 3 >"$cases/report"
+  for command in replay run; do
+    reports "$cases/report" "$command" < <(block_of docs/DOCUMENT.md 1)
+  done
+  for command in replay run; do
+    reports tests/help.report "$command" < <(
+      sed -n '/^  {"version"/,/^$/p' crates/tt_cli/src/command_line.rt)
+  done
+}
+
+# Long runs are answered with the reports that awk writes of them: of 5,000 inserts, and of 100,000
+# calls, of which all but ten add 1 to one of ten rows; these once more with a repair, which cancels
+# the last call. A repair redoes the writes from the cancelled one on that are to the same row.
+long_run() {
+  awk -v calls="$1" -v rows="$2" -v cancelled="$3" -v print_report="$4" '
+    function put(text) { if (!print_report) print text }
+    function tell(text) { if (print_report) print text }
+    BEGIN {
+      put("{\"version\":1,\"tables\":[{\"name\":\"acct\",\"columns\":[{\"name\":\"id\",\"kind\":\"int\"},{\"name\":\"bal\",\"kind\":\"int\"}]}],\"workers\":1,\"calls\":[")
+      for (i = 1; i <= calls; i++) {
+        comma = i < calls ? "," : "]"
+        if (i <= rows) {
+          put("{\"worker\":1,\"insert\":\"acct\",\"row\":[" i ",0]}" comma)
+          tell("call " i " worker 1 slot " i " inserted")
+        } else {
+          put("{\"worker\":1,\"update\":\"acct\",\"change\":[[\"add\",\"bal\",1]],\"where\":[[\"id\"," (i % rows + 1) "]]}" comma)
+          tell("call " i " worker 1 slot " i " updated 1")
+        }
+      }
+      if (cancelled) {
+        put(",\"repair\":{\"edits\":[{\"cancel\":" cancelled "}]}")
+        tell("repair generation 1 slots " calls " rerun " (int((calls - cancelled) / rows) + 1))
+        tell("changed call " cancelled " updated 1 -> cancelled")
+      }
+      put("}")
+      line = "table acct rows " rows
+      for (i = 1; i <= rows; i++) {
+        less = cancelled && cancelled % rows + 1 == i ? 2 : 1
+        line = line " [" i "," (calls / rows - less) "]"
+      }
+      tell(line)
+      tell("end generation " (cancelled ? 1 : 0) " time " calls)
+    }'
+}
+collect_long_runs() {
+  local run command
+  for run in "5000 5000 0" "100000 10 0" "100000 10 100000"; do
+    # shellcheck disable=SC2086
+    long_run $run 1 >"$cases/report"
+    # shellcheck disable=SC2086
+    long_run $run 0 >"$cases/document"
+    for command in replay run; do
+      reports "$cases/report" "$command" <"$cases/document"
+    done
+  done
+}
+
+# Lines of a fault, a tab and a text, put between these two; empty lines and those with # say more.
+refuses_each() {
+  local fault text
+  while IFS=$'\t' read -r fault text; do
+    case $fault in '' | '#'*) continue ;; esac
+    refuses_document "$2$text$3" "$fault"
+  done <"tests/refused/$1"
+}
+
+# As many calls, edits and calls made meanwhile as there may be, and one more; that there are too
+# many comes before the items.
+refuses_sevens() {
+  local sevens
+  sevens=$(awk -v count="$1" 'BEGIN { for (i = 1; i < count; i++) printf "7,"; print 7 }')
+  refuses_document '{"version":1,"tables":[],"workers":1,"calls":['"$2$sevens$3" "$4"
+}
+
+collect_faulty_documents() {
+  local accounts calls
+  accounts='{"name":"acct","columns":[{"name":"id","kind":"int"},{"name":"owner","kind":"text","partition":true},{"name":"bal","kind":"int"}]}'
+  refuses_each documents '' ''
+  refuses_each tables '{"version":1,"workers":1,"calls":[],"tables":[' ']}'
+  refuses_each calls '{"version":1,"workers":1,"tables":['"$accounts"'],"calls":[' ']}'
+  calls='{"worker":1,"insert":"acct","row":[1,"ann",10]},{"worker":1,"select":"acct","where":[]},{"worker":1,"update":"acct","change":[["add","bal",1]],"where":[["id",1]]},{"worker":1,"preview":"acct","where":[]}'
+  refuses_each repairs '{"version":1,"workers":1,"tables":['"$accounts"'],"calls":['"$calls"'],"repair":' '}'
+  calls='{"worker":1,"insert":"acct","row":[1,"ann",10]},{"worker":1,"preview":"acct","where":[]},{"worker":1,"do":[]}'
+  refuses_each repairs_in_version_2 '{"version":2,"workers":1,"tables":['"$accounts"'],"calls":['"$calls"'],"repair":' '}'
+  refuses_sevens 100000 '' ']}' '$.calls[0]: wrong type'
+  refuses_sevens 100001 '' ']}' '$.calls: out of range'
+  refuses_sevens 10000 '],"repair":{"edits":[' ']}}' '$.repair.edits[0]: wrong type'
+  refuses_sevens 10001 '],"repair":{"edits":[' ']}}' '$.repair.edits: out of range'
+  refuses_sevens 100000 '],"repair":{"edits":[],"meanwhile":[' ']}}' '$.repair.meanwhile[0]: wrong type'
+  refuses_sevens 100001 '],"repair":{"edits":[],"meanwhile":[' ']}}' '$.repair.meanwhile: out of range'
+}
+
+VERSION=0.1.0
+collect_command_lines() {
+  local command
+  answers_help --help
+  answers_help replay --help
+  answers_help run --help
+  answers_version --version
+  refuses_usage
+  refuses_usage fly
+  refuses_usage $'\xff'
+  for command in replay run; do
+    refuses_usage "$command" --quick
+    refuses_usage "$command" now
+    refuses_usage "$command" $'\xff'
+    refuses_usage "$command" --batch
+    refuses_usage "$command" --batch 0
+    refuses_usage "$command" --batch 10001
+    refuses_usage "$command" --batch -1
+    refuses_usage "$command" --batch=-1
+    refuses_usage "$command" --batch 1.5
+    refuses_usage "$command" --batch x
+    refuses_usage "$command" --batch ''
+    refuses_usage "$command" --batch 2 --batch 2
+    refuses_usage "$command" --batch 16 now
+    refuses_usage --batch 16 "$command"
+    refuses_usage "$command" --closed now
+    refuses_usage "$command" --closed=true
+    refuses_usage "$command" --closed --closed
+    refuses_usage --closed "$command"
+  done
+  refuses_usage run --rounds
+  refuses_usage run --rounds 1001
+  refuses_usage run --rounds -1
+  refuses_usage run --rounds=-1
+  refuses_usage run --rounds 0.5
+  refuses_usage run --rounds x
+  refuses_usage run --rounds ''
+  refuses_usage run --rounds 1 --rounds 1
+  refuses_usage run --rounds 8 now
+  refuses_usage --rounds 8 run
+  refuses_usage replay --rounds 1
+  refuses_usage replay run
+  refuses_usage run replay
+}
+
+collect_cases() {
+  mkdir -p "$cases/given" "$cases/wanted"
+  collect_documents
+  collect_options
+  collect_documents_of_manual
+  collect_long_runs
+  collect_faulty_documents
+  collect_command_lines
+  rm -f "$cases/report" "$cases/document"
+}
+
+# Compares an answer with what a case wants: its status, and the files of its standard output and
+# standard error.
+is_answer() {
+  local wanted=$cases/wanted/$1
+  [ "$2" = "$(cat "$wanted.status")" ] || return 1
+  if [ -e "$wanted.out" ]; then
+    cmp -s "$wanted.out" "$3" || return 1
+  else
+    grep -q '^Usage: timetravel' "$3" || return 1
+  fi
+  if [ -e "$wanted.err" ]; then
+    cmp -s "$wanted.err" "$4"
+  else
+    [ -s "$4" ]
+  fi
+}
