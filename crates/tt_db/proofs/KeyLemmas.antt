@@ -373,23 +373,33 @@ AllAccepted-slots_in tables S number W h is = by (number == S.generation) is
     by true found = let same : S.slots ≡ W = cc in subst (AllAccepted tables) same h.slots
     by false found = AllAccepted-find tables (λ c. c.number == number) S.closed W h.closed found
 
+pub IsKeyedContent-in : (tables : Tables) (limits : Limits) (history : List Entry) (number : ℕ) (W : Slots) (time : ℕ)
+    → IsCatalog tables → IsLegal tables limits history → slots_in (after limits history) number ≡ Some W → IsKeyedContent (content_of W time)
+IsKeyedContent-in tables limits history number W time catalog legal is =
+    IsKeyedContent-content_of tables W time catalog (AllAccepted-slots_in tables (after limits history) number W (IsAcceptedState-after tables limits history legal) is)
+
 pub RowsHaveRisingKeys-in : (tables : Tables) (limits : Limits) (history : List Entry) (number : ℕ) (W : Slots) (q : Select) (time : ℕ)
     → IsCatalog tables → IsLegal tables limits history → slots_in (after limits history) number ≡ Some W → RowsHaveRisingKeys (answer_of q (content_of W time))
 RowsHaveRisingKeys-in tables limits history number W q time catalog legal is =
-    let accepted = AllAccepted-slots_in tables (after limits history) number W (IsAcceptedState-after tables limits history legal) is in
-    RowsHaveRisingKeys-content q (row_writes W (length W)) time (IsKeyedContent-content_of tables W time catalog accepted)
+    RowsHaveRisingKeys-content q (row_writes W (length W)) time (IsKeyedContent-in tables limits history number W time catalog legal is)
 
 -- and in the next generation
-of_next : (tables : Tables) (phase : Phase) (W : Slots) (q : Select) → IsCatalog tables → AllAccepted tables W → HasAcceptedEdits tables phase
-    → RowsHaveRisingKeys (answer_of q (next_in phase W (done_of phase)))
-of_next tables Idle W q catalog slots edits = RowsHaveRisingKeys-content q (row_writes W (length W)) 0 (IsKeyedContent-content_of tables W 0 catalog slots)
-of_next tables (Repairing E n) W q catalog slots edits =
-    let V = edited_slots W E in
-    RowsHaveRisingKeys-content q (row_writes V n) n (IsKeyedContent-slots tables V n catalog (AllAccepted-edits tables E 1 W edits slots))
+keyed_next : (tables : Tables) (phase : Phase) (W : Slots) → IsCatalog tables → AllAccepted tables W → HasAcceptedEdits tables phase → IsKeyedContent (next_in phase W (done_of phase))
+keyed_next tables Idle W catalog slots edits = IsKeyedContent-content_of tables W 0 catalog slots
+keyed_next tables (Repairing E n) W catalog slots edits = IsKeyedContent-slots tables (edited_slots W E) n catalog (AllAccepted-edits tables E 1 W edits slots)
+
+pub IsKeyedContent-next : (tables : Tables) (limits : Limits) (history : List Entry) → IsCatalog tables → IsLegal tables limits history
+    → IsKeyedContent (next_at (after limits history) (done_of (after limits history).phase))
+IsKeyedContent-next tables limits history catalog legal =
+    let S = after limits history in
+    let accepted = IsAcceptedState-after tables limits history legal in
+    keyed_next tables S.phase S.slots catalog accepted.slots accepted.edits
+
+of_next : (phase : Phase) (W : Slots) (q : Select) → IsKeyedContent (next_in phase W (done_of phase)) → RowsHaveRisingKeys (answer_of q (next_in phase W (done_of phase)))
+of_next Idle W q keyed = RowsHaveRisingKeys-content q (row_writes W (length W)) 0 keyed
+of_next (Repairing E n) W q keyed = RowsHaveRisingKeys-content q (row_writes (edited_slots W E) n) n keyed
 
 pub RowsHaveRisingKeys-next : (tables : Tables) (limits : Limits) (history : List Entry) (q : Select) → IsCatalog tables → IsLegal tables limits history
     → RowsHaveRisingKeys (answer_of q (next_at (after limits history) (done_of (after limits history).phase)))
 RowsHaveRisingKeys-next tables limits history q catalog legal =
-    let S = after limits history in
-    let accepted = IsAcceptedState-after tables limits history legal in
-    of_next tables S.phase S.slots q catalog accepted.slots accepted.edits
+    of_next (after limits history).phase (after limits history).slots q (IsKeyedContent-next tables limits history catalog legal)

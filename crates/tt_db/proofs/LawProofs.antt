@@ -1,12 +1,21 @@
 -- The proofs of the laws, for proofs in other crates. All other lemmas are private to this crate.
-use Rattle.tt_db.specs.Laws.{RowsHaveTheirKeys, LastGenerationsAreKept}
-use Rattle.tt_db.specs.State.{start, after, current_at}
+use Rattle.tt_values.specs.Content.{Content}
+use Rattle.tt_values.specs.RowWrites.{content_of}
+use Rattle.tt_generations.specs.TwoGenerations.{done_of}
+use Rattle.tt_db.specs.Laws.{IsKeyed, RowsHaveTheirKeys, LastGenerationsAreKept}
+use Rattle.tt_db.specs.State.{start, after, current_at, next_at}
 use Rattle.tt_db.proofs.ClosedLemmas.{KeepsLastGenerations-after, KeepsLastGenerations-start}
-use Rattle.tt_db.proofs.KeyLemmas.{IsKeyedContent-legal, AllKeyed-row_at}
+use Rattle.tt_db.proofs.KeyLemmas.{IsKeyedContent, IsKeyedContent-legal, IsKeyedContent-in, IsKeyedContent-next, AllKeyed-row_at}
 
 pub rows_have_their_keys : RowsHaveTheirKeys
-rows_have_their_keys tables limits history catalog legal time table key row =
-    AllKeyed-row_at (current_at (after limits history) time table) key row (IsKeyedContent-legal tables limits history time catalog legal table)
+rows_have_their_keys = record {
+  readable = λ tables limits history catalog legal number W is time. keyed (content_of W time) (IsKeyedContent-in tables limits history number W time catalog legal is);
+  current = λ tables limits history catalog legal time. keyed (current_at (after limits history) time) (IsKeyedContent-legal tables limits history time catalog legal);
+  next = λ tables limits history catalog legal. keyed (next_at (after limits history) (done_of (after limits history).phase)) (IsKeyedContent-next tables limits history catalog legal);
+}
+  where
+    keyed : (X : Content) → IsKeyedContent X → IsKeyed X
+    keyed X h table key row = AllKeyed-row_at (X table) key row (h table)
 
 pub last_generations_are_kept : LastGenerationsAreKept
 last_generations_are_kept limits history = KeepsLastGenerations-after limits start history (KeepsLastGenerations-start limits)

@@ -3,17 +3,25 @@ use Rattle.std.specs.Prelude.{◌≡◌, ◌≤◌, ℕ, suc, ℤ, List, [], ◌
 use Rattle.tt_values.specs.declared.row.Row.{Row}
 use Rattle.tt_values.specs.Row.{first_int}
 use Rattle.tt_values.specs.Tables.{Tables, IsCatalog}
-use Rattle.tt_values.specs.Content.{row_at}
+use Rattle.tt_values.specs.Content.{Content, row_at}
+use Rattle.tt_values.specs.RowWrites.{Slots, content_of}
+use Rattle.tt_generations.specs.TwoGenerations.{done_of}
 use Rattle.tt_db.specs.declared.limits.Limits.{Limits}
 use Rattle.tt_db.specs.declared.event.Entry.{Entry}
-use Rattle.tt_db.specs.State.{State, ClosedGeneration, after, current_at, oldest_of, IsLegal}
+use Rattle.tt_db.specs.State.{State, ClosedGeneration, after, current_at, next_at, slots_in, oldest_of, IsLegal}
 
--- each row of a legal history begins with an Int, which is the key that it is stored under
-abbrev pub RowsHaveTheirKeys : Type 0
-RowsHaveTheirKeys = (tables : Tables) (limits : Limits) (history : List Entry)
-    → IsCatalog tables → IsLegal tables limits history
-    → (time table : ℕ) (key : ℤ) (row : Row)
-    → row_at (current_at (after limits history) time table) key ≡ Some row → first_int row.values ≡ Some key
+-- each row of a content begins with an Int, which is the key that it is stored under
+abbrev pub IsKeyed : Content → Type 0
+IsKeyed X = (table : ℕ) (key : ℤ) (row : Row) → row_at (X table) key ≡ Some row → first_int row.values ≡ Some key
+
+-- this holds after each legal history: at every time of each generation that can be read, and in the next generation at the last slot done
+pub record RowsHaveTheirKeys : Type 0 where
+  pub readable : (tables : Tables) (limits : Limits) (history : List Entry) → IsCatalog tables → IsLegal tables limits history
+      → (number : ℕ) (W : Slots) → slots_in (after limits history) number ≡ Some W → (time : ℕ) → IsKeyed (content_of W time)
+  pub current : (tables : Tables) (limits : Limits) (history : List Entry) → IsCatalog tables → IsLegal tables limits history
+      → (time : ℕ) → IsKeyed (current_at (after limits history) time)
+  pub next : (tables : Tables) (limits : Limits) (history : List Entry) → IsCatalog tables → IsLegal tables limits history
+      → IsKeyed (next_at (after limits history) (done_of (after limits history).phase))
 
 -- closed generations are numbered one after another, from a number up to the one before the current one
 abbrev pub AreNumbered : ℕ → ℕ → List ClosedGeneration → Type 0

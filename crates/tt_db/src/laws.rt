@@ -2,7 +2,9 @@
 //! function with an empty body.
 ghost use Rattle.tt_db.specs.Laws.{RowsHaveTheirKeys, LastGenerationsAreKept};
 
-/// Each row of a legal history begins with an Int, and that is the key that it is stored under.
+/// After a legal history each row begins with an Int, and that is the key that it is stored under: in
+/// each generation that can be read at every time, and in the next one at the last slot that the
+/// repair has done.
 pub fn rows_have_their_keys()
     ensures { RowsHaveTheirKeys }
 {}

@@ -3,6 +3,7 @@ pub mod Growing
 pub mod WorkerLemmas
 pub mod CallLemmas
 pub mod DraftLemmas
+pub mod RaceLemmas
 pub mod PublicLemmas
 pub mod ClosingLemmas
 pub mod OwnLemmas

@@ -1,5 +1,5 @@
 -- What is ready to be published, and what publishing it does to a worker.
-use Rattle.std.specs.Prelude.{◌≡◌, ℕ, ◌+◌, ◌-◌, ◌<◌, ◌≤◌, List, [], ◌++◌, drop, length, Option, None, Some, Result, Ok, Err}
+use Rattle.std.specs.Prelude.{◌≡◌, ℕ, ◌+◌, ◌-◌, nat_le, nat_lt, ◌&&◌, ◌⊎◌, if◌then◌else◌, List, [], ◌++◌, drop, length, Option, None, Some, Result, Ok, Err}
 use Rattle.std.specs.declared.alloc.AllocError.{AllocError}
 use Rattle.tt_values.specs.Tables.{Tables}
 use Rattle.tt_db.specs.declared.limits.Limits.{Limits}
@@ -61,19 +61,18 @@ abbrev pub Answered : Tables → Limits → Call → WorkerState → WorkerState
 Answered tables limits call old new (Ok outcome) = Publishes tables limits call old new outcome
 Answered tables limits call old new (Err error) = IsRefused tables limits call old new error
 
--- why a worker doesn't get to see the whole history
-abbrev pub IsMissed : List Entry → List Entry → StoreError → Type 0
-IsMissed before seen (errors.Db e) = ⊥
-IsMissed before seen (errors.Raced read told) = (read ≡ length seen) × (told < read) × (length before ≤ told)
-IsMissed before seen errors.NoReading = Unit {0}
-IsMissed before seen errors.Memory = Unit {0}
+-- of what had been seen before, what is read and what the store tells, by their numbers of entries: more is read than is told, and that
+-- is no less than was seen before; or else there is no reading
+abbrev pub race : ℕ → ℕ → ℕ → StoreError
+race before read told = if nat_le before told && nat_lt told read then errors.Raced read told else errors.NoReading
 
--- of what had been seen before, what is read and what is told, by their numbers of entries
-abbrev pub IsRace : ℕ → ℕ → ℕ → StoreError → Type 0
-IsRace before read told (errors.Db e) = ⊥
-IsRace before read told (errors.Raced r t) = (r ≡ read) × (t ≡ told) × (told < read) × (before ≤ told)
-IsRace before read told errors.NoReading = Unit {0}
-IsRace before read told errors.Memory = ⊥
+-- why a worker doesn't get to see the whole history: the lengths of what it reads and of what the store tells race, or it has no reading or
+-- no memory, and then sees what it had seen
+abbrev pub IsMissed : List Entry → List Entry → List Entry → StoreError → Type 0
+IsMissed told before seen (errors.Db e) = ⊥
+IsMissed told before seen (errors.Raced r t) = errors.Raced r t ≡ race (length before) (length seen) (length told)
+IsMissed told before seen errors.NoReading = (seen ≡ before) ⊎ (errors.NoReading ≡ race (length before) (length seen) (length told))
+IsMissed told before seen errors.Memory = Unit {0}
 
 -- the answer of the last try, under the lock
 abbrev pub answer_of : Result (Option Outcome) AllocError → Result (Option Outcome) StoreError

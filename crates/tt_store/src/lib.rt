@@ -16,6 +16,7 @@ mod front;
 mod gate;
 mod hiring;
 mod lane;
+pub mod laws;
 mod locked;
 mod numbers;
 mod opened;

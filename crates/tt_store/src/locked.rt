@@ -1,9 +1,9 @@
 //! What lies under the lock of a store.
-ghost use Rattle.std.specs.Prelude.{◌≡◌, [], length, IfErr, OnOk, IsTrue};
+ghost use Rattle.std.specs.Prelude.{◌≡◌, [], length, IfErr, OnOk, IsSome, IsTrue};
 ghost use mathlib.Core.List.{IsPrefix};
 ghost use Rattle.tt_store.specs.Published.{IsOf, SaysThat};
 ghost use Rattle.tt_store.specs.Workers.{Looks};
-ghost use Rattle.tt_store.specs.Drafts.{IsMadeBy, Commits, Answered, IsMissed, IsRace, answer_of};
+ghost use Rattle.tt_store.specs.Drafts.{IsMadeBy, Commits, Answered, IsMissed, race, answer_of};
 ghost use Rattle.tt_store.specs.Closing.{IsBehind};
 
 use crate::call::Call;
@@ -47,7 +47,7 @@ impl<L: Naming, R: Wait + Drop> Drop for Core<L, R> {
 }
 
 impl<L: Naming, R: Wait + Drop> Model for Core<L, R> {
-    ghost use Rattle.std.specs.Prelude.{◌≡◌, length, List};
+    ghost use Rattle.std.specs.Prelude.{◌≡◌, length, List, IsSome};
     ghost use Rattle.tt_db.specs.declared.event.Entry.{Entry};
     ghost use Rattle.tt_store.specs.Published.{SaysThat, IsOf};
 
@@ -55,7 +55,8 @@ impl<L: Naming, R: Wait + Drop> Model for Core<L, R> {
 
     ghost view = { λ c. c.latest.db.history };
 
-    ghost invariant = { λ c. SaysThat L.holds L.book L.tables L.limits
+    ghost invariant = { λ c. IsSome c.lane
+        × SaysThat L.holds L.book L.tables L.limits
         × IsOf L.book L.tables L.limits c.latest
         × (c.head ≡ L.book)
         × (c.book.total ≡ length c.latest.db.history)
@@ -179,6 +180,7 @@ impl<L: Naming, R: Wait + Drop> Core<L, R> {
     }
 
     /// Publishes the events of a call, at all that was published before.
+    #[tactic(auto, using(crate::proofs::RaceLemmas::refused_missed))]
     pub(crate) fn publish<G: Gate>(
         &mut self,
         gate: &G,
@@ -200,9 +202,11 @@ impl<L: Naming, R: Wait + Drop> Core<L, R> {
     }
 
     /// Lets a worker see all of the history, so that the next entries go behind it.
+    #[tactic(auto, using(crate::proofs::RaceLemmas::missed_by_race, crate::proofs::RaceLemmas::missed_unread))]
     fn catch_up(&self, worker: &mut Worker<L>) -> Result<(), StoreError>
         ensures looks { Looks worker.old worker.new }
-        ensures missed { IfErr result (λ e. IsMissed worker.old.seen worker.new.seen e) }
+        ensures told { OnOk result (IsPrefix self.now worker.new.seen) }
+        ensures missed { IfErr result (IsMissed self.now worker.old.seen worker.new.seen) }
     {
         let before = worker.seen();
         if let Err(unread) = worker.look() {
@@ -222,6 +226,7 @@ impl<L: Naming, R: Wait + Drop> Core<L, R> {
 fn shown_by<L: Naming, R: Wait + Drop>(lane: Option<Lane<L, R>>, shown: Shown) -> Option<Lane<L, R>>
     requires tied { SaysThat L.holds L.book L.tables L.limits }
     requires of { IsOf L.book L.tables L.limits shown }
+    ensures { IsSome lane → IsSome result }
 {
     match lane {
         Some(lane) => Some(lane.show(shown).0),
@@ -242,7 +247,7 @@ fn known(committed: Result<Option<Outcome>, AllocError>) -> Result<Option<Outcom
 
 /// Why a worker that has read this much can't publish, where the store has told so many entries.
 fn raced(before: u64, read: u64, told: u64) -> StoreError
-    ensures { IsRace before read told result }
+    ensures { result ≡ race before read told }
 {
     if before <= told && told < read {
         StoreError::Raced { read, told }

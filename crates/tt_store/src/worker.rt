@@ -33,6 +33,10 @@ use tt_values::{Reply, Select, Shared, check_select};
 /// A worker of a store. It has seen a front, which is a beginning of the one history and only grows,
 /// and has made some of its entries. Its reads take no lock and wait for nobody. It keeps the last
 /// state that it has seen, so one that is idle keeps that in memory.
+///
+/// Keep each worker until the store is closed. `Store::close` takes all of them, and without one
+/// that was dropped it is refused as `Missing` for ever: the store hands its database out by no
+/// other way.
 pub struct Worker<L: Naming> {
     number: u32,
     reader: Option<Reader<Shown, (), L>>,
@@ -55,7 +59,7 @@ impl<L: Naming> Drop for Worker<L> {
 }
 
 impl<L: Naming> Model for Worker<L> {
-    ghost use Rattle.std.specs.Prelude.{length};
+    ghost use Rattle.std.specs.Prelude.{IsSome};
     ghost use Rattle.tt_store.specs.Published.{SaysThat};
     ghost use Rattle.tt_store.specs.Workers.{WorkerState, IsWorker};
 
@@ -67,7 +71,8 @@ impl<L: Naming> Model for Worker<L> {
       own = w.own.items;
     } };
 
-    ghost invariant = { λ w. SaysThat L.holds L.book L.tables L.limits
+    ghost invariant = { λ w. IsSome w.reader
+        × SaysThat L.holds L.book L.tables L.limits
         × IsWorker L.book L.tables L.limits w.number w.seen w.own.items
         w.share.parts w.share.amount };
 }
@@ -244,7 +249,7 @@ impl<L: Naming> Worker<L> {
         ensures unchanged { OnErr result (self.new ≡ self.old) }
     {
         let Some(reader) = self.reader.take() else {
-            return Err(Unread::NoReading);
+            unreachable!()
         };
         let (reader, newer) = newer(reader, self.seen.len());
         self.reader = Some(reader);

@@ -10,6 +10,7 @@ mod crowd;
 mod given_up;
 mod held;
 mod limits;
+mod printed;
 mod repairs;
 mod writes;
 

@@ -19,6 +19,9 @@ use tt_values::Catalog;
 /// For how many turns a thread waits for another one at most.
 const TURNS: u64 = 10_000_000;
 
+/// For how many turns a thread that holds the lock looks whether another one gets it.
+const LOCKED_TURNS: u64 = 10_000;
+
 /// What a call that is held and the thread beside it tell each other.
 #[derive(Drop)]
 struct Marks {
@@ -30,6 +33,10 @@ struct Marks {
     built: AtomicU64,
     /// How often something was published.
     published: AtomicU64,
+    /// How often the thread beside it has built a state.
+    built_beside: AtomicU64,
+    /// How often that thread was given the lock.
+    locked_beside: AtomicU64,
     /// How often one of the two waited in vain.
     missed: AtomicU64,
 }
@@ -41,6 +48,8 @@ impl Marks {
             released: AtomicU64::new(0),
             built: AtomicU64::new(0),
             published: AtomicU64::new(0),
+            built_beside: AtomicU64::new(0),
+            locked_beside: AtomicU64::new(0),
             missed: AtomicU64::new(0),
         }
     }
@@ -61,9 +70,32 @@ impl Marks {
         self.wait_until_past(&self.held, points);
     }
 
+    /// Waits until the thread beside has built a state once more, and looks whether it is given the
+    /// lock then.
+    fn watch_the_lock(&self) {
+        let locked = self.locked_beside.load(Ordering::SeqCst);
+        self.wait_until_past(&self.built_beside, locked);
+        for _ in 0..LOCKED_TURNS {
+            if self.locked_beside.load(Ordering::SeqCst) > locked {
+                self.missed.fetch_add(1, Ordering::SeqCst);
+                return;
+            }
+            yield_now();
+        }
+    }
+
     /// Releases the call from the point where it is held.
     fn release(&self) {
         self.released.fetch_add(1, Ordering::SeqCst);
+    }
+
+    /// Counts a point of the thread beside.
+    fn count_beside(&self, point: Point) {
+        match point {
+            Point::Building => count(&self.built_beside),
+            Point::Locked => count(&self.locked_beside),
+            _ => (),
+        }
     }
 
     /// Asserts that nobody waited in vain, that a state was built so often, and that the call
@@ -75,21 +107,24 @@ impl Marks {
     }
 }
 
-/// Holds worker 1 at these points, one after another.
+/// Holds worker 1 at these points, one after another. In the try of this number, if there is one, it
+/// watches the lock.
 #[derive(Clone, Copy)]
 struct Held<'a> {
     marks: &'a Marks,
     points: &'a [Point],
+    locked_try: Option<u64>,
 }
 
 impl Gate for Held<'_> {
     fn at(&self, worker: u32, point: Point) {
         if worker != 1 {
+            self.marks.count_beside(point);
             return;
         }
         let marks = self.marks;
         match point {
-            Point::Building => count(&marks.built),
+            Point::Building => self.build(),
             Point::Published => count(&marks.published),
             _ => (),
         }
@@ -97,6 +132,16 @@ impl Gate for Held<'_> {
         if self.points.get(held as usize) == Some(&point) {
             marks.held.fetch_add(1, Ordering::SeqCst);
             marks.wait_until_past(&marks.released, held);
+        }
+    }
+}
+
+impl Held<'_> {
+    /// Counts a state that is built, and watches the lock where it is held.
+    fn build(&self) {
+        count(&self.marks.built);
+        if self.locked_try == Some(self.marks.built.load(Ordering::SeqCst)) {
+            self.marks.watch_the_lock();
         }
     }
 }
@@ -167,6 +212,7 @@ fn a_read_takes_no_lock(rt: HostRuntime) {
     let gate = Held {
         marks: &marks,
         points: &[Point::Locked, Point::Published],
+        locked_try: None,
     };
     holds(&rt, rt.alloc(), gate, Beside::Reads, 1);
 }
@@ -234,6 +280,7 @@ fn steps_go_behind_a_write_made_meanwhile(rt: HostRuntime) {
     let gate = Held {
         marks: &marks,
         points: &[Point::Building],
+        locked_try: None,
     };
     holds(&rt, rt.alloc(), gate, Beside::Writes, 2);
 }
@@ -291,6 +338,7 @@ fn the_fifth_try_is_made_under_the_lock(rt: HostRuntime) {
     let gate = Held {
         marks: &marks,
         points: &[Point::Building; 4],
+        locked_try: Some(5),
     };
     holds(&rt, rt.alloc(), gate, Beside::WritesBeforeEachTry, 5);
 }
@@ -311,7 +359,8 @@ fn writes_beside_writes<L: Naming + Send + Sync, T: Threads + Wait + Abort + Syn
     );
 }
 
-/// Inserts an account each time before a held write tries to publish.
+/// Inserts an account each time before a held write tries to publish, and another one while it holds
+/// the lock, which goes behind that.
 fn writes_before_each_try<L: Naming, T: Wait + Abort>(
     rt: &T,
     alloc: Global,
@@ -326,5 +375,7 @@ fn writes_before_each_try<L: Naming, T: Wait + Abort>(
         inserts(rt, alloc, store, &mut worker, account, (place, place));
         marks.release();
     }
+    marks.wait_until_past(&marks.built, 4);
+    inserts(rt, alloc, store, &mut worker, (6, "eve", 30), (6, 6));
     worker
 }

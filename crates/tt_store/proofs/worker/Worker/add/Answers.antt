@@ -12,7 +12,7 @@ use Rattle.tt_store.proofs.worker.Worker.add.Goals as goal
 pub invariant_of-self-2 : goal.invariant_of-self-2
 invariant_of-self-2 g c =
     let worker = c.self.inside in
-    let kept = c.self.invariant.1 in
+    let kept = c.self.invariant.2 in
     let front = worker.seen.db.history in
     let history = c.args.db.history in
     let made = subst (λ (w : WorkerState). IsMadeBy w history) (sym c.self.view_is) c.requires.made in
@@ -20,6 +20,7 @@ invariant_of-self-2 g c =
     let items : c.push_places.new.places.items ≡ worker.own.items ++ numbers_from (length front + 1) (length history - length front) =
     c.push_places.ensures ∙ (λ i. c.reserve.ensures.items i ++ numbers_from (c.len-seen.ensures i + 1) (events i - c.len-seen.ensures i)) in (
       c.self.invariant.0,
+      c.self.invariant.1,
       record {
         of = record {
           same_book = ap (λ (s : Published). s.book) c.new.ensures ∙ c.grow.ensures.book ∙ ap (λ (b : Beginning). b.book) c.again-front.ensures ∙ c.front.ensures.book ∙ kept.of.same_book;
@@ -55,7 +56,7 @@ returns-clause-added g c done =
     let own : c.push_places.new.places.items ≡ old.own ++ numbers_from (length old.seen + 1) (length history - length old.seen) =
     c.push_places.ensures ∙ ap (λ items. items ++ numbers_from (c.len-seen.result + 1) (c.events-events.result - c.len-seen.result)) c.reserve.ensures.items
     ∙ (λ i. (c.self.view_is i).own ++ numbers_from (seen i + 1) (events i - seen i)) in
-    let among = subst (λ (w : WorkerState). IsAmong w.own (places_of w.number w.seen)) c.self.view_is c.self.invariant.1.among in (
+    let among = subst (λ (w : WorkerState). IsAmong w.own (places_of w.number w.seen)) c.self.view_is c.self.invariant.2.among in (
       adds_places old new history c.requires.made among (ap (λ (w : WorkerState). w.number) c.self.view_is) (ap (λ (s : Published). s.db.history) c.new.ensures) own,
       omega (arith, c.add.ensures.total, events, seen),
     )

@@ -9,10 +9,11 @@ use Rattle.tt_store.proofs.worker.Worker.keep.Goals as goal
 pub invariant_of-self : goal.invariant_of-self
 invariant_of-self g c =
     let worker = c.self.inside in
-    let kept = c.self.invariant.1 in
+    let kept = c.self.invariant.2 in
     let longer : IsPrefix worker.seen.db.history c.args.shown.db.history =
     prefix_where_true c.front.result.now.entries c.front-2.result.now.entries worker.seen.db.history c.args.shown.db.history c.begins.result c.front.ensures.entries c.front-2.ensures.entries c.if-begins.true c.begins.ensures in (
       c.self.invariant.0,
+      c.self.invariant.1,
       record {
         of = c.requires;
         among = among_longer worker.own.items worker.number worker.seen.db.history c.args.shown.db.history longer kept.among;
@@ -28,4 +29,4 @@ returns-then-begins-clause-looks g c =
     let longer : IsPrefix worker.seen.db.history history =
     prefix_where_true c.front.result.now.entries c.front-2.result.now.entries worker.seen.db.history history c.begins.result c.front.ensures.entries c.front-2.ensures.entries c.if-begins.true c.begins.ensures in
     let old : WorkerState = record { number = worker.number; seen = worker.seen.db.history; own = worker.own.items } in
-    subst (λ (w : WorkerState). Looks w (record { number = worker.number; seen = history; own = worker.own.items })) c.self.view_is (looks_further old history longer c.self.invariant.1.among)
+    subst (λ (w : WorkerState). Looks w (record { number = worker.number; seen = history; own = worker.own.items })) c.self.view_is (looks_further old history longer c.self.invariant.2.among)
