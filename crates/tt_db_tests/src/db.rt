@@ -5,6 +5,7 @@ mod closed;
 mod history;
 mod incident;
 mod limits;
+mod printed;
 mod random;
 mod random_repairs;
 mod repair_refusals;

@@ -1,28 +1,31 @@
 -- How calls of a store make a worker's entries grow, and a history go on.
-use Rattle.std.proofs.Common.{◌≡◌, ℕ, zero, suc, ◌+◌, ◌-◌, ◌≤◌, List, [], ◌∷◌, ◌++◌, length, fold, All, Option, Some, refl, sym, ap, subst, ◌∙◌, inl, inr, ⊎_elim, arith, append_assoc, length-append}
-use Rattle.std.proofs.Math.Nat.{min-le_right}
-use Rattle.std.proofs.lemmas.List.{append-nil, replicate-append-replicate}
+use Rattle.std.proofs.Common.{◌≡◌, ℕ, zero, suc, ◌+◌, ◌-◌, ◌*◌, ◌/◌, ◌%◌, ◌<◌, ◌≤◌, nat_lt, min, Bool, true, false, List, [], ◌∷◌, ◌++◌, length, fold, All, Option, Some, refl, sym, ap, subst, ◌∙◌, inl, inr, ⊎_elim, arith, append_assoc, length-append}
+use Rattle.std.proofs.Math.Nat.{min-le_left, min-le_right, mul-le-mul_right}
+use Rattle.std.proofs.lemmas.Grind.{div_ceil_times}
+use Rattle.std.proofs.lemmas.Bool.Decides.{nat_tests}
+use Rattle.std.proofs.lemmas.List.{append-nil, length-map, replicate-append-replicate}
 use Rattle.std.proofs.lemmas.List.Elements.{All-nil, All-cons, All-head, All-tail}
 use Rattle.std.proofs.lemmas.List.Sums.{fold-append}
 use mathlib.Core.List.{IsPrefix}
 use Rattle.tt_values.specs.Tables.{Tables}
 use Rattle.tt_repair_laws.specs.declared.edit.Edit.{Edit}
-use Rattle.tt_generations.specs.TwoGenerations.{Phase, Repairing, phase_after_step}
+use Rattle.tt_values.specs.RowWrites.{Slots}
+use Rattle.tt_generations.specs.TwoGenerations.{Phase, Idle, Repairing, phase_after_step, left_of}
 use Rattle.tt_generations.specs.declared.progress.Progress.{Progress}
 use Rattle.tt_db.specs.declared.limits.Limits.{Limits}
 use Rattle.tt_db.specs.declared.event.Event.{Event}
 use Rattle.tt_db.specs.declared.event.Event.TheVariants as events
 use Rattle.tt_db.specs.declared.event.Entry.{Entry}
 use Rattle.tt_db.specs.declared.outcome.Outcome.{Outcome}
-use Rattle.tt_db.specs.State.{State, start, after, next_state, now_of}
+use Rattle.tt_db.specs.State.{State, start, after, next_state, now_of, slots_left}
 use Rattle.tt_store.specs.declared.errors.StoreError.{StoreError}
 use Rattle.tt_store.specs.History.{entries_by}
-use Rattle.tt_store.specs.Calls.{steps, steps_wanted, events_of, state_after}
+use Rattle.tt_store.specs.Calls.{steps, steps_wanted, events_of, state_after, numbers_from}
 use Rattle.tt_store.specs.Workers.{WorkerState, Looks, Publishes, IsRefused, own_entries}
 use Rattle.tt_store.specs.Store.{PublishesOne, Stepped}
 use Rattle.tt_store.proofs.Prefixes.{prefix_self, prefix_trans}
 use Rattle.tt_store.proofs.CallLemmas.{after-entries, entries_by-append}
-use Rattle.tt_repair.specs.Growth.{GrewBy, IsMerged, IsWrite, HasDone, GoesOn, MadeSteps, StoppedStepping, IsRefusedWith}
+use Rattle.tt_repair.specs.Growth.{GrewBy, IsMergedAt, IsWrite, HasDone, GoesOn, MadeSteps, MadeAllSteps, StoppedStepping, StoppedEarly, IsRefusedWith}
 
 -- a worker that looks makes nothing
 pub grew_none : (a b : WorkerState) → Looks a b → GrewBy a b []
@@ -59,27 +62,35 @@ grew_one tables limits event old new front place is = record {
 }
 
 -- lists merged
-merged_first : {X : Type 0} (xs : List X) → IsMerged xs [] xs
-merged_first [] = (refl, refl)
-merged_first (x ∷ xs) = inl (xs, refl, merged_first xs)
+merged_first : {X : Type 0} (place : ℕ) (xs : List X) → IsMergedAt place (numbers_from place (length xs)) xs [] xs
+merged_first place [] = (refl, refl, refl)
+merged_first place (x ∷ xs) = inl (numbers_from (place + 1) (length xs), xs, refl, refl, merged_first (place + 1) xs)
 
-merged_second : {X : Type 0} (ys : List X) → IsMerged [] ys ys
-merged_second [] = (refl, refl)
-merged_second (y ∷ ys) = inr (ys, refl, merged_second ys)
+merged_second : {X : Type 0} (place : ℕ) (ys : List X) → IsMergedAt place [] [] ys ys
+merged_second place [] = (refl, refl, refl)
+merged_second place (y ∷ ys) = inr (ys, refl, merged_second (place + 1) ys)
 
-pub merged-append : {X : Type 0} (xs ys zs us vs ws : List X) → IsMerged xs ys zs → IsMerged us vs ws → IsMerged (xs ++ us) (ys ++ vs) (zs ++ ws)
-merged-append xs ys [] us vs ws p q =
-    subst (λ l. IsMerged (l ++ us) (ys ++ vs) ws) (sym p.0) (subst (λ l. IsMerged us (l ++ vs) ws) (sym p.1) q)
-merged-append {X} xs ys (z ∷ zs) us vs ws p q =
+merged-append : {X : Type 0} (place next : ℕ) (places later : List ℕ) (xs ys zs us vs ws : List X) → next ≡ place + length zs
+    → IsMergedAt place places xs ys zs → IsMergedAt next later us vs ws → IsMergedAt place (places ++ later) (xs ++ us) (ys ++ vs) (zs ++ ws)
+merged-append place next places later xs ys [] us vs ws is p q =
+    subst (λ l. IsMergedAt place (l ++ later) (xs ++ us) (ys ++ vs) ws) (sym p.0)
+    (subst (λ l. IsMergedAt place later (l ++ us) (ys ++ vs) ws) (sym p.1)
+    (subst (λ l. IsMergedAt place later us (l ++ vs) ws) (sym p.2)
+    (subst (λ k. IsMergedAt k later us vs ws) (let same : next ≡ place = omega (arith, is) in same) q)))
+merged-append {X} place next places later xs ys (z ∷ zs) us vs ws is p q =
+    let is' : next ≡ place + 1 + length zs = omega (arith, is) in
     ⊎_elim
-    (λ (t : (rest : List X) × (xs ≡ z ∷ rest) × IsMerged rest ys zs). inl (t.0 ++ us, ap (λ l. l ++ us) t.1, merged-append t.0 ys zs us vs ws t.2 q))
-    (λ (t : (rest : List X) × (ys ≡ z ∷ rest) × IsMerged xs rest zs). inr (t.0 ++ vs, ap (λ l. l ++ vs) t.1, merged-append xs t.0 zs us vs ws t.2 q))
+    (λ (t : (more : List ℕ) × (rest : List X) × (places ≡ place ∷ more) × (xs ≡ z ∷ rest) × IsMergedAt (place + 1) more rest ys zs).
+    inl (t.0 ++ later, t.1 ++ us, ap (λ l. l ++ later) t.2, ap (λ l. l ++ us) t.3, merged-append (place + 1) next t.0 later t.1 ys zs us vs ws is' t.4 q))
+    (λ (t : (rest : List X) × (ys ≡ z ∷ rest) × IsMergedAt (place + 1) places xs rest zs).
+    inr (t.0 ++ vs, ap (λ l. l ++ vs) t.1, merged-append (place + 1) next places later xs t.0 zs us vs ws is' t.2 q))
     p
 
 -- others' entries, and own ones behind them
-merged_behind : {X : Type 0} (others own : List X) → IsMerged own others (others ++ own)
-merged_behind {X} others own =
-    subst (λ l. IsMerged own l (others ++ own)) (append-nil others) (merged-append [] others others own [] own (merged_second others) (merged_first own))
+merged_behind : {X : Type 0} (place next : ℕ) (others own : List X) → next ≡ place + length others → IsMergedAt place (numbers_from next (length own)) own others (others ++ own)
+merged_behind {X} place next others own is =
+    subst (λ l. IsMergedAt place (numbers_from next (length own)) own l (others ++ own)) (append-nil others)
+    (merged-append place next [] (numbers_from next (length own)) [] others others own [] own is (merged_second place others) (merged_first next own))
 
 -- all of two lists
 all_first : {X : Type 0} (P : X → Type 0) (xs ys : List X) → All P (xs ++ ys) → All P xs
@@ -102,6 +113,29 @@ writes_leave limits S edits done [] all h = h
 writes_leave limits S edits done (e ∷ more) all h =
     writes_leave limits (next_state limits S e.event) edits done more (All-tail IsWrite e more all) (write_leaves limits S edits done e (All-head IsWrite e more all) h)
 
+-- and it takes no slot away
+write_keeps : (limits : Limits) (S : State) (e : Entry) → IsWrite e → now_of S ≤ now_of (next_state limits S e.event)
+write_keeps limits S e w =
+    subst (λ event. now_of S ≤ now_of (next_state limits S event)) (sym w.1) (omega (arith, length-append S.slots (Some w.0 ∷ [])))
+
+writes_keep : (limits : Limits) (S : State) (more : List Entry) → All IsWrite more → now_of S ≤ now_of (fold (λ T e. next_state limits T e.event) S more)
+writes_keep limits S [] all = omega arith
+writes_keep limits S (e ∷ more) all =
+    omega (arith, write_keeps limits S e (All-head IsWrite e more all), writes_keep limits (next_state limits S e.event) more (All-tail IsWrite e more all))
+
+-- the state at a front that goes on by entries of others
+state_at_front : (limits : Limits) (seen front : List Entry) → (later : IsPrefix seen front) → after limits front ≡ fold (λ T e. next_state limits T e.event) (after limits seen) later.0
+state_at_front limits seen front later = ap (after limits) (sym later.1) ∙ fold-append (λ T e. next_state limits T e.event) start seen later.0
+
+done_at_front : (limits : Limits) (seen front : List Entry) (edits : List Edit) (done : ℕ) → (later : IsPrefix seen front) → All IsWrite later.0
+    → HasDone edits done (after limits seen) → HasDone edits done (after limits front)
+done_at_front limits seen front edits done later all h =
+    subst (HasDone edits done) (sym (state_at_front limits seen front later)) (writes_leave limits (after limits seen) edits done later.0 all h)
+
+slots_at_front : (limits : Limits) (seen front : List Entry) → (later : IsPrefix seen front) → All IsWrite later.0 → now_of (after limits seen) ≤ now_of (after limits front)
+slots_at_front limits seen front later all =
+    subst (λ S. now_of (after limits seen) ≤ now_of S) (sym (state_at_front limits seen front later)) (writes_keep limits (after limits seen) later.0 all)
+
 -- steps do slots
 step_does : (limits : Limits) (S : State) (edits : List Edit) (done : ℕ) → done + 1 ≤ now_of S → HasDone edits done S → HasDone edits (suc done) (next_state limits S events.Step)
 step_does limits S edits done le h = record { phase = ap phase_after_step h.phase; within = omega (arith, le) }
@@ -113,6 +147,10 @@ steps_do limits (suc n) S edits done le h =
     subst (λ k. HasDone edits k (state_after limits (next_state limits S events.Step) (steps n))) (let same : suc done + n ≡ done + suc n = omega arith in same)
     (steps_do limits n (next_state limits S events.Step) edits (suc done) (omega (arith, le)) (step_does limits S edits done (omega (arith, le)) h))
 
+steps_keep : (limits : Limits) (n : ℕ) (S : State) → now_of (state_after limits S (steps n)) ≡ now_of S
+steps_keep limits zero S = refl
+steps_keep limits (suc n) S = steps_keep limits n (next_state limits S events.Step)
+
 -- a call for steps makes no more than there are slots left
 wanted_in : (most : ℕ) (W : _) (g m : ℕ) (closed : _) (phase : Phase) (edits : List Edit) (done : ℕ) → phase ≡ Repairing edits done → done ≤ length W
     → done + steps_wanted most (record { slots = W; generation = g; events = m; phase = phase; closed = closed }) ≤ length W
@@ -123,12 +161,30 @@ wanted_in most W g m closed phase edits done is le =
 wanted_within : (most : ℕ) (S : State) (edits : List Edit) (done : ℕ) → HasDone edits done S → done + steps_wanted most S ≤ now_of S
 wanted_within most S edits done h = wanted_in most S.slots S.generation S.events S.closed S.phase edits done h.phase h.within
 
+-- nor more than it is asked for
+wanted_at_most_in : (most : ℕ) (W : Slots) (g m : ℕ) (closed : _) (phase : Phase) → 1 ≤ most
+    → steps_wanted most (record { slots = W; generation = g; events = m; phase = phase; closed = closed }) ≤ most
+wanted_at_most_in most W g m closed Idle pos = pos
+wanted_at_most_in most W g m closed (Repairing edits done) pos = min-le_left most (length W - done)
+
+wanted_at_most : (most : ℕ) (S : State) → 1 ≤ most → steps_wanted most S ≤ most
+wanted_at_most most S pos = wanted_at_most_in most S.slots S.generation S.events S.closed S.phase pos
+
+-- but all of these if there are as many
+wanted_is_in : (most : ℕ) (W : Slots) (g m : ℕ) (closed : _) (phase : Phase) (edits : List Edit) (done : ℕ) → phase ≡ Repairing edits done
+    → steps_wanted most (record { slots = W; generation = g; events = m; phase = phase; closed = closed }) ≡ min most (length W - done)
+wanted_is_in most W g m closed phase edits done is =
+    subst (λ p. steps_wanted most (record { slots = W; generation = g; events = m; phase = p; closed = closed }) ≡ min most (length W - done)) (sym is) refl
+
+wanted_is : (most : ℕ) (S : State) (edits : List Edit) (done : ℕ) → HasDone edits done S → steps_wanted most S ≡ min most (now_of S - done)
+wanted_is most S edits done h = wanted_is_in most S.slots S.generation S.events S.closed S.phase edits done h.phase
+
 -- a history goes on by itself
-no_steps : (limits : Limits) (worker : ℕ) (history : List Entry) → GoesOn limits worker 0 [] history history
+no_steps : (limits : Limits) (worker : ℕ) (history : List Entry) → GoesOn limits worker 0 [] [] history history
 no_steps limits worker history = record {
   since = [];
   is = sym (append-nil history);
-  merged = (refl, refl);
+  merged = (refl, refl, refl);
   alone = λ all edits done h. subst (λ k. HasDone edits k (after limits history)) (let same : done ≡ done + 0 = omega arith in same) h;
 }
 
@@ -136,31 +192,40 @@ entries_of_steps : (worker m n : ℕ) → entries_by worker (steps m) ++ entries
 entries_of_steps worker m n =
     sym (entries_by-append worker (steps m) (steps n)) ∙ ap (entries_by worker) (replicate-append-replicate m n events.Step)
 
-pub goes_on_then : (limits : Limits) (worker m n : ℕ) (others more : List Entry) (a b c : List Entry) → GoesOn limits worker m others a b → GoesOn limits worker n more b c
-    → GoesOn limits worker (m + n) (others ++ more) a c
-goes_on_then limits worker m n others more a b c p q = record {
+-- the place behind a history that has gone on
+next_place : (a b since : List Entry) → b ≡ a ++ since → length b + 1 ≡ length a + 1 + length since
+next_place a b since is = omega (arith, ap length is ∙ length-append a since)
+
+pub goes_on_then : (limits : Limits) (worker m n : ℕ) (places later : List ℕ) (others more : List Entry) (a b c : List Entry) → GoesOn limits worker m places others a b
+    → GoesOn limits worker n later more b c → GoesOn limits worker (m + n) (places ++ later) (others ++ more) a c
+goes_on_then limits worker m n places later others more a b c p q = record {
   since = p.since ++ q.since;
   is = q.is ∙ ap (λ l. l ++ q.since) p.is ∙ append_assoc a p.since q.since;
   merged =
-      subst (λ l. IsMerged l (others ++ more) (p.since ++ q.since)) (entries_of_steps worker m n)
-      (merged-append (entries_by worker (steps m)) others p.since (entries_by worker (steps n)) more q.since p.merged q.merged);
+      subst (λ l. IsMergedAt (length a + 1) (places ++ later) l (others ++ more) (p.since ++ q.since)) (entries_of_steps worker m n)
+      (merged-append (length a + 1) (length b + 1) places later (entries_by worker (steps m)) others p.since (entries_by worker (steps n)) more q.since
+      (next_place a b p.since p.is) p.merged q.merged);
   alone = λ all edits done h. subst (λ k. HasDone edits k (after limits c)) (let same : done + m + n ≡ done + (m + n) = omega arith in same)
       (q.alone (all_second IsWrite others more all) edits (done + m) (p.alone (all_first IsWrite others more all) edits done h));
 }
 
+-- the places of so many steps behind a front
+abbrev pub places_behind : List Entry → ℕ → List ℕ
+places_behind front n = numbers_from (length front + 1) (length (steps n))
+
 -- steps at a front that goes on by entries of others
 pub steps_behind : (limits : Limits) (worker n : ℕ) (seen front : List Entry) → (later : IsPrefix seen front)
     → ((edits : List Edit) (done : ℕ) → HasDone edits done (after limits front) → done + n ≤ now_of (after limits front))
-    → GoesOn limits worker n later.0 seen (front ++ entries_by worker (steps n))
+    → GoesOn limits worker n (places_behind front n) later.0 seen (front ++ entries_by worker (steps n))
 steps_behind limits worker n seen front later within = record {
   since = later.0 ++ entries_by worker (steps n);
   is = ap (λ l. l ++ entries_by worker (steps n)) (sym later.1) ∙ append_assoc seen later.0 (entries_by worker (steps n));
-  merged = merged_behind later.0 (entries_by worker (steps n));
+  merged =
+      subst (λ k. IsMergedAt (length seen + 1) (numbers_from (length front + 1) k) (entries_by worker (steps n)) later.0 (later.0 ++ entries_by worker (steps n)))
+      (length-map (steps n) (λ event. record { worker = worker; event = event }))
+      (merged_behind (length seen + 1) (length front + 1) later.0 (entries_by worker (steps n)) (next_place seen front later.0 (sym later.1)));
   alone = λ all edits done h.
-      let before : after limits front ≡ fold (λ T e. next_state limits T e.event) (after limits seen) later.0 =
-      ap (after limits) (sym later.1) ∙ fold-append (λ T e. next_state limits T e.event) start seen later.0 in
-      let there : HasDone edits done (after limits front) =
-      subst (HasDone edits done) (sym before) (writes_leave limits (after limits seen) edits done later.0 all h) in
+      let there = done_at_front limits seen front edits done later all h in
       subst (HasDone edits (done + n)) (sym (after-entries limits front worker (steps n)))
       (steps_do limits n (after limits front) edits done (within edits done there) there);
 }
@@ -169,21 +234,25 @@ steps_behind limits worker n seen front later within = record {
 pub made_none : (limits : Limits) (w : WorkerState) → MadeSteps limits w w
 made_none limits w = record {
   count = 0;
+  places = [];
   others = [];
   goes_on = no_steps limits w.number w.seen;
   grew = record { number = refl; seen = prefix_self w.seen; entries = sym (append-nil (own_entries w)) };
+  own = sym (append-nil w.own);
 }
 
 pub made_then : (limits : Limits) (a b c : WorkerState) → MadeSteps limits a b → MadeSteps limits b c → MadeSteps limits a c
 made_then limits a b c p q = record {
   count = p.count + q.count;
+  places = p.places ++ q.places;
   others = p.others ++ q.others;
   goes_on =
-      goes_on_then limits a.number p.count q.count p.others q.others a.seen b.seen c.seen p.goes_on
-      (subst (λ n. GoesOn limits n q.count q.others b.seen c.seen) p.grew.number q.goes_on);
+      goes_on_then limits a.number p.count q.count p.places q.places p.others q.others a.seen b.seen c.seen p.goes_on
+      (subst (λ n. GoesOn limits n q.count q.places q.others b.seen c.seen) p.grew.number q.goes_on);
   grew =
       subst (λ l. GrewBy a c (entries_by a.number l)) (replicate-append-replicate p.count q.count events.Step)
       (grew_on a b c (steps p.count) (steps q.count) p.grew q.grew);
+  own = q.own ∙ ap (λ l. l ++ q.places) p.own ∙ append_assoc a.own p.places q.places;
 }
 
 -- one call for steps
@@ -193,25 +262,119 @@ made_steps tables limits most old new p s =
     let n = steps_wanted most (after limits is.front) in
     record {
       count = n;
+      places = places_behind is.front n;
       others = is.later.0;
       goes_on =
-          subst (GoesOn limits old.number n is.later.0 old.seen) (sym is.seen)
+          subst (GoesOn limits old.number n (places_behind is.front n) is.later.0 old.seen) (sym is.seen)
           (steps_behind limits old.number n old.seen is.front is.later (wanted_within most (after limits is.front)));
       grew = grew_publishes tables limits _ old new s.outcome is;
+      own = is.own;
     }
 
-pub made_more : (tables : Tables) (limits : Limits) (most : ℕ) (a b c : WorkerState) (p : Progress) → MadeSteps limits a b → Stepped tables limits most b c p → MadeSteps limits a c
-made_more tables limits most a b c p made s = made_then limits a b c made (made_steps tables limits most b c p s)
+-- steps for all slots that were left at first, and more of them
+pub made_all_then : (limits : Limits) (a b c : WorkerState) → MadeAllSteps limits a b → MadeSteps limits b c → MadeAllSteps limits a c
+unfolding made_then
+made_all_then limits a b c p q = record {
+  made = made_then limits a b c p.made q;
+  all = λ all. omega (arith, p.all (all_first IsWrite p.made.others q.others all));
+}
+
+pub made_then_all : (limits : Limits) (a b c : WorkerState) → MadeSteps limits a b → MadeAllSteps limits b c → MadeSteps limits a c
+made_then_all limits a b c p q = made_then limits a b c p q.made
+
+-- a worker has made so many publishes of steps, each of at most so many. Where the others only wrote, no slot is gone, and each publish
+-- was of as many steps as it could be until there was one for each slot that was left at first
+pub record MadePublishes (limits : Limits) (most publishes : ℕ) (old new : WorkerState) : Type 0 where
+  pub made : MadeSteps limits old new
+  pub at_most : made.count ≤ publishes * most
+  pub kept : All IsWrite made.others → now_of (after limits old.seen) ≤ now_of (after limits new.seen)
+  pub all : All IsWrite made.others → min (publishes * most) (slots_left (after limits old.seen)) ≤ made.count
+
+pub no_publishes : (limits : Limits) (most : ℕ) (w : WorkerState) → MadePublishes limits most 0 w w
+unfolding made_none
+no_publishes limits most w = record {
+  made = made_none limits w;
+  at_most = omega arith;
+  kept = λ all. omega arith;
+  all = λ all. omega arith;
+}
+
+-- a publish more, of as many steps as it can be
+all_more : (W : Slots) (phase : Phase) (most k m n now : ℕ) → length W ≤ now → min (k * most) (left_of phase W) ≤ m
+    → ((edits : List Edit) (done : ℕ) → phase ≡ Repairing edits done → done ≤ length W → n ≡ min most (now - (done + m)))
+    → min ((k + 1) * most) (left_of phase W) ≤ m + n
+all_more W Idle most k m n now kept so_far h = omega arith
+all_more W (Repairing edits done) most k m n now kept so_far h = by (nat_lt (length W) done) refl
+  where
+    by : (b : Bool) → nat_lt (length W) done ≡ b → min ((k + 1) * most) (left_of (Repairing edits done) W) ≤ m + n
+    by true past = let none : length W < done = grind (arith, nat_tests) in omega (arith, none)
+    by false within = let there : done ≤ length W = grind (arith, nat_tests) in omega (arith, there, h edits done refl there)
+
+pub publishes_more : (tables : Tables) (limits : Limits) (most k next : ℕ) (a b c : WorkerState) (p : Progress) → 1 ≤ most → next ≡ k + 1
+    → MadePublishes limits most k a b → Stepped tables limits most b c p → MadePublishes limits most next a c
+unfolding made_then made_steps
+publishes_more tables limits most k next a b c p pos is so_far s =
+    let published = s.published in
+    let front = published.front in
+    let later = published.later in
+    let made = so_far.made in
+    let S0 = after limits a.seen in
+    let S = after limits front in
+    let m = made.count in
+    let n = steps_wanted most S in
+    let at_front : All IsWrite made.others → All IsWrite later.0 → now_of S0 ≤ now_of S =
+    λ first second. omega (arith, so_far.kept first, slots_at_front limits b.seen front later second) in
+    let kept : now_of (after limits c.seen) ≡ now_of S =
+    ap (λ l. now_of (after limits l)) published.seen ∙ ap now_of (after-entries limits front b.number (steps n)) ∙ steps_keep limits n S in
+    subst (λ j. MadePublishes limits most j a c) (sym is) (record {
+      made = made_then limits a b c made (made_steps tables limits most b c p s);
+      at_most = omega (arith, so_far.at_most, wanted_at_most most S pos);
+      kept = λ all. omega (arith, kept, at_front (all_first IsWrite made.others later.0 all) (all_second IsWrite made.others later.0 all));
+      all = λ all.
+          let first = all_first IsWrite made.others later.0 all in
+          let second = all_second IsWrite made.others later.0 all in
+          all_more S0.slots S0.phase most k m n (now_of S) (at_front first second) (so_far.all first)
+          (λ edits done phase within. wanted_is most S edits (done + m)
+          (done_at_front limits b.seen front edits (done + m) later second (made.goes_on.alone first edits done (record { phase = phase; within = within }))));
+    })
+
+-- the publishes that the slots need that are left at first, and fewer of them
+enough : (most left publishes k m : ℕ) → publishes ≡ left / most + min 1 (left % most) → 1 ≤ most → publishes ≤ k → min (k * most) left ≤ m → left ≤ m
+enough most left publishes k m is pos le all =
+    let within : left / most + min 1 (left % most) ≤ k = omega arith in
+    omega (arith, (div_ceil_times left most pos).0, mul-le-mul_right most within)
+
+too_few : (most left publishes k m : ℕ) → publishes ≡ left / most + min 1 (left % most) → 1 ≤ most → k < publishes → m ≤ k * most → m < left
+too_few most left publishes k m is pos less at_most =
+    let within : k + 1 ≤ left / most + min 1 (left % most) = omega arith in
+    omega (arith, (div_ceil_times left most pos).1, mul-le-mul_right most within)
+
+same_publishes : (most step left publishes : ℕ) → publishes ≡ left / step + min 1 (left % step) → step ≡ most → publishes ≡ left / most + min 1 (left % most)
+same_publishes most step left publishes is same = subst (λ k. publishes ≡ left / k + min 1 (left % k)) same is
+
+pub made_all : (limits : Limits) (most step left publishes k : ℕ) (a b : WorkerState) → left ≡ slots_left (after limits a.seen) → publishes ≡ left / step + min 1 (left % step) → step ≡ most
+    → 1 ≤ most → publishes ≤ k → MadePublishes limits most k a b → MadeAllSteps limits a b
+made_all limits most step left publishes k a b left_is is same pos le so_far = record {
+  made = so_far.made;
+  all = λ all. subst (λ l. l ≤ so_far.made.count) left_is
+      (enough most left publishes k so_far.made.count (same_publishes most step left publishes is same) pos le
+      (subst (λ l. min (k * most) l ≤ so_far.made.count) (sym left_is) (so_far.all all)));
+}
 
 -- a call that is refused, by the events that it makes
 pub refused_with : (tables : Tables) (limits : Limits) (made : State → List Event) (call : _) (a b : WorkerState) (cause : StoreError)
     → ((S : State) → events_of call S ≡ made S) → IsRefused tables limits call a b cause → IsRefusedWith tables limits made a b cause
 refused_with tables limits made call a b cause same refused = (call, same, refused)
 
--- a call that is refused behind steps
-pub stopped_behind : (tables : Tables) (limits : Limits) (made : State → List Event) (call : _) (a b c : WorkerState) (cause : StoreError)
-    → ((S : State) → events_of call S ≡ made S) → MadeSteps limits a b → IsRefused tables limits call b c cause → StoppedStepping tables limits made a c cause
-stopped_behind tables limits made call a b c cause same before refused = record { middle = b; before = before; refused = (call, same, refused) }
+-- a call that is refused behind too few publishes
+pub stopped_early : (tables : Tables) (limits : Limits) (made : State → List Event) (call : _) (most step left publishes k : ℕ) (a b c : WorkerState) (cause : StoreError)
+    → left ≡ slots_left (after limits a.seen) → publishes ≡ left / step + min 1 (left % step) → step ≡ most → 1 ≤ most → k < publishes
+    → ((S : State) → events_of call S ≡ made S) → MadePublishes limits most k a b → IsRefused tables limits call b c cause → StoppedEarly tables limits made a c cause
+stopped_early tables limits made call most step left publishes k a b c cause left_is is same pos less same_events so_far refused = record {
+  stopped = record { middle = b; before = so_far.made; refused = (call, same_events, refused) };
+  fewer = subst (λ l. so_far.made.count < l) left_is
+      (too_few most left publishes k so_far.made.count (same_publishes most step left publishes is same) pos less so_far.at_most);
+}
 
 pub stopped_later : (tables : Tables) (limits : Limits) (made : State → List Event) (a b c : WorkerState) (cause : StoreError)
     → MadeSteps limits a b → StoppedStepping tables limits made b c cause → StoppedStepping tables limits made a c cause

@@ -1,5 +1,5 @@
 -- What a worker adds to the history by several calls, beside the entries of others.
-use Rattle.std.specs.Prelude.{◌≡◌, ℕ, ◌+◌, ◌≤◌, List, [], ◌∷◌, ◌++◌, All, ◌⊎◌}
+use Rattle.std.specs.Prelude.{◌≡◌, ℕ, ◌+◌, ◌<◌, ◌≤◌, List, [], ◌∷◌, ◌++◌, length, All, ◌⊎◌}
 use mathlib.Core.List.{IsPrefix}
 use Rattle.tt_values.specs.declared.statement.Write.{Write}
 use Rattle.tt_values.specs.Tables.{Tables}
@@ -21,11 +21,13 @@ pub record GrewBy (old new : WorkerState) (made : List Entry) : Type 0 where
   pub seen : IsPrefix old.seen new.seen
   pub entries : own_entries new ≡ own_entries old ++ made
 
--- a list has the items of two others, each in its order, and no more
-abbrev pub IsMerged : {X : Type 0} → List X → List X → List X → Type 0
-IsMerged xs ys [] = (xs ≡ []) × (ys ≡ [])
-IsMerged {X} xs ys (z ∷ zs) =
-    ((rest : List X) × (xs ≡ z ∷ rest) × IsMerged rest ys zs) ⊎ ((rest : List X) × (ys ≡ z ∷ rest) × IsMerged xs rest zs)
+-- a list whose first item has this place has the items of two others, each in its order, and no more. Those of the first of the two stand
+-- at these places
+abbrev pub IsMergedAt : {X : Type 0} → ℕ → List ℕ → List X → List X → List X → Type 0
+IsMergedAt place places xs ys [] = (places ≡ []) × (xs ≡ []) × (ys ≡ [])
+IsMergedAt {X} place places xs ys (z ∷ zs) =
+    ((later : List ℕ) × (rest : List X) × (places ≡ place ∷ later) × (xs ≡ z ∷ rest) × IsMergedAt (place + 1) later rest ys zs)
+    ⊎ ((rest : List X) × (ys ≡ z ∷ rest) × IsMergedAt (place + 1) places xs rest zs)
 
 -- an entry is of an action
 abbrev pub IsWrite : Entry → Type 0
@@ -36,20 +38,27 @@ pub record HasDone (edits : List Edit) (done : ℕ) (S : State) : Type 0 where
   pub phase : S.phase ≡ Repairing edits done
   pub within : done ≤ now_of S
 
--- a history has gone on by so many steps of a worker and these entries of others. Where the others only wrote, the repair that was under
--- way still is, and has done that many slots more
-pub record GoesOn (limits : Limits) (worker : ℕ) (count : ℕ) (others : List Entry) (before now : List Entry) : Type 0 where
+-- a history has gone on by so many steps of a worker, which have these places in it, and these entries of others. Where the others only
+-- wrote, the repair that was under way still is, and has done that many slots more
+pub record GoesOn (limits : Limits) (worker : ℕ) (count : ℕ) (places : List ℕ) (others : List Entry) (before now : List Entry) : Type 0 where
   pub since : List Entry
   pub is : now ≡ before ++ since
-  pub merged : IsMerged (entries_by worker (steps count)) others since
+  pub merged : IsMergedAt (length before + 1) places (entries_by worker (steps count)) others since
   pub alone : All IsWrite others → (edits : List Edit) (done : ℕ) → HasDone edits done (after limits before) → HasDone edits (done + count) (after limits now)
 
--- a worker has made steps, beside entries of others
+-- a worker has made steps, beside entries of others. The places of its own entries grow by those of the steps
 pub record MadeSteps (limits : Limits) (old new : WorkerState) : Type 0 where
   pub count : ℕ
+  pub places : List ℕ
   pub others : List Entry
-  pub goes_on : GoesOn limits old.number count others old.seen new.seen
+  pub goes_on : GoesOn limits old.number count places others old.seen new.seen
   pub grew : GrewBy old new (entries_by old.number (steps count))
+  pub own : new.own ≡ old.own ++ places
+
+-- a worker has made steps. Where the others only wrote, these are as many as slots were left at first, or more
+pub record MadeAllSteps (limits : Limits) (old new : WorkerState) : Type 0 where
+  pub made : MadeSteps limits old new
+  pub all : All IsWrite made.others → slots_left (after limits old.seen) ≤ made.count
 
 -- the events of a call for at most so many steps, of a state
 abbrev pub step_events : ℕ → State → List Event
@@ -68,3 +77,8 @@ pub record StoppedStepping (tables : Tables) (limits : Limits) (made : State →
   pub middle : WorkerState
   pub before : MadeSteps limits old middle
   pub refused : IsRefusedWith tables limits made middle new cause
+
+-- a worker has made fewer steps than there were slots left at first, and then a call of it for these events was refused
+pub record StoppedEarly (tables : Tables) (limits : Limits) (made : State → List Event) (old new : WorkerState) (cause : StoreError) : Type 0 where
+  pub stopped : StoppedStepping tables limits made old new cause
+  pub fewer : stopped.before.count < slots_left (after limits old.seen)

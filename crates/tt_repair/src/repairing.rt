@@ -1,7 +1,7 @@
 //! A repair as one call.
 ghost use Rattle.std.specs.Prelude.{◌≡◌, ◌≤◌, IfOk, IfErr};
 ghost use Rattle.tt_db.specs.State.{after, slots_left};
-ghost use Rattle.tt_repair.specs.Growth.{MadeSteps, StoppedStepping, step_events};
+ghost use Rattle.tt_repair.specs.Growth.{MadeSteps, MadeAllSteps, StoppedStepping, StoppedEarly, step_events};
 ghost use Rattle.tt_repair.specs.Repairing.{HasRepaired, HasFailed, is_still_open};
 
 use crate::repair_fault::{Phase, RepairFault};
@@ -50,7 +50,7 @@ pub fn repair<L: Naming, G: Gate + Drop, R: Wait + Drop>(
 }
 
 /// Makes as many publishes of steps as the slots need that are left at first.
-#[tactic(auto, using(crate::proofs::GrowthLemmas::made_none, crate::proofs::GrowthLemmas::made_more, crate::proofs::GrowthLemmas::stopped_behind))]
+#[tactic(auto, using(crate::proofs::GrowthLemmas::no_publishes))]
 fn make_steps<L: Naming, G: Gate + Drop, R: Wait + Drop>(
     rt: &impl Wait,
     store: &Store<L, G, R>,
@@ -58,8 +58,8 @@ fn make_steps<L: Naming, G: Gate + Drop, R: Wait + Drop>(
     batch: u32,
 ) -> Result<(), StoreError>
     requires { 1 ≤ batch }
-    ensures made { IfOk result (λ done. MadeSteps L.limits worker.old worker.new) }
-    ensures stopped { IfErr result (λ cause. StoppedStepping L.tables L.limits
+    ensures made { IfOk result (λ done. MadeAllSteps L.limits worker.old worker.new) }
+    ensures stopped { IfErr result (λ cause. StoppedEarly L.tables L.limits
         (step_events batch) worker.old worker.new cause) }
 {
     let publishes = slots_left(worker).div_ceil(u64::from(batch));
@@ -73,7 +73,7 @@ fn make_steps<L: Naming, G: Gate + Drop, R: Wait + Drop>(
 }
 
 /// Makes the steps that are left, in at most so many rounds, since others write meanwhile.
-#[tactic(auto, using(crate::proofs::GrowthLemmas::made_none, crate::proofs::GrowthLemmas::made_then))]
+#[tactic(auto, using(crate::proofs::GrowthLemmas::made_none, crate::proofs::GrowthLemmas::made_then_all))]
 fn catch_up<L: Naming, G: Gate + Drop, R: Wait + Drop>(
     rt: &impl Wait,
     store: &Store<L, G, R>,

@@ -1,6 +1,6 @@
--- the publishes so far were of steps
-use Rattle.tt_repair.specs.Growth.{MadeSteps}
+-- so many publishes of steps were made
+use Rattle.tt_repair.proofs.GrowthLemmas.{MadePublishes}
 use Rattle.tt_repair.proofs.repairing.make_steps.Given as goal
 
 abbrev pub invariant-loop : goal.invariant-loop
-invariant-loop g l = MadeSteps g.L.Naming.limits l.fn.worker l.worker
+invariant-loop g l = MadePublishes g.L.Naming.limits l.fn.batch l.counter l.fn.worker l.worker
