@@ -1,4 +1,6 @@
 pub mod BuildLemmas
+pub mod CarryingOutLemmas
+pub mod RunningLemmas
 pub mod ClosedLemmas
 pub mod CommandLemmas
 pub mod NumberLemmas

@@ -1,5 +1,5 @@
 -- How the program ends, and the status that it ends with.
-use Rattle.std.specs.Prelude.{ℕ, ◌≡◌, ◌⊎◌, ⊤}
+use Rattle.std.specs.Prelude.{ℕ, ◌≡◌, ◌⊎◌, true}
 use Rattle.std.specs.declared.io.ErrorKind.{ErrorKind as WordsError}
 use Rattle.std.specs.declared.io.ErrorKind.TheVariants as words
 use Rattle.clap.specs.declared.error.kind.ErrorKind.{ErrorKind}
@@ -8,7 +8,7 @@ use Rattle.tt_workload.specs.declared.RunFault.{RunFault}
 use Rattle.tt_workload.specs.declared.RunFault.TheVariants as faults
 use Rattle.tt_cli.specs.declared.ending.Ending.{Ending}
 use Rattle.tt_cli.specs.declared.ending.Ending.TheVariants as endings
-use Rattle.tt_cli.specs.Status.{status_of}
+use Rattle.tt_cli.specs.Status.{status_of, has_text}
 
 abbrev pub exit_status : Ending → ℕ
 exit_status endings.Done = 0
@@ -30,19 +30,13 @@ ending_of_usage usage.DisplayHelp = endings.Help
 ending_of_usage usage.DisplayVersion = endings.Help
 ending_of_usage _ = endings.Usage
 
--- the fault itself, or out of memory if its line can't be built
+-- the fault itself, or out of memory if its line has a text of its own, which can't be built
 abbrev pub IsEndingOfFault : RunFault → Ending → Type 0
-IsEndingOfFault fault ending = (ending ≡ endings.Fault fault) ⊎ (ending ≡ endings.OutOfMemory)
+IsEndingOfFault fault ending =
+    (ending ≡ endings.Fault fault) ⊎ ((has_text fault ≡ true) × (ending ≡ endings.OutOfMemory))
 
 -- help that can't be printed is a fault of writing
 abbrev pub IsEndingOfUsage : ErrorKind → Ending → Type 0
 IsEndingOfUsage kind ending =
     (ending ≡ ending_of_usage kind)
     ⊎ ((ending_of_usage kind ≡ endings.Help) × (ending ≡ endings.Fault faults.Write))
-
--- the report, a fault, or out of memory
-abbrev pub IsEndingOfRun : Ending → Type 0
-IsEndingOfRun endings.Done = ⊤
-IsEndingOfRun (endings.Fault fault) = ⊤
-IsEndingOfRun endings.OutOfMemory = ⊤
-IsEndingOfRun _ = ⊥

@@ -1,3 +1,5 @@
+pub mod CarryingOut
 pub mod CommandLine
 pub mod Ending
+pub mod Running
 pub mod Status

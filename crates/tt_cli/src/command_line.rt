@@ -35,8 +35,9 @@ that workers make, in order:
    "repair":{"edits":[{"cancel":2}]}}
 
 The second select reads the rows as they were at time 1, after the first write. The last call makes
-two writes as one action: they take one slot and one time. The repair cancels call 2, the update;
-a member "by" beside "replace" would put another write in its place.
+two writes as one action: they take one slot and one time. The repair has one edit, which cancels
+call 2, the update. An edit is {"cancel":N} or {"replace":N,"by":WRITE}, where WRITE is an insert,
+an update, a delete or a "do" as above, without "worker", which is made in place of call N.
 `run` makes the calls of each worker in a thread of its own, in the worker's order, and then the
 repair beside the calls of its member "meanwhile".
 The report goes to standard output: a line for each call, one for the repair and for each reply

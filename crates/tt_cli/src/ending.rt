@@ -3,6 +3,7 @@
 use crate::status::status_of;
 use clap::error::ErrorKind;
 use std::io;
+use std::process::{ExitCode, Termination};
 use tt_workload::RunFault;
 
 /// What the program has come to when it ends.
@@ -59,5 +60,18 @@ impl Ending {
             ErrorKind::DisplayHelp | ErrorKind::DisplayVersion => Ending::Help,
             _ => Ending::Usage,
         }
+    }
+}
+
+/// An ending is what `main` returns: its status is the program's.
+impl Termination for Ending {
+    ghost use Rattle.std.specs.Prelude.{◌≡◌};
+    ghost use Rattle.std.specs.Process.{exit_status as status_of_code};
+    ghost use Rattle.tt_cli.specs.Ending.{exit_status};
+
+    fn report<R: Eprint>(self, _rt: &R) -> ExitCode
+        ensures { status_of_code result ≡ exit_status self }
+    {
+        ExitCode::from(self.exit_status())
     }
 }

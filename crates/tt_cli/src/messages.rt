@@ -1,9 +1,8 @@
 //! What the program prints when it ends without a report.
-ghost use Rattle.std.specs.Prelude.{◌≡◌, OnOk, OnErr, false};
+ghost use Rattle.std.specs.Prelude.{◌≡◌, OnOk, OnErr, IfErr};
 ghost use Rattle.std.specs.IoError.{error_kind};
 ghost use Rattle.clap.specs.Values.{kind_of};
 ghost use Rattle.tt_cli.specs.Ending.{IsEndingOfFault, IsEndingOfUsage, ending_of_words};
-ghost use Rattle.tt_cli.specs.Status.{has_text};
 
 use crate::ending::Ending;
 use crate::status::fault_line;
@@ -12,10 +11,20 @@ use std::borrow::CowStr;
 use std::io;
 use tt_workload::RunFault;
 
+/// Prints the line of a run's fault, if it had one.
+pub fn print_outcome(rt: &(impl Eprint + AllocGlobal), outcome: Result<(), RunFault>) -> Ending
+    ensures done { OnOk outcome (result ≡ Ending.Done) }
+    ensures fault { IfErr outcome (λ fault. IsEndingOfFault fault result) }
+{
+    match outcome {
+        Ok(()) => Ending::Done,
+        Err(fault) => print_fault(rt, fault),
+    }
+}
+
 /// Prints the line of a fault.
 pub fn print_fault(rt: &(impl Eprint + AllocGlobal), fault: RunFault) -> Ending
-    ensures ending { IsEndingOfFault fault result }
-    ensures constant { has_text fault ≡ false → result ≡ Ending.Fault fault }
+    ensures { IsEndingOfFault fault result }
 {
     let line = fault_line(rt.alloc(), &fault);
     print_line(rt, fault, line)
@@ -65,13 +74,21 @@ pub fn print_usage(rt: &(impl Print + Eprint + AllocGlobal), error: &clap::Error
 {
     match Ending::of_usage(error) {
         Ending::OutOfMemory => print_out_of_memory(rt),
-        Ending::Help => match error.print(rt) {
-            Ok(()) => Ending::Help,
-            Err(_) => print_fault(rt, RunFault::Write),
-        },
+        Ending::Help => end_help(rt, error.print(rt)),
         ending => {
             let _ = error.print(rt);
             ending
         }
+    }
+}
+
+/// The ending where help was asked for: it was printed, or it couldn't be, which is told.
+pub fn end_help(rt: &(impl Eprint + AllocGlobal), printed: io::Result<()>) -> Ending
+    ensures printed { OnOk printed (result ≡ Ending.Help) }
+    ensures not_printed { OnErr printed (result ≡ Ending.Fault RunFault.Write) }
+{
+    match printed {
+        Ok(()) => Ending::Help,
+        Err(_) => print_fault(rt, RunFault::Write),
     }
 }

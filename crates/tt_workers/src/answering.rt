@@ -188,6 +188,7 @@ fn what_of_read(
     answer: Result<Answer, ReadError>,
 ) -> Result<What, RunFault>
     ensures answer { IfOk result (λ what. what_of_read select answer ≡ Some what) }
+    ensures none { IfErr result (λ e. what_of_read select answer ≡ None) }
     ensures fault { IfErr result IsStoreFault }
 {
     match answer {
@@ -204,6 +205,7 @@ fn what_of_read(
 /// What a preview is answered: rows, or the refusal where no repair is under way.
 fn what_of_preview(alloc: Global, answer: Result<Answer, ReadError>) -> Result<What, RunFault>
     ensures answer { IfOk result (λ what. what_of_preview answer ≡ Some what) }
+    ensures none { IfErr result (λ e. what_of_preview answer ≡ None) }
     ensures fault { IfErr result IsStoreFault }
 {
     match answer {

@@ -1,5 +1,6 @@
 //! What a store refuses, as faults of a run.
-ghost use Rattle.tt_workers.specs.Faults.{IsStoreFault};
+ghost use Rattle.std.specs.Prelude.{◌≡◌};
+ghost use Rattle.tt_workers.specs.Faults.{IsStoreFault, IsFaultOfClose};
 
 use std::alloc::{AllocError, Global};
 use std::sync::Wait;
@@ -10,7 +11,8 @@ use tt_workload::RunFault;
 
 /// The fault where a store isn't opened.
 pub(crate) fn fault_of_open(alloc: Global, error: OpenError) -> RunFault
-    ensures { IsStoreFault result }
+    ensures fault { IsStoreFault result }
+    ensures memory { error ≡ OpenError.Memory → result ≡ RunFault.Memory }
 {
     match error {
         OpenError::Memory => RunFault::Memory,
@@ -20,7 +22,8 @@ pub(crate) fn fault_of_open(alloc: Global, error: OpenError) -> RunFault
 
 /// The fault where a store refuses a call.
 pub(crate) fn fault_of_call(alloc: Global, error: StoreError) -> RunFault
-    ensures { IsStoreFault result }
+    ensures fault { IsStoreFault result }
+    ensures memory { error ≡ StoreError.Memory → result ≡ RunFault.Memory }
 {
     match error {
         StoreError::Memory => RunFault::Memory,
@@ -30,7 +33,8 @@ pub(crate) fn fault_of_call(alloc: Global, error: StoreError) -> RunFault
 
 /// The fault where a read isn't answered.
 pub(crate) fn fault_of_read(alloc: Global, error: ReadError) -> RunFault
-    ensures { IsStoreFault result }
+    ensures fault { IsStoreFault result }
+    ensures memory { error ≡ ReadError.Memory → result ≡ RunFault.Memory }
 {
     match error {
         ReadError::Memory => RunFault::Memory,
@@ -43,7 +47,7 @@ pub(crate) fn fault_of_close<L: Naming, G: Gate + Drop, R: Wait + Drop>(
     alloc: Global,
     fault: CloseFault<L, G, R>,
 ) -> RunFault
-    ensures { IsStoreFault result }
+    ensures { IsFaultOfClose fault result }
 {
     match fault {
         CloseFault::Missing { .. } => store_fault(

@@ -1,7 +1,7 @@
 //! The calls of all workers, each in a thread of its own.
-ghost use Rattle.std.specs.Prelude.{◌≡◌, ◌+◌, ◌<◌, ◌^◌, length, map, vec_len, Ok, IfOk, IfErr, All};
+ghost use Rattle.std.specs.Prelude.{◌≡◌, ◌+◌, ◌<◌, ◌≤◌, ◌^◌, [], length, map, vec_len, vec_capacity, Some, Ok, IfOk, IfErr, All};
 ghost use Rattle.tt_workload.specs.Room.{AreAccepted};
-ghost use Rattle.tt_workers.specs.Faults.{IsStoreFault};
+ghost use Rattle.tt_workers.specs.Faults.{IsStoreFault, first_fault};
 ghost use Rattle.tt_workers.specs.Calls.{Works, EachEnds, EachFails, AllWork};
 
 use crate::work::{Run, work};
@@ -33,8 +33,9 @@ pub(crate) fn phase<
         (map (λ run. run.worker) runs.items) (map (λ run. run.answers.items) runs.items)) }
     ensures fault { IfErr result IsStoreFault }
 {
+    let room = Vec::with_capacity(alloc, workers.len())?;
     let results = in_threads(rt, alloc, store, gate, workers, calls, first)?;
-    let runs = gathered(alloc, results)?;
+    let runs = gathered(room, results)?;
     Ok(runs)
 }
 
@@ -68,16 +69,20 @@ fn in_threads<
     Ok(results)
 }
 
-/// The runs, where all of them have ended well.
+/// The runs in an empty list that has room for them, where all of them have ended well; or the first
+/// fault.
 fn gathered<L: Naming>(
-    alloc: Global,
+    runs: Vec<Run<L>>,
     results: Vec<Result<Run<L>, RunFault>>,
 ) -> Result<Vec<Run<L>>, RunFault>
+    requires empty { runs.items ≡ [] }
+    requires room { vec_len results ≤ vec_capacity runs }
     requires faults { All (λ r. IfErr r IsStoreFault) results.items }
-    ensures runs { IfOk result (λ runs. map Ok runs.items ≡ results.items) }
+    ensures runs { IfOk result (λ all. map Ok all.items ≡ results.items) }
+    ensures first { IfErr result (λ e. first_fault results.items ≡ Some e) }
     ensures fault { IfErr result IsStoreFault }
 {
-    let mut runs = Vec::with_capacity(alloc, results.len())?;
+    let mut runs = runs;
     for result in results {
         match result {
             Ok(run) => runs.push_reserved(run),

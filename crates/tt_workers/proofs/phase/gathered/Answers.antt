@@ -1,8 +1,8 @@
--- one run more
+-- one run more, or the first fault
 use Rattle.std.proofs.Common.{◌≡◌, ◌++◌, ◌∷◌, [], Ok, IfErr, map, length, sym, ap, ◌∙◌, arith, append_assoc}
 use Rattle.std.proofs.lemmas.List.{map-append}
 use Rattle.tt_workers.specs.Faults.{IsStoreFault}
-use Rattle.tt_workers.proofs.PhaseLemmas.{all_rest}
+use Rattle.tt_workers.proofs.PhaseLemmas.{all_rest, fault_next}
 use Rattle.tt_workers.proofs.phase.gathered.Goals as goal
 
 pub loop-result-preserved : goal.loop-result-preserved
@@ -18,3 +18,8 @@ loop-result-preserved g c =
       faults = all_rest (λ r. IfErr r IsStoreFault) c.loop-result.result-iterator.rest.items rest c.in-Some.result is c.loop-result.invariant.faults;
       room = omega (arith, c.loop-result.invariant.room, c.push_reserved.ensures.len, c.push_reserved.ensures.capacity, ap length is);
     }
+
+pub returns-in-Err-clause-first : goal.returns-in-Err-clause-first
+returns-in-Err-clause-first g c =
+    fault_next c.loop-result.runs.items c.args.results.items c.loop-result.result-iterator.rest.items c.next.new.self.rest.items c.in-Some.result c.in-Err.fault
+    c.loop-result.invariant.runs c.in-Some.ensures.steps.0 c.in-Err.is

@@ -8,10 +8,9 @@ use Rattle.tt_workers.specs.contracts.work.Run as run
 use Rattle.tt_workers.proofs.PhaseLemmas.{all_work, ends_each}
 use Rattle.tt_workers.proofs.phase.phase.Goals as goal
 
-pub gathered-requires : goal.gathered-requires
-gathered-requires g c =
-    let results = c.in_ok-results.results in
-    record { faults = λ i d lt. c.in_ok-results.ensures.faults i d (omega (arith, lt, c.in_ok-results.ensures.count, results.ok.0)) }
+pub gathered-requires-clause-faults : goal.gathered-requires-clause-faults
+gathered-requires-clause-faults g c i d lt =
+    let results = c.in_ok-results.results in c.in_ok-results.ensures.faults i d (omega (arith, lt, c.in_ok-results.ensures.count, results.ok.0))
 
 pub returns-clause-worked : goal.returns-clause-worked
 returns-clause-worked g c =

@@ -1,0 +1,130 @@
+//! The two runs of a document: in threads, and in one thread.
+ghost use Rattle.std.specs.Prelude.{◌≡◌, ◌≢◌, IfOk, IfErr, IfSome, OnOk};
+ghost use Rattle.std.specs.Io.KnownBytes.{Keeps};
+ghost use Rattle.tt_document.specs.Document.{IsValidDocument};
+ghost use Rattle.tt_workload.specs.Ends.{max_bytes_read, ConsumesAtMost};
+ghost use Rattle.tt_workload.specs.Options.{AreWithin};
+ghost use Rattle.tt_workload.specs.Run.{WritesReport, EndsEarly, IsFaultOfRun};
+ghost use Rattle.tt_workers.specs.Faults.{IsStoreFault};
+ghost use Rattle.tt_cli.specs.Running.{IsTextOfRun, WritesSomeReport, EndsRunEarly};
+ghost use Rattle.tt_cli.specs.Running.{IsFaultOfThreads, WritesBy, EndsEarlyBy, IsFaultBy};
+
+use crate::command_line::Cli;
+use std::alloc::Global;
+use std::io::{Read, Write};
+use std::sync::Wait;
+use std::thread::Threads;
+use tt_store::NoGate;
+use tt_workers::{run_workers, text_of_report};
+use tt_workload::{Document, Options, RunEnd, RunFault, read_document, run_to_end, write_text};
+
+/// Runs the document of a reader by the command that is asked for, with its options, and writes the
+/// report. Nothing is written before the whole report is known.
+pub fn run_by<R: Read, W: Write>(
+    rt: &(impl Threads + Wait + Sync),
+    alloc: Global,
+    reader: &mut R,
+    writer: &mut W,
+    cli: &Cli,
+) -> Result<(), RunFault>
+    requires options { AreWithin cli.now.options }
+
+    // Of a reader and a writer whose bytes are known.
+    ensures ok { OnOk result (IfSome (R.remaining reader.old) (λ xs.
+        WritesBy cli.now xs (W.contents writer.old) (W.contents writer.new))) }
+    ensures err { IfErr result (λ e. IfSome (R.remaining reader.old) (λ xs.
+        EndsEarlyBy cli.now e xs (W.contents writer.old) (W.contents writer.new))) }
+    ensures unchanged { IfErr result (λ e.
+        e ≢ RunFault.Write → Keeps (W.contents writer.old) (W.contents writer.new)) }
+    ensures limit { ConsumesAtMost max_bytes_read
+        (R.remaining reader.old) (R.remaining reader.new) }
+
+    // Of any reader and writer.
+    ensures kind { IfErr result (IsFaultBy cli.now) }
+{
+    if cli.threads {
+        run_in_threads(rt, alloc, reader, writer, &cli.options)
+    } else {
+        replay(alloc, reader, writer, &cli.options)
+    }
+}
+
+/// Runs the document of a reader in threads, and writes its report.
+pub fn run_in_threads<R: Read, W: Write>(
+    rt: &(impl Threads + Wait + Sync),
+    alloc: Global,
+    reader: &mut R,
+    writer: &mut W,
+    options: &Options,
+) -> Result<(), RunFault>
+    requires options { AreWithin options.now }
+
+    // Of a reader and a writer whose bytes are known.
+    ensures ok { OnOk result (IfSome (R.remaining reader.old) (λ xs.
+        WritesSomeReport options.now.closed xs (W.contents writer.old) (W.contents writer.new))) }
+    ensures err { IfErr result (λ e. IfSome (R.remaining reader.old) (λ xs.
+        EndsRunEarly options.now.closed e xs (W.contents writer.old) (W.contents writer.new))) }
+    ensures unchanged { IfErr result (λ e.
+        e ≢ RunFault.Write → Keeps (W.contents writer.old) (W.contents writer.new)) }
+    ensures limit { ConsumesAtMost max_bytes_read
+        (R.remaining reader.old) (R.remaining reader.new) }
+
+    // Of any reader and writer.
+    ensures kind { IfErr result IsFaultOfThreads }
+{
+    let document = read_document(alloc, reader)?;
+    let text = text_of_run(rt, alloc, &document, options)?;
+    write_text(writer, text.as_slice())
+}
+
+/// The text of the report of a run of a document in threads.
+fn text_of_run(
+    rt: &(impl Threads + Wait + Sync),
+    alloc: Global,
+    document: &Document,
+    options: &Options,
+) -> Result<Vec<u8>, RunFault>
+    requires valid { IsValidDocument document.now }
+    requires options { AreWithin options.now }
+    ensures text { IfOk result (λ text.
+        IsTextOfRun options.now.closed document.now text.items) }
+    ensures fault { IfErr result IsStoreFault }
+{
+    let report = run_workers(rt, alloc, document, options, NoGate)?;
+    text_of_report(alloc, &report, options.closed)
+}
+
+/// Runs the document of a reader in one thread, and writes its report.
+pub fn replay<R: Read, W: Write>(
+    alloc: Global,
+    reader: &mut R,
+    writer: &mut W,
+    options: &Options,
+) -> Result<(), RunFault>
+    requires options { AreWithin options.now }
+
+    // Of a reader and a writer whose bytes are known.
+    ensures ok { OnOk result (IfSome (R.remaining reader.old) (λ xs.
+        WritesReport options.now xs (W.contents writer.old) (W.contents writer.new))) }
+    ensures err { IfErr result (λ e. IfSome (R.remaining reader.old) (λ xs.
+        EndsEarly options.now e xs (W.contents writer.old) (W.contents writer.new))) }
+    ensures unchanged { IfErr result (λ e.
+        e ≢ RunFault.Write → Keeps (W.contents writer.old) (W.contents writer.new)) }
+    ensures limit { ConsumesAtMost max_bytes_read
+        (R.remaining reader.old) (R.remaining reader.new) }
+
+    // Of any reader and writer.
+    ensures kind { IfErr result IsFaultOfRun }
+{
+    let end = run_to_end(alloc, reader, writer, options)?;
+    leave(alloc, end);
+    Ok(())
+}
+
+/// Leaves the memory of a run to the system, which takes it back whole when the program ends. To
+/// release it piece by piece takes long.
+fn leave(alloc: Global, end: RunEnd) {
+    if let Ok(last) = Box::new(alloc, end) {
+        let _ = Box::leak(last);
+    }
+}
