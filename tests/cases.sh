@@ -184,6 +184,50 @@ refuses_sevens() {
   refuses_document '{"version":1,"tables":[],"workers":1,"calls":['"$2$sevens$3" "$4"
 }
 
+# Copies of a text, each with a comma behind it: # is its number, from $1 to $2.
+copies() {
+  awk -v first="$1" -v last="$2" -v text="$3" 'BEGIN {
+    parts = split(text, part, "#")
+    for (i = first; i <= last; i++) {
+      for (k = 1; k < parts; k++) printf "%s", part[k] i
+      printf "%s,", part[parts]
+    }
+  }'
+}
+
+# Faults at the last item of a long list, in documents with the table $1 or with one of 32 columns.
+refuses_last_items() {
+  local acct calls columns wide long inner fault list text
+  local -A before after
+  acct='{"version":2,"workers":1,"tables":['"$1"'],"calls":['
+  calls=$acct$(copies 1 999 '{"worker":1,"do":[]}')'{"worker":1,"do":[]}],"repair":{"edits":['
+  columns='"tables":[{"name":"wide","columns":['$(copies 0 30 '{"name":"c#","kind":"int"}')
+  wide='{"version":2,"workers":1,'$columns'{"name":"c31","kind":"text"}]}],"calls":[{"worker":1,'
+  long=$(head -c 1025 /dev/zero | tr '\0' x)
+  before=(
+    [calls]="$acct$(copies 1 999 '{"worker":1,"insert":"acct","row":[#,"ann",0]}')"
+    [most_calls]="$acct$(copies 1 99999 '{"worker":1,"do":[]}')"
+    [do]="$acct"'{"worker":1,"do":['"$(copies 1 15 '{"delete":"acct","where":[["id",#]]}')"
+    [edits]="$calls$(copies 1 999 '{"cancel":#}')"
+    [meanwhile]="$calls"'],"meanwhile":['"$(copies 1 999 '{"worker":1,"do":[]}')"
+    [row]="$wide"'"insert":"wide","row":['"$(copies 0 30 '#')"
+    [long_row]="$wide"'"insert":"wide","row":['"$(copies 0 30 '#')"'"31",'"$(copies 32 998 '#')"
+    [where]="$wide"'"select":"wide","where":['"$(copies 0 30 '["c#",#]')"
+    [long_where]="$wide"'"select":"wide","where":['"$(copies 0 998 '["c0",#]')"
+    [change]="$wide"'"update":"wide","where":[],"change":['"$(copies 1 30 '["set","c#",#]')"
+    [long_change]="$wide"'"update":"wide","where":[],"change":['"$(copies 1 999 '["add","c1",#]')"
+    [tables]='{"version":2,"workers":1,"calls":[],"tables":['"$(
+      copies 1 63 '{"name":"t#","columns":[{"name":"id","kind":"int"}]}')"
+    [columns]='{"version":2,"workers":1,"calls":[],'"$columns"
+  )
+  after=([calls]=']}' [most_calls]=']}' [tables]=']}' [edits]=']}}' [meanwhile]=']}}')
+  inner=']}]}'
+  while IFS=$'\t' read -r fault list text; do
+    case $fault in '' | '#'*) continue ;; esac
+    refuses_document "${before[$list]}${text/LONG/$long}${after[$list]-$inner}" "$fault"
+  done <tests/refused/last_items
+}
+
 collect_faulty_documents() {
   local accounts calls
   accounts='{"name":"acct","columns":[{"name":"id","kind":"int"},{"name":"owner","kind":"text","partition":true},{"name":"bal","kind":"int"}]}'
@@ -194,6 +238,7 @@ collect_faulty_documents() {
   refuses_each repairs '{"version":1,"workers":1,"tables":['"$accounts"'],"calls":['"$calls"'],"repair":' '}'
   calls='{"worker":1,"insert":"acct","row":[1,"ann",10]},{"worker":1,"preview":"acct","where":[]},{"worker":1,"do":[]}'
   refuses_each repairs_in_version_2 '{"version":2,"workers":1,"tables":['"$accounts"'],"calls":['"$calls"'],"repair":' '}'
+  refuses_last_items "$accounts"
   refuses_sevens 100000 '' ']}' '$.calls[0]: wrong type'
   refuses_sevens 100001 '' ']}' '$.calls: out of range'
   refuses_sevens 10000 '],"repair":{"edits":[' ']}}' '$.repair.edits[0]: wrong type'

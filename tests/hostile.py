@@ -2,10 +2,11 @@
 """Hostile use of the built program and libraries: documents that are cut off, the largest document,
 and memory that runs out at each growth, of a run or of a call.
 
-  tests/hostile.py PROGRAM [SCENARIOS]
+  tests/hostile.py PROGRAM [SCENARIOS..]
 
-PROGRAM is the built program; SCENARIOS are the built tests of tt_memory_tests, which mark the calls
-in which a growth is refused.
+PROGRAM is the built program; SCENARIOS are the built tests of tt_memory_tests and of
+tt_store_memory_tests, which mark the calls in which a growth is refused, those that take no memory,
+and the stretches that give every block back (tests/refuse_growth.c).
 
 Each line says what was tried and how often. The status is 0 where every answer was lawful, 1 where
 one wasn't, 2 where the tests can't be run.
@@ -37,6 +38,12 @@ SMALL = ['examples/first', 'examples/empty', 'examples/transfer',
 RUN = ['examples/first', 'examples/transfer', 'examples/two_workers', 'examples/incident',
        'examples/intruder']
 OF_ONE_WORKER = RUN[:2]
+
+# The status of a test that grows where it shouldn't, and of one that keeps a block.
+TOLD = {'memory::marks::a_growth_is_told': 90, 'memory::marks::a_kept_block_is_told': 91}
+
+# Calls that meet so many growths at most: to copy the rows of their table would take thousands.
+MOST_GROWTHS = {'memory::sharing::one_more_row_of_a_large_table': 100}
 
 
 class Hostile:
@@ -103,17 +110,18 @@ class Hostile:
         return None
 
     def refused(self, library, words, document, first, last, number, scenarios=None):
-        """A run in which the growths from first to last are refused; None where none was met."""
+        """A run in which the growths from first to last are refused: whether one was met, and the
+        answer."""
         mark = f'{self.folder}/refused.{number}'
         environment = {'LD_PRELOAD': library, 'REFUSE_FROM': str(first), 'REFUSE_TO': str(last),
                        'REFUSED': mark}
         if scenarios:
             environment['BETWEEN_MARKS'] = '1'
         answer = self.run(words, document, environment, scenarios)
-        if not os.path.exists(mark):
-            return None
-        os.remove(mark)
-        return answer
+        was_met = os.path.exists(mark)
+        if was_met:
+            os.remove(mark)
+        return was_met, answer
 
     def each_growth(self, library, words, name, is_report, all_behind):
         """Refuses each growth of a run in turn, or all from it on, until a run meets none."""
@@ -126,8 +134,8 @@ class Hostile:
 
         while True:
             some = list(itertools.islice(numbers, 64))
-            for number, answer in zip(some, self.pool.map(one, some)):
-                if answer is None:
+            for number, (was_met, answer) in zip(some, self.pool.map(one, some)):
+                if not was_met:
                     continue
                 refused += 1
                 status, output, error = answer
@@ -137,7 +145,7 @@ class Hostile:
                              and error.startswith(b'timetravel: store: '))
                 which = f'from growth {number} on' if all_behind else f'at growth {number}'
                 self.check(is_lawful, f'{" ".join(words)} of {name}, {which}', answer)
-            if answer is None:
+            if not was_met:
                 return refused
 
     def each_growth_of_calls(self, library, scenarios, name):
@@ -147,13 +155,18 @@ class Hostile:
             some = list(itertools.islice(numbers, 16))
             answers = self.pool.map(
                 lambda it: self.refused(library, [name], b'', it, it, it, scenarios), some)
-            for number, answer in zip(some, answers):
-                if answer is None:
-                    continue
-                refused += 1
+            for number, (was_met, answer) in zip(some, answers):
+                refused += was_met
                 self.check(answer[0] == 0, f'{name}, at growth {number} of its calls', answer)
-            if answer is None:
+            if not was_met:
                 return refused
+
+    def tells(self, library, scenarios, name):
+        """A scenario that shows that growths and kept blocks are told, by the status of its run."""
+        _, answer = self.refused(library, [name], b'', 1, 1, 1, scenarios)
+        status = TOLD[name]
+        self.check(answer[0] == status, f'{name}: should have status {status}', answer)
+        print(f'{name}: status {answer[0]}')
 
     def calls(self, library, scenarios):
         """The scenarios of calls, each with all its growths refused in turn."""
@@ -163,8 +176,14 @@ class Hostile:
         if not names:
             raise Untestable(f'{scenarios} lists no tests')
         for name in names:
-            print(f'{name}: {self.each_growth_of_calls(library, scenarios, name)} growths refused '
-                  'within its calls')
+            if name in TOLD:
+                self.tells(library, scenarios, name)
+                continue
+            refused = self.each_growth_of_calls(library, scenarios, name)
+            print(f'{name}: {refused} growths refused within its calls')
+            if name in MOST_GROWTHS:
+                is_few = 1 < refused <= MOST_GROWTHS[name]
+                self.check(is_few, f'{name}: {refused} growths', (0, b'', b''))
 
     def library(self):
         library = self.build_refusal()
@@ -216,7 +235,7 @@ def compilers():
 
 
 def main():
-    if len(sys.argv) not in (2, 3) or sys.argv[1].startswith('-'):
+    if len(sys.argv) < 2 or sys.argv[1].startswith('-'):
         print(__doc__, file=sys.stderr)
         return 2
     with tempfile.TemporaryDirectory(prefix='hostile.') as folder:
@@ -228,8 +247,8 @@ def main():
             hostile.longest()
             library = hostile.library()
             hostile.runs(library)
-            if len(sys.argv) == 3:
-                hostile.calls(library, os.path.abspath(sys.argv[2]))
+            for scenarios in sys.argv[2:]:
+                hostile.calls(library, os.path.abspath(scenarios))
         except Untestable as why:
             print(f'hostile: {why}', file=sys.stderr)
             return 2

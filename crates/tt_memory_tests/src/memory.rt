@@ -1,6 +1,11 @@
-//! The marks, and a table of accounts.
+//! A table of accounts, and the calls of each library on it.
 mod database;
+mod marks;
 mod pages;
+mod parts;
+mod refusals;
+mod sharing;
+mod values;
 mod versions;
 
 use std::alloc::Global;
@@ -11,14 +16,6 @@ use tt_db::{Db, Limits};
 use tt_values::{
     Catalog, Change, Column, Equal, Items, Kind, Row, Select, TableDef, Text, Value, Write,
 };
-
-/// Nobody gives a block of this many bytes.
-const MARK: usize = (1 << 62) + 1;
-
-/// Tells whoever refuses growths of memory that a call begins, or that it has ended.
-fn mark(alloc: Global) {
-    let _refused = Vec::<u8>::with_capacity(alloc, MARK);
-}
 
 /// Asserts that two values are equal. An `assert_eq!` in a test makes the test longer to prove.
 fn same<T: PartialEq + Debug>(rt: &impl Abort, got: &T, want: &T) {
@@ -43,19 +40,28 @@ fn column(rt: &impl Abort, alloc: Global, name: &str, kind: Kind, partition: boo
     }
 }
 
-/// A new database with the table `acct`.
-fn new_db(rt: &impl Abort, alloc: Global) -> Db {
+fn account_columns(rt: &impl Abort, alloc: Global) -> TableDef {
     let columns = [
         column(rt, alloc, "id", Kind::Int, false),
         column(rt, alloc, "owner", Kind::Text, true),
         column(rt, alloc, "bal", Kind::Int, false),
     ];
-    let columns = items(rt, alloc, columns);
+    TableDef {
+        columns: items(rt, alloc, columns),
+    }
+}
+
+/// A catalog with the table `acct`.
+fn accounts(rt: &impl Abort, alloc: Global) -> Arc<Catalog> {
     let mut catalog = Catalog::new(alloc);
-    let added = catalog.add("acct", TableDef { columns });
+    let added = catalog.add("acct", account_columns(rt, alloc));
     added.expect(rt, "a table");
-    let catalog = Arc::new(alloc, catalog).expect(rt, "memory");
-    Db::new(alloc, catalog, Limits::usual())
+    Arc::new(alloc, catalog).expect(rt, "memory")
+}
+
+/// A new database of accounts.
+fn new_db(rt: &impl Abort, alloc: Global) -> Db {
+    Db::new(alloc, accounts(rt, alloc), Limits::usual())
 }
 
 fn row(rt: &impl Abort, alloc: Global, id: i64, owner: &str, balance: i64) -> Row {
@@ -73,14 +79,17 @@ fn insert(rt: &impl Abort, alloc: Global, id: i64, owner: &str, balance: i64) ->
     }
 }
 
-fn delete(rt: &impl Abort, alloc: Global, owner: &str) -> Write {
-    let equal = Equal {
+fn owned_by(rt: &impl Abort, alloc: Global, owner: &str) -> Equal {
+    Equal {
         column: 1,
         value: Value::Text(text(rt, alloc, owner)),
-    };
+    }
+}
+
+fn delete(rt: &impl Abort, alloc: Global, owner: &str) -> Write {
     Write::Delete {
         table: 0,
-        equals: items(rt, alloc, [equal]),
+        equals: items(rt, alloc, [owned_by(rt, alloc, owner)]),
     }
 }
 

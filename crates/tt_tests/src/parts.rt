@@ -45,14 +45,19 @@ fn row(rt: &impl Abort, alloc: Global, plains: &[Plain]) -> Row {
     }
 }
 
+fn partition(rt: &impl Abort, alloc: Global, plain: PlainPartition) -> Partition {
+    let (table, column, plain) = plain;
+    Partition {
+        table,
+        column,
+        value: value(rt, alloc, plain),
+    }
+}
+
 fn partitions(rt: &impl Abort, alloc: Global, plains: &[PlainPartition]) -> Items<Partition> {
     let mut partitions = Vec::new(alloc);
-    for (table, column, plain) in plains {
-        let partition = Partition {
-            table: *table,
-            column: *column,
-            value: value(rt, alloc, *plain),
-        };
+    for plain in plains {
+        let partition = partition(rt, alloc, *plain);
         partitions.push(partition).expect(rt, "memory");
     }
     Items::new(alloc, partitions).expect(rt, "memory")

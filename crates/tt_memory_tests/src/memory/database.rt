@@ -1,11 +1,12 @@
 //! Each event of a repair, and each read, where one growth is refused.
-use super::{add_to_all, delete, everything, insert, items, mark, new_db, same};
+use super::marks::{Tally, mark};
+use super::{add_to_all, delete, everything, insert, items, new_db, same};
 use std::alloc::{AllocError, Global};
 use std::process::Abort;
 use tt_db::{Db, DbError, Edit, Entry, Event, Outcome, ReadError};
 use tt_values::{Items, Reply, Write};
 
-fn entry(event: Event) -> Entry {
+pub(super) fn entry(event: Event) -> Entry {
     Entry { worker: 1, event }
 }
 
@@ -34,7 +35,7 @@ fn all(rt: &impl Abort, alloc: Global, db: &Db) -> Reply {
     db.select(&everything(rt, alloc)).expect(rt, "a reply")
 }
 
-fn write(rt: &impl Abort, alloc: Global, write: Write) -> Event {
+pub(super) fn write(rt: &impl Abort, alloc: Global, write: Write) -> Event {
     Event::Write(items(rt, alloc, [write]))
 }
 
@@ -46,13 +47,13 @@ fn written(rt: &impl Abort, alloc: Global, slot: u64, reply: Reply) -> Outcome {
 }
 
 /// The edit that replaces the delete of slot 4.
-fn delete_bob(rt: &impl Abort, alloc: Global) -> Items<Edit> {
+pub(super) fn delete_bob(rt: &impl Abort, alloc: Global) -> Items<Edit> {
     let action = items(rt, alloc, [delete(rt, alloc, "bob")]);
     items(rt, alloc, [Edit::Replace(4, action)])
 }
 
 /// Three inserts, a delete of two rows, and an update of the row that is left.
-fn five_slots(rt: &impl Abort, alloc: Global) -> Db {
+pub(super) fn five_slots(rt: &impl Abort, alloc: Global) -> Db {
     let mut db = new_db(rt, alloc);
     for (slot, row) in [(1, (1, "ann", 5)), (2, (2, "ann", 6)), (3, (3, "bob", 7))] {
         let (id, owner, balance) = row;
@@ -79,7 +80,7 @@ fn five_slots(rt: &impl Abort, alloc: Global) -> Db {
 }
 
 /// The five slots, and the repair of the fourth with this many steps.
-fn repairing(rt: &impl Abort, alloc: Global, steps: u64) -> Db {
+pub(super) fn repairing(rt: &impl Abort, alloc: Global, steps: u64) -> Db {
     let begin = Event::Begin(delete_bob(rt, alloc));
     let mut db = apply(rt, alloc, &five_slots(rt, alloc), begin, &Outcome::Begun);
     for slot in 1..=steps {
@@ -109,6 +110,7 @@ type Account = (i64, &'static str, i64);
 #[test]
 fn events_of_a_repair(rt: HostRuntime) {
     let alloc = rt.alloc();
+    let _tally = Tally::new(alloc);
     let db = repairing(&rt, alloc, 5);
     let want = Outcome::Switched {
         generation: 1,
@@ -128,6 +130,7 @@ fn events_of_a_repair(rt: HostRuntime) {
 #[test]
 fn a_repair_is_given_up(rt: HostRuntime) {
     let alloc = rt.alloc();
+    let _tally = Tally::new(alloc);
     let db = repairing(&rt, alloc, 4);
     let db = apply(&rt, alloc, &db, Event::Abort, &Outcome::Aborted);
     same(&rt, &db.events(), &11);
@@ -155,6 +158,7 @@ fn advances(rt: &impl Abort, alloc: Global, db: Db) {
 #[test]
 fn a_write_in_place(rt: HostRuntime) {
     let alloc = rt.alloc();
+    let _tally = Tally::new(alloc);
     advances(&rt, alloc, repairing(&rt, alloc, 4));
 }
 
@@ -176,6 +180,7 @@ fn reads(
 #[test]
 fn reads_of_a_repair(rt: HostRuntime) {
     let alloc = rt.alloc();
+    let _tally = Tally::new(alloc);
     let db = repairing(&rt, alloc, 4);
     let select = everything(&rt, alloc);
     mark(alloc);
@@ -199,6 +204,7 @@ fn reads_of_a_repair(rt: HostRuntime) {
 #[test]
 fn reads_of_a_closed_generation(rt: HostRuntime) {
     let alloc = rt.alloc();
+    let _tally = Tally::new(alloc);
     let want = Outcome::Switched {
         generation: 1,
         slots: 5,
@@ -217,6 +223,7 @@ fn reads_of_a_closed_generation(rt: HostRuntime) {
 #[test]
 fn a_list_of_entries(rt: HostRuntime) {
     let alloc = rt.alloc();
+    let _tally = Tally::new(alloc);
     let mut db = five_slots(&rt, alloc);
     let entries = [
         entry(Event::Begin(delete_bob(&rt, alloc))),

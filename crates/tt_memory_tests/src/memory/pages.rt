@@ -1,8 +1,9 @@
 //! Maps and lists, where one growth is refused.
-use super::{mark, same};
+use super::marks::{Tally, mark, quiet};
+use super::same;
 use std::alloc::{AllocError, Global};
 use std::process::Abort;
-use tt_pages::{PagedLog, PagedMap};
+use tt_pages::{Change, PagedLog, PagedMap};
 
 /// The number of entries, which fill several pages.
 const MANY: u64 = 70;
@@ -31,11 +32,27 @@ fn has_all_but(rt: &impl Abort, map: &PagedMap<u64>, missing: u64) {
     }
 }
 
+/// Reads that take no memory: all numbers from 0 on, and past the last.
+fn reads_map(rt: &impl Abort, map: &PagedMap<u64>) {
+    has_all_but(rt, map, MANY);
+    same(rt, &map.get(MANY as i64), &None);
+    same(rt, &(map.len() as u64, map.is_empty()), &(MANY, false));
+    let mut next = 0i64;
+    for (key, _) in map.iter() {
+        same(rt, key, &next);
+        next = next.saturating_add(1);
+    }
+    same(rt, &next, &(MANY as i64));
+}
+
 #[test]
 fn maps_in_place(rt: HostRuntime) {
     let alloc = rt.alloc();
+    let _tally = Tally::new(alloc);
     let mut map = numbers(&rt, alloc);
-    has_all_but(&rt, &map, MANY);
+    quiet(alloc);
+    reads_map(&rt, &map);
+    quiet(alloc);
     mark(alloc);
     let removed = map.remove(20);
     mark(alloc);
@@ -49,6 +66,7 @@ fn maps_in_place(rt: HostRuntime) {
 #[test]
 fn maps_beside_the_old_one(rt: HostRuntime) {
     let alloc = rt.alloc();
+    let _tally = Tally::new(alloc);
     let old = numbers(&rt, alloc);
     mark(alloc);
     let shorter = old.without(20);
@@ -68,6 +86,73 @@ fn maps_beside_the_old_one(rt: HostRuntime) {
         Err(AllocError) => shorter.with(20, 20).expect(&rt, "a second call"),
     };
     has_all_but(&rt, &longer, MANY);
+}
+
+/// A further owner of the same map, though the first call may find no memory.
+fn shared(rt: &impl Abort, alloc: Global, map: &PagedMap<u64>) -> PagedMap<u64> {
+    mark(alloc);
+    let copy = map.share();
+    mark(alloc);
+    match copy {
+        Ok(copy) => copy,
+        Err(AllocError) => map.share().expect(rt, "a second call"),
+    }
+}
+
+/// Another number in place of any.
+#[derive(Clone, Copy, Drop)]
+struct Replace {
+    by: u64,
+}
+
+impl Change<u64> for Replace {
+    ghost after = { λ change _. change.by };
+
+    fn apply(self, value: &mut u64) -> Result<(), AllocError> {
+        *value = self.by;
+        Ok(())
+    }
+}
+
+/// Exchanges 20 for 7 in a map that shares its pages.
+fn swaps(rt: &impl Abort, alloc: Global, map: &mut PagedMap<u64>) {
+    let mut number = 7;
+    map.get(20).expect(rt, "a number");
+    mark(alloc);
+    let swapped = map.swap(20, &mut number);
+    mark(alloc);
+    if swapped.is_err() {
+        same(rt, &(map.get(20), number), &(Some(&20), 7));
+        map.swap(20, &mut number).expect(rt, "a second call");
+    }
+    same(rt, &(map.get(20), number), &(Some(&7), 20));
+}
+
+/// Changes 20 to 7 in a map that shares its pages. Without memory nothing is promised of it.
+fn changes(rt: &impl Abort, alloc: Global, map: &mut PagedMap<u64>) {
+    let change = Replace { by: 7 };
+    map.get(20).expect(rt, "a number");
+    mark(alloc);
+    let changed = map.change(20, change);
+    mark(alloc);
+    if changed.is_err() {
+        map.get(20).expect(rt, "a number");
+        map.change(20, change).expect(rt, "a second call");
+    }
+    same(rt, &map.get(20), &Some(&7));
+}
+
+#[test]
+fn values_of_maps(rt: HostRuntime) {
+    let alloc = rt.alloc();
+    let _tally = Tally::new(alloc);
+    let old = numbers(&rt, alloc);
+    let mut other = shared(&rt, alloc, &old);
+    swaps(&rt, alloc, &mut other);
+    has_all_but(&rt, &old, MANY);
+    let mut other = shared(&rt, alloc, &old);
+    changes(&rt, alloc, &mut other);
+    has_all_but(&rt, &old, MANY);
 }
 
 /// The log has the numbers from 0 up to `count`.
@@ -93,11 +178,27 @@ fn pushed(rt: &impl Abort, alloc: Global, count: u64) -> PagedLog<u64> {
     log
 }
 
+/// Reads that take no memory: all numbers from 0 on, and past the last.
+fn reads_log(rt: &impl Abort, log: &PagedLog<u64>) {
+    counts(rt, log, MANY);
+    same(rt, &log.get(MANY as usize), &None);
+    assert!(rt; !log.is_empty());
+    let mut next = 0u64;
+    for number in log.iter() {
+        same(rt, number, &next);
+        next = next.saturating_add(1);
+    }
+    same(rt, &next, &MANY);
+}
+
 #[test]
 fn logs(rt: HostRuntime) {
     let alloc = rt.alloc();
+    let _tally = Tally::new(alloc);
     let old = pushed(&rt, alloc, MANY);
-    counts(&rt, &old, MANY);
+    quiet(alloc);
+    reads_log(&rt, &old);
+    quiet(alloc);
     mark(alloc);
     let longer = old.pushed(MANY);
     mark(alloc);
@@ -112,6 +213,7 @@ fn logs(rt: HostRuntime) {
 #[test]
 fn items_of_logs(rt: HostRuntime) {
     let alloc = rt.alloc();
+    let _tally = Tally::new(alloc);
     let old = pushed(&rt, alloc, MANY);
     assert!(rt; old.len() > 7);
     mark(alloc);
@@ -123,4 +225,40 @@ fn items_of_logs(rt: HostRuntime) {
         Err(AllocError) => old.replaced(7, 0).expect(&rt, "a second call"),
     };
     same(&rt, &other.get(7), &Some(&0));
+    let front = front_of(&rt, alloc, &old, 68);
+    counts(&rt, &front, 68);
+    replaces(&rt, alloc, front);
+    counts(&rt, &old, MANY);
+}
+
+/// The first numbers of a log, though the first call may find no memory.
+fn front_of(rt: &impl Abort, alloc: Global, log: &PagedLog<u64>, count: usize) -> PagedLog<u64> {
+    mark(alloc);
+    let front = log.front(count);
+    mark(alloc);
+    match front {
+        Ok(front) => front,
+        Err(AllocError) => log.front(count).expect(rt, "a second call"),
+    }
+}
+
+/// Replaces 7 by 0 in a log of 68 numbers, which shares its pages, and in one more owner of it.
+fn replaces(rt: &impl Abort, alloc: Global, mut log: PagedLog<u64>) {
+    assert!(rt; log.len() > 7);
+    mark(alloc);
+    let replaced = log.replace(7, 0);
+    mark(alloc);
+    if replaced.is_err() {
+        counts(rt, &log, 68);
+        log.replace(7, 0).expect(rt, "a second call");
+    }
+    same(rt, &log.get(7), &Some(&0));
+    mark(alloc);
+    let copy = log.share();
+    mark(alloc);
+    let copy = match copy {
+        Ok(copy) => copy,
+        Err(AllocError) => log.share().expect(rt, "a second call"),
+    };
+    same(rt, &(copy.get(7), copy.len()), &(Some(&0), 68));
 }

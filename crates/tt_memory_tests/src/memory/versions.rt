@@ -1,5 +1,6 @@
 //! Tables of versions, where one growth is refused.
-use super::{mark, row, same};
+use super::marks::{Tally, mark, quiet};
+use super::{items, owned_by, row, same};
 use std::alloc::{AllocError, Global};
 use std::process::Abort;
 use tt_values::{Row, Value};
@@ -92,6 +93,7 @@ fn written_apart(rt: &impl Abort, alloc: Global) -> Table {
 #[test]
 fn a_table_is_switched(rt: HostRuntime) {
     let alloc = rt.alloc();
+    let _tally = Tally::new(alloc);
     let old = written_apart(&rt, alloc);
     mark(alloc);
     let switched = old.switched();
@@ -108,6 +110,7 @@ fn a_table_is_switched(rt: HostRuntime) {
 #[test]
 fn a_table_is_aborted(rt: HostRuntime) {
     let alloc = rt.alloc();
+    let _tally = Tally::new(alloc);
     let old = written_apart(&rt, alloc);
     mark(alloc);
     let aborted = old.aborted();
@@ -124,7 +127,12 @@ fn a_table_is_aborted(rt: HostRuntime) {
 #[test]
 fn the_rows_of_a_table(rt: HostRuntime) {
     let alloc = rt.alloc();
+    let _tally = Tally::new(alloc);
     let table = written_apart(&rt, alloc);
+    quiet(alloc);
+    shows(&rt, &table, [5, 5, 6], [5, 7, 7]);
+    is_around(&rt, &table);
+    quiet(alloc);
     mark(alloc);
     let rows = table.rows_at(3, Side::Next);
     mark(alloc);
@@ -136,4 +144,67 @@ fn the_rows_of_a_table(rt: HostRuntime) {
             .len(),
     };
     same(&rt, &count, &1);
+}
+
+/// Ann's balances at time 3 and just before, on the current side, and rows that aren't there.
+fn is_around(rt: &impl Abort, table: &Table) {
+    let (before, after) = table.around(1, 3, Side::Current);
+    same(rt, &(balance(before), balance(after)), &(5, 6));
+    let (before, after) = table.around(2, 3, Side::Next);
+    assert!(rt; before.is_none() && after.is_none() && table.at(2, 3, Side::Next).is_none());
+    assert!(rt; table.is_split(1) && !table.is_split(2));
+}
+
+/// A table that can be searched by owners, though the first call may find no memory.
+fn searchable(rt: &impl Abort, alloc: Global) -> Table {
+    mark(alloc);
+    let table = Table::with_columns(alloc, &[1]);
+    mark(alloc);
+    match table {
+        Ok(table) => table,
+        Err(AllocError) => Table::with_columns(alloc, &[1]).expect(rt, "a second call"),
+    }
+}
+
+/// The same with the rows of ann and of bob, made in place.
+fn with_two_rows(rt: &impl Abort, alloc: Global) -> Table {
+    let table = searchable(rt, alloc);
+    let kept = table.share().expect(rt, "memory");
+    let bob = Some(row(rt, alloc, 2, "bob", 6));
+    let rows = Vec::from_array(alloc, [(1, ann(rt, alloc, 5)), (2, bob)]).expect(rt, "memory");
+    mark(alloc);
+    let written = table.into_all_written(rows, 1);
+    mark(alloc);
+    match written {
+        Ok(table) => table,
+        Err(AllocError) => {
+            let table = kept.into_written(1, ann(rt, alloc, 5), 1);
+            let bob = Some(row(rt, alloc, 2, "bob", 6));
+            let table = table.expect(rt, "a second call").into_written(2, bob, 1);
+            table.expect(rt, "a second call")
+        }
+    }
+}
+
+/// How many rows bob has, though the first call may find no memory.
+fn count_of_bob(rt: &impl Abort, alloc: Global, table: &Table) -> usize {
+    let equals = items(rt, alloc, [owned_by(rt, alloc, "bob")]);
+    mark(alloc);
+    let rows = table.rows_matching(equals.as_slice(), 1, Side::Current);
+    mark(alloc);
+    match rows {
+        Ok(rows) => rows.len(),
+        Err(AllocError) => table
+            .rows_matching(equals.as_slice(), 1, Side::Current)
+            .expect(rt, "a second call")
+            .len(),
+    }
+}
+
+#[test]
+fn the_rows_that_match(rt: HostRuntime) {
+    let alloc = rt.alloc();
+    let _tally = Tally::new(alloc);
+    let table = with_two_rows(&rt, alloc);
+    same(&rt, &count_of_bob(&rt, alloc, &table), &1);
 }

@@ -15,7 +15,7 @@ fn numbers(rt: &impl Abort, alloc: Global, count: u64) -> PagedLog<u64> {
 #[test]
 fn reads_and_replaces_items(rt: HostRuntime) {
     let old = numbers(&rt, rt.alloc(), 65);
-    assert!(rt; old.len() == 65);
+    assert!(rt; old.len() == 65 && !old.is_empty());
     let seven = 7u64.kept().expect(&rt, "memory");
     let new = old.replaced(64, seven).expect(&rt, "memory");
     same(&rt, &new.get(64), &Some(&7));
@@ -26,6 +26,7 @@ fn reads_and_replaces_items(rt: HostRuntime) {
 #[test]
 fn pushes_items_beside_the_old_log(rt: HostRuntime) {
     let mut log = PagedLog::new(rt.alloc());
+    assert!(rt; log.is_empty());
     for number in 0..65 {
         let longer = log.pushed(number).expect(&rt, "memory");
         expect_numbers(&rt, &log, number);

@@ -1,6 +1,7 @@
 use super::Plain::{self, Number, Words};
 use super::{
-    ANN, PlainPartition, acct, delete, insert, parcel, partition_reads, partitions, row, tables,
+    ANN, PlainPartition, acct, delete, insert, parcel, partition, partition_reads, partitions, row,
+    tables,
 };
 use crate::same::same;
 use tt_parts::{Reads, parts_of, reads_of};
@@ -30,6 +31,25 @@ fn a_row_lies_in_one_partition_for_each_partition_column(rt: HostRuntime) {
         let row = row(&rt, alloc, plains);
         let parts = parts_of(alloc, *table, def, &row).expect(&rt, "memory");
         assert_eq!(rt; parts, partitions(&rt, alloc, want), "{plains:?}");
+    }
+}
+
+/// Partitions, each with whether it is that of the parcels in Ulm.
+const OF_ULM: &[(PlainPartition, bool)] = &[
+    ((1, 1, Words("ulm")), true),
+    ((0, 1, Words("ulm")), false),
+    ((1, 2, Words("ulm")), false),
+    ((1, 1, Words("bonn")), false),
+    ((1, 1, Number(0)), false),
+];
+
+#[test]
+fn the_same_partition_has_the_same_table_column_and_value(rt: HostRuntime) {
+    let alloc = rt.alloc();
+    let ulm = partition(&rt, alloc, (1, 1, Words("ulm")));
+    for (plain, want) in OF_ULM {
+        let other = partition(&rt, alloc, *plain);
+        assert_eq!(rt; ulm.is_same(&other), *want, "{plain:?}");
     }
 }
 

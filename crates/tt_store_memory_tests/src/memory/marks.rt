@@ -1,0 +1,45 @@
+//! What tells whoever watches memory where a stretch begins and ends: blocks of sizes that nobody
+//! gives are asked for. `tests/refuse_growth.c` watches memory.
+use std::alloc::Global;
+
+/// In such a stretch growths are counted, and one of them may be refused.
+const CALLS: usize = (1 << 62) + 1;
+
+/// In such a stretch there is no growth.
+const QUIET: usize = (1 << 62) + 3;
+
+/// Behind such a stretch as many blocks are in use as before.
+const TALLY: usize = (1 << 62) + 5;
+
+fn asks_for(alloc: Global, bytes: usize) {
+    let _refused = Vec::<u8>::with_capacity(alloc, bytes);
+}
+
+/// A call begins, or has ended.
+pub(super) fn mark(alloc: Global) {
+    asks_for(alloc, CALLS);
+}
+
+/// Calls that take no memory begin, or have ended.
+pub(super) fn quiet(alloc: Global) {
+    asks_for(alloc, QUIET);
+}
+
+/// What is taken while there is a tally is given back before it goes.
+pub(super) struct Tally {
+    alloc: Global,
+}
+
+impl Tally {
+    pub(super) fn new(alloc: Global) -> Tally {
+        asks_for(alloc, TALLY);
+        Tally { alloc }
+    }
+}
+
+impl Drop for Tally {
+    fn drop(self) {
+        let Tally { alloc } = self;
+        asks_for(alloc, TALLY);
+    }
+}

@@ -1,0 +1,177 @@
+#!/usr/bin/env python3
+"""Public functions of the libraries of crates/ that nothing calls: no test, no other crate, not the
+program, and no other function of their own crate.
+
+  tests/public_calls.py
+
+It prints a line for each, and the status is 1 where there is one. It reads only the text of the
+files, which `rt fmt` has laid out, so a few calls of another type's method may pass for a call. A
+library is a crate that another one stands on. Laws are left out: functions without arguments and
+with an empty body, which are there for their contracts.
+
+A call is a name before `(` or `::<`, or after `Type::`. It is a call of a method where the file
+names the method's type or its crate; if several types have a method of that name, and the file says
+what stands before the dot (`thing: Type`), that must name the type, too.
+"""
+import os
+import re
+import sys
+from collections import defaultdict
+from dataclasses import dataclass, field
+
+ROOT = os.path.dirname(os.path.dirname(os.path.realpath(__file__)))
+BLOCK = re.compile(r'(pub )?(?:pub\(\w+\) )?(impl|trait)\b(.*)')
+FUNCTION = re.compile(r'( {4})?(pub )?(?:pub\(\w+\) )?(?:const )?fn (\w+)(\(\)$)?')
+ARGUMENTS = re.compile(r'<[^<>]*>')
+NO_CODE = re.compile(r'//.*|^\s*(?:ghost\b|#!?\[|(?:pub )?(?:use|mod)\b).*'
+                     r'|"(?:[^"\\]|\\.)*"|\bfn \w+')
+DECLARED = re.compile(r'\b(\w+): ([^,;={.]*)(?!\.)')
+CALL = re.compile(r'(?:\b(?P<type>\w+)(?:::<[^()]*>)?::|(?P<before>\b\w+)?(?P<dot>\.))?'
+                  r'\b(?P<name>[a-z]\w*)(?:\(|::<|(?(type)|(?!)))')
+
+
+@dataclass
+class Function:
+    crate: str
+    file: str
+    owner: str  # the type or trait that it is a method of, or none
+    name: str
+    lines: range
+    is_public: bool
+    is_of_trait: bool
+
+    def path(self):
+        return f'{self.owner}::{self.name}' if self.owner else self.name
+
+
+@dataclass
+class Call:
+    file: str
+    line: int
+    name: str
+    type: str  # what stands before `::`, or the type of `self` before a dot
+    before: str  # what stands before the dot
+    has_dot: bool
+
+
+@dataclass
+class File:
+    path: str
+    crate: str
+    lines: list
+    words: set = field(default_factory=set)
+    types: dict = field(default_factory=lambda: defaultdict(set))  # the words of what a name is
+    owners: list = field(default_factory=list)  # of each line: a type or trait, and which of them
+
+    def read(self):
+        owner = (None, '')
+        for at, line in enumerate(self.lines):
+            self.words.update(re.findall(r'\w+', line.split('//')[0]))
+            for name, declared in DECLARED.findall(NO_CODE.sub('', line)):
+                self.types[name].update(re.findall(r'\w+', declared))
+            if found := BLOCK.match(line):
+                owner = (self.name_of_block(at, found), (found[1] or '') + found[2])
+            elif line == '}':
+                owner = (None, '')
+            self.owners.append(owner)
+
+    def name_of_block(self, at, found):
+        head = found[3]
+        while '{' not in head:
+            at += 1
+            head += ' ' + self.lines[at]
+        head = head.split('{')[0]
+        while ARGUMENTS.search(head):
+            head = ARGUMENTS.sub('', head)
+        name = re.search(r'\w+', head.split(' for ')[-1].split(' where ')[0])
+        return name and name[0]
+
+    def functions(self):
+        for at, line in enumerate(self.lines):
+            if found := FUNCTION.match(line):
+                last = self.last_line(at, found[1] or '')
+                owner, block = self.owners[at] if found[1] else (None, '')
+                is_law = found[4] and self.lines[last].endswith('{}')
+                yield Function(self.crate, self.path, owner, found[3], range(at, last + 1),
+                               (bool(found[2]) or block == 'pub trait') and not is_law,
+                               block.endswith('trait'))
+
+    def last_line(self, at, indent):
+        """The line that the function ends at that begins here."""
+        has_begun = False
+        while True:
+            line = self.lines[at]
+            if line == indent + '}' or not has_begun and line.endswith(('{}', ';')):
+                return at
+            has_begun = has_begun or line.endswith('{') and line[len(indent)] != ' '
+            at += 1
+
+    def calls(self):
+        for at, line in enumerate(self.lines):
+            for found in CALL.finditer(NO_CODE.sub('', line)):
+                type_before = found['type']
+                if 'Self' == type_before or found['before'] == 'self':
+                    type_before = self.owners[at][0]
+                yield Call(self.path, at, found['name'], type_before, found['before'],
+                           bool(found['dot']))
+
+
+def libraries_and_files():
+    uses = {}
+    with open(f'{ROOT}/crates.txt') as listed:
+        for line in listed:
+            if found := re.match(r'([a-z]\w*)[^:]*:(.*)', line):
+                uses[found[1]] = found[2].split()
+    libraries = {library for used in uses.values() for library in used if library in uses}
+    files = {}
+    for crate in uses:
+        for folder, _, names in os.walk(f'{ROOT}/crates/{crate}/src'):
+            for name in names:
+                with open(f'{folder}/{name}') as source:
+                    file = File(f'{folder}/{name}', crate, source.read().split('\n'))
+                file.read()
+                files[file.path] = file
+    return libraries, files
+
+
+def is_call_of(call, file, function, is_only_one):
+    """Whether a call in a file may be a call of this function."""
+    if call.file == function.file and call.line in function.lines:
+        return False
+    names_crate = file.crate == function.crate or function.crate in file.words
+    if not function.owner:
+        return names_crate and not call.has_dot and (not call.type or call.type[0].islower())
+    if call.type and not function.is_of_trait:
+        return call.type == function.owner
+    names_type = function.owner in file.words
+    if not (call.type or call.has_dot) or not (names_crate or names_type):
+        return False
+    if is_only_one or function.is_of_trait:
+        return True
+    types = file.types.get(call.before)
+    if types:
+        return function.owner in types
+    return names_type or file.crate != function.crate
+
+
+def main():
+    libraries, files = libraries_and_files()
+    functions = [function for file in files.values() for function in file.functions()]
+    calls, owners = defaultdict(list), defaultdict(set)
+    for file in files.values():
+        for call in file.calls():
+            calls[call.name].append(call)
+    for function in functions:
+        owners[function.name].add(function.owner)
+    missing = 0
+    for function in functions:
+        is_only_one = len(owners[function.name]) == 1
+        if function.is_public and function.crate in libraries and not any(
+                is_call_of(call, files[call.file], function, is_only_one)
+                for call in calls[function.name]):
+            missing += 1
+            print(f'{function.crate}: {function.path()} is called by nothing')
+    return 1 if missing else 0
+
+
+sys.exit(main())
