@@ -41,6 +41,14 @@ fn is_whole(rt: &impl Abort, report: &Report) {
     assert!(rt; report.repaired.is_some());
 }
 
+/// Whether memory ran out, or the store refused a call.
+fn is_of_store(fault: &RunFault) -> bool {
+    match fault {
+        RunFault::Memory | RunFault::Store(_) => true,
+        _ => false,
+    }
+}
+
 fn runs<T: Threads + Wait + Abort + Sync>(rt: &T, alloc: Global, document: &Document)
     requires { IsValidDocument document.now }
 {
@@ -54,9 +62,7 @@ fn runs<T: Threads + Wait + Abort + Sync>(rt: &T, alloc: Global, document: &Docu
     mark(alloc);
     match report {
         Ok(report) => is_whole(rt, &report),
-        Err(RunFault::Memory) => {}
-        Err(RunFault::Store(_)) => {}
-        Err(fault) => panic!(rt; "{fault:?}"),
+        Err(fault) => assert!(rt; is_of_store(&fault)),
     }
     match run_workers(rt, alloc, document, &options, NoGate) {
         Ok(report) => is_whole(rt, &report),
