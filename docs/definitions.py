@@ -56,7 +56,7 @@ PARTS = [
          'What an update makes of a row'),
         ('tt_values', 'Effect', 'matching_rows table_of effect_on effect reply_on reply_of answer_of',
          'What one write changes and answers, and what a select answers'),
-        ('tt_values', 'Action', 'with_rows_at content_after_write content_after_action replies_of RowId'
+        ('tt_values', 'Action', 'with_rows_at content_after_write content_after_action replies_of'
          ' rows_of_write rows_of_action row_id_cmp with_row_once each_row_once effect_of_action'
          ' action_writes',
          'The same of several writes in order, at one time'),
@@ -68,9 +68,9 @@ PARTS = [
         ('tt_repair_laws', 'Edits', 'slot_number replacement_of edit_of slot_with_edit'
          ' edited_slots_from edited_slots', 'The slots as the edits of a repair leave them'),
         ('tt_generations', 'TwoGenerations', 'Phase phase_after_step slots_edited_by is_repairing'
-         ' done_of left_of rerun_of is_due_in', 'Whether a repair is under way, and how far it is.'
+         ' done_of left_of reexecuted_of is_due_in', 'Whether a repair is under way, and how far it is.'
          ' Which slots are due comes in the next table'),
-        ('tt_db', 'State', 'ClosedGeneration State start now_of current_at next_in next_at oldest_of'
+        ('tt_db', 'State', 'ClosedGeneration State start now_of current_at next_content_at next_at oldest_of'
          ' slots_in slots_left',
          'A state of the sequential table, and the contents that it has'),
         ('tt_db', 'State', 'edits_fault missing_slot slot_edited_twice first_refusal refused_if'
@@ -86,7 +86,7 @@ PARTS = [
         ('tt_db', 'Run', 'IsRun', 'A whole run, of any entries, with their answers'),
         ('tt_db', 'Database', 'Database state_of with_entry refusal_of outcome_for',
          'A database as contracts see it: tables, limits and a history'),
-        ('tt_db', 'Database', 'current_slots time_of current_of_db HasSlots ShowsCurrent',
+        ('tt_db', 'Database', 'current_slots now_in current_of_db HasSlots ShowsCurrent',
          'A repair changes no current answer before its switch'),
     ]),
     ('What a repair re-executes. `Db::apply` carries the law, and tells of each step whether its '
@@ -99,9 +99,9 @@ PARTS = [
          ' columns_in parts_if with_row has_other_partition is_clear',
          'What is dirty, and when a write is clear of it'),
         ('tt_repair_laws', 'Due', 'content_after rows_matched is_dirty_key has_dirty_key names_dirty_row'
-         ' is_write_clear row_pair action_rows_written action_rows_matched is_affected slot_rows_written'
+         ' is_write_clear is_write_affected action_rows_matched is_affected slot_rows_written'
          ' slot_rows_matched is_slot_affected with_row_of is_due_by rows_reexecuted dirty_after_slot'
-         ' dirty_after is_due rerun_count',
+         ' dirty_after is_due reexecuted_count',
          'Which slots are due, and what gets dirty with them'),
         ('tt_repair_laws', 'Laws', 'IsSameSlot NoAffectedSlotIsMissed',
          'A slot that isn\'t due does the same in both generations'),
@@ -128,18 +128,18 @@ PARTS = [
         ('tt_store', 'Closing', 'bearers EachOnce IsUnclosed IsPartOf IsOfWorker',
          'At the end the history has the entries of each worker, and no others'),
     ]),
-    ('A whole repair, and the program: `repair` and `changes` of `tt_repair`, `run_alone` of '
+    ('A whole repair, and the program: `repair` of `tt_repair`, `changes` of `tt_records`, `run_alone` of '
      '`tt_workload`, `run_workers` of `tt_workers`, `carry_out_words` of `tt_cli`.', [
         ('tt_repair', 'Growth', 'GrewBy IsMergedAt IsWrite',
          'A worker\'s entries, merged with those of others'),
         ('tt_repair', 'Repairing', 'entry_by begun_steps HasRepaired',
          'A repair adds its beginning, its steps and its switch to the history, and nothing else'),
-        ('tt_repair', 'Changes', 'answered_now is_still change_to changes_of',
+        ('tt_records', 'Changes', 'answered_now is_still change_to changes_of',
          'The replies that are answered differently now'),
         ('tt_workload', 'Report', 'report_of', 'The report of a run in one thread'),
         ('tt_workers', 'Report', 'IsAnswered AreAnswered IsRepaired IsReportOf text_of_report',
          'What holds of the report of a run in threads, and its text'),
-        ('tt_cli', 'CarryingOut', 'AskFor EndsBy RunsWords TellsWords CarriesOut',
+        ('tt_cli', 'CarryingOut', 'AskFor EndsBy RunsWords PrintsUsage CarriesOut',
          'What the program has done when it ends'),
     ]),
 ]

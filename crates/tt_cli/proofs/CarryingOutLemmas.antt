@@ -1,5 +1,5 @@
 -- A command line that is read, with what is done for it, is carried out.
-use Rattle.std.proofs.Common.{◌≡◌, ℕ, List, Option, IfOk, IfErr, OnErr, IfSome, inl, inr}
+use Rattle.std.proofs.Common.{ℕ, List, Option, IfOk, IfErr, OnErr, IfSome, inl, inr}
 use Rattle.std.specs.Io.KnownBytes.{Keeps}
 use Rattle.std.specs.Prelude.{Result, Ok, Err}
 use Rattle.clap.specs.declared.error.Error.{Error}
@@ -31,7 +31,7 @@ carries_out words (Ok cli) unread left old new ending kinds batch closed rounds 
 carries_out words (Err error) unread left old new ending kinds batch closed rounds threads ends kind keeps unwritten usage = inr (record {
   error = error;
   fault = kinds;
-  told = usage;
+  usage = usage;
   kept = keeps;
   unwritten = unwritten;
 })

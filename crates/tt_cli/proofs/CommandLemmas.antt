@@ -13,7 +13,7 @@ use Rattle.clap.proofs.WalkLemmas.{both, one_text-rows}
 use Rattle.tt_cli.specs.CommandLine.{IsBatchOf, IsClosedOf, IsNumberOr, IsRoundsOf, IsSignedOr, IsThreadsOf, command_line, given_text}
 use Rattle.tt_cli.proofs.NumberLemmas.{ReadsBatch, ReadsNumber, ReadsRounds, reads_batch, reads_rounds}
 use Rattle.tt_cli.proofs.ClosedLemmas.{reads_closed}
-use Rattle.tt_cli.proofs.SubcommandLemmas.{HasOptions, takes_one}
+use Rattle.tt_cli.proofs.SubcommandLemmas.{HasOptions, batch_of, closed_of, rounds_of, takes_one}
 
 is_simple_line : is_simple_and_free command_line ≡ true
 unfolding clap_on_literals
@@ -26,7 +26,7 @@ is_simple_command a is = ap is_simple_and_free is ∙ is_simple_line
 -- the parse entered a subcommand, with the rows of its options
 abbrev pub Enters : List Text → ArgMatches → Type 0
 Enters words m = (name : Text) × (rows : List Row) × (subcommand_of command_line words ≡ Some (name, rows))
-    × (subcommand_rows_of m ≡ Some (name, rows)) × HasOptions rows
+    × (subcommand_rows_of m ≡ Some (name, rows)) × HasOptions name rows
 
 pub enters_one : (a : App) (words : List Text) (m : ArgMatches) → a ≡ command_line → fault_of a words ≡ [] → HasMatchesOf a words m → Enters words m
 enters_one a words m is passes matches =
@@ -67,21 +67,21 @@ module _ (words : List Text) (m : ArgMatches) (enters : Enters words m) where
 
     pub batch_read : (read : Option ℕ) → ((text : Text) → one_text (found_of inner) (codes "batch") ≡ Some text → ReadsOne ReadsNumber text read)
         → ReadsBatch enters.1 read
-    batch_read read reads = reads_batch enters.1 read enters.4.0 (λ text e. reads text (one_is (codes "batch") ∙ e))
+    batch_read read reads = reads_batch enters.1 read (batch_of enters.0 enters.1 enters.4) (λ text e. reads text (one_is (codes "batch") ∙ e))
 
     pub rounds_read : (read : Option ℕ) → (one_text (found_of inner) (codes "rounds") ≡ None → read ≡ None)
         → ((text : Text) → one_text (found_of inner) (codes "rounds") ≡ Some text → ReadsOne ReadsNumber text read)
         → ReadsRounds enters.1 (unwrap_or read 8)
     rounds_read read none reads =
         let one = one_is (codes "rounds") in
-        reads_rounds enters.1 read enters.4.2 (λ e. none (one ∙ e)) (λ text e. reads text (one ∙ e))
+        reads_rounds enters.1 read (rounds_of enters.0 enters.1 enters.4) (λ e. none (one ∙ e)) (λ text e. reads text (one ∙ e))
 
     pub closed_is : (read : Bool) → (one_text (found_of inner) (codes "closed") ≡ Some (codes "true") → read ≡ true)
         → (one_text (found_of inner) (codes "closed") ≡ Some (codes "false") → read ≡ false) → IsClosedOf words read
     unfolding IsClosedOf
     closed_is read when_true when_false =
         let one = one_is (codes "closed") in
-        let is = reads_closed enters.1 read enters.4.1 (λ e. when_true (one ∙ e)) (λ e. when_false (one ∙ e)) in
+        let is = reads_closed enters.1 read (closed_of enters.0 enters.1 enters.4) (λ e. when_true (one ∙ e)) (λ e. when_false (one ∙ e)) in
         subst (λ (sub : Option (Text × List Row)). IsSomeAnd sub (λ s. read ≡ is_given (codes "closed") s.1)) (sym enters.2) is
 
   -- the numbers that were read

@@ -223,10 +223,29 @@ has_closed = default_has (codes "closed") AsWritten IsTrueText (codes "false") r
 
 -- ---- one level
 
-abbrev pub HasOptions : List Row → Type 0
-HasOptions rows = HasBatch rows × HasClosed rows × (HasRounds rows ⊎ HasNoRounds rows)
+-- `replay` was entered, and has a row for each of its options
+abbrev pub HasReplay : Text → List Row → Type 0
+HasReplay name rows = (name ≡ codes "replay") × HasBatch rows × HasClosed rows × HasNoRounds rows
 
-replay_has : (rows : List Row) → FitBatch rows → FitClosed rows → FitNoRounds rows → HasOptions (with_default (with_default rows batch_rule) closed_rule)
+-- `run` was entered, and has a row for each of its options
+abbrev pub HasRun : Text → List Row → Type 0
+HasRun name rows = (name ≡ codes "run") × HasBatch rows × HasClosed rows × HasRounds rows
+
+-- one of the subcommands was entered, and has a row for each of its options
+abbrev pub HasOptions : Text → List Row → Type 0
+HasOptions name rows = HasReplay name rows ⊎ HasRun name rows
+
+pub batch_of : (name : Text) (rows : List Row) → HasOptions name rows → HasBatch rows
+batch_of name rows has = elim has [ inl replay ↦ replay.1 | inr run ↦ run.1 ]
+
+pub closed_of : (name : Text) (rows : List Row) → HasOptions name rows → HasClosed rows
+closed_of name rows has = elim has [ inl replay ↦ replay.2 | inr run ↦ run.2 ]
+
+pub rounds_of : (name : Text) (rows : List Row) → HasOptions name rows → HasRounds rows ⊎ HasNoRounds rows
+rounds_of name rows has = elim has [ inl replay ↦ inr replay.3 | inr run ↦ inl run.3 ]
+
+replay_has : (rows : List Row) → FitBatch rows → FitClosed rows → FitNoRounds rows
+    → HasReplay (codes "replay") (with_default (with_default rows batch_rule) closed_rule)
 replay_has rows batch_fit closed_fit none_fit =
     let first = with_default rows batch_rule in
     let last = with_default first closed_rule in
@@ -234,10 +253,10 @@ replay_has rows batch_fit closed_fit none_fit =
     let closed_first = default_keeps (codes "closed") AsWritten IsTrueText (codes "batch") WithoutMinus (codes "16" ∷ []) (λ same. absurd (cc)) rows closed_fit in
     let none_first = default_keeps (codes "rounds") WithoutMinus (λ _. ⊥) (codes "batch") WithoutMinus (codes "16" ∷ []) (λ same. absurd (cc)) rows none_fit in
     let none_last = default_keeps (codes "rounds") WithoutMinus (λ _. ⊥) (codes "closed") AsWritten (codes "false" ∷ []) (λ same. absurd (cc)) first none_first in
-    (batch_row, has_closed first closed_first, inr (none_has (codes "rounds") WithoutMinus last none_last))
+    (refl, batch_row, has_closed first closed_first, none_has (codes "rounds") WithoutMinus last none_last)
 
 run_has : (rows : List Row) → FitBatch rows → FitRounds rows → FitClosed rows
-    → HasOptions (with_default (with_default (with_default rows batch_rule) rounds_rule) closed_rule)
+    → HasRun (codes "run") (with_default (with_default (with_default rows batch_rule) rounds_rule) closed_rule)
 run_has rows batch_fit rounds_fit closed_fit =
     let first = with_default rows batch_rule in
     let second = with_default first rounds_rule in
@@ -247,25 +266,25 @@ run_has rows batch_fit rounds_fit closed_fit =
     let rounds_row = default_stays (codes "rounds") WithoutMinus (IsInRange 0 1000) (codes "8") (codes "closed") AsWritten (codes "false" ∷ []) second (has_rounds first rounds_first) in
     let closed_first = default_keeps (codes "closed") AsWritten IsTrueText (codes "batch") WithoutMinus (codes "16" ∷ []) (λ same. absurd (cc)) rows closed_fit in
     let closed_second = default_keeps (codes "closed") AsWritten IsTrueText (codes "rounds") WithoutMinus (codes "8" ∷ []) (λ same. absurd (cc)) first closed_first in
-    (batch_row, has_closed second closed_second, inl rounds_row)
+    (refl, batch_row, has_closed second closed_second, rounds_row)
 
-at_replay : (words : List Text) → level_fault replay_leaf [] nothing_held words false [] ≡ [] → HasOptions (rows_after replay_leaf.rules [] words)
+at_replay : (words : List Text) → level_fault replay_leaf [] nothing_held words false [] ≡ [] → HasOptions (codes "replay") (rows_after replay_leaf.rules [] words)
 at_replay words e =
     let rows = rows_of replay_leaf words in
     let batch_fit = words_fit replay_leaf FitBatch batch_uses.0 tt words e in
     let closed_fit = words_fit replay_leaf FitClosed closed_uses.0 tt words e in
     let none_fit = words_fit replay_leaf FitNoRounds rounds_uses.0 tt words e in
     let last = with_default (with_default rows batch_rule) closed_rule in
-    same_rows HasOptions (has_row (codes "help") last) last (replay_has rows batch_fit closed_fit none_fit)
+    same_rows (HasOptions (codes "replay")) (has_row (codes "help") last) last (inl (replay_has rows batch_fit closed_fit none_fit))
 
-at_run : (words : List Text) → level_fault run_leaf [] nothing_held words false [] ≡ [] → HasOptions (rows_after run_leaf.rules [] words)
+at_run : (words : List Text) → level_fault run_leaf [] nothing_held words false [] ≡ [] → HasOptions (codes "run") (rows_after run_leaf.rules [] words)
 at_run words e =
     let rows = rows_of run_leaf words in
     let batch_fit = words_fit run_leaf FitBatch batch_uses.1 tt words e in
     let rounds_fit = words_fit run_leaf FitRounds rounds_uses.1 tt words e in
     let closed_fit = words_fit run_leaf FitClosed closed_uses.1 tt words e in
     let last = with_default (with_default (with_default rows batch_rule) rounds_rule) closed_rule in
-    same_rows HasOptions (has_row (codes "help") last) last (run_has rows batch_fit rounds_fit closed_fit)
+    same_rows (HasOptions (codes "run")) (has_row (codes "help") last) last (inr (run_has rows batch_fit rounds_fit closed_fit))
 
 -- ---- the subcommand
 
@@ -298,7 +317,7 @@ needs_subcommand rows true e = refl
 needs_subcommand rows false e = absurd (cc)
 
 abbrev Takes : Option (Text × List Row) → Type 0
-Takes sub = (name : Text) × (rows : List Row) × (sub ≡ Some (name, rows)) × HasOptions rows
+Takes sub = (name : Text) × (rows : List Row) × (sub ≡ Some (name, rows)) × HasOptions name rows
 
 abbrev TakesAt : Text → List Text → Type 0
 TakesAt name rest = entered_fault (built command_line) (Some (name, rest)) ≡ [] → Takes (entered (built command_line) (Some (name, rest)))

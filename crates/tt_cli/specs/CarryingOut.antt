@@ -1,4 +1,4 @@
--- What the program does for a command line: how it ends, and what it has read and written then.
+-- What the program does for a command line: how it ends, and what it has then read and written.
 use Rattle.std.specs.Prelude.{◌≡◌, ◌⊎◌, ℕ, List, [], Option, IfSome, ⊤, true}
 use Rattle.std.specs.Io.KnownBytes.{Keeps}
 use Rattle.clap.specs.declared.error.Error.{Error}
@@ -21,16 +21,16 @@ pub record AskFor (words : List Text) (cli : Cli) : Type 0 where
   pub closed : IsClosedOf words cli.options.closed
 
 -- the run that a command asks for has failed, and there was no memory for the line of its fault
-pub record EndsUntold (cli : Cli) (remaining : List ℕ) (old new : Option (List ℕ)) : Type 0 where
+pub record EndsWithoutLine (cli : Cli) (remaining : List ℕ) (old new : Option (List ℕ)) : Type 0 where
   pub fault : RunFault
   pub early : EndsEarlyBy cli fault remaining old new
   pub with_text : has_text fault ≡ true
 
--- the ending of the run that a command asks for: it's done once the report is written, and else has the run's fault
+-- the ending of the run that a command asks for: done where the report was written, and otherwise the run's fault
 abbrev pub EndsBy : Cli → List ℕ → Option (List ℕ) → Option (List ℕ) → Ending → Type 0
 EndsBy cli remaining old new endings.Done = WritesBy cli remaining old new
 EndsBy cli remaining old new (endings.Fault fault) = EndsEarlyBy cli fault remaining old new
-EndsBy cli remaining old new endings.OutOfMemory = EndsUntold cli remaining old new
+EndsBy cli remaining old new endings.OutOfMemory = EndsWithoutLine cli remaining old new
 EndsBy cli remaining old new _ = ⊥
 
 -- the same, whatever was read
@@ -47,14 +47,14 @@ pub record RunsWords (words : List Text) (unread old new : Option (List ℕ)) (e
   pub ends : IfSome unread (λ remaining. EndsBy cli remaining old new ending)
   pub kind : IsEndingBy cli ending
 
--- the words are faulty or ask for help, or there was no memory to read them: this is told, and nothing is run
-pub record TellsWords (words : List Text) (unread left old new : Option (List ℕ)) (ending : Ending) : Type 0 where
+-- the words are faulty or ask for help, or there was no memory to read them: this is printed, and nothing is run
+pub record PrintsUsage (words : List Text) (unread left old new : Option (List ℕ)) (ending : Ending) : Type 0 where
   pub error : Error
   pub fault : HasKind (fault_of command_line words) error
-  pub told : IsEndingOfUsage (kind_of error) ending
+  pub usage : IsEndingOfUsage (kind_of error) ending
   pub kept : Keeps unread left
   pub unwritten : Keeps old new
 
 -- the words of a command line are carried out
 abbrev pub CarriesOut : List Text → Option (List ℕ) → Option (List ℕ) → Option (List ℕ) → Option (List ℕ) → Ending → Type 0
-CarriesOut words unread left old new ending = RunsWords words unread old new ending ⊎ TellsWords words unread left old new ending
+CarriesOut words unread left old new ending = RunsWords words unread old new ending ⊎ PrintsUsage words unread left old new ending

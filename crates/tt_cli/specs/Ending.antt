@@ -4,8 +4,8 @@ use Rattle.std.specs.declared.io.ErrorKind.{ErrorKind as WordsError}
 use Rattle.std.specs.declared.io.ErrorKind.TheVariants as words
 use Rattle.clap.specs.declared.error.kind.ErrorKind.{ErrorKind}
 use Rattle.clap.specs.declared.error.kind.ErrorKind.TheVariants as usage
-use Rattle.tt_workload.specs.declared.RunFault.{RunFault}
-use Rattle.tt_workload.specs.declared.RunFault.TheVariants as faults
+use Rattle.tt_workload.specs.declared.run_fault.RunFault.{RunFault}
+use Rattle.tt_workload.specs.declared.run_fault.RunFault.TheVariants as faults
 use Rattle.tt_cli.specs.declared.ending.Ending.{Ending}
 use Rattle.tt_cli.specs.declared.ending.Ending.TheVariants as endings
 use Rattle.tt_cli.specs.Status.{status_of, has_text}

@@ -1,10 +1,10 @@
--- The two runs of a document, and what they write: that in threads writes one of the reports that are right.
+-- The two runs of a document, and what they write. A run in threads writes one of the reports that are right for the document.
 use Rattle.std.specs.Prelude.{◌≡◌, ℕ, Bool, List, Option, MatchBool}
 use Rattle.std.specs.Io.KnownBytes.{Appends, Keeps}
 use Rattle.tt_document.specs.declared.document.Document.{Document}
 use Rattle.tt_workload.specs.declared.run_fault.RunFault.{RunFault}
 use Rattle.tt_workload.specs.declared.run_fault.RunFault.TheVariants as faults
-use Rattle.tt_workload.specs.Ends.{AppendsFront, ReadsDocument, EndsReading, IsReadingFault}
+use Rattle.tt_workload.specs.Ends.{AppendsPrefix, ReadsDocument, EndsReading, IsReadingFault}
 use Rattle.tt_workload.specs.Run.{WritesReport, EndsEarly, IsFaultOfRun}
 use Rattle.tt_workers.specs.declared.report.Report.{Report}
 use Rattle.tt_workers.specs.Report.{IsReportOf, text_of_report}
@@ -16,7 +16,7 @@ pub record IsTextOfRun (closed : Bool) (document : Document) (text : List ℕ) :
   pub right : IsReportOf document report
   pub same : text ≡ text_of_report closed report
 
--- such a text, for the document that the remaining bytes of the reader spell, was written, and nothing else
+-- the text of a report that is right for the document in the remaining bytes of the reader was written, and nothing else
 pub record WritesSomeReport (closed : Bool) (remaining : List ℕ) (old new : Option (List ℕ)) : Type 0 where
   pub document : Document
   pub is_read : ReadsDocument remaining document
@@ -24,22 +24,22 @@ pub record WritesSomeReport (closed : Bool) (remaining : List ℕ) (old new : Op
   pub is_text : IsTextOfRun closed document text
   pub written : Appends old new text
 
--- a front part of such a text was written, and nothing else
-pub record WritesSomeFront (closed : Bool) (remaining : List ℕ) (old new : Option (List ℕ)) : Type 0 where
+-- a prefix of the text of a report that is right for the document in the remaining bytes of the reader was written, and nothing else
+pub record WritesPrefixOfReport (closed : Bool) (remaining : List ℕ) (old new : Option (List ℕ)) : Type 0 where
   pub document : Document
   pub is_read : ReadsDocument remaining document
   pub text : List ℕ
   pub is_text : IsTextOfRun closed document text
-  pub written : AppendsFront old new text
+  pub written : AppendsPrefix old new text
 
--- the remaining bytes of the reader spell a document
+-- the remaining bytes of the reader are a document
 abbrev pub HasDocument : List ℕ → Type 0
 HasDocument remaining = (document : Document) × ReadsDocument remaining document
 
--- after a fault of a run in threads: where the writer failed, a front part of a report was written, and else nothing. A fault of the
--- document is the one that the bytes have. The store is at fault only once a document was read
+-- after a fault of a run in threads: where the writer failed, a prefix of a report was written, and otherwise nothing. A fault of the
+-- document is the one that the bytes have. A fault of the store comes only after a document was read
 abbrev pub EndsRunEarly : Bool → RunFault → List ℕ → Option (List ℕ) → Option (List ℕ) → Type 0
-EndsRunEarly closed faults.Write remaining old new = WritesSomeFront closed remaining old new
+EndsRunEarly closed faults.Write remaining old new = WritesPrefixOfReport closed remaining old new
 EndsRunEarly closed faults.Read remaining old new = Keeps old new
 EndsRunEarly closed (faults.Document fault) remaining old new = EndsReading remaining (faults.Document fault) × Keeps old new
 EndsRunEarly closed (faults.Store text) remaining old new = HasDocument remaining × Keeps old new
@@ -53,7 +53,7 @@ IsFaultOfThreads (faults.Document fault) = IsReadingFault (faults.Document fault
 IsFaultOfThreads (faults.Store text) = Unit {0}
 IsFaultOfThreads faults.Memory = Unit {0}
 
--- the report was written that the command asks for: with its options, of a run in threads or in one
+-- the report was written that the command asks for: with its options, of a run in threads or of one in one thread
 abbrev pub WritesBy : Cli → List ℕ → Option (List ℕ) → Option (List ℕ) → Type 0
 WritesBy cli remaining old new = MatchBool cli.threads
     (WritesSomeReport cli.options.closed remaining old new)

@@ -1,8 +1,8 @@
 -- The status that a fault ends the program with, and its line on standard error.
 use Rattle.std.specs.Prelude.{ℕ, List, ◌++◌, codes, Bool, true, false}
 use Rattle.tt_document.specs.declared.fault.DocFault.TheVariants as document_faults
-use Rattle.tt_workload.specs.declared.RunFault.{RunFault}
-use Rattle.tt_workload.specs.declared.RunFault.TheVariants as faults
+use Rattle.tt_workload.specs.declared.run_fault.RunFault.{RunFault}
+use Rattle.tt_workload.specs.declared.run_fault.RunFault.TheVariants as faults
 
 -- 1 for what is read, 3 for out of memory, 4 for the store and for what is written
 abbrev pub status_of : RunFault → ℕ

@@ -21,7 +21,7 @@ use std::thread::Threads;
 
 /// Carries out the words of a command line, the program's name first: runs the document of the
 /// reader, and writes its report. Where the words couldn't be read, are faulty or ask for help,
-/// this is told, and nothing is run.
+/// this is printed, and nothing is run.
 pub fn carry_out_words<R: Read, W: Write>(
     rt: &(impl Print + Eprint + AllocGlobal + Threads + Wait + Sync),
     words: io::Result<Vec<String>>,

@@ -1,4 +1,4 @@
-//! How the program ends.
+//! The ending of the program, and its status.
 
 use crate::status::status_of;
 use clap::error::ErrorKind;
@@ -6,7 +6,7 @@ use std::io;
 use std::process::{ExitCode, Termination};
 use tt_workload::RunFault;
 
-/// What the program has come to when it ends.
+/// How the program ends.
 #[derive(Drop)]
 pub enum Ending {
     /// The report is printed.

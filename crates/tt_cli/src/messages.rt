@@ -82,7 +82,8 @@ pub fn print_usage(rt: &(impl Print + Eprint + AllocGlobal), error: &clap::Error
     }
 }
 
-/// The ending where help was asked for: it was printed, or it couldn't be, which is told.
+/// The ending where help was asked for: it was printed, or it couldn't be, which is a fault of
+/// writing.
 pub fn end_help(rt: &(impl Eprint + AllocGlobal), printed: io::Result<()>) -> Ending
     ensures printed { OnOk printed (result ≡ Ending.Help) }
     ensures not_printed { OnErr printed (result ≡ Ending.Fault RunFault.Write) }

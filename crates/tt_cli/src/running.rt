@@ -117,13 +117,13 @@ pub fn replay<R: Read, W: Write>(
     ensures kind { IfErr result IsFaultOfRun }
 {
     let end = run_to_end(alloc, reader, writer, options)?;
-    leave(alloc, end);
+    leak(alloc, end);
     Ok(())
 }
 
-/// Leaves the memory of a run to the system, which takes it back whole when the program ends. To
-/// release it piece by piece takes long.
-fn leave(alloc: Global, end: RunEnd) {
+/// Leaks the memory of a run: releasing it piece by piece takes long, and the system takes it back
+/// as a whole when the program ends.
+fn leak(alloc: Global, end: RunEnd) {
     if let Ok(last) = Box::new(alloc, end) {
         let _ = Box::leak(last);
     }

@@ -9,7 +9,7 @@ use Rattle.tt_generations.specs.TwoGenerations.{Phase, Idle, Repairing, next_sid
 use Rattle.tt_db.specs.declared.event.Entry.{Entry}
 use Rattle.tt_db.specs.declared.event.Event.{Event}
 use Rattle.tt_db.specs.declared.event.Event.TheVariants as events
-use Rattle.tt_db.specs.State.{State, current_at, next_in, next_state}
+use Rattle.tt_db.specs.State.{State, current_at, next_content_at, next_state}
 use Rattle.tt_db.specs.Database.{Database, state_of, current_slots, with_entry, IsDueOrSame, MissesNoSlot, ShowsCurrent}
 use Rattle.tt_db.proofs.DatabaseLemmas.{after-push}
 
@@ -36,11 +36,11 @@ ShowsCurrent-entry db entry = by entry.event (after-push db.limits db.history en
 
 -- up to the last slot that the repair has done, the next side shows the next generation
 pub next_side-shows : (tables : Tables) (phase : Phase) (W : Slots) (table : ℕ) (key : ℤ) (time : ℕ) → IsWithin phase W → time ≤ done_of phase
-    → next_side_of tables phase W table key time ≡ row_at (next_in phase W time table) key
+    → next_side_of tables phase W table key time ≡ row_at (next_content_at phase W time table) key
 next_side-shows tables Idle W table key time within past = refl
 next_side-shows tables (Repairing E n) W table key time within past = next_side_shows_edited_slots tables W E n time table key within past
 
 -- its content at that slot is that of the next generation
-pub next_content-is : (phase : Phase) (W : Slots) → next_content_in phase W ≡ next_in phase W (done_of phase)
+pub next_content-is : (phase : Phase) (W : Slots) → next_content_in phase W ≡ next_content_at phase W (done_of phase)
 next_content-is Idle W = sym (content_after_is_kept W 0 (omega arith))
 next_content-is (Repairing E n) W = refl

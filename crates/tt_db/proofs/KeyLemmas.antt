@@ -38,7 +38,7 @@ use Rattle.tt_repair_laws.specs.declared.edit.Edit.TheVariants.{Cancel, Replace}
 use Rattle.tt_repair_laws.specs.Edits.{edit_of, slot_with_edit, edited_slots_from, edited_slots}
 use Rattle.tt_generations.specs.KeptSlots.{IsAccepted}
 use Rattle.tt_generations.specs.TwoGenerations.{Phase, Idle, Repairing, phase_after_step, slots_edited_by, done_of}
-use Rattle.tt_db.specs.State.{State, ClosedGeneration, start, after, current_at, next_in, next_at, slots_in, next_state, with_closed, edits_fault, refusal, IsLegal, IsLegalFrom}
+use Rattle.tt_db.specs.State.{State, ClosedGeneration, start, after, current_at, next_content_at, next_at, slots_in, next_state, with_closed, edits_fault, refusal, IsLegal, IsLegalFrom}
 use Rattle.tt_db.specs.RightAnswers.{RowsHaveRisingKeys}
 use Rattle.tt_db.proofs.RefusalLemmas.{accepted_action, accepted_begin}
 
@@ -384,7 +384,7 @@ RowsHaveRisingKeys-in tables limits history number W q time catalog legal is =
     RowsHaveRisingKeys-content q (row_writes W (length W)) time (IsKeyedContent-in tables limits history number W time catalog legal is)
 
 -- and in the next generation
-keyed_next : (tables : Tables) (phase : Phase) (W : Slots) → IsCatalog tables → AllAccepted tables W → HasAcceptedEdits tables phase → IsKeyedContent (next_in phase W (done_of phase))
+keyed_next : (tables : Tables) (phase : Phase) (W : Slots) → IsCatalog tables → AllAccepted tables W → HasAcceptedEdits tables phase → IsKeyedContent (next_content_at phase W (done_of phase))
 keyed_next tables Idle W catalog slots edits = IsKeyedContent-content_of tables W 0 catalog slots
 keyed_next tables (Repairing E n) W catalog slots edits = IsKeyedContent-slots tables (edited_slots W E) n catalog (AllAccepted-edits tables E 1 W edits slots)
 
@@ -395,7 +395,7 @@ IsKeyedContent-next tables limits history catalog legal =
     let accepted = IsAcceptedState-after tables limits history legal in
     keyed_next tables S.phase S.slots catalog accepted.slots accepted.edits
 
-of_next : (phase : Phase) (W : Slots) (q : Select) → IsKeyedContent (next_in phase W (done_of phase)) → RowsHaveRisingKeys (answer_of q (next_in phase W (done_of phase)))
+of_next : (phase : Phase) (W : Slots) (q : Select) → IsKeyedContent (next_content_at phase W (done_of phase)) → RowsHaveRisingKeys (answer_of q (next_content_at phase W (done_of phase)))
 of_next Idle W q keyed = RowsHaveRisingKeys-content q (row_writes W (length W)) 0 keyed
 of_next (Repairing E n) W q keyed = RowsHaveRisingKeys-content q (row_writes (edited_slots W E) n) n keyed
 

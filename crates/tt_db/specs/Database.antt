@@ -48,8 +48,8 @@ abbrev pub generations_in : Tables → State → TwoGenerations
 generations_in tables S = record { catalog = tables; slots = S.slots; phase = S.phase }
 
 -- the current time
-abbrev pub time_of : Database → ℕ
-time_of db = now_of (state_of db)
+abbrev pub now_in : Database → ℕ
+now_in db = now_of (state_of db)
 
 -- the database with one more entry
 abbrev pub with_entry : Database → Entry → Database
@@ -65,7 +65,7 @@ outcome_for db event = outcome_of db.catalog (state_of db) event
 
 -- the right answer to a select now
 abbrev pub right_answer : Database → Select → Result Reply ReadError
-right_answer db select = right_select db.catalog (current_at (state_of db) (time_of db)) select
+right_answer db select = right_select db.catalog (current_at (state_of db) (now_in db)) select
 
 -- the right answer to a select at a time
 abbrev pub right_answer_at : Database → Select → ℕ → Result Reply ReadError
@@ -112,7 +112,7 @@ abbrev pub IsDueOrSame : Tables → Phase → Slots → Type 0
 IsDueOrSame tables Idle W = Unit {0}
 IsDueOrSame tables (Repairing E n) W = is_due tables W E n ≡ false → IsSameSlot W (edited_slots W E) n
 
--- a step passes over a slot only where it is the same in both generations
+-- the slot of a step that isn't due is the same in both generations
 abbrev pub MissesNoSlot : Database → Event → Type 0
 MissesNoSlot db events.Step = IsDueOrSame db.catalog (state_of db).phase (current_slots db)
 MissesNoSlot db event = Unit {0}
@@ -129,7 +129,7 @@ pub record HasSlots (db : Database) (W : Slots) : Type 0 where
 -- what becomes of the current contents: an action leaves those up to now. The beginning of a repair, a step and the end of a repair
 -- leave all slots, and with them the content at each time. After a switch the slots are the edited ones, among them those of the actions made meanwhile
 abbrev pub ShowsCurrent : Database → Event → Database → Type 0
-ShowsCurrent before (events.Write action) next = (time : ℕ) → time ≤ time_of before → current_of_db next time ≡ current_of_db before time
+ShowsCurrent before (events.Write action) next = (time : ℕ) → time ≤ now_in before → current_of_db next time ≡ current_of_db before time
 ShowsCurrent before events.Switch next = HasSlots next (slots_edited_by (state_of before).phase (current_slots before))
 ShowsCurrent before event next = HasSlots next (current_slots before)
 

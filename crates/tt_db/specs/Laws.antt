@@ -1,4 +1,4 @@
--- What holds of every legal history, in the subject's own words.
+-- What holds of every legal history.
 use Rattle.std.specs.Prelude.{◌≡◌, ◌≤◌, ℕ, suc, ℤ, List, [], ◌∷◌, length, Some}
 use Rattle.tt_values.specs.declared.row.Row.{Row}
 use Rattle.tt_values.specs.Row.{first_int}

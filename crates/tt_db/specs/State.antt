@@ -11,7 +11,7 @@ use Rattle.tt_values.specs.RowWrites.{Slots, row_writes, content_of}
 use Rattle.tt_repair_laws.specs.declared.edit.Edit.{Edit}
 use Rattle.tt_repair_laws.specs.declared.edit.Edit.TheVariants.{Cancel, Replace}
 use Rattle.tt_repair_laws.specs.Edits.{slot_number, edited_slots}
-use Rattle.tt_generations.specs.TwoGenerations.{Phase, Idle, Repairing, is_repairing, done_of, left_of, rerun_of, is_due_in, phase_after_step, slots_edited_by}
+use Rattle.tt_generations.specs.TwoGenerations.{Phase, Idle, Repairing, is_repairing, done_of, left_of, reexecuted_of, is_due_in, phase_after_step, slots_edited_by}
 use Rattle.tt_db.specs.declared.limits.Limits.{Limits}
 use Rattle.tt_db.specs.declared.event.Event.{Event}
 use Rattle.tt_db.specs.declared.event.Event.TheVariants as events
@@ -48,12 +48,12 @@ abbrev pub current_at : State → ℕ → Content
 current_at S time = content_of S.slots time
 
 -- the next content at a time, by the slots that the repair has done. Without a repair it is the current one
-abbrev pub next_in : Phase → Slots → ℕ → Content
-next_in Idle W time = content_of W time
-next_in (Repairing edits n) W time = content_at (row_writes (edited_slots W edits) n) time
+abbrev pub next_content_at : Phase → Slots → ℕ → Content
+next_content_at Idle W time = content_of W time
+next_content_at (Repairing edits n) W time = content_at (row_writes (edited_slots W edits) n) time
 
 abbrev pub next_at : State → ℕ → Content
-next_at S time = next_in S.phase S.slots time
+next_at S time = next_content_at S.phase S.slots time
 
 -- the number of the oldest generation that can be read: of the first closed one, or of the current one where none is kept
 abbrev pub oldest_of : List ClosedGeneration → ℕ → ℕ
@@ -74,10 +74,10 @@ edits_fault tables [] = None
 edits_fault tables (Cancel t ∷ E) = edits_fault tables E
 edits_fault tables (Replace t action ∷ E) = option_or (action_fault tables action) (edits_fault tables E)
 
--- the slot of the first edit whose slot isn't there, of so many slots
+-- the slot of the first edit whose slot isn't among the first n slots
 abbrev pub missing_slot : ℕ → List Edit → Option ℕ
-missing_slot slots [] = None
-missing_slot slots (e ∷ E) = if (slot_number e == 0) || nat_lt slots (slot_number e) then Some (slot_number e) else missing_slot slots E
+missing_slot n [] = None
+missing_slot n (e ∷ E) = if (slot_number e == 0) || nat_lt n (slot_number e) then Some (slot_number e) else missing_slot n E
 
 -- the slot of the first edit whose slot an earlier edit has, where these edits are earlier
 abbrev pub slot_edited_twice : List Edit → List Edit → Option ℕ
@@ -137,9 +137,9 @@ refusal tables limits S events.Abort = first_refusal
     ∷ full_at S.events limits.events
     ∷ [])
 
--- the last items of a list, so many at most
+-- the last n items of a list, or all where there are fewer
 abbrev pub last_items : {X : Type 0} → ℕ → List X → List X
-last_items count items = drop (length items - count) items
+last_items n items = drop (length items - n) items
 
 -- the closed generations and one more. The first are dropped while there are more than are kept
 abbrev pub with_closed : ℕ → List ClosedGeneration → ClosedGeneration → List ClosedGeneration
@@ -171,7 +171,7 @@ abbrev pub outcome_of : Tables → State → Event → Outcome
 outcome_of tables S (events.Write action) = Written (now_of S + 1) (replies_of action (current_at S (now_of S)))
 outcome_of tables S (events.Begin edits) = Begun
 outcome_of tables S events.Step = Stepped (done_of S.phase + 1) (is_due_in tables S.phase S.slots)
-outcome_of tables S events.Switch = Switched (S.generation + 1) (now_of S) (rerun_of tables S.phase S.slots)
+outcome_of tables S events.Switch = Switched (S.generation + 1) (now_of S) (reexecuted_of tables S.phase S.slots)
 outcome_of tables S events.Abort = Aborted
 
 -- the state after a history

@@ -31,7 +31,7 @@ abbrev pub closed_after : ℕ → List ClosedGeneration → ℕ → Slots → Ev
 closed_after keep closed number W events.Switch = with_closed keep closed (record { number = number; slots = W })
 closed_after keep closed number W event = closed
 
--- the state of which these are the tables of two generations, before any event is counted or any generation is closed
+-- a state with the tables of two generations, before any event is counted or any generation is closed
 abbrev pub state_with : TwoGenerations → ℕ → State
 state_with G number = record { slots = G.slots; generation = number; events = 0; phase = G.phase; closed = [] }
 

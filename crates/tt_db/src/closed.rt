@@ -50,7 +50,7 @@ impl Kept for ClosedGeneration {
 }
 
 /// The closed generations and the current one, of this number, beside those that there are. The
-/// first are left out, so that at most so many are kept. Copies no slot and no row.
+/// oldest are left out, so that at most `keep` are kept. Copies no slot and no row.
 pub(crate) fn with_closed(
     alloc: Global,
     keep: u32,
@@ -73,7 +73,7 @@ pub(crate) fn with_closed(
     Ok(kept)
 }
 
-/// The last closed generations, so many at most, beside all of them.
+/// The last `count` closed generations, or all where there are fewer, beside those that there are.
 fn last_of(
     alloc: Global,
     closed: &PagedLog<ClosedGeneration>,

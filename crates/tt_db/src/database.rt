@@ -4,7 +4,7 @@ ghost use Rattle.tt_versions.specs.Sides.{current_of, next_of, is_split};
 ghost use Rattle.tt_db.specs.Limits.{Fits};
 ghost use Rattle.tt_db.specs.Errors.{refusal_of_error};
 ghost use Rattle.tt_db.specs.State.{IsLegal, full_at, slots_in};
-ghost use Rattle.tt_db.specs.Database.{state_of, time_of, oldest_in, with_entry, refusal_of, outcome_for, right_answer, right_answer_at, right_answer_in, right_preview_of, answer_for, preview_for, slot_of, repair_of, current_rows_of, ShowsNextRows, dirty_rows_in, MissesNoSlot, ShowsCurrent, nth_item};
+ghost use Rattle.tt_db.specs.Database.{state_of, now_in, oldest_in, with_entry, refusal_of, outcome_for, right_answer, right_answer_at, right_answer_in, right_preview_of, answer_for, preview_for, slot_of, repair_of, current_rows_of, ShowsNextRows, dirty_rows_in, MissesNoSlot, ShowsCurrent, nth_item};
 ghost use Rattle.tt_db.specs.RightAnswers.{Answers, RowsHaveRisingKeys};
 ghost use Rattle.tt_db.specs.Run.{IsRun};
 
@@ -91,7 +91,7 @@ impl Db {
 
     /// The current time: the number of slots.
     pub fn now(&self) -> u64
-        ensures { result ≡ time_of self.now }
+        ensures { result ≡ now_in self.now }
     {
         self.generations.len()
     }
@@ -152,10 +152,10 @@ impl Db {
     /// Applies an event: answers the next database and the outcome, or why the event is refused.
     /// This database stays as it is, and shares with the next one what they have in common.
     ///
-    /// A step passes over a slot only where it does the same in both generations. Beginning a
-    /// repair, its steps and giving it up change no current answer. After the switch the current
-    /// answers are those of the slots as edited, with each action that was carried out during the
-    /// repair.
+    /// The slot of a step that isn't due is the same in both generations, with the same effect and
+    /// the same replies. Beginning a repair, its steps and giving it up change no current answer.
+    /// After the switch the current answers are those of the slots as edited, with each action that
+    /// was carried out during the repair.
     pub fn apply(&self, entry: Entry) -> Result<(Db, Outcome), DbError>
         ensures state { IfOk result (λ r. r.0 ≡ with_entry self.now entry) }
         ensures outcome { IfOk result (λ r. r.1 ≡ outcome_for self.now entry.event) }

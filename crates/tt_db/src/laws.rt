@@ -1,8 +1,8 @@
-//! Laws of the definitions that the contracts of this crate speak by. Each is the contract of a
+//! Laws of the definitions that the contracts of this crate use. Each is the contract of a
 //! function with an empty body.
 ghost use Rattle.tt_db.specs.Laws.{RowsHaveTheirKeys, LastGenerationsAreKept};
 
-/// After a legal history each row begins with an Int, and that is the key that it is stored under: in
+/// After a legal history each row begins with an Int, which is the key that it is stored under: in
 /// each generation that can be read at every time, and in the next one at the last slot that the
 /// repair has done.
 pub fn rows_have_their_keys()

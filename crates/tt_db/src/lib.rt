@@ -1,5 +1,6 @@
 //! A database in one thread, with repair. Its history is always legal: every outcome, reply and
-//! refusal is the one that a sequential table of two generations gives at that point of the history.
+//! refusal is the one that a sequential table of two generations gives at that point of the
+//! history.
 #![tactic(auto)]
 
 mod closed;

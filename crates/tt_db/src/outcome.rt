@@ -11,13 +11,13 @@ pub enum Outcome {
     },
     /// A repair has begun.
     Begun,
-    /// The repair has done the slot of this number, and has re-executed it or not.
+    /// The repair has done the slot of this number: `rerun` says whether it was re-executed.
     Stepped {
         slot: u64,
         rerun: bool,
     },
-    /// The next generation has become the current one, of this number. It has so many slots, of
-    /// which the repair re-executed so many.
+    /// The next generation has become the current one: its number, how many slots it has, and how
+    /// many of them the repair re-executed.
     Switched {
         generation: u64,
         slots: u64,

@@ -21,7 +21,7 @@ pub(crate) fn edits_fault(catalog: &Catalog, edits: &[Edit]) -> Option<CheckErro
     None
 }
 
-/// The slot of the first edit whose slot isn't there, of so many slots. Allocates nothing.
+/// The slot of the first edit whose slot isn't among this number of slots. Allocates nothing.
 pub(crate) fn missing_slot(slots: u64, edits: &[Edit]) -> Option<u64>
     ensures { result ≡ missing_slot slots edits.now }
 {

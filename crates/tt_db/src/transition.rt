@@ -52,7 +52,7 @@ fn by_action(
     requires room { length generations.slots < max_slots }
     ensures { IfOk result (λ t. IsTransition generations generation (Event.Write action.now) t) }
 {
-    let (generations, replies) = generations.with_action(action.clone()?)?;
+    let (generations, replies) = generations.into_written(action.clone()?)?;
     let slot = generations.len();
     Ok(Transition {
         generations,
@@ -71,7 +71,7 @@ fn by_begin(
     requires accepted { All (HasNoFault generations.catalog) edits.now }
     ensures { IfOk result (λ t. IsTransition generations generation (Event.Begin edits.now) t) }
 {
-    let generations = generations.with_repair(edits.clone()?)?;
+    let generations = generations.into_repairing(edits.clone()?)?;
     Ok(Transition {
         generations,
         generation,
@@ -83,7 +83,7 @@ fn by_step(generations: Generations, generation: u64) -> Result<Transition, Allo
     requires { 0 < left_of generations.phase generations.slots }
     ensures { IfOk result (λ t. IsTransition generations generation Event.Step t) }
 {
-    let (generations, rerun) = generations.stepped()?;
+    let (generations, rerun) = generations.into_stepped()?;
     let slot = generations.done();
     Ok(Transition {
         generations,
@@ -97,9 +97,9 @@ fn by_switch(generations: Generations, generation: u64) -> Result<Transition, Al
     requires small { generation < max_limits.events }
     ensures { IfOk result (λ t. IsTransition generations generation Event.Switch t) }
 {
-    let rerun = generations.rerun();
+    let rerun = generations.reexecuted();
     let slots = generations.len();
-    let generations = generations.switched()?;
+    let generations = generations.into_switched()?;
     let generation = generation + 1;
     Ok(Transition {
         generations,
@@ -115,7 +115,7 @@ fn by_switch(generations: Generations, generation: u64) -> Result<Transition, Al
 fn by_abort(generations: Generations, generation: u64) -> Result<Transition, AllocError>
     ensures { IfOk result (λ t. IsTransition generations generation Event.Abort t) }
 {
-    let generations = generations.aborted()?;
+    let generations = generations.into_aborted()?;
     Ok(Transition {
         generations,
         generation,

@@ -22,7 +22,7 @@ use std::process::Abort;
 use std::sync::Arc;
 use tt_db::{Db, DbError, Entry, Event, Limits, MAX_EDITS, MAX_KEEP, Outcome};
 use tt_values::{
-    Catalog, Change, Column, Equal, Items, Kind, Reply, Row, Select, TableDef, Text, Value, Write,
+    Catalog, Change, Column, Equal, Items, Reply, Row, Select, TableDef, Value, Write,
 };
 
 /// An account: its id, its owner and its balance.
@@ -40,27 +40,12 @@ const ACCT: u16 = 0;
 
 const LOAN: u16 = 1;
 
-fn text(rt: &impl Abort, alloc: Global, words: &str) -> Text {
-    let words = String::from_str(alloc, words).expect(rt, "memory");
-    Text::new(alloc, words).expect(rt, "memory")
-}
-
-fn column(rt: &impl Abort, alloc: Global, name: &str, kind: Kind, partition: bool) -> Column {
-    Column {
-        name: text(rt, alloc, name),
-        kind,
-        partition,
-    }
-}
-
 fn accounts_table(rt: &impl Abort, alloc: Global) -> TableDef {
-    let id = column(rt, alloc, "id", Kind::Int, false);
-    let owner = column(rt, alloc, "owner", Kind::Text, true);
-    let balance = column(rt, alloc, "bal", Kind::Int, false);
-    let columns = Vec::from_array(alloc, [id, owner, balance]).expect(rt, "memory");
-    TableDef {
-        columns: Items::new(alloc, columns).expect(rt, "memory"),
-    }
+    let id = Column::int(alloc, "id").expect(rt, "memory");
+    let owner = Column::text(alloc, "owner").expect(rt, "memory");
+    let balance = Column::int(alloc, "bal").expect(rt, "memory");
+    let columns = [id, owner.partition(), balance];
+    TableDef::of(alloc, columns).expect(rt, "memory")
 }
 
 /// A catalog with tables of these names, each with the columns of `acct`.
@@ -92,46 +77,36 @@ fn small_db(rt: &impl Abort, alloc: Global, slots: u64, events: u64) -> Db {
 
 fn row(rt: &impl Abort, alloc: Global, account: Account) -> Row {
     let (id, owner, balance) = account;
-    let owner = text(rt, alloc, owner);
-    let values = [Value::Int(id), Value::Text(owner), Value::Int(balance)];
-    let values = Vec::from_array(alloc, values).expect(rt, "memory");
-    Row {
-        values: Items::new(alloc, values).expect(rt, "memory"),
-    }
+    let owner = Value::text(alloc, owner).expect(rt, "memory");
+    let values = [Value::Int(id), owner, Value::Int(balance)];
+    Row::of(alloc, values).expect(rt, "memory")
 }
 
 fn insert(rt: &impl Abort, alloc: Global, table: u16, account: Account) -> Write {
-    Write::Insert {
-        table,
-        row: row(rt, alloc, account),
-    }
-}
-
-/// The condition that a column has a value.
-fn equal(rt: &impl Abort, alloc: Global, column: u16, value: Value) -> Items<Equal> {
-    let equals = Vec::from_array(alloc, [Equal { column, value }]).expect(rt, "memory");
-    Items::new(alloc, equals).expect(rt, "memory")
+    let row = row(rt, alloc, account);
+    Write::Insert { table, row }
 }
 
 /// The condition that an account has this id.
 fn id_is(rt: &impl Abort, alloc: Global, id: i64) -> Items<Equal> {
-    equal(rt, alloc, 0, Value::Int(id))
+    Items::of(alloc, [Equal::int(0, id)]).expect(rt, "memory")
 }
 
 /// The condition that an account has this owner.
 fn owner_is(rt: &impl Abort, alloc: Global, owner: &str) -> Items<Equal> {
-    equal(rt, alloc, 1, Value::Text(text(rt, alloc, owner)))
+    let equal = Equal::text(alloc, 1, owner).expect(rt, "memory");
+    Items::of(alloc, [equal]).expect(rt, "memory")
 }
 
 /// The condition that every account meets.
 fn any_account(rt: &impl Abort, alloc: Global) -> Items<Equal> {
-    Items::new(alloc, Vec::new(alloc)).expect(rt, "memory")
+    Items::of(alloc, []).expect(rt, "memory")
 }
 
 fn set_owner(rt: &impl Abort, alloc: Global, owner: &str) -> Change {
     Change::Set {
         column: 1,
-        value: Value::Text(text(rt, alloc, owner)),
+        value: Value::text(alloc, owner).expect(rt, "memory"),
     }
 }
 
@@ -148,10 +123,9 @@ fn add(by: i64) -> Change {
 
 /// An update of the accounts that meet a condition, by one change.
 fn update(rt: &impl Abort, alloc: Global, change: Change, equals: Items<Equal>) -> Write {
-    let changes = Vec::from_array(alloc, [change]).expect(rt, "memory");
     Write::Update {
         table: ACCT,
-        changes: Items::new(alloc, changes).expect(rt, "memory"),
+        changes: Items::of(alloc, [change]).expect(rt, "memory"),
         equals,
     }
 }
@@ -171,13 +145,11 @@ fn add_to_balance(rt: &impl Abort, alloc: Global, id: i64, by: i64) -> Write {
 
 /// An action of these writes.
 fn action<const N: usize>(rt: &impl Abort, alloc: Global, writes: [Write; N]) -> Items<Write> {
-    let writes = Vec::from_array(alloc, writes).expect(rt, "memory");
-    Items::new(alloc, writes).expect(rt, "memory")
+    Items::of(alloc, writes).expect(rt, "memory")
 }
 
 fn replies<const N: usize>(rt: &impl Abort, alloc: Global, replies: [Reply; N]) -> Items<Reply> {
-    let replies = Vec::from_array(alloc, replies).expect(rt, "memory");
-    Items::new(alloc, replies).expect(rt, "memory")
+    Items::of(alloc, replies).expect(rt, "memory")
 }
 
 fn entry(rt: &impl Abort, alloc: Global, worker: u32, account: Account) -> Entry {
@@ -237,10 +209,7 @@ fn open(rt: &impl Abort, alloc: Global, db: &mut Db, account: Account) {
 }
 
 fn select_all(rt: &impl Abort, alloc: Global, table: u16) -> Select {
-    Select {
-        table,
-        equals: any_account(rt, alloc),
-    }
+    Select::all(alloc, table).expect(rt, "memory")
 }
 
 /// The reply with these rows, in this order.

@@ -5,7 +5,7 @@ use Rattle.serde_json.specs.View.{items_of}
 use Rattle.tt_document.specs.declared.fault.DocFault.{DocFault}
 use Rattle.tt_document.specs.Fault.{◌>>=◌, with_path, item_path}
 use Rattle.tt_document.specs.Decoder.{list_of}
-use Rattle.tt_document.specs.Taker.{take_all, with_item, each}
+use Rattle.tt_document.specs.Arrays.{fold_items, with_item, each}
 
 -- the items of a list, as a list, are that list
 pub list_of-items_of : (ds : List Data) → list_of (items_of ds) ≡ ds
@@ -19,21 +19,21 @@ rest_read xs x (Ok ys) = ap Ok (append_assoc xs (x ∷ []) ys)
 rest_read xs x (Err fault) = refl
 
 at_item : {T : Type 0} (decode : Data → Result T DocFault) (i : ℕ) (xs : List T) (r : Result T DocFault) (ds : List Data)
-    → ((x : T) → take_all (with_item decode) (suc i) (xs ++ x ∷ []) ds ≡ (each decode (suc i) ds >>= λ ys. Ok ((xs ++ x ∷ []) ++ ys)))
-    → (with_path (item_path i) (r >>= λ x. Ok (xs ++ x ∷ [])) >>= λ next. take_all (with_item decode) (suc i) next ds)
+    → ((x : T) → fold_items (with_item decode) (suc i) (xs ++ x ∷ []) ds ≡ (each decode (suc i) ds >>= λ ys. Ok ((xs ++ x ∷ []) ++ ys)))
+    → (with_path (item_path i) (r >>= λ x. Ok (xs ++ x ∷ [])) >>= λ next. fold_items (with_item decode) (suc i) next ds)
     ≡ ((with_path (item_path i) r >>= λ x. each decode (suc i) ds >>= λ ys. Ok (x ∷ ys)) >>= λ ys. Ok (xs ++ ys))
 at_item decode i xs (Ok x) ds rest = rest x ∙ rest_read xs x (each decode (suc i) ds)
 at_item decode i xs (Err fault) ds rest = refl
 
 -- to take items into a list is to read each
-pub take_all-with_item : {T : Type 0} (decode : Data → Result T DocFault) (i : ℕ) (xs : List T) (ds : List Data)
-    → take_all (with_item decode) i xs ds ≡ (each decode i ds >>= λ ys. Ok (xs ++ ys))
-take_all-with_item decode i xs [] = ap Ok (sym (append-nil xs))
-take_all-with_item decode i xs (d ∷ ds) = at_item decode i xs (decode d) ds (λ x. take_all-with_item decode (suc i) (xs ++ x ∷ []) ds)
+pub fold_items-with_item : {T : Type 0} (decode : Data → Result T DocFault) (i : ℕ) (xs : List T) (ds : List Data)
+    → fold_items (with_item decode) i xs ds ≡ (each decode i ds >>= λ ys. Ok (xs ++ ys))
+fold_items-with_item decode i xs [] = ap Ok (sym (append-nil xs))
+fold_items-with_item decode i xs (d ∷ ds) = at_item decode i xs (decode d) ds (λ x. fold_items-with_item decode (suc i) (xs ++ x ∷ []) ds)
 
 -- the same of an empty list
-pub take_all-each : {T : Type 0} (decode : Data → Result T DocFault) (ds : List Data) → take_all (with_item decode) 0 [] ds ≡ each decode 0 ds
-take_all-each decode ds = take_all-with_item decode 0 [] ds ∙ same (each decode 0 ds)
+pub fold_items-each : {T : Type 0} (decode : Data → Result T DocFault) (ds : List Data) → fold_items (with_item decode) 0 [] ds ≡ each decode 0 ds
+fold_items-each decode ds = fold_items-with_item decode 0 [] ds ∙ same (each decode 0 ds)
   where
     same : {T : Type 0} (r : Result (List T) DocFault) → (r >>= λ ys. Ok ([] ++ ys)) ≡ r
     same (Ok ys) = refl

@@ -22,12 +22,12 @@ use Rattle.tt_document.specs.declared.document.Call.{Call}
 use Rattle.tt_document.specs.declared.document.Ask.{Ask}
 use Rattle.tt_document.specs.declared.document.Ask.TheVariants as asks
 use Rattle.tt_document.specs.declared.fault.DocFault.{DocFault}
-use Rattle.tt_document.specs.declared.statements.Place.{Place}
-use Rattle.tt_document.specs.declared.statements.Place.TheVariants as places
+use Rattle.tt_document.specs.declared.statements.Context.{Context}
+use Rattle.tt_document.specs.declared.statements.Context.TheVariants as contexts
 use Rattle.tt_document.specs.declared.version.Version.{Version}
 use Rattle.tt_document.specs.Fault.{◌>>=◌, refuse, or_refuse, with_path, member_path, item_path}
 use Rattle.tt_document.specs.Decoder.{has, member, optional, read_member, read_optional, within_limit, within, count, count_within, array, object}
-use Rattle.tt_document.specs.Taker.{take_all, each, array_of}
+use Rattle.tt_document.specs.Arrays.{fold_items, each, array_of}
 use Rattle.tt_document.specs.Members.{is_one_of, no_members_but}
 use Rattle.tt_document.specs.Tables.{catalog}
 use Rattle.tt_document.specs.Conditions.{table_named, value, condition}
@@ -118,33 +118,33 @@ checked-ok : {S : Type 0} (s t : S) (fault : Option CheckError) → checked_stat
 checked-ok s t None e = (ok_same e, refl)
 checked-ok s t (Some fault) e = cc
 
-insert-ok : (tables : Tables) (place : Place) (v : Data) (write : Write) → insert tables place v ≡ Ok write → write_fault tables write ≡ None
+insert-ok : (tables : Tables) (context : Context) (v : Data) (write : Write) → insert tables context v ≡ Ok write → write_fault tables write ≡ None
 unfolding insert
-insert-ok tables place v write e =
+insert-ok tables context v write e =
     let table = step (member (codes "insert") (table_named tables) v) _ write e in
     let values = step (member (codes "row") (array_of value) v) _ write table.rest in
-    let known = step (no_members_at place (codes "insert" ∷ codes "row" ∷ []) v) _ write values.rest in
+    let known = step (no_members_at context (codes "insert" ∷ codes "row" ∷ []) v) _ write values.rest in
     let statement : Write = Insert table.value (record { values = values.value }) in
     let done = checked-ok statement write (write_fault tables statement) known.rest in
     subst (λ w. write_fault tables w ≡ None) done.0 done.1
 
-update-ok : (tables : Tables) (place : Place) (v : Data) (write : Write) → update tables place v ≡ Ok write → write_fault tables write ≡ None
+update-ok : (tables : Tables) (context : Context) (v : Data) (write : Write) → update tables context v ≡ Ok write → write_fault tables write ≡ None
 unfolding update
-update-ok tables place v write e =
+update-ok tables context v write e =
     let table = step (member (codes "update") (table_named tables) v) _ write e in
     let changes = step (member (codes "change") (array_of (change tables table.value)) v) _ write table.rest in
     let equals = step (member (codes "where") (array_of (condition tables table.value)) v) _ write changes.rest in
-    let known = step (no_members_at place (codes "change" ∷ codes "update" ∷ codes "where" ∷ []) v) _ write equals.rest in
+    let known = step (no_members_at context (codes "change" ∷ codes "update" ∷ codes "where" ∷ []) v) _ write equals.rest in
     let statement : Write = Update table.value changes.value equals.value in
     let done = checked-ok statement write (write_fault tables statement) known.rest in
     subst (λ w. write_fault tables w ≡ None) done.0 done.1
 
-delete-ok : (tables : Tables) (place : Place) (v : Data) (write : Write) → delete tables place v ≡ Ok write → write_fault tables write ≡ None
+delete-ok : (tables : Tables) (context : Context) (v : Data) (write : Write) → delete tables context v ≡ Ok write → write_fault tables write ≡ None
 unfolding delete
-delete-ok tables place v write e =
+delete-ok tables context v write e =
     let table = step (member (codes "delete") (table_named tables) v) _ write e in
     let equals = step (member (codes "where") (array_of (condition tables table.value)) v) _ write table.rest in
-    let known = step (no_members_at place (codes "delete" ∷ codes "where" ∷ []) v) _ write equals.rest in
+    let known = step (no_members_at context (codes "delete" ∷ codes "where" ∷ []) v) _ write equals.rest in
     let statement : Write = Delete table.value equals.value in
     let done = checked-ok statement write (write_fault tables statement) known.rest in
     subst (λ w. write_fault tables w ≡ None) done.0 done.1
@@ -185,19 +185,19 @@ some-ok tables r o sound e =
     let write = step r _ o e in
     subst (IsAccepted tables) (ok_same write.rest) (sound write.value write.is)
 
-write-ok_by_kind : (tables : Tables) (place : Place) (v : Data) (first second third : Bool) (o : Option Write)
-    → cond first (insert tables place v >>= λ write. Ok (Some write))
-    (cond second (update tables place v >>= λ write. Ok (Some write))
-    (cond third (delete tables place v >>= λ write. Ok (Some write)) (Ok None))) ≡ Ok o
+write-ok_by_kind : (tables : Tables) (context : Context) (v : Data) (first second third : Bool) (o : Option Write)
+    → cond first (insert tables context v >>= λ write. Ok (Some write))
+    (cond second (update tables context v >>= λ write. Ok (Some write))
+    (cond third (delete tables context v >>= λ write. Ok (Some write)) (Ok None))) ≡ Ok o
     → IsAccepted tables o
-write-ok_by_kind tables place v true second third o e = some-ok tables (insert tables place v) o (insert-ok tables place v) e
-write-ok_by_kind tables place v false true third o e = some-ok tables (update tables place v) o (update-ok tables place v) e
-write-ok_by_kind tables place v false false true o e = some-ok tables (delete tables place v) o (delete-ok tables place v) e
-write-ok_by_kind tables place v false false false o e = subst (IsAccepted tables) (ok_same e) tt
+write-ok_by_kind tables context v true second third o e = some-ok tables (insert tables context v) o (insert-ok tables context v) e
+write-ok_by_kind tables context v false true third o e = some-ok tables (update tables context v) o (update-ok tables context v) e
+write-ok_by_kind tables context v false false true o e = some-ok tables (delete tables context v) o (delete-ok tables context v) e
+write-ok_by_kind tables context v false false false o e = subst (IsAccepted tables) (ok_same e) tt
 
-write-ok : (tables : Tables) (place : Place) (v : Data) (o : Option Write) → write tables place v ≡ Ok o → IsAccepted tables o
+write-ok : (tables : Tables) (context : Context) (v : Data) (o : Option Write) → write tables context v ≡ Ok o → IsAccepted tables o
 unfolding write
-write-ok tables place v o e = write-ok_by_kind tables place v (has (codes "insert") v) (has (codes "update") v) (has (codes "delete") v) o e
+write-ok tables context v o e = write-ok_by_kind tables context v (has (codes "insert") v) (has (codes "update") v) (has (codes "delete") v) o e
 
 or_refuse-ok : (tables : Tables) (cause : List ℕ) (o : Option Write) (w : Write) → IsAccepted tables o → or_refuse cause o ≡ Ok w → write_fault tables w ≡ None
 or_refuse-ok tables cause None w h e = cc
@@ -207,8 +207,8 @@ item_of_action-ok : (tables : Tables) (v : Data) (w : Write) → item_of_action 
 unfolding item_of_action
 item_of_action-ok tables v w e =
     let members = step (object v) _ w e in
-    let read = step (write tables places.Item v) _ w members.rest in
-    or_refuse-ok tables _ read.value w (write-ok tables places.Item v read.value read.is) read.rest
+    let read = step (write tables contexts.Nested v) _ w members.rest in
+    or_refuse-ok tables _ read.value w (write-ok tables contexts.Nested v read.value read.is) read.rest
 
 -- an action of writes without faults, of which there are few, has no fault
 first_write_fault-none : (tables : Tables) (ws : List Write) → AllByRecursion (λ w. write_fault tables w ≡ None) ws → first_write_fault tables ws ≡ None
@@ -237,11 +237,11 @@ writes-ok tables v ws e =
     let few = ap (nat_lt max_writes) same_length ∙ within_limit-ok _ _ limit.is in
     action_fault-none tables ws few (each-ok (λ w. write_fault tables w ≡ None) (item_of_action tables) (item_of_action-ok tables) 0 items.value ws limit.rest)
 
-action-ok : (tables : Tables) (place : Place) (v : Data) (ws : List Write) → action tables place v ≡ Ok ws → action_fault tables ws ≡ None
+action-ok : (tables : Tables) (context : Context) (v : Data) (ws : List Write) → action tables context v ≡ Ok ws → action_fault tables ws ≡ None
 unfolding action
-action-ok tables place v ws e =
+action-ok tables context v ws e =
     let items = step (member (codes "do") (writes tables) v) _ ws e in
-    let known = step (no_members_at place (codes "do" ∷ []) v) _ ws items.rest in
+    let known = step (no_members_at context (codes "do" ∷ []) v) _ ws items.rest in
     let read = member-ok (codes "do") (writes tables) v items.value items.is in
     subst (λ ws. action_fault tables ws ≡ None) (ok_same known.rest) (writes-ok tables read.value items.value read.is)
 
@@ -253,11 +253,11 @@ do-ok tables r a sound e =
     subst (λ b. ask_fault tables b ≡ None) (ok_same action.rest) (sound action.value action.is)
 
 other_ask-ok_by_kind : (tables : Tables) (v : Data) (first second third : Bool) (a : Ask) (cause : List ℕ)
-    → cond first (select tables v) (cond second (preview tables v) (cond third (action tables places.Call v >>= λ action. Ok (asks.Write action)) (refuse cause))) ≡ Ok a
+    → cond first (select tables v) (cond second (preview tables v) (cond third (action tables contexts.Call v >>= λ action. Ok (asks.Write action)) (refuse cause))) ≡ Ok a
     → ask_fault tables a ≡ None
 other_ask-ok_by_kind tables v true second third a cause e = select-ok tables v a e
 other_ask-ok_by_kind tables v false true third a cause e = preview-ok tables v a e
-other_ask-ok_by_kind tables v false false true a cause e = do-ok tables (action tables places.Call v) a (action-ok tables places.Call v) e
+other_ask-ok_by_kind tables v false false true a cause e = do-ok tables (action tables contexts.Call v) a (action-ok tables contexts.Call v) e
 other_ask-ok_by_kind tables v false false false a cause e = cc
 
 action_of_one-none : (tables : Tables) (w : Write) → write_fault tables w ≡ None → action_fault tables (w ∷ []) ≡ None
@@ -271,8 +271,8 @@ ask_by-ok version tables v None a h e =
 ask-ok : (version : Version) (tables : Tables) (v : Data) (a : Ask) → ask version tables v ≡ Ok a → ask_fault tables a ≡ None
 unfolding ask
 ask-ok version tables v a e =
-    let read = step (write tables places.Call v) _ a e in
-    ask_by-ok version tables v read.value a (write-ok tables places.Call v read.value read.is) read.rest
+    let read = step (write tables contexts.Call v) _ a e in
+    ask_by-ok version tables v read.value a (write-ok tables contexts.Call v read.value read.is) read.rest
 
 call-ok : (version : Version) (tables : Tables) (workers : ℕ) (v : Data) (c : Call) → call version tables workers v ≡ Ok c → IsValidCall tables workers c
 unfolding call
@@ -300,8 +300,8 @@ calls-ok version tables workers v cs e =
 
 -- the action of a replacement has no fault
 replacement_by_kind-ok : (tables : Tables) (v : Data) (first : Bool) (ws : List Write) (cause : List ℕ)
-    → cond first (action tables places.Item v) (refuse cause) ≡ Ok ws → action_fault tables ws ≡ None
-replacement_by_kind-ok tables v true ws cause e = action-ok tables places.Item v ws e
+    → cond first (action tables contexts.Nested v) (refuse cause) ≡ Ok ws → action_fault tables ws ≡ None
+replacement_by_kind-ok tables v true ws cause e = action-ok tables contexts.Nested v ws e
 replacement_by_kind-ok tables v false ws cause e = cc
 
 replacement_by-ok : (version : Version) (tables : Tables) (v : Data) (o : Option Write) (ws : List Write) → IsAccepted tables o → replacement_by version tables v o ≡ Ok ws → action_fault tables ws ≡ None
@@ -312,10 +312,10 @@ replacement-ok : (version : Version) (tables : Tables) (v : Data) (ws : List Wri
 unfolding replacement
 replacement-ok version tables v ws e =
     let members = step (object v) _ ws e in
-    let read = step (write tables places.Item v) _ ws members.rest in
-    replacement_by-ok version tables v read.value ws (write-ok tables places.Item v read.value read.is) read.rest
+    let read = step (write tables contexts.Nested v) _ ws members.rest in
+    replacement_by-ok version tables v read.value ws (write-ok tables contexts.Nested v read.value read.is) read.rest
 
--- an edit names one of so many calls, and its action has no fault
+-- an edit names one of the calls, and its action has no fault
 record IsSound (tables : Tables) (calls : ℕ) (e : Edit) : Type 0 where
   from_one : 1 ≤ slot_number e
   to_last : slot_number e ≤ calls
@@ -387,13 +387,13 @@ with_edit-ok version tables cs earlier v edits h e =
     } in
     subst (IsOneMore tables cs earlier) (ok_same judged.rest) (record { are = are; count = length-push earlier edit.value })
 
-take_all-ok : (version : Version) (tables : Tables) (cs : List Call) (i : ℕ) (earlier : List Edit) (ds : List Data) (edits : List Edit)
-    → AreEdits tables cs earlier → take_all (with_edit version tables cs) i earlier ds ≡ Ok edits → AreEdits tables cs edits × (length edits ≡ length earlier + length ds)
-take_all-ok version tables cs i earlier [] edits h e = (subst (AreEdits tables cs) (ok_same e) h, ap length (sym (ok_same e)) ∙ omega arith)
-take_all-ok version tables cs i earlier (d ∷ ds) edits h e =
+fold_items-ok : (version : Version) (tables : Tables) (cs : List Call) (i : ℕ) (earlier : List Edit) (ds : List Data) (edits : List Edit)
+    → AreEdits tables cs earlier → fold_items (with_edit version tables cs) i earlier ds ≡ Ok edits → AreEdits tables cs edits × (length edits ≡ length earlier + length ds)
+fold_items-ok version tables cs i earlier [] edits h e = (subst (AreEdits tables cs) (ok_same e) h, ap length (sym (ok_same e)) ∙ omega arith)
+fold_items-ok version tables cs i earlier (d ∷ ds) edits h e =
     let first = step (with_path (item_path i) (with_edit version tables cs earlier d)) _ edits e in
     let one = with_edit-ok version tables cs earlier d first.value h (with_path-ok _ (with_edit version tables cs earlier d) first.value first.is) in
-    let rest = take_all-ok version tables cs (suc i) first.value ds edits one.are first.rest in
+    let rest = fold_items-ok version tables cs (suc i) first.value ds edits one.are first.rest in
     (rest.0, omega (arith, rest.1, one.count))
 
 record AreSomeEdits (tables : Tables) (cs : List Call) (edits : List Edit) : Type 0 where
@@ -405,7 +405,7 @@ edits-ok version tables cs v es e =
     let items = step (array v) _ es e in
     let limit = step (within_limit max_edits items.value) _ es items.rest in
     let few = ltb-false max_edits (length items.value) (within_limit-ok _ _ limit.is) in
-    let taken = take_all-ok version tables cs 0 [] items.value es (record { each_is = tt; each_once = tt }) limit.rest in
+    let taken = fold_items-ok version tables cs 0 [] items.value es (record { each_is = tt; each_once = tt }) limit.rest in
     record { few = omega (arith, few, taken.1); are = taken.0 }
 
 -- the calls that are made meanwhile

@@ -5,28 +5,28 @@ use Rattle.tt_values.specs.declared.statement.Write.{Write}
 use Rattle.tt_values.specs.Limits.{max_writes}
 use Rattle.tt_values.specs.Tables.{Tables}
 use Rattle.tt_document.specs.declared.fault.DocFault.{DocFault}
-use Rattle.tt_document.specs.declared.statements.Place.{Place}
-use Rattle.tt_document.specs.declared.statements.Place.TheVariants as places
+use Rattle.tt_document.specs.declared.statements.Context.{Context}
+use Rattle.tt_document.specs.declared.statements.Context.TheVariants as contexts
 use Rattle.tt_document.specs.Fault.{◌>>=◌, or_refuse}
 use Rattle.tt_document.specs.Decoder.{object, array, within_limit, has, member}
-use Rattle.tt_document.specs.Taker.{each}
+use Rattle.tt_document.specs.Arrays.{each}
 use Rattle.tt_document.specs.declared.version.Version.{Version}
 use Rattle.tt_document.specs.declared.version.Version.TheVariants as versions
 use Rattle.tt_document.specs.Statements.{no_members_at, insert, update, delete}
 
 -- the write of an object, by the first of the members insert, update and delete that it has; or None, where it has none of them
-unfoldable pub write : Tables → Place → Data → Result (Option Write) DocFault
-write tables place v =
-    if has (codes "insert") v then (insert tables place v >>= λ write. Ok (Some write)) else (
-    if has (codes "update") v then (update tables place v >>= λ write. Ok (Some write)) else (
-    if has (codes "delete") v then (delete tables place v >>= λ write. Ok (Some write)) else
+unfoldable pub write : Tables → Context → Data → Result (Option Write) DocFault
+write tables context v =
+    if has (codes "insert") v then (insert tables context v >>= λ write. Ok (Some write)) else (
+    if has (codes "update") v then (update tables context v >>= λ write. Ok (Some write)) else (
+    if has (codes "delete") v then (delete tables context v >>= λ write. Ok (Some write)) else
     Ok None))
 
 -- an item of an action: a write without a worker
 unfoldable pub item_of_action : Tables → Data → Result Write DocFault
 item_of_action tables v = do
   _ ← object v
-  write ← write tables places.Item v
+  write ← write tables contexts.Nested v
   or_refuse (codes "missing one of insert, update, delete") write
 
 -- the writes of an action, or the fault that there are too many
@@ -37,10 +37,10 @@ writes tables v = do
   each (item_of_action tables) 0 ds
 
 -- the action of an object: the writes of its member do
-unfoldable pub action : Tables → Place → Data → Result (List Write) DocFault
-action tables place v = do
+unfoldable pub action : Tables → Context → Data → Result (List Write) DocFault
+action tables context v = do
   writes ← member (codes "do") (writes tables) v
-  _ ← no_members_at place (codes "do" ∷ []) v
+  _ ← no_members_at context (codes "do" ∷ []) v
   Ok writes
 
 -- whether an object has the kind do, which version 1 doesn't know

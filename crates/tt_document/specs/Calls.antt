@@ -7,12 +7,12 @@ use Rattle.tt_document.specs.declared.document.Call.{Call}
 use Rattle.tt_document.specs.declared.document.Ask.{Ask}
 use Rattle.tt_document.specs.declared.document.Ask.TheVariants as asks
 use Rattle.tt_document.specs.declared.fault.DocFault.{DocFault}
-use Rattle.tt_document.specs.declared.statements.Place.TheVariants as places
+use Rattle.tt_document.specs.declared.statements.Context.TheVariants as contexts
 use Rattle.tt_document.specs.declared.version.Version.{Version}
 use Rattle.tt_document.specs.declared.version.Version.TheVariants as versions
 use Rattle.tt_document.specs.Fault.{◌>>=◌, refuse}
 use Rattle.tt_document.specs.Decoder.{object, array, within_limit, count_within, has, member}
-use Rattle.tt_document.specs.Taker.{each}
+use Rattle.tt_document.specs.Arrays.{each}
 use Rattle.tt_document.specs.Statements.{select, preview}
 use Rattle.tt_document.specs.Actions.{has_action, write, action}
 
@@ -31,13 +31,13 @@ ask_by version tables v (Some write) = Ok (asks.Write (write ∷ []))
 ask_by version tables v None =
     if has (codes "select") v then select tables v else (
     if has (codes "preview") v then preview tables v else (
-    if has_action version v then (action tables places.Call v >>= λ action. Ok (asks.Write action)) else
+    if has_action version v then (action tables contexts.Call v >>= λ action. Ok (asks.Write action)) else
     refuse (no_kind version)))
 
 -- what a call asks for, by the first of the kinds that it has: insert, update, delete, select, preview, and in version 2 do
 unfoldable pub ask : Version → Tables → Data → Result Ask DocFault
 ask version tables v = do
-  write ← write tables places.Call v
+  write ← write tables contexts.Call v
   ask_by version tables v write
 
 -- a call: its worker, and what it asks for

@@ -45,7 +45,7 @@ change_of verbs.Add column v = do
   by ← int v
   Ok (changes.Add column by)
 
--- a change of a table: what it does, its column, and what with
+-- a change of a table: what it does, its column, and its operand
 unfoldable pub change : Tables → ℕ → Data → Result Change DocFault
 change tables table v = do
   items ← triple v

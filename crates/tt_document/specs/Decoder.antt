@@ -38,7 +38,7 @@ list_of (item d ds) = d ∷ list_of ds
 abbrev pub array : Data → Result (List Data) DocFault
 array v = or_wrong_type (option_map list_of (as_array v))
 
--- items that are at most so many
+-- the items are at most this many
 abbrev pub within_limit : ℕ → List Data → Result ⊤ DocFault
 within_limit limit ds = if nat_lt limit (length ds) then refuse (codes "out of range") else Ok tt
 
@@ -56,7 +56,7 @@ count_within min max v = do
 abbrev pub has : List ℕ → Data → Bool
 has name v = is_some (get name v)
 
--- the meaning of a member's value, its faults at the member's path; the member has to be there
+-- the meaning of a member's value, its faults at the member's path; the member must be there
 abbrev pub read_member : {T : Type 0} → List ℕ → (Data → Result T DocFault) → Option Data → Result T DocFault
 read_member name decode None = refuse (codes "missing member " ++ name)
 read_member name decode (Some d) = with_path (member_path name) (decode d)

@@ -47,7 +47,7 @@ pub record IsValidEdit (tables : Tables) (calls : List Call) (edit : Edit) : Typ
   pub of_action : is_action_call calls (slot_number edit) ≡ true
   pub is_accepted : edit_fault tables edit ≡ None
 
--- each of these edits is for another call than those before it, of which there are some already
+-- after earlier edits, each of these is for a call that no edit before it is for
 abbrev pub AreForOtherCalls : List Edit → List Edit → Type 0
 AreForOtherCalls earlier [] = Unit {0}
 AreForOtherCalls earlier (e ∷ edits) = (list_any (λ d. slot_number e == slot_number d) earlier ≡ false) × AreForOtherCalls (earlier ++ e ∷ []) edits

@@ -4,7 +4,7 @@ use Rattle.std.specs.Fmt.{decimal}
 use Rattle.tt_document.specs.declared.fault.DocFault.{DocFault}
 use Rattle.tt_document.specs.declared.fault.DocFault.TheVariants.{At, Memory}
 
--- one thing is read after another; the first fault ends the reading
+-- one value is read after another, and the first fault ends the reading
 infixl 10 ◌>>=◌
 abbrev pub ◌>>=◌ : {A B : Type 0} → Result A DocFault → (A → Result B DocFault) → Result B DocFault
 (Ok x) >>= f = f x
@@ -47,12 +47,12 @@ document_path path = codes "$" ++ path
 abbrev pub document_fault : List ℕ → DocFault
 document_fault cause = fault_at document_path (fault_here cause)
 
--- an error is this fault. If memory ran out, nothing is said of the fault
+-- what reading failed with is this fault. If memory ran out, nothing is said of the fault
 abbrev pub IsFault : DocFault → DocFault → Type 0
 IsFault Memory fault = Unit {0}
 IsFault (At path cause) fault = fault ≡ At path cause
 
--- reading ends in the fault of an error. If memory ran out, nothing is said of the result
+-- what reading failed with is the fault of this result. If memory ran out, nothing is said of the result
 abbrev pub FailsWith : {T : Type 0} → DocFault → Result T DocFault → Type 0
 FailsWith Memory reading = Unit {0}
 FailsWith (At path cause) reading = reading ≡ Err (At path cause)

@@ -1,6 +1,6 @@
 pub mod Fault
 pub mod Decoder
-pub mod Taker
+pub mod Arrays
 pub mod Quoting
 pub mod Members
 pub mod Causes

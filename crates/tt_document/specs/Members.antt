@@ -20,7 +20,7 @@ abbrev pub names_of : Option Members → List (List ℕ)
 names_of None = []
 names_of (Some ms) = member_names ms
 
--- whether a name is one of some
+-- whether a name is one of these
 abbrev pub is_one_of : List (List ℕ) → List ℕ → Bool
 is_one_of names name = list_any (λ known. bytes_eq name known) names
 

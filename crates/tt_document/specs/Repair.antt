@@ -13,12 +13,12 @@ use Rattle.tt_document.specs.declared.document.Ask.{Ask}
 use Rattle.tt_document.specs.declared.document.Ask.TheVariants as asks
 use Rattle.tt_document.specs.declared.document.Plan.{Plan}
 use Rattle.tt_document.specs.declared.fault.DocFault.{DocFault}
-use Rattle.tt_document.specs.declared.statements.Place.TheVariants as places
+use Rattle.tt_document.specs.declared.statements.Context.TheVariants as contexts
 use Rattle.tt_document.specs.declared.version.Version.{Version}
 use Rattle.tt_document.specs.declared.version.Version.TheVariants as versions
 use Rattle.tt_document.specs.Fault.{◌>>=◌, refuse}
 use Rattle.tt_document.specs.Decoder.{object, array, within_limit, count_within, has, member, optional}
-use Rattle.tt_document.specs.Taker.{take_all}
+use Rattle.tt_document.specs.Arrays.{fold_items}
 use Rattle.tt_document.specs.Members.{is_one_of, no_members_but}
 use Rattle.tt_document.specs.Actions.{has_action, write, action}
 use Rattle.tt_document.specs.Calls.{calls}
@@ -35,23 +35,23 @@ no_kind_of_write versions.Two = codes "missing one of insert, update, delete, do
 -- the action that replaces another: its write, if it has one, as an action of one; or else its action
 abbrev pub replacement_by : Version → Tables → Data → Option Write → Result (List Write) DocFault
 replacement_by version tables v (Some write) = Ok (write ∷ [])
-replacement_by version tables v None = if has_action version v then action tables places.Item v else refuse (no_kind_of_write version)
+replacement_by version tables v None = if has_action version v then action tables contexts.Nested v else refuse (no_kind_of_write version)
 
 -- the action that replaces another, by the first of the kinds that its object has: insert, update, delete, and in version 2 do
 unfoldable pub replacement : Version → Tables → Data → Result (List Write) DocFault
 replacement version tables v = do
   _ ← object v
-  write ← write tables places.Item v
+  write ← write tables contexts.Nested v
   replacement_by version tables v write
 
--- an edit that cancels one of so many calls
+-- an edit that cancels a call, whose number is at most the number of calls
 unfoldable pub cancel : ℕ → Data → Result Edit DocFault
 cancel calls v = do
   number ← member (codes "cancel") (count_within 1 calls) v
   _ ← no_members_but (is_one_of (codes "cancel" ∷ [])) v
   Ok (Cancel number)
 
--- an edit that replaces one
+-- an edit that replaces the action of a call, by its number
 unfoldable pub replace : Version → Tables → ℕ → Data → Result Edit DocFault
 replace version tables calls v = do
   number ← member (codes "replace") (count_within 1 calls) v
@@ -86,7 +86,7 @@ judge_edit calls earlier edit =
     if not (is_action_call calls (slot_number edit)) then refuse (codes "not a write") else (
     if list_any (λ d. slot_number edit == slot_number d) earlier then refuse (codes "edited twice") else Ok tt)
 
--- edits with a further one
+-- the edits so far, with one more
 unfoldable pub with_edit : Version → Tables → List Call → List Edit → Data → Result (List Edit) DocFault
 with_edit version tables calls earlier v = do
   _ ← object v
@@ -99,7 +99,7 @@ abbrev pub edits : Version → Tables → List Call → Data → Result (List Ed
 edits version tables calls v = do
   ds ← array v
   _ ← within_limit max_edits ds
-  take_all (with_edit version tables calls) 0 [] ds
+  fold_items (with_edit version tables calls) 0 [] ds
 
 -- the repair: its edits, and the calls that are made meanwhile, which may be left out
 unfoldable pub repair : Version → Tables → ℕ → List Call → Data → Result Plan DocFault

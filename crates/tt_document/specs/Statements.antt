@@ -11,11 +11,11 @@ use Rattle.tt_values.specs.Check.{write_fault, select_fault}
 use Rattle.tt_document.specs.declared.document.Ask.{Ask}
 use Rattle.tt_document.specs.declared.document.Ask.TheVariants as asks
 use Rattle.tt_document.specs.declared.fault.DocFault.{DocFault}
-use Rattle.tt_document.specs.declared.statements.Place.{Place}
-use Rattle.tt_document.specs.declared.statements.Place.TheVariants as places
+use Rattle.tt_document.specs.declared.statements.Context.{Context}
+use Rattle.tt_document.specs.declared.statements.Context.TheVariants as contexts
 use Rattle.tt_document.specs.Fault.{◌>>=◌}
 use Rattle.tt_document.specs.Decoder.{count, member, optional}
-use Rattle.tt_document.specs.Taker.{array_of}
+use Rattle.tt_document.specs.Arrays.{array_of}
 use Rattle.tt_document.specs.Members.{is_one_of, no_members_but}
 use Rattle.tt_document.specs.Causes.{judge, cause_of_check}
 use Rattle.tt_document.specs.Conditions.{value, table_named, condition}
@@ -32,35 +32,35 @@ abbrev pub conditions : Tables → ℕ → Data → Result (List Equal) DocFault
 conditions tables table v = member (codes "where") (array_of (condition tables table)) v
 
 -- an object of a write has only members of these names, and in a call its worker
-abbrev pub no_members_at : Place → List (List ℕ) → Data → Result ⊤ DocFault
-no_members_at places.Call names v = no_members_but (is_one_of (codes "worker" ∷ names)) v
-no_members_at places.Item names v = no_members_but (is_one_of names) v
+abbrev pub no_members_at : Context → List (List ℕ) → Data → Result ⊤ DocFault
+no_members_at contexts.Call names v = no_members_but (is_one_of (codes "worker" ∷ names)) v
+no_members_at contexts.Nested names v = no_members_but (is_one_of names) v
 
 -- an insert: the table, and the values of its row
-unfoldable pub insert : Tables → Place → Data → Result Write DocFault
-insert tables place v = do
+unfoldable pub insert : Tables → Context → Data → Result Write DocFault
+insert tables context v = do
   table ← member (codes "insert") (table_named tables) v
   values ← member (codes "row") (array_of value) v
-  _ ← no_members_at place (codes "insert" ∷ codes "row" ∷ []) v
+  _ ← no_members_at context (codes "insert" ∷ codes "row" ∷ []) v
   let statement : Write = Insert table (record { values = values })
   checked_statement statement (write_fault tables statement)
 
 -- an update: the table, the changes, and the conditions
-unfoldable pub update : Tables → Place → Data → Result Write DocFault
-update tables place v = do
+unfoldable pub update : Tables → Context → Data → Result Write DocFault
+update tables context v = do
   table ← member (codes "update") (table_named tables) v
   changes ← member (codes "change") (array_of (change tables table)) v
   equals ← conditions tables table v
-  _ ← no_members_at place (codes "change" ∷ codes "update" ∷ codes "where" ∷ []) v
+  _ ← no_members_at context (codes "change" ∷ codes "update" ∷ codes "where" ∷ []) v
   let statement : Write = Update table changes equals
   checked_statement statement (write_fault tables statement)
 
 -- a delete: the table, and the conditions
-unfoldable pub delete : Tables → Place → Data → Result Write DocFault
-delete tables place v = do
+unfoldable pub delete : Tables → Context → Data → Result Write DocFault
+delete tables context v = do
   table ← member (codes "delete") (table_named tables) v
   equals ← conditions tables table v
-  _ ← no_members_at place (codes "delete" ∷ codes "where" ∷ []) v
+  _ ← no_members_at context (codes "delete" ∷ codes "where" ∷ []) v
   let statement : Write = Delete table equals
   checked_statement statement (write_fault tables statement)
 

@@ -11,7 +11,7 @@ use Rattle.tt_values.specs.Catalog.{table_fault}
 use Rattle.tt_document.specs.declared.fault.DocFault.{DocFault}
 use Rattle.tt_document.specs.Fault.{◌>>=◌, or_refuse}
 use Rattle.tt_document.specs.Decoder.{object, text, flag, array, member, optional}
-use Rattle.tt_document.specs.Taker.{take_all, array_of}
+use Rattle.tt_document.specs.Arrays.{fold_items, array_of}
 use Rattle.tt_document.specs.Members.{is_one_of, no_members_but}
 use Rattle.tt_document.specs.Causes.{judge, cause_of_catalog}
 
@@ -35,7 +35,7 @@ column v = do
   _ ← no_members_but (is_one_of (codes "kind" ∷ codes "name" ∷ codes "partition" ∷ [])) v
   Ok (record { name = name; kind = kind; partition = unwrap_or partition false })
 
--- the tables with a further one at their end, or the fault for which a catalog refuses it
+-- the tables with one more at their end, or the fault for which a catalog refuses it
 abbrev pub with_table : Tables → List ℕ → TableDef → Result Tables DocFault
 with_table tables name def = do
   _ ← judge cause_of_catalog (table_fault tables name def)
@@ -54,4 +54,4 @@ table_after tables v = do
 abbrev pub catalog : Data → Result Tables DocFault
 catalog v = do
   ds ← array v
-  take_all table_after 0 [] ds
+  fold_items table_after 0 [] ds

@@ -5,11 +5,11 @@ ghost use Rattle.tt_document.specs.Fault.{Gives};
 ghost use Rattle.tt_document.specs.Statements.{no_members_at};
 ghost use Rattle.tt_document.specs.Actions.{write, item_of_action, writes, action, has_action};
 
+use crate::arrays::decode_items;
 use crate::decoder::{Decoder, OUT_OF_RANGE, array, has, member, object};
 use crate::fault::DocFault;
 use crate::members::no_members_but;
-use crate::statements::{Place, delete, insert, update};
-use crate::taker::decode_items;
+use crate::statements::{Context, delete, insert, update};
 use crate::version::Version;
 use serde_json::Value;
 use std::alloc::{AllocError, Global};
@@ -22,21 +22,21 @@ const NO_KIND: &str = "missing one of insert, update, delete";
 pub(crate) fn write(
     alloc: Global,
     catalog: &Catalog,
-    place: Place,
+    context: Context,
     value: &Value,
 ) -> Result<Option<Write>, DocFault>
-    ensures { Gives result (write catalog.now place (view value.now)) }
+    ensures { Gives result (write catalog.now context (view value.now)) }
 {
     if has(value, "insert") {
-        let write = insert(alloc, catalog, place, value)?;
+        let write = insert(alloc, catalog, context, value)?;
         return Ok(Some(write));
     }
     if has(value, "update") {
-        let write = update(alloc, catalog, place, value)?;
+        let write = update(alloc, catalog, context, value)?;
         return Ok(Some(write));
     }
     if has(value, "delete") {
-        let write = delete(alloc, catalog, place, value)?;
+        let write = delete(alloc, catalog, context, value)?;
         return Ok(Some(write));
     }
     Ok(None)
@@ -55,22 +55,22 @@ pub(crate) fn action_of_one(alloc: Global, write: Write) -> Result<Items<Write>,
 pub(crate) fn action(
     alloc: Global,
     catalog: &Catalog,
-    place: Place,
+    context: Context,
     value: &Value,
 ) -> Result<Items<Write>, DocFault>
-    ensures { Gives result (action catalog.now place (view value.now)) }
+    ensures { Gives result (action catalog.now context (view value.now)) }
 {
     let writes = member(alloc, value, "do", &WritesDecoder { catalog })?;
-    no_members_but_do(alloc, place, value)?;
+    no_members_but_do(alloc, context, value)?;
     Ok(writes)
 }
 
-fn no_members_but_do(alloc: Global, place: Place, value: &Value) -> Result<(), DocFault>
-    ensures { Gives result (no_members_at place (codes "do" ∷ []) (view value.now)) }
+fn no_members_but_do(alloc: Global, context: Context, value: &Value) -> Result<(), DocFault>
+    ensures { Gives result (no_members_at context (codes "do" ∷ []) (view value.now)) }
 {
-    match place {
-        Place::Call => no_members_but(alloc, value, &["worker", "do"]),
-        Place::Item => no_members_but(alloc, value, &["do"]),
+    match context {
+        Context::Call => no_members_but(alloc, value, &["worker", "do"]),
+        Context::Nested => no_members_but(alloc, value, &["do"]),
     }
 }
 
@@ -84,7 +84,7 @@ pub(crate) fn has_action(version: Version, object: &Value) -> bool
     }
 }
 
-/// The writes of an action, of which there may be too many.
+/// The writes of an action, at most [`MAX_WRITES`].
 #[derive(Drop)]
 struct WritesDecoder<'a> {
     catalog: &'a Catalog,
@@ -121,7 +121,7 @@ impl Decoder for WriteDecoder<'_> {
     #[tactic(auto, unfolding(crate::specs::Actions::item_of_action))]
     fn decode(&self, alloc: Global, value: &Value) -> Result<Write, DocFault> {
         object(alloc, value)?;
-        match write(alloc, self.catalog, Place::Item, value)? {
+        match write(alloc, self.catalog, Context::Nested, value)? {
             Some(write) => Ok(write),
             None => Err(DocFault::here(alloc, NO_KIND)),
         }

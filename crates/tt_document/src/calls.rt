@@ -6,18 +6,18 @@ ghost use Rattle.tt_document.specs.Calls.{no_kind, ask_by, ask, call, calls};
 
 use crate::MAX_CALLS;
 use crate::actions::{action, action_of_one, has_action, write};
+use crate::arrays::decode_owned;
 use crate::decoder::{CountDecoder, Decoder, OUT_OF_RANGE, array, has, member, object};
 use crate::document::{Ask, Call};
 use crate::fault::DocFault;
 use crate::owned_items::OwnedItems;
-use crate::statements::{Place, preview, select};
-use crate::taker::decode_owned;
+use crate::statements::{Context, preview, select};
 use crate::version::Version;
 use serde_json::Value;
 use std::alloc::Global;
 use tt_values::Catalog;
 
-/// The calls of workers on a catalog, of which there may be too many.
+/// The calls of workers on a catalog, at most [`MAX_CALLS`].
 #[derive(Drop)]
 pub(crate) struct CallsDecoder<'a> {
     pub(crate) version: Version,
@@ -74,7 +74,7 @@ impl Decoder for CallDecoder<'_> {
 fn ask(alloc: Global, version: Version, catalog: &Catalog, value: &Value) -> Result<Ask, DocFault>
     ensures { Gives result (ask version catalog.now (view value.now)) }
 {
-    match write(alloc, catalog, Place::Call, value)? {
+    match write(alloc, catalog, Context::Call, value)? {
         Some(write) => {
             let action = action_of_one(alloc, write)?;
             Ok(Ask::Write(action))
@@ -100,7 +100,7 @@ fn ask_without_write(
         return Ok(preview);
     }
     if has_action(version, value) {
-        let action = action(alloc, catalog, Place::Call, value)?;
+        let action = action(alloc, catalog, Context::Call, value)?;
         return Ok(Ask::Write(action));
     }
     Err(DocFault::here(alloc, no_kind(version)))

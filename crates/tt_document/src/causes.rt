@@ -4,7 +4,7 @@ ghost use Rattle.tt_document.specs.Causes.{cause_of_catalog, cause_of_check};
 
 use tt_values::{CatalogError, CheckError};
 
-/// Why a table is refused. Running out of memory is no fault of the document.
+/// Why a table is refused. Running out of memory isn't a fault of the document.
 pub(crate) fn cause_of_catalog(error: CatalogError) -> &'static str
     ensures { result.now ≡ cause_of_catalog error }
 {

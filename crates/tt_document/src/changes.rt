@@ -18,7 +18,7 @@ pub(crate) enum Verb {
     Add,
 }
 
-/// A change of a table: what it does, its column, and what with.
+/// A change of a table: what it does, its column, and its operand.
 #[derive(Drop)]
 pub(crate) struct ChangeDecoder<'a> {
     pub(crate) catalog: &'a Catalog,

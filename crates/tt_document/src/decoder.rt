@@ -15,7 +15,7 @@ pub(crate) const WRONG_TYPE: &str = "wrong type";
 
 pub(crate) const OUT_OF_RANGE: &str = "out of range";
 
-/// Reads the values of one place of the grammar.
+/// Reads the JSON values that stand for one kind of thing in the grammar.
 pub(crate) trait Decoder: Drop {
     type Output;
 
@@ -26,7 +26,7 @@ pub(crate) trait Decoder: Drop {
         ensures { Gives result (meaning self.now (view value.now)) };
 }
 
-/// Asks that the value is an object.
+/// Refuses a value that isn't an object.
 pub(crate) fn object(alloc: Global, value: &Value) -> Result<(), DocFault>
     ensures { Gives result (object (view value.now)) }
 {
@@ -73,7 +73,7 @@ pub(crate) fn has(object: &Value, name: &str) -> bool
     object.get(name).is_some()
 }
 
-/// The meaning of a member that has to be there.
+/// The meaning of a member that must be there.
 pub(crate) fn member<D: Decoder>(
     alloc: Global,
     object: &Value,
@@ -142,7 +142,7 @@ fn missing(alloc: Global, name: &str) -> DocFault
     DocFault::because(alloc, format!(in alloc; "missing member {name}"))
 }
 
-/// A text, in memory of its own.
+/// A text, copied.
 #[derive(Drop)]
 pub(crate) struct TextDecoder;
 

@@ -22,7 +22,7 @@ pub struct Document {
 #[derive(Debug, Drop)]
 pub struct Plan {
     /// The edits, which name calls by their numbers, from 1: at most
-    /// [`MAX_EDITS`](crate::MAX_EDITS), each of another call that asks for an action.
+    /// [`MAX_EDITS`](crate::MAX_EDITS), each of a different call, which asks for an action.
     pub edits: Items<Edit>,
     /// The calls that are made while the repair is under way: at most
     /// [`MAX_CALLS`](crate::MAX_CALLS).

@@ -52,7 +52,7 @@ impl DocFault {
         DocFault::because(alloc, String::from_str(alloc, cause))
     }
 
-    /// The same, with the text of the cause, or `Memory` where there was none for it.
+    /// The same, with the text of the cause, or `Memory` where there was no memory for it.
     pub(crate) fn because(alloc: Global, cause: Result<String, AllocError>) -> DocFault
         ensures { MatchResult cause
             (λ text. IsFault result (fault_here (string_bytes text)))
@@ -98,7 +98,7 @@ impl DocFault {
     }
 }
 
-/// A fault of the value itself, or `Memory` where there is none for its texts.
+/// A fault of the value itself, or `Memory` where there is no memory for its texts.
 fn fault_because(alloc: Global, cause: String) -> DocFault
     ensures { IsFault result (fault_here (string_bytes cause)) }
 {
@@ -108,7 +108,7 @@ fn fault_because(alloc: Global, cause: String) -> DocFault
     }
 }
 
-/// A fault at a path, or `Memory` where there was none for the text of the path.
+/// A fault at a path, or `Memory` where there was no memory for the text of the path.
 fn fault_if_path(alloc: Global, path: Result<String, AllocError>, cause: Text) -> DocFault
     ensures { MatchResult path
         (λ p. IsFault result (DocFault.At (string_bytes p) cause))
@@ -120,7 +120,7 @@ fn fault_if_path(alloc: Global, path: Result<String, AllocError>, cause: Text) -
     }
 }
 
-/// A fault at a path, or `Memory` where there is none to share the path.
+/// A fault at a path, or `Memory` where there is no memory to share the path.
 fn fault_at_path(alloc: Global, path: String, cause: Text) -> DocFault
     ensures { IsFault result (DocFault.At (string_bytes path) cause) }
 {

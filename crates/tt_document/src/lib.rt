@@ -1,7 +1,8 @@
-//! The documents of a small time-travel database: a workload in JSON, or its first fault.
+//! Documents: a workload of a small time-travel database, read from JSON, or its first fault.
 #![tactic(auto)]
 
 mod actions;
+mod arrays;
 mod calls;
 mod causes;
 mod changes;
@@ -16,7 +17,6 @@ mod reading;
 mod repair;
 mod statements;
 mod tables;
-mod taker;
 mod version;
 
 pub use document::{Ask, Call, Document, Plan};
@@ -31,5 +31,5 @@ pub const MAX_WORKERS: u32 = 15;
 /// The largest number of edits of a repair.
 pub const MAX_EDITS: usize = 10_000;
 
-/// The largest number of calls of a document, and of those that are made meanwhile.
+/// The largest number of calls of a document, and of calls that are made during its repair.
 pub const MAX_CALLS: usize = 100_000;

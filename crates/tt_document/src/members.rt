@@ -15,7 +15,7 @@ use crate::quoting::quoted_text;
 use serde_json::{Map, Value};
 use std::alloc::{AllocError, Global};
 
-/// Asks that an object has only members of these names.
+/// Refuses an object that has a member of another name than these.
 pub(crate) fn no_members_but(alloc: Global, object: &Value, known: &[&str]) -> Result<(), DocFault>
     ensures { Gives result
         (no_members_but (λ name. list_any (λ k. bytes_eq name k.now) known.now)

@@ -5,7 +5,7 @@ ghost use Rattle.tt_document.specs.Quoting.{letter_of, hex_digit, escape, quoted
 
 use std::alloc::{AllocError, Global};
 
-/// The letter that stands for a byte behind a backslash.
+/// The letter that stands for a byte after a backslash.
 fn letter_of(byte: u8) -> Option<u8>
     ensures { result ≡ letter_of byte }
 {
@@ -52,8 +52,8 @@ fn push_escape(out: &mut Vec<u8>, byte: u8) -> Result<(), AllocError>
     Ok(())
 }
 
-/// Pushes a text in double quotes, its bytes escaped as in JSON. After an error a front part of it
-/// stands in `out`.
+/// Pushes a text in double quotes, its bytes escaped as in JSON. After an error `out`
+/// ends in a prefix of it.
 pub fn push_quoted(out: &mut Vec<u8>, text: &[u8]) -> Result<(), AllocError>
     ensures { OnOk result (out.new.items ≡ out.old.items ++ quoted text.now) }
 {
@@ -65,7 +65,7 @@ pub fn push_quoted(out: &mut Vec<u8>, text: &[u8]) -> Result<(), AllocError>
     Ok(())
 }
 
-/// A text in double quotes, as a text.
+/// As [`push_quoted`], as a text of its own.
 pub(crate) fn quoted_text(alloc: Global, text: &str) -> Result<String, AllocError>
     ensures { IfOk result (λ s. string_bytes s ≡ quoted text.now) }
 {

@@ -9,14 +9,14 @@ ghost use Rattle.tt_document.specs.Repair.{no_kind_of_write, replacement_by, rep
 
 use crate::MAX_EDITS;
 use crate::actions::{action, action_of_one, has_action, write};
+use crate::arrays::{Fold, fold_items};
 use crate::calls::CallsDecoder;
 use crate::decoder::{Decoder, OUT_OF_RANGE, array, count, has, member, object, optional};
 use crate::document::{Ask, Call, Plan};
 use crate::fault::DocFault;
 use crate::members::no_members_but;
 use crate::owned_items::OwnedItems;
-use crate::statements::Place;
-use crate::taker::{Taker, take_all};
+use crate::statements::Context;
 use crate::version::Version;
 use serde_json::Value;
 use std::alloc::Global;
@@ -61,7 +61,7 @@ impl Decoder for RepairDecoder<'_> {
     }
 }
 
-/// The edits of calls, of which there may be too many.
+/// The edits of calls, at most [`MAX_EDITS`].
 #[derive(Drop)]
 struct EditsDecoder<'a> {
     version: Version,
@@ -79,33 +79,33 @@ impl Decoder for EditsDecoder<'_> {
         if items.len() > MAX_EDITS {
             return Err(DocFault::here(alloc, OUT_OF_RANGE));
         }
-        let taker = EditTaker {
+        let fold = EditsFold {
             version: self.version,
             catalog: self.catalog,
             calls: self.calls,
         };
         let start = OwnedItems::with_room(alloc, items.len())?;
-        let edits = take_all(alloc, &taker, start, items)?;
+        let edits = fold_items(alloc, &fold, start, items)?;
         let edits = edits.into_items(alloc)?;
         Ok(edits)
     }
 }
 
-/// Collects edits, each of another call.
+/// Collects edits, each for a different call.
 #[derive(Drop)]
-struct EditTaker<'a> {
+struct EditsFold<'a> {
     version: Version,
     catalog: &'a Catalog,
     calls: &'a [Call],
 }
 
-impl Taker for EditTaker<'_> {
+impl Fold for EditsFold<'_> {
     type State = OwnedItems<Edit>;
 
     ghost after = { λ t. with_edit t.version t.catalog.now t.calls.now };
 
     #[tactic(auto, unfolding(crate::specs::Repair::with_edit))]
-    fn take(
+    fn step(
         &self,
         alloc: Global,
         state: OwnedItems<Edit>,
@@ -119,7 +119,7 @@ impl Taker for EditTaker<'_> {
     }
 }
 
-/// An edit is for a call that asks for an action, and that no earlier edit is for.
+/// Refuses an edit unless it is for a call that asks for an action and that no earlier edit is for.
 fn judge_edit(alloc: Global, calls: &[Call], earlier: &[Edit], edit: &Edit) -> Result<(), DocFault>
     ensures { Gives result (judge_edit calls.now earlier.now edit.now) }
 {
@@ -207,7 +207,7 @@ fn replace(
     Ok(Edit::Replace(number, action))
 }
 
-/// The number of one of so many calls, from 1.
+/// The number of a call, from 1 to `calls`.
 #[derive(Drop)]
 struct CallNumberDecoder {
     calls: usize,
@@ -227,7 +227,7 @@ impl Decoder for CallNumberDecoder {
     }
 }
 
-/// The action that replaces that of a call.
+/// The action that replaces the one of a call.
 #[derive(Drop)]
 struct ReplacementDecoder<'a> {
     version: Version,
@@ -242,7 +242,7 @@ impl Decoder for ReplacementDecoder<'_> {
     #[tactic(auto, unfolding(crate::specs::Repair::replacement))]
     fn decode(&self, alloc: Global, value: &Value) -> Result<Items<Write>, DocFault> {
         object(alloc, value)?;
-        match write(alloc, self.catalog, Place::Item, value)? {
+        match write(alloc, self.catalog, Context::Nested, value)? {
             Some(write) => {
                 let action = action_of_one(alloc, write)?;
                 Ok(action)
@@ -261,7 +261,7 @@ fn replacement_without_write(
     ensures { Gives result (replacement_by version catalog.now (view value.now) None) }
 {
     if has_action(version, value) {
-        let action = action(alloc, catalog, Place::Item, value)?;
+        let action = action(alloc, catalog, Context::Nested, value)?;
         return Ok(action);
     }
     Err(DocFault::here(alloc, no_kind_of_write(version)))

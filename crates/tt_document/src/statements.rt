@@ -5,6 +5,7 @@ ghost use Rattle.tt_values.specs.Check.{write_fault, select_fault};
 ghost use Rattle.tt_document.specs.Fault.{Gives};
 ghost use Rattle.tt_document.specs.Statements.{checked_statement, conditions, no_members_at, insert, update, delete, select, preview};
 
+use crate::arrays::ArrayDecoder;
 use crate::causes::cause_of_check;
 use crate::changes::ChangeDecoder;
 use crate::conditions::{ConditionDecoder, TableNameDecoder, ValueDecoder};
@@ -12,17 +13,16 @@ use crate::decoder::{AnyCountDecoder, member, optional};
 use crate::document::Ask;
 use crate::fault::DocFault;
 use crate::members::no_members_but;
-use crate::taker::ArrayDecoder;
 use serde_json::Value;
 use std::alloc::Global;
 use tt_values::{Catalog, Equal, Items, Row, Select, Write, check, check_select};
 
-/// Where a write or an action stands: in a call, which has a worker, or in an action or an edit,
-/// which have none.
+/// Where a write or an action stands: in a call, which has a worker, or nested in an action or an
+/// edit, which have none.
 #[derive(Clone, Copy)]
-pub(crate) enum Place {
+pub(crate) enum Context {
     Call,
-    Item,
+    Nested,
 }
 
 /// The insert of an object.
@@ -30,17 +30,17 @@ pub(crate) enum Place {
 pub(crate) fn insert(
     alloc: Global,
     catalog: &Catalog,
-    place: Place,
+    context: Context,
     value: &Value,
 ) -> Result<Write, DocFault>
-    ensures { Gives result (insert catalog.now place (view value.now)) }
+    ensures { Gives result (insert catalog.now context (view value.now)) }
 {
     let table = member(alloc, value, "insert", &TableNameDecoder { catalog })?;
     let decoder = ArrayDecoder {
         decoder: ValueDecoder,
     };
     let values = member(alloc, value, "row", &decoder)?;
-    no_members_but_insert(alloc, place, value)?;
+    no_members_but_insert(alloc, context, value)?;
     let row = Row { values };
     checked_write(alloc, catalog, Write::Insert { table, row })
 }
@@ -50,10 +50,10 @@ pub(crate) fn insert(
 pub(crate) fn update(
     alloc: Global,
     catalog: &Catalog,
-    place: Place,
+    context: Context,
     value: &Value,
 ) -> Result<Write, DocFault>
-    ensures { Gives result (update catalog.now place (view value.now)) }
+    ensures { Gives result (update catalog.now context (view value.now)) }
 {
     let table = member(alloc, value, "update", &TableNameDecoder { catalog })?;
     let decoder = ArrayDecoder {
@@ -61,7 +61,7 @@ pub(crate) fn update(
     };
     let changes = member(alloc, value, "change", &decoder)?;
     let equals = conditions(alloc, catalog, table, value)?;
-    no_members_but_update(alloc, place, value)?;
+    no_members_but_update(alloc, context, value)?;
     let write = Write::Update {
         table,
         changes,
@@ -75,14 +75,14 @@ pub(crate) fn update(
 pub(crate) fn delete(
     alloc: Global,
     catalog: &Catalog,
-    place: Place,
+    context: Context,
     value: &Value,
 ) -> Result<Write, DocFault>
-    ensures { Gives result (delete catalog.now place (view value.now)) }
+    ensures { Gives result (delete catalog.now context (view value.now)) }
 {
     let table = member(alloc, value, "delete", &TableNameDecoder { catalog })?;
     let equals = conditions(alloc, catalog, table, value)?;
-    no_members_but_delete(alloc, place, value)?;
+    no_members_but_delete(alloc, context, value)?;
     checked_write(alloc, catalog, Write::Delete { table, equals })
 }
 
@@ -111,34 +111,34 @@ pub(crate) fn preview(alloc: Global, catalog: &Catalog, value: &Value) -> Result
     Ok(Ask::Preview(select))
 }
 
-fn no_members_but_insert(alloc: Global, place: Place, value: &Value) -> Result<(), DocFault>
+fn no_members_but_insert(alloc: Global, context: Context, value: &Value) -> Result<(), DocFault>
     ensures { Gives result
-        (no_members_at place (codes "insert" ∷ codes "row" ∷ []) (view value.now)) }
+        (no_members_at context (codes "insert" ∷ codes "row" ∷ []) (view value.now)) }
 {
-    match place {
-        Place::Call => no_members_but(alloc, value, &["worker", "insert", "row"]),
-        Place::Item => no_members_but(alloc, value, &["insert", "row"]),
+    match context {
+        Context::Call => no_members_but(alloc, value, &["worker", "insert", "row"]),
+        Context::Nested => no_members_but(alloc, value, &["insert", "row"]),
     }
 }
 
-fn no_members_but_update(alloc: Global, place: Place, value: &Value) -> Result<(), DocFault>
+fn no_members_but_update(alloc: Global, context: Context, value: &Value) -> Result<(), DocFault>
     ensures { Gives result
-        (no_members_at place (codes "change" ∷ codes "update" ∷ codes "where" ∷ [])
+        (no_members_at context (codes "change" ∷ codes "update" ∷ codes "where" ∷ [])
         (view value.now)) }
 {
-    match place {
-        Place::Call => no_members_but(alloc, value, &["worker", "change", "update", "where"]),
-        Place::Item => no_members_but(alloc, value, &["change", "update", "where"]),
+    match context {
+        Context::Call => no_members_but(alloc, value, &["worker", "change", "update", "where"]),
+        Context::Nested => no_members_but(alloc, value, &["change", "update", "where"]),
     }
 }
 
-fn no_members_but_delete(alloc: Global, place: Place, value: &Value) -> Result<(), DocFault>
+fn no_members_but_delete(alloc: Global, context: Context, value: &Value) -> Result<(), DocFault>
     ensures { Gives result
-        (no_members_at place (codes "delete" ∷ codes "where" ∷ []) (view value.now)) }
+        (no_members_at context (codes "delete" ∷ codes "where" ∷ []) (view value.now)) }
 {
-    match place {
-        Place::Call => no_members_but(alloc, value, &["worker", "delete", "where"]),
-        Place::Item => no_members_but(alloc, value, &["delete", "where"]),
+    match context {
+        Context::Call => no_members_but(alloc, value, &["worker", "delete", "where"]),
+        Context::Nested => no_members_but(alloc, value, &["delete", "where"]),
     }
 }
 

@@ -3,13 +3,13 @@ ghost use Rattle.std.specs.Prelude.{◌≡◌};
 ghost use Rattle.tt_document.specs.Fault.{Gives};
 ghost use Rattle.tt_document.specs.Tables.{kind_named, kind, column, with_table, table_after, catalog};
 
+use crate::arrays::{ArrayDecoder, Fold, fold_items};
 use crate::causes::cause_of_catalog;
 use crate::decoder::{
     Decoder, FlagDecoder, OUT_OF_RANGE, TextDecoder, array, member, object, optional, text,
 };
 use crate::fault::DocFault;
 use crate::members::no_members_but;
-use crate::taker::{ArrayDecoder, Taker, take_all};
 use serde_json::Value;
 use std::alloc::Global;
 use tt_values::{Catalog, CatalogError, Column, Kind, TableDef};
@@ -25,20 +25,20 @@ impl Decoder for TablesDecoder {
 
     fn decode(&self, alloc: Global, value: &Value) -> Result<Catalog, DocFault> {
         let items = array(alloc, value)?;
-        take_all(alloc, &TableTaker, Catalog::new(alloc), items)
+        fold_items(alloc, &TablesFold, Catalog::new(alloc), items)
     }
 }
 
 /// Adds one table after another to the catalog.
-struct TableTaker;
+struct TablesFold;
 
-impl Taker for TableTaker {
+impl Fold for TablesFold {
     type State = Catalog;
 
     ghost after = { λ _. table_after };
 
     #[tactic(auto, unfolding(crate::specs::Tables::table_after))]
-    fn take(&self, alloc: Global, state: Catalog, item: &Value) -> Result<Catalog, DocFault> {
+    fn step(&self, alloc: Global, state: Catalog, item: &Value) -> Result<Catalog, DocFault> {
         object(alloc, item)?;
         let name = member(alloc, item, "name", &TextDecoder)?;
         let decoder = ArrayDecoder {
@@ -50,7 +50,7 @@ impl Taker for TableTaker {
     }
 }
 
-/// The catalog with a further table at its end.
+/// The catalog with one more table at its end.
 fn with_table(
     alloc: Global,
     catalog: Catalog,

@@ -1,7 +1,6 @@
 -- Writes that are carried out one after another, at one time: their row writes, and the contents that these leave.
 use Rattle.std.proofs.Common.{◌≡◌, ℕ, ◌≤◌, Bool, true, false, cond, nat_le, ◌==◌, ℤ, List, [], ◌∷◌, ◌++◌, map, fold, Option, if◌then◌else◌, refl, sym, ap, subst, ◌∙◌, arith, append-nil, append_assoc}
 use Rattle.std.proofs.lemmas.Bool.Decides.{nat_tests}
-use Rattle.std.proofs.lemmas.List.{map-append}
 use Rattle.std.proofs.lemmas.List.Elements.{filter-append}
 use Rattle.std.proofs.lemmas.List.Sums.{fold-append}
 use Rattle.tt_values.specs.declared.row.Row.{Row}
@@ -9,17 +8,17 @@ use Rattle.tt_values.specs.declared.statement.Write.{Write}
 use Rattle.tt_values.specs.declared.reply.Reply.{Reply}
 use Rattle.tt_values.specs.Content.{RowsByKey, Content, RowWrite, row_at, with_row_at, with_row_write, content_at, empty_content, up_to}
 use Rattle.tt_values.specs.Effect.{table_of, effect, effect_on, reply_on}
-use Rattle.tt_values.specs.Action.{RowId, with_rows_at, content_after_write, content_after_action, replies_of, rows_of_write, rows_of_action, effect_of_action, action_writes}
+use Rattle.tt_values.specs.declared.row_id.RowId.{RowId}
+use Rattle.tt_values.specs.Action.{with_rows_at, content_after_write, content_after_action, replies_of, rows_of_write, rows_of_action, effect_of_action, action_writes}
 use Rattle.tt_values.specs.ActionLaws.{IsByRisingKey}
 use Rattle.tt_values.proofs.LawProofs.{rows_rise, action_leaves_its_last_content}
 use Rattle.tt_versions.specs.Sides.{current_of, ListsRows}
 use Rattle.tt_versions.specs.RowsByWrites.{as_row_writes}
 use Rattle.tt_generations.proofs.ContentLemmas.{all_put}
-use Rattle.tt_generations.specs.declared.slot.RowKey.{RowKey}
 use Rattle.tt_generations.specs.declared.action_run.ActionRun.{ActionRun}
-use Rattle.tt_generations.specs.Effect.{IsEffect, row_keys}
+use Rattle.tt_generations.specs.Effect.{IsEffect, rows_of_effect}
 use Rattle.tt_generations.specs.Rows.{TablesByPosition, versions_at, CurrentAgrees, AddsEffect}
-use Rattle.tt_generations.specs.ActionRun.{step_writes, as_row_keys, CarriesOut, CarriesOutAction}
+use Rattle.tt_generations.specs.ActionRun.{step_writes, CarriesOut, CarriesOutAction}
 
 -- the row writes of an effect on a table leave the content once the keys have their rows
 rows-after_row_writes : (pairs : List (ℤ × Option Row)) (time table : ℕ) (X : Content) (t : ℕ) → fold with_row_write X (as_row_writes time table pairs) t ≡ with_rows_at table pairs X t
@@ -124,25 +123,18 @@ CurrentAgrees-lists tables vs time table agree = record { sorted = rows_rise vs 
 
 -- one write, and then further ones, at the same time
 
-abbrev pub as_key : RowId → RowKey
-as_key r = record { table = r.table; key = r.key }
-
-pub keys-of_write : (w : Write) (es : List (ℤ × Option Row)) → row_keys (table_of w) es ≡ as_row_keys (map (λ e. record { table = table_of w; key = e.0 }) es)
-keys-of_write w [] = refl
-keys-of_write w (e ∷ es) = ap (λ ks. record { table = table_of w; key = e.0 } ∷ ks) (keys-of_write w es)
-
 -- tables that get the effect of a write, its reply, and the rows that it writes
 pub CarriesOut-write : (time table : ℕ) (w : Write) (before after : ActionRun) (pairs : List (ℤ × Option Row)) (reply : Reply)
     → table ≡ table_of w → IsEffect pairs w (current_of (versions_at before.rows table)) time → AddsEffect before.rows after.rows time table pairs
     → ((rows : RowsByKey) → pairs ≡ effect_on w rows → reply ≡ reply_on w rows) → after.replies.items ≡ before.replies.items ++ reply ∷ []
-    → after.keys.items ≡ before.keys.items ++ row_keys table pairs → CarriesOut time (w ∷ []) before after
-CarriesOut-write time table w before after pairs reply on is adds answers replies keys vs agree =
+    → after.rows_written.items ≡ before.rows_written.items ++ rows_of_effect table pairs → CarriesOut time (w ∷ []) before after
+CarriesOut-write time table w before after pairs reply on is adds answers replies written vs agree =
     let X = content_at vs time in
     let same : pairs ≡ effect w X = is (X (table_of w)) (subst (λ n. ListsRows (X (table_of w)) (current_of (versions_at before.rows n)) time) (sym on) (CurrentAgrees-lists before.rows vs time (table_of w) agree)) in
     record {
       rows = subst (CurrentAgrees after.rows) ((λ i. vs ++ as_row_writes time (on i) (same i)) ∙ ap (λ l. vs ++ l) (sym (append-nil (as_row_writes time (table_of w) (effect w X))))) (adds vs agree);
       replies = replies ∙ ap (λ r. before.replies.items ++ r ∷ []) (answers (X (table_of w)) same);
-      keys = keys ∙ (λ i. before.keys.items ++ row_keys (on i) (same i)) ∙ ap (λ l. before.keys.items ++ l) (keys-of_write w (effect w X) ∙ ap as_row_keys (sym (append-nil (rows_of_write w X))));
+      rows_written = written ∙ (λ i. before.rows_written.items ++ rows_of_effect (on i) (same i)) ∙ ap (λ l. before.rows_written.items ++ l) (sym (append-nil (rows_of_write w X)));
     }
 
 pub CarriesOut-next : (time : ℕ) (w : Write) (ws : List Write) (before between after : ActionRun)
@@ -154,13 +146,13 @@ CarriesOut-next time w ws before between after first rest vs agree =
     let more = rest further one.rows in
     let next : content_at further time ≡ content_after_write w X = content-steps (w ∷ []) time vs in
     let left = step_writes time ws (content_after_write w X) in
-    let keys = rows_of_action ws (content_after_write w X) in
+    let later = rows_of_action ws (content_after_write w X) in
     let written = as_row_writes time (table_of w) (effect w X) in
     record {
       rows = subst (CurrentAgrees after.rows) ((λ i. further ++ step_writes time ws (next i)) ∙ append_assoc vs (written ++ []) left ∙ ap (λ l. vs ++ (l ++ left)) (append-nil written)) more.rows;
       replies = more.replies ∙ (λ i. one.replies i ++ replies_of ws (next i)) ∙ append_assoc before.replies.items _ _;
-      keys = more.keys ∙ (λ i. one.keys i ++ as_row_keys (rows_of_action ws (next i))) ∙ append_assoc before.keys.items _ _
-          ∙ ap (λ l. before.keys.items ++ l) (ap (λ l. as_row_keys l ++ as_row_keys keys) (append-nil (rows_of_write w X)) ∙ sym (map-append as_key (rows_of_write w X) keys));
+      rows_written = more.rows_written ∙ (λ i. one.rows_written i ++ rows_of_action ws (next i)) ∙ append_assoc before.rows_written.items _ _
+          ∙ ap (λ l. before.rows_written.items ++ (l ++ later)) (append-nil (rows_of_write w X));
     }
 
 -- without writes nothing is carried out
@@ -168,16 +160,16 @@ pub CarriesOut-none : (time : ℕ) (run : ActionRun) → CarriesOut time [] run 
 CarriesOut-none time run vs agree = record {
   rows = subst (CurrentAgrees run.rows) (sym (append-nil vs)) agree;
   replies = sym (append-nil run.replies.items);
-  keys = sym (append-nil run.keys.items);
+  rows_written = sym (append-nil run.rows_written.items);
 }
 
 -- an action begins with no replies and no rows that it wrote
-pub CarriesOutAction-start : (time : ℕ) (ws : List Write) (before after : ActionRun) → before.replies.items ≡ [] → before.keys.items ≡ []
+pub CarriesOutAction-start : (time : ℕ) (ws : List Write) (before after : ActionRun) → before.replies.items ≡ [] → before.rows_written.items ≡ []
     → CarriesOut time ws before after → CarriesOutAction time ws before.rows after
-CarriesOutAction-start time ws before after replies keys all vs agree =
+CarriesOutAction-start time ws before after replies written all vs agree =
     let done = all vs agree in
     record {
       rows = done.rows;
       replies = done.replies ∙ ap (λ l. l ++ replies_of ws (content_at vs time)) replies;
-      keys = done.keys ∙ ap (λ l. l ++ as_row_keys (rows_of_action ws (content_at vs time))) keys;
+      rows_written = done.rows_written ∙ ap (λ l. l ++ rows_of_action ws (content_at vs time)) written;
     }

@@ -83,8 +83,8 @@ HaveBothSides-undue versions tables W E n undue have = record {
 -- one that is due changes the re-executed rows of the next side
 pub HaveBothSides-due : (before after : TablesByPosition) (tables : Tables) (W : Slots) (E : List Edit) (n : ℕ) → n ≤ length W → is_due tables W E n ≡ true → HaveBothSides before tables (Repairing E n) W
     → AreReexecuted before after (rows_reexecuted W E n) (suc n) (content_after (edited_slots W E) (suc n)) → HaveBothSides after tables (Repairing E (suc n)) W
-HaveBothSides-due before after tables W E n within due have redone = record {
-  current = λ table. redone.current table ∙ have.current table;
+HaveBothSides-due before after tables W E n within due have reexecuted = record {
+  current = λ table. reexecuted.current table ∙ have.current table;
   next = λ table. λ i key time. next table key time i;
   split = λ table. λ i key. split table key i;
 }
@@ -98,14 +98,14 @@ HaveBothSides-due before after tables W E n within due have redone = record {
 
     next : (table : ℕ) (key : ℤ) (time : ℕ) → next_of (versions_at after table) key time ≡ next_side tables W E (suc n) table key time
     next table key time =
-        redone.next table key time
+        reexecuted.next table key time
         ∙ pick (is_row_in (rows_reexecuted W E n) table key) (nat_le (suc n) time) (row_at (X table) key) (next_of (versions_at before table) key time)
         ∙ (λ i. let old = have.next table i key time in if is_row_in (rows_reexecuted W E n) table key then (if nat_le (suc n) time then row_at (X table) key else old) else old)
         ∙ sym (due_slots_change_reexecuted_rows tables W E n table key time within due)
 
     split : (table : ℕ) (key : ℤ) → is_split (versions_at after table) key ≡ has_row (dirty_after tables W E (suc n)) table key
     split table key =
-        redone.split table key
+        reexecuted.split table key
         ∙ (λ i. is_row_in (rows_reexecuted W E n) table key || have.split table i key)
         ∙ sym (dirty_rows_grow tables (content_after (edited_slots W E) n) X (rows_reexecuted W E n) (dirty_after tables W E n) table key)
         ∙ (λ i. has_row (sym (due_slots_dirty_reexecuted_rows tables W E n due) i) table key)

@@ -1,5 +1,5 @@
 -- Rows of a table that get an effect, as a content has them and as they are over time.
-use Rattle.std.proofs.Common.{◌≡◌, ℕ, ℤ, Bool, true, false, nat_le, ◌&&◌, ◌||◌, ◌==◌, List, [], ◌∷◌, map, fold, IsTrue, Option, if◌then◌else◌, refl, sym, ap, ◌∙◌}
+use Rattle.std.proofs.Common.{◌≡◌, ℕ, ℤ, Bool, true, false, nat_le, ◌&&◌, ◌||◌, ◌==◌, List, [], ◌∷◌, fold, IsTrue, Option, if◌then◌else◌, refl, sym, ap, ◌∙◌}
 use Rattle.std.specs.List.{list_any}
 use Rattle.std.specs.Ordering.{int_cmp, int_eq}
 use Rattle.std.specs.FinMap.Entries as sorted
@@ -13,20 +13,17 @@ use Rattle.tt_values.specs.ActionLaws.{IsByRisingKey}
 use Rattle.tt_values.proofs.LawProofs.{one_key_changes, rows_stay_by_rising_key}
 use Rattle.tt_versions.specs.Sides.{RowsOverTime, written_from, all_written_from}
 use Rattle.tt_parts.specs.Dirty.{is_row_in}
+use Rattle.tt_generations.specs.Effect.{rows_of_effect}
 
 -- the rows of a table, once keys have their rows one after another
 abbrev pub all_put : RowsByKey → List (ℤ × Option Row) → RowsByKey
 all_put rows es = fold (λ rs e. with_row_at rs e.0 e.1) rows es
 
--- the rows of a table that an effect writes
-abbrev pub written_rows : ℕ → List (ℤ × Option Row) → List (ℕ × ℤ)
-written_rows table es = map (λ e. (table, e.0)) es
-
 -- whether an effect has a key
 abbrev has_key : List (ℤ × Option Row) → ℤ → Bool
 has_key es key = list_any (λ e. int_eq key e.0) es
 
-has_key-none : (table t : ℕ) (key : ℤ) (es : List (ℤ × Option Row)) → (t == table) ≡ true → is_row_in (written_rows table es) t key ≡ false → has_key es key ≡ false
+has_key-none : (table t : ℕ) (key : ℤ) (es : List (ℤ × Option Row)) → (t == table) ≡ true → is_row_in (rows_of_effect table es) t key ≡ false → has_key es key ≡ false
 has_key-none table t key [] same h = refl
 has_key-none table t key (e ∷ es) same h =
     let parts = or_parts ((t == table) && int_eq key e.0) _ h in
@@ -48,7 +45,7 @@ all_written_from-no_key (e ∷ es) time rows key u h =
     all_written_from-no_key es time (written_from e.0 e.1 time rows) key u parts.1
     ∙ ap (λ b. if b && nat_le time u then e.1 else rows key u) parts.0
 
-pub with_rows_at-unwritten : (table : ℕ) (es : List (ℤ × Option Row)) (X : Content) (t : ℕ) (key : ℤ) → is_row_in (written_rows table es) t key ≡ false
+pub with_rows_at-unwritten : (table : ℕ) (es : List (ℤ × Option Row)) (X : Content) (t : ℕ) (key : ℤ) → is_row_in (rows_of_effect table es) t key ≡ false
     → row_at (with_rows_at table es X t) key ≡ row_at (X t) key
 with_rows_at-unwritten table es X t key h = by (t == table) refl
   where
@@ -57,7 +54,7 @@ with_rows_at-unwritten table es X t key h = by (t == table) refl
     by false other = refl
 
 pub all_written_from-unwritten : (table : ℕ) (es : List (ℤ × Option Row)) (time : ℕ) (rows : RowsOverTime) (t : ℕ) (key : ℤ) (u : ℕ) → (t == table) ≡ true
-    → is_row_in (written_rows table es) t key ≡ false → all_written_from es time rows key u ≡ rows key u
+    → is_row_in (rows_of_effect table es) t key ≡ false → all_written_from es time rows key u ≡ rows key u
 all_written_from-unwritten table es time rows t key u same h = all_written_from-no_key es time rows key u (has_key-none table t key es same h)
 
 -- from the time of an effect on, its keys have their rows, and the others those before

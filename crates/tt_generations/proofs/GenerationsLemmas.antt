@@ -1,6 +1,6 @@
 -- The tables of two generations, before and after each event.
 use Rattle.std.proofs.Common.{◌≡◌, ℕ, zero, suc, ◌<◌, ◌≤◌, ◌+◌, Bool, true, false, ℤ, List, [], ◌∷◌, ◌++◌, map, length, slice_get, Option, None, Some, refl, sym, ap, subst, ◌∙◌, arith, length-append}
-use Rattle.std.proofs.lemmas.List.{length-map, map-append}
+use Rattle.std.proofs.lemmas.List.{length-map}
 use Rattle.std.proofs.lemmas.Option.{slice_get_within}
 use Rattle.std.proofs.lemmas.List.Elements.{All-nil, All-cons, All-append}
 use Rattle.std.specs.Option.{option_or}
@@ -13,7 +13,8 @@ use Rattle.tt_values.specs.Effect.{table_of, effect}
 use Rattle.tt_values.specs.Tables.{Tables, IsCatalog}
 use Rattle.tt_values.specs.Check.{action_fault, first_write_fault, write_fault}
 use Rattle.tt_values.specs.Content.{Content, content_at, row_at}
-use Rattle.tt_values.specs.Action.{RowId, content_after_write, replies_of, rows_of_write, rows_of_action}
+use Rattle.tt_values.specs.declared.row_id.RowId.{RowId}
+use Rattle.tt_values.specs.Action.{content_after_write, replies_of, rows_of_write, rows_of_action}
 use Rattle.tt_values.specs.RowWrites.{Slots, slot_after, row_writes, content_of}
 use Rattle.tt_values.proofs.LawProofs.{rows_rise, past_stays, last_content_stays, slots_follow, accepted_actions_have_keys}
 use Rattle.tt_versions.specs.declared.side.Side.{Side}
@@ -21,18 +22,17 @@ use Rattle.tt_versions.specs.declared.side.Side.TheVariants.{Current, Next}
 use Rattle.tt_versions.specs.Sides.{LineagesByKey, side_of, current_of, next_of, ListsRows}
 use Rattle.tt_repair_laws.specs.declared.edit.Edit.{Edit}
 use Rattle.tt_repair_laws.specs.Edits.{slot_number, edited_slots}
-use Rattle.tt_repair_laws.specs.Due.{content_after, is_due, rerun_count, slot_rows_written}
+use Rattle.tt_repair_laws.specs.Due.{content_after, is_due, reexecuted_count, slot_rows_written}
 use Rattle.tt_repair_laws.specs.NextSide.{current_side}
-use Rattle.tt_repair_laws.proofs.LawProofs.{next_side_shows_edited_slots, no_slot_is_rerun_at_first, due_slots_are_rerun, undue_slots_are_not_rerun}
+use Rattle.tt_repair_laws.proofs.LawProofs.{next_side_shows_edited_slots, no_slot_is_reexecuted_at_first, due_slots_are_reexecuted, undue_slots_are_not_reexecuted}
 use Rattle.tt_generations.specs.declared.slot.KeptSlot.{KeptSlot}
-use Rattle.tt_generations.specs.declared.slot.RowKey.{RowKey}
 use Rattle.tt_generations.specs.declared.action_run.ActionRun.{ActionRun}
 use Rattle.tt_generations.specs.declared.repair.Repair.{Repair}
 use Rattle.tt_generations.specs.Limits.{max_slots}
-use Rattle.tt_generations.specs.Rows.{TablesByPosition, HasFewRows, CurrentAgrees, KeepsSplitRows, ShowsSide, as_pairs}
-use Rattle.tt_generations.specs.ActionRun.{step_writes, as_row_keys, CarriesOutAction, most_rows}
+use Rattle.tt_generations.specs.Rows.{TablesByPosition, HasFewRows, CurrentAgrees, KeepsSplitRows, ShowsSide}
+use Rattle.tt_generations.specs.ActionRun.{step_writes, CarriesOutAction, most_rows}
 use Rattle.tt_generations.specs.Reexecution.{ShowsContentBefore, ShowsFewBefore}
-use Rattle.tt_generations.specs.KeptSlots.{last_content, keys_of_slot, kept_slot, actions_of, AreKept, IsAccepted, AreAccepted}
+use Rattle.tt_generations.specs.KeptSlots.{last_content, kept_slot, actions_of, AreKept, IsAccepted, AreAccepted}
 use Rattle.tt_generations.specs.Repair.{HasKeysIfAny, is_kept_due, next_action, repair_with_slot, next_slots, HasDoneDueSlot, HasReexecutedSlot, ReexecutesSlot, DoesSlot}
 use Rattle.tt_generations.specs.TwoGenerations.{TwoGenerations, Phase, Idle, Repairing, NamesSlot, HasNoFault, IsWithin, done_of, next_content_in, left_of, slots_edited_by, next_side_of, rows_on}
 use Rattle.tt_generations.specs.Generations.{phase_of, next_kept_slot, HaveBothSides, IsRepair, IsRepairIfAny, AreGenerations}
@@ -41,7 +41,7 @@ use Rattle.tt_generations.proofs.FewRowsLemmas.{HasFewRows-agree}
 use Rattle.tt_generations.proofs.KeptSlotsLemmas.{AreKept-push, kept_slot-append, kept_slot-last, actions-push, actions-kept, AreKept-all_done, AreAccepted-at, AreAccepted-push, AreAccepted-edited}
 use Rattle.tt_generations.proofs.BothSidesLemmas.{HaveBothSides-empty, HaveBothSides-idle, HaveBothSides-slot, HaveBothSides-begin, HaveBothSides-undue, HaveBothSides-switch, HaveBothSides-abort, ShowsContentBefore-next}
 use Rattle.tt_generations.proofs.RepairLemmas.{first_fault-accepted, table-faultless}
-use Rattle.tt_generations.proofs.RepairStepsLemmas.{length-content, IsRepair-slot, IsNewRepair, IsRepair-new, IsRepair-undue, IsRepair-due, is_due-kept, pairs-kept, HaveBothSides-reexecuted, ShowsFewBefore-next, next_action-accepted}
+use Rattle.tt_generations.proofs.RepairStepsLemmas.{length-content, IsRepair-slot, IsNewRepair, IsRepair-new, IsRepair-undue, IsRepair-due, is_due-kept, rows-kept, HaveBothSides-reexecuted, ShowsFewBefore-next, next_action-accepted}
 
 pub AreGenerations-empty : (tables : Tables) → IsCatalog tables → AreGenerations tables [] [] None
 AreGenerations-empty tables catalog = record {
@@ -83,7 +83,7 @@ shows-side t G table Next current next = next
 pub record IsNextSlot (W : Slots) (action : List Write) (run : ActionRun) : Type 0 where
   pub rows : CurrentAgrees run.rows (row_writes (W ++ Some action ∷ []) (length (W ++ Some action ∷ [])))
   pub replies : run.replies.items ≡ replies_of action (last_content W)
-  pub keys : run.keys.items ≡ as_row_keys (rows_of_action action (last_content W))
+  pub rows_written : run.rows_written.items ≡ rows_of_action action (last_content W)
 
 pub IsNextSlot-run : (W : Slots) (action : List Write) (before : TablesByPosition) (run : ActionRun) (time : ℕ) → CurrentAgrees before (row_writes W (length W)) → time ≡ length W + 1
     → CarriesOutAction time action before run → IsNextSlot W action run
@@ -100,7 +100,7 @@ IsNextSlot-run W action before run time rows at carries =
     record {
       rows = subst (CurrentAgrees run.rows) (sym same) written;
       replies = done.replies ∙ ap (replies_of action) now_content;
-      keys = done.keys ∙ ap (λ X. as_row_keys (rows_of_action action X)) now_content;
+      rows_written = done.rows_written ∙ ap (rows_of_action action) now_content;
     }
 
 pub phase-with_slot : (k : KeptSlot) (repair : Option Repair) → phase_of (repair_with_slot k repair) ≡ phase_of repair
@@ -112,12 +112,18 @@ under_way-with_slot : (tables : Tables) (W : Slots) (s : Option (List Write)) (k
 under_way-with_slot tables W s k None last is = tt
 under_way-with_slot tables W s k (Some r) last is = IsRepair-slot tables W s r _ k is last refl
 
+-- an action was carried out on tables as the slot of a time, of which this is kept
+pub record IsSlotOfRun (time : ℕ) (action : List Write) (before : TablesByPosition) (run : ActionRun) (k : KeptSlot) : Type 0 where
+  pub carries : CarriesOutAction time action before run
+  pub keeps : KeepsSplitRows before run.rows
+  pub is_action : k.slot.action ≡ Some action
+  pub replies : k.slot.replies ≡ Some run.replies.items
+  pub rows : k.rows ≡ run.rows_written.items
+
 pub AreGenerations-action : (tables : Tables) (kept : List KeptSlot) (before : TablesByPosition) (repair : Option Repair) (action : List Write) (run : ActionRun) (k : KeptSlot) (time : ℕ)
-    → AreGenerations tables kept before repair → action_fault tables action ≡ None → length kept < max_slots → time ≡ length kept + 1
-    → CarriesOutAction time action before run → KeepsSplitRows before run.rows
-    → k.slot.action ≡ Some action → k.slot.replies ≡ Some run.replies.items → k.rows ≡ run.keys.items
+    → AreGenerations tables kept before repair → action_fault tables action ≡ None → length kept < max_slots → time ≡ length kept + 1 → IsSlotOfRun time action before run k
     → AreGenerations tables (kept ++ k ∷ []) run.rows (repair_with_slot k repair)
-AreGenerations-action tables kept before repair action run k time are accepted room at carries keeps is_action replies rows = record {
+AreGenerations-action tables kept before repair action run k time are accepted room at slot = record {
   catalog = are.catalog;
   few = omega (arith, room, length-append kept (k ∷ []));
   accepted = subst (AreAccepted tables) (sym all) (AreAccepted-push tables W (Some action) are.accepted accepted);
@@ -127,7 +133,7 @@ AreGenerations-action tables kept before repair action run k time are accepted r
       (last ∙ ap (kept_slot (W ++ Some action ∷ [])) many)));
   rows = subst (λ V. HaveBothSides run.rows tables (phase_of (repair_with_slot k repair)) V) (sym all)
       (subst (λ p. HaveBothSides run.rows tables p (W ++ Some action ∷ [])) (sym (phase-with_slot k repair))
-      (HaveBothSides-slot before run.rows tables (phase_of repair) W (Some action) (IsWithin-repair tables W repair are.under_way) are.rows next.rows keeps));
+      (HaveBothSides-slot before run.rows tables (phase_of repair) W (Some action) (IsWithin-repair tables W repair are.under_way) are.rows next.rows slot.keeps));
   under_way = subst (λ V. IsRepairIfAny tables V (repair_with_slot k repair)) (sym all) (under_way-with_slot tables W (Some action) k repair last are.under_way);
 }
   where
@@ -138,13 +144,13 @@ AreGenerations-action tables kept before repair action run k time are accepted r
     many = length-map kept (λ t. t.slot.action)
 
     all : actions_of (kept ++ k ∷ []) ≡ W ++ Some action ∷ []
-    all = actions-push kept k ∙ ap (λ s. W ++ s ∷ []) is_action
+    all = actions-push kept k ∙ ap (λ s. W ++ s ∷ []) slot.is_action
 
     next : IsNextSlot W action run
-    next = IsNextSlot-run W action before run time are.rows.current (omega (arith, at, many)) carries
+    next = IsNextSlot-run W action before run time are.rows.current (omega (arith, at, many)) slot.carries
 
     last : k ≡ kept_slot (W ++ Some action ∷ []) (length W)
-    last = kept_slot-last W (Some action) k is_action (replies ∙ ap Some next.replies) (rows ∙ next.keys)
+    last = kept_slot-last W (Some action) k slot.is_action (slot.replies ∙ ap Some next.replies) (slot.rows ∙ next.rows_written)
 
 -- ---- a repair begins
 
@@ -164,20 +170,20 @@ AreGenerations-repair tables kept versions E r are named accepted new = record {
 
 -- ---- a step
 
-rerun-within : (tables : Tables) (W : Slots) (E : List Edit) (n : ℕ) → rerun_count tables W E n ≤ n
-rerun-within tables W E zero = omega (arith, no_slot_is_rerun_at_first tables W E)
-rerun-within tables W E (suc n) = by (is_due tables W E n) refl (rerun-within tables W E n)
+reexecuted-within : (tables : Tables) (W : Slots) (E : List Edit) (n : ℕ) → reexecuted_count tables W E n ≤ n
+reexecuted-within tables W E zero = omega (arith, no_slot_is_reexecuted_at_first tables W E)
+reexecuted-within tables W E (suc n) = by (is_due tables W E n) refl (reexecuted-within tables W E n)
   where
-    by : (b : Bool) → is_due tables W E n ≡ b → rerun_count tables W E n ≤ n → rerun_count tables W E (suc n) ≤ suc n
-    by true due few = omega (arith, due_slots_are_rerun tables W E n due, few)
-    by false due few = omega (arith, undue_slots_are_not_rerun tables W E n due, few)
+    by : (b : Bool) → is_due tables W E n ≡ b → reexecuted_count tables W E n ≤ n → reexecuted_count tables W E (suc n) ≤ suc n
+    by true due few = omega (arith, due_slots_are_reexecuted tables W E n due, few)
+    by false due few = omega (arith, undue_slots_are_not_reexecuted tables W E n due, few)
 
 keys-if_any : (tables : Tables) (s : Option (List Write)) → IsCatalog tables → IsAccepted tables s → HasKeysIfAny s
 keys-if_any tables None catalog is = tt
 keys-if_any tables (Some action) catalog is = accepted_actions_have_keys tables action catalog is
 
 -- the tables of the rows that an accepted action writes are there
-abbrev IsInCatalog : Tables → RowKey → Type 0
+abbrev IsInCatalog : Tables → RowId → Type 0
 IsInCatalog tables r = r.table < length tables
 
 table-written : (tables : Tables) (w : Write) → write_fault tables w ≡ None → table_of w < length tables
@@ -185,26 +191,21 @@ table-written tables (Insert table row) h = table-faultless tables table _ h
 table-written tables (Update table changes equals) h = table-faultless tables table _ h
 table-written tables (Delete table equals) h = table-faultless tables table _ h
 
-tables-effect : (tables : Tables) (table : ℕ) (es : List (ℤ × Option Row)) → table < length tables → All (IsInCatalog tables) (as_row_keys (map (λ e. record { table = table; key = e.0 }) es))
+tables-effect : (tables : Tables) (table : ℕ) (es : List (ℤ × Option Row)) → table < length tables → All (IsInCatalog tables) (map (λ e. record { table = table; key = e.0 }) es)
 tables-effect tables table [] h = All-nil (IsInCatalog tables)
 tables-effect tables table (e ∷ es) h = All-cons (IsInCatalog tables) (record { table = table; key = e.0 }) _ h (tables-effect tables table es h)
 
-abbrev as_key : RowId → RowKey
-as_key r = record { table = r.table; key = r.key }
-
-tables-action : (tables : Tables) (ws : List Write) (X : Content) → first_write_fault tables ws ≡ None → All (IsInCatalog tables) (as_row_keys (rows_of_action ws X))
+tables-action : (tables : Tables) (ws : List Write) (X : Content) → first_write_fault tables ws ≡ None → All (IsInCatalog tables) (rows_of_action ws X)
 tables-action tables [] X h = All-nil (IsInCatalog tables)
 tables-action tables (w ∷ ws) X h = by (write_fault tables w) refl h (tables-action tables ws (content_after_write w X))
   where
     by : (o : Option CheckError) → write_fault tables w ≡ o → option_or o (first_write_fault tables ws) ≡ None
-        → (first_write_fault tables ws ≡ None → All (IsInCatalog tables) (as_row_keys (rows_of_action ws (content_after_write w X))))
-        → All (IsInCatalog tables) (as_row_keys (rows_of_action (w ∷ ws) X))
-    by None at g rest =
-        subst (All (IsInCatalog tables)) (sym (map-append as_key (rows_of_write w X) (rows_of_action ws (content_after_write w X))))
-        (All-append (IsInCatalog tables) (as_row_keys (rows_of_write w X)) _ (tables-effect tables (table_of w) (effect w X) (table-written tables w at)) (rest g))
+        → (first_write_fault tables ws ≡ None → All (IsInCatalog tables) (rows_of_action ws (content_after_write w X)))
+        → All (IsInCatalog tables) (rows_of_action (w ∷ ws) X)
+    by None at g rest = All-append (IsInCatalog tables) (rows_of_write w X) _ (tables-effect tables (table_of w) (effect w X) (table-written tables w at)) (rest g)
     by (Some e) at g rest = cc
 
-tables-slot : (tables : Tables) (s : Option (List Write)) (X : Content) → IsAccepted tables s → All (IsInCatalog tables) (keys_of_slot s X)
+tables-slot : (tables : Tables) (s : Option (List Write)) (X : Content) → IsAccepted tables s → All (IsInCatalog tables) (slot_rows_written s X)
 tables-slot tables None X is = All-nil (IsInCatalog tables)
 tables-slot tables (Some action) X is = tables-action tables action X (first_fault-accepted tables action is).1
 
@@ -213,13 +214,13 @@ pub record IsAtSlot (tables : Tables) (kept : List KeptSlot) (versions : TablesB
   pub is : k ≡ kept_slot (actions_of kept) r.done
   pub left : r.done < length (actions_of kept)
   pub room : r.done < max_slots
-  pub few : r.rerun ≤ r.done
+  pub few : r.reexecuted ≤ r.done
   pub there : r.done < length r.slots
   pub catalog : r.dirty.catalog ≡ tables
   pub keyed : HasKeysIfAny k.slot.action
-  pub written : All (λ (row : RowKey). row.table < length tables) k.rows
+  pub written : All (λ (row : RowId). row.table < length tables) k.rows
   pub accepted : IsAccepted tables (next_action r k)
-  pub shows : ShowsFewBefore versions (r.done + 1) (as_pairs k.rows)
+  pub shows : ShowsFewBefore versions (r.done + 1) k.rows
   pub due : is_kept_due r k ≡ is_due tables (actions_of kept) r.edits r.done
 
 some-injective : {X : Type 0} (x y : X) → Some x ≡ Some y → x ≡ y
@@ -237,13 +238,13 @@ IsAtSlot-next tables kept versions r k are found inside =
       is = is;
       left = left;
       room = omega (arith, inside, are.few);
-      few = omega (arith, repair.rerun, rerun-within tables W r.edits r.done);
+      few = omega (arith, repair.reexecuted, reexecuted-within tables W r.edits r.done);
       there = omega (arith, left, repair.slots.as_many);
       catalog = repair.catalog;
       keyed = subst (λ (j : KeptSlot). HasKeysIfAny j.slot.action) (sym is) (keys-if_any tables (slot_after W r.done) are.catalog (AreAccepted-at tables W are.accepted r.done));
       written = subst (λ (j : KeptSlot). All (IsInCatalog tables) j.rows) (sym is) (tables-slot tables (slot_after W r.done) (content_of W r.done) (AreAccepted-at tables W are.accepted r.done));
       accepted = subst (λ (j : KeptSlot). IsAccepted tables (next_action r j)) (sym is) (next_action-accepted tables W r repair left are.accepted);
-      shows = subst (λ (j : KeptSlot). ShowsFewBefore versions (r.done + 1) (as_pairs j.rows)) (sym is) (ShowsFewBefore-next versions tables W r repair left (omega (arith, many, are.few)) are.accepted are.rows);
+      shows = subst (λ (j : KeptSlot). ShowsFewBefore versions (r.done + 1) j.rows) (sym is) (ShowsFewBefore-next versions tables W r repair left (omega (arith, many, are.few)) are.accepted are.rows);
       due = subst (λ (j : KeptSlot). is_kept_due r j ≡ is_due tables W r.edits r.done) (sym is) (is_due-kept tables W r repair left);
     }
 
@@ -278,8 +279,8 @@ AreGenerations-due tables kept before versions r after k are at due done redoes 
   slots = are.slots;
   rows = subst (λ E. HaveBothSides versions tables (Repairing E after.done) W) (sym done.edits)
       (subst (λ n. HaveBothSides versions tables (Repairing r.edits n) W) (sym done.done)
-      (HaveBothSides-reexecuted before versions tables W r after are.under_way at.left is_due_slot are.rows redone));
-  under_way = IsRepair-due tables W r after before versions are.under_way at.left is_due_slot done redone;
+      (HaveBothSides-reexecuted before versions tables W r after are.under_way at.left is_due_slot are.rows reexecuted));
+  under_way = IsRepair-due tables W r after before versions are.under_way at.left is_due_slot done reexecuted;
 }
   where
     W : Slots
@@ -291,15 +292,15 @@ AreGenerations-due tables kept before versions r after k are at due done redoes 
     is_due_slot : is_due tables (actions_of kept) r.edits r.done ≡ true
     is_due_slot = sym at.due ∙ due
 
-    pairs : as_pairs k.rows ≡ slot_rows_written (slot_after W r.done) (content_after W r.done)
-    pairs = ap (λ (j : KeptSlot). as_pairs j.rows) at.is ∙ pairs-kept W r.done (omega (arith, at.left))
+    pairs : k.rows ≡ slot_rows_written (slot_after W r.done) (content_after W r.done)
+    pairs = ap (λ (j : KeptSlot). j.rows) at.is ∙ rows-kept W r.done (omega (arith, at.left))
 
-    shows : ShowsContentBefore before (r.done + 1) X (as_pairs k.rows)
+    shows : ShowsContentBefore before (r.done + 1) X k.rows
     shows = subst (ShowsContentBefore before (r.done + 1) X) (sym pairs)
         (subst (λ m. ShowsContentBefore before m X (slot_rows_written (slot_after W r.done) (content_after W r.done))) (omega arith) (ShowsContentBefore-next before tables W r.edits r.done at.left are.rows))
 
-    redone : HasReexecutedSlot r (kept_slot W r.done) before after versions X
-    redone = subst (λ (j : KeptSlot). HasReexecutedSlot r j before after versions X) at.is (redoes X shows)
+    reexecuted : HasReexecutedSlot r (kept_slot W r.done) before after versions X
+    reexecuted = subst (λ (j : KeptSlot). HasReexecutedSlot r j before after versions X) at.is (redoes X shows)
 
 -- so a step leaves what it is to leave
 pub AreGenerations-step : (tables : Tables) (kept : List KeptSlot) (before versions : TablesByPosition) (r after : Repair) (k : KeptSlot) (due : Bool) → AreGenerations tables kept before (Some r) → IsAtSlot tables kept before r k

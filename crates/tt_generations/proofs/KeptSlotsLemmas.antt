@@ -1,24 +1,21 @@
 -- What is kept of slots: one more, another in the place of one, and all those of the next generation.
-use Rattle.std.proofs.Common.{◌≡◌, ℕ, zero, suc, ◌<◌, ◌≤◌, ◌+◌, Bool, true, false, ◌==◌, nat_lt, ℤ, List, [], ◌∷◌, ◌++◌, map, length, slice_get, slice_set, Option, None, Some, if◌then◌else◌, refl, sym, ap, subst, ◌∙◌, arith, length-append}
+use Rattle.std.proofs.Common.{◌≡◌, ℕ, zero, suc, ◌<◌, ◌≤◌, ◌+◌, Bool, true, false, ◌==◌, nat_lt, List, [], ◌∷◌, ◌++◌, length, slice_get, slice_set, Option, None, Some, if◌then◌else◌, refl, sym, ap, subst, ◌∙◌, arith, length-append}
 use Rattle.std.proofs.lemmas.Bool.Decides.{nat_tests}
 use Rattle.std.proofs.lemmas.List.{length-map, map-append}
 use Rattle.std.proofs.lemmas.List.Elements.{All-nil, All-cons, recursion_from_All}
 use Rattle.std.specs.List.{All, AllByRecursion}
 use Rattle.tt_values.specs.declared.statement.Write.{Write}
 use Rattle.tt_values.specs.Content.{Content}
-use Rattle.tt_values.specs.Action.{RowId, rows_of_action}
 use Rattle.tt_values.specs.RowWrites.{Slots, slot_after, slot_replies, content_of}
 use Rattle.tt_values.proofs.LawProofs.{added_slot_leaves_past, earlier_slots_stay, added_slot_is_next}
 use Rattle.tt_repair_laws.specs.declared.edit.Edit.{Edit}
 use Rattle.tt_repair_laws.specs.declared.edit.Edit.TheVariants.{Cancel, Replace}
 use Rattle.tt_repair_laws.specs.Edits.{edit_of, edited_slots, edited_slots_from, slot_with_edit, slot_number}
 use Rattle.tt_values.specs.Tables.{Tables}
-use Rattle.tt_repair_laws.specs.Due.{content_after, is_due, row_pair, slot_rows_written}
+use Rattle.tt_repair_laws.specs.Due.{content_after, is_due, slot_rows_written}
 use Rattle.tt_repair_laws.proofs.LawProofs.{edited_slots_are_as_many, later_slots_stay, no_affected_slot_is_missed, content_after_is_kept}
-use Rattle.tt_generations.specs.declared.slot.RowKey.{RowKey}
 use Rattle.tt_generations.specs.declared.slot.KeptSlot.{KeptSlot}
-use Rattle.tt_generations.specs.ActionRun.{as_row_keys}
-use Rattle.tt_generations.specs.KeptSlots.{last_content, keys_of_slot, kept_slot, actions_of, AreKept, IsAccepted, AreAccepted}
+use Rattle.tt_generations.specs.KeptSlots.{last_content, kept_slot, actions_of, AreKept, IsAccepted, AreAccepted}
 use Rattle.tt_generations.specs.TwoGenerations.{NamesSlot, HasNoFault}
 use Rattle.tt_generations.specs.Generations.{next_kept_slot}
 use Rattle.tt_generations.proofs.ListLemmas.{slice_get-append_left, slice_get-append_at}
@@ -78,17 +75,17 @@ pub kept_slot-append : (W : Slots) (s : Option (List Write)) (n : ℕ) → n < l
 kept_slot-append W s n h =
     let slot = sym (earlier_slots_stay W (s ∷ []) n h) in
     let content = sym (added_slot_leaves_past W s n (omega arith)) in
-    λ i. record { slot = record { action = slot i; replies = slot_replies (slot i) (content i) }; rows = keys_of_slot (slot i) (content i) }
+    λ i. record { slot = record { action = slot i; replies = slot_replies (slot i) (content i) }; rows = slot_rows_written (slot i) (content i) }
 
 -- what is kept of a slot with this action, by its replies and its rows
 pub kept_slot-is : (W : Slots) (n : ℕ) (s : Option (List Write)) (X : Content) (k : KeptSlot) → slot_after W n ≡ s → content_of W n ≡ X
-    → k.slot.action ≡ s → k.slot.replies ≡ slot_replies s X → k.rows ≡ keys_of_slot s X → k ≡ kept_slot W n
+    → k.slot.action ≡ s → k.slot.replies ≡ slot_replies s X → k.rows ≡ slot_rows_written s X → k ≡ kept_slot W n
 kept_slot-is W n s X k slot content action replies rows =
     (λ i. record { slot = record { action = action i; replies = replies i }; rows = rows i })
-    ∙ (λ i. record { slot = record { action = sym slot i; replies = slot_replies (sym slot i) (sym content i) }; rows = keys_of_slot (sym slot i) (sym content i) })
+    ∙ (λ i. record { slot = record { action = sym slot i; replies = slot_replies (sym slot i) (sym content i) }; rows = slot_rows_written (sym slot i) (sym content i) })
 
 -- a new slot is the last
-pub kept_slot-last : (W : Slots) (s : Option (List Write)) (k : KeptSlot) → k.slot.action ≡ s → k.slot.replies ≡ slot_replies s (last_content W) → k.rows ≡ keys_of_slot s (last_content W)
+pub kept_slot-last : (W : Slots) (s : Option (List Write)) (k : KeptSlot) → k.slot.action ≡ s → k.slot.replies ≡ slot_replies s (last_content W) → k.rows ≡ slot_rows_written s (last_content W)
     → k ≡ kept_slot (W ++ s ∷ []) (length W)
 kept_slot-last W s k = kept_slot-is (W ++ s ∷ []) (length W) s (last_content W) k (added_slot_is_next W s) (added_slot_leaves_past W s (length W) (omega arith))
 
@@ -192,18 +189,6 @@ next_kept_slot-done W E n = ap (λ b. if b then kept_slot (edited_slots W E) n e
 pub next_kept_slot-left : (W : Slots) (E : List Edit) (n : ℕ) → next_kept_slot W E n n ≡ kept_slot W n
 next_kept_slot-left W E n = ap (λ b. if b then kept_slot (edited_slots W E) n else kept_slot W n) (let here : nat_lt n n ≡ false = grind (arith, nat_tests) in here)
 
--- the rows of a slot, as pairs and back
-abbrev of_pair : ℕ × ℤ → RowKey
-of_pair p = record { table = p.0; key = p.1 }
-
-keys-of_pairs : (rs : List RowId) → as_row_keys rs ≡ map of_pair (map row_pair rs)
-keys-of_pairs [] = refl
-keys-of_pairs (r ∷ rs) = ap (λ ks. record { table = r.table; key = r.key } ∷ ks) (keys-of_pairs rs)
-
-keys_of_slot-pairs : (s : Option (List Write)) (X : Content) → keys_of_slot s X ≡ map of_pair (slot_rows_written s X)
-keys_of_slot-pairs None X = refl
-keys_of_slot-pairs (Some action) X = keys-of_pairs (rows_of_action action X)
-
 -- a slot that isn't due is kept as it was
 pub kept_slot-undue : (tables : Tables) (W : Slots) (E : List Edit) (n : ℕ) → n < length W → is_due tables W E n ≡ false → kept_slot W n ≡ kept_slot (edited_slots W E) n
 kept_slot-undue tables W E n h undue =
@@ -213,7 +198,7 @@ kept_slot-undue tables W E n h undue =
     let edited = content_after_is_kept V n (omega (arith, h, edited_slots_are_as_many W E)) in
     kept_slot-is V n (slot_after V n) (content_after V n) (kept_slot W n) refl edited (sym same.slot)
     (ap (slot_replies (slot_after W n)) now ∙ sym same.replies)
-    (keys_of_slot-pairs (slot_after W n) (content_of W n) ∙ ap (λ X. map of_pair (slot_rows_written (slot_after W n) X)) now ∙ ap (map of_pair) (sym same.rows) ∙ sym (keys_of_slot-pairs (slot_after V n) (content_after V n)))
+    (ap (slot_rows_written (slot_after W n)) now ∙ sym same.rows)
 
 -- once all are done, the slots are the edited ones
 slots-equal : (xs ys : Slots) → length xs ≡ length ys → ((i : ℕ) → i < length xs → slot_after xs i ≡ slot_after ys i) → xs ≡ ys

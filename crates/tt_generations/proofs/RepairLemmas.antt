@@ -8,7 +8,7 @@ use Rattle.std.proofs.lemmas.Bool.Decides.{nat_tests, Decides-int_eq}
 use Rattle.std.proofs.lemmas.Option.{slice_get_within}
 use Rattle.std.proofs.lemmas.List.Folds.{list_any-append}
 use Rattle.std.proofs.lemmas.List.Sums.{fold-append}
-use Rattle.std.proofs.lemmas.List.Elements.{All-nil, All-cons, All-head, All-tail, All-append, All-map}
+use Rattle.std.proofs.lemmas.List.Elements.{All-nil, All-cons, All-head, All-tail, All-append}
 use Rattle.tt_values.specs.declared.row.Row.{Row}
 use Rattle.tt_values.specs.declared.statement.Write.{Write}
 use Rattle.tt_values.specs.declared.statement.Write.TheVariants.{Insert, Update, Delete}
@@ -31,17 +31,16 @@ use Rattle.tt_parts.specs.declared.partition.Partition.{Partition}
 use Rattle.tt_parts.specs.Partitions.{key_partition, is_same_partition}
 use Rattle.tt_parts.specs.Dirty.{DirtySet, DirtyTables, SameMembers, columns_in, is_row_in, parts_if, with_row, with_row_in}
 use Rattle.tt_parts.proofs.LawProofs.{same_members_with_row}
-use Rattle.tt_repair_laws.specs.Due.{rows_matched, action_rows_matched, slot_rows_matched, with_row_of}
-use Rattle.tt_generations.specs.declared.slot.RowKey.{RowKey}
+use Rattle.tt_repair_laws.specs.Due.{rows_matched, action_rows_matched, slot_rows_matched, with_row_of, slot_rows_written}
+use Rattle.tt_values.specs.declared.row_id.RowId.{RowId}
 use Rattle.tt_generations.specs.declared.slot.KeptSlot.{KeptSlot}
 use Rattle.tt_generations.specs.declared.reexecution.Reexecution.{Reexecution}
 use Rattle.tt_generations.specs.declared.repair.Repair.{Repair}
-use Rattle.tt_generations.specs.Rows.{TablesByPosition, versions_at, as_pairs}
-use Rattle.tt_generations.specs.ActionRun.{as_row_keys}
-use Rattle.tt_generations.specs.KeptSlots.{IsAccepted, keys_of_slot}
+use Rattle.tt_generations.specs.Rows.{TablesByPosition, versions_at}
+use Rattle.tt_generations.specs.KeptSlots.{IsAccepted}
 use Rattle.tt_generations.specs.Replies.{replies_if}
 use Rattle.tt_generations.specs.Reexecution.{ShowsContentBefore, AreReexecuted, Reexecutes, ShowsFewBefore}
-use Rattle.tt_generations.specs.Repair.{next_action, writes_of, is_same_row, IsWholeOrHalf, with_rows_shown, ReexecutesSlot}
+use Rattle.tt_generations.specs.Repair.{next_action, writes_of, is_same_row, MayRepeat, with_rows_shown, ReexecutesSlot}
 
 itself : (n : ℕ) → (n == n) ≡ true
 itself n = grind (arith, nat_tests)
@@ -52,9 +51,9 @@ replies-of_writes : (action : Option (List Write)) (X : Content) → replies_if 
 replies-of_writes None X = refl
 replies-of_writes (Some action) X = refl
 
-keys-of_writes : (action : Option (List Write)) (X : Content) → as_row_keys (rows_of_action (writes_of action) X) ≡ keys_of_slot action X
-keys-of_writes None X = refl
-keys-of_writes (Some action) X = refl
+written-of_writes : (action : Option (List Write)) (X : Content) → rows_of_action (writes_of action) X ≡ slot_rows_written action X
+written-of_writes None X = refl
+written-of_writes (Some action) X = refl
 
 matched-of_writes : (action : Option (List Write)) (X : Content) → action_rows_matched (writes_of action) X ≡ slot_rows_matched action X
 matched-of_writes None X = refl
@@ -81,8 +80,8 @@ keyed-accepted tables None catalog h = All-nil HasKey
 keyed-accepted tables (Some action) catalog h = accepted_actions_have_keys tables action catalog h
 
 -- and whose tables are there
-abbrev IsInTables : Tables → ℕ × ℤ → Type 0
-IsInTables tables r = r.0 < length tables
+abbrev IsInTables : Tables → RowId → Type 0
+IsInTables tables r = r.table < length tables
 
 pub table-faultless : (tables : Tables) (table : ℕ) (tests : List Column → List (Bool × CheckError)) → fault_on (columns_at tables table) tests ≡ None → table < length tables
 table-faultless tables table tests h = by (slice_get tables table) refl h
@@ -91,13 +90,13 @@ table-faultless tables table tests h = by (slice_get tables table) refl h
     by None at g = cc
     by (Some t) at g = slice_get_within tables table t at
 
-tables-of_rows : (tables : Tables) (table : ℕ) (rows : RowsByKey) → table < length tables → All (IsInTables tables) (map (λ e. (table, e.0)) rows)
+tables-of_rows : (tables : Tables) (table : ℕ) (rows : RowsByKey) → table < length tables → All (IsInTables tables) (map (λ e. record { table = table; key = e.0 }) rows)
 tables-of_rows tables table [] h = All-nil (IsInTables tables)
-tables-of_rows tables table (e ∷ es) h = All-cons (IsInTables tables) (table, e.0) _ h (tables-of_rows tables table es h)
+tables-of_rows tables table (e ∷ es) h = All-cons (IsInTables tables) (record { table = table; key = e.0 }) _ h (tables-of_rows tables table es h)
 
 tables-matched : (tables : Tables) (w : Write) (X : Content) → write_fault tables w ≡ None → All (IsInTables tables) (rows_matched w X)
 tables-matched tables (Insert table row) X h =
-    All-cons (IsInTables tables) (table, key_of row) [] (table-faultless tables table _ h) (All-nil (IsInTables tables))
+    All-cons (IsInTables tables) (record { table = table; key = key_of row }) [] (table-faultless tables table _ h) (All-nil (IsInTables tables))
 tables-matched tables (Update table changes equals) X h = tables-of_rows tables table (matching_rows equals (X table)) (table-faultless tables table _ h)
 tables-matched tables (Delete table equals) X h = tables-of_rows tables table (matching_rows equals (X table)) (table-faultless tables table _ h)
 
@@ -115,17 +114,12 @@ tables-accepted : (tables : Tables) (action : Option (List Write)) (X : Content)
 tables-accepted tables None X h = All-nil (IsInTables tables)
 tables-accepted tables (Some action) X h = tables-all_matched tables action X (first_fault-accepted tables action h).1
 
--- what holds of the pairs of rows holds of the rows
-All-of_pairs : (P : ℕ × ℤ → Type 0) (rows : List RowKey) → All P (as_pairs rows) → All (λ r. P (r.table, r.key)) rows
-All-of_pairs P [] h = All-nil (λ r. P (r.table, r.key))
-All-of_pairs P (r ∷ rs) h = All-cons (λ r. P (r.table, r.key)) r rs (All-head P (r.table, r.key) (as_pairs rs) h) (All-of_pairs P rs (All-tail P (r.table, r.key) (as_pairs rs) h))
-
 -- so the tables of all rows are that a slot wrote and that its action matches
-tables-redone : (tables : Tables) (written redone : List RowKey) (action : Option (List Write)) (X : Content) → All (λ r. r.table < length tables) written → IsAccepted tables action
-    → as_pairs redone ≡ as_pairs written ++ action_rows_matched (writes_of action) X → All (λ r. r.table < length tables) redone
-tables-redone tables written redone action X there h is =
-    All-of_pairs (IsInTables tables) redone (subst (All (IsInTables tables)) (sym is)
-    (All-append (IsInTables tables) (as_pairs written) _ (All-map (IsInTables tables) (λ r. (r.table, r.key)) written there) (tables-accepted tables action X h)))
+tables-reexecuted : (tables : Tables) (written reexecuted : List RowId) (action : Option (List Write)) (X : Content) → All (λ r. r.table < length tables) written → IsAccepted tables action
+    → reexecuted ≡ written ++ action_rows_matched (writes_of action) X → All (λ r. r.table < length tables) reexecuted
+tables-reexecuted tables written reexecuted action X there h is =
+    subst (All (IsInTables tables)) (sym is)
+    (All-append (IsInTables tables) written _ there (tables-accepted tables action X h))
 
 -- ---- the rows that get dirty
 
@@ -133,13 +127,13 @@ pub SameMembers-then : (C D E : DirtySet) → SameMembers C D → SameMembers D 
 SameMembers-then C D E one two = record { rows = λ t key. one.rows t key ∙ two.rows t key; partitions = λ p. one.partitions p ∙ two.partitions p }
 
 -- one row that tables show on the next side before a time and at it
-abbrev with_row_shown : Tables → TablesByPosition → ℕ → DirtySet → RowKey → DirtySet
+abbrev with_row_shown : Tables → TablesByPosition → ℕ → DirtySet → RowId → DirtySet
 with_row_shown tables versions time D r =
     let side = next_of (versions_at versions r.table) r.key in
     with_row D r.table (columns_in tables r.table) r.key (side (time - 1)) (side time)
 
 -- sets with the same members have the same members after the same rows get dirty
-shown-same : (tables : Tables) (versions : TablesByPosition) (time : ℕ) (rows : List RowKey) (C D : DirtySet) → SameMembers C D
+shown-same : (tables : Tables) (versions : TablesByPosition) (time : ℕ) (rows : List RowId) (C D : DirtySet) → SameMembers C D
     → SameMembers (fold (with_row_shown tables versions time) C rows) (fold (with_row_shown tables versions time) D rows)
 shown-same tables versions time [] C D same = same
 shown-same tables versions time (r ∷ rs) C D same =
@@ -148,7 +142,7 @@ shown-same tables versions time (r ∷ rs) C D same =
 
 -- ---- rows that stand in a list twice
 
-are_same-head : (r s : RowKey) → is_same_row r s ≡ true → r ≡ s
+are_same-head : (r s : RowId) → is_same_row r s ≡ true → r ≡ s
 are_same-head r s h =
     let both = and_parts (r.table == s.table) (int_eq r.key s.key) h in
     let table : r.table ≡ s.table = eqb-true r.table s.table both.0 in
@@ -156,7 +150,7 @@ are_same-head r s h =
     λ i. record { table = table i; key = key i }
 
 -- lists of one length with the same rows in turn are the same
-pub same_lists : (rs ss : List RowKey) → length rs ≡ length ss → list_all (λ p. is_same_row p.0 p.1) (zip rs ss) ≡ true → rs ≡ ss
+pub same_lists : (rs ss : List RowId) → length rs ≡ length ss → list_all (λ p. is_same_row p.0 p.1) (zip rs ss) ≡ true → rs ≡ ss
 same_lists [] [] many h = refl
 same_lists [] (s ∷ ss) many h = cc
 same_lists (r ∷ rs) [] many h = cc
@@ -165,43 +159,43 @@ same_lists (r ∷ rs) (s ∷ ss) many h =
     let fewer : length rs ≡ length ss = omega (arith, many) in
     λ i. are_same-head r s both.0 i ∷ same_lists rs ss fewer both.1 i
 
-All-left : (P : RowKey → Type 0) (rs ss : List RowKey) → All P (rs ++ ss) → All P rs
+All-left : (P : RowId → Type 0) (rs ss : List RowId) → All P (rs ++ ss) → All P rs
 All-left P [] ss h = All-nil P
 All-left P (r ∷ rs) ss h = All-cons P r rs (All-head P r (rs ++ ss) h) (All-left P rs ss (All-tail P r (rs ++ ss) h))
 
-pub All-half : (P : RowKey → Type 0) (once all : List RowKey) → IsWholeOrHalf once all → All P all → All P once
-All-half P once all (true, is) h = All-left P once once (subst (All P) is h)
-All-half P once all (false, is) h = subst (All P) is h
+pub All-without_repeat : (P : RowId → Type 0) (rows all : List RowId) → MayRepeat rows all → All P all → All P rows
+All-without_repeat P rows all (true, is) h = All-left P rows rows (subst (All P) is h)
+All-without_repeat P rows all (false, is) h = subst (All P) is h
 
 module _ (tables : Tables) (versions : TablesByPosition) (time : ℕ) where
   -- what a row adds to the dirty rows and partitions, and what a list of rows does
-  abbrev parts_shown : RowKey → List Partition
+  abbrev parts_shown : RowId → List Partition
   parts_shown r =
       let side = next_of (versions_at versions r.table) r.key in
       let columns = columns_in tables r.table in
       key_partition r.table r.key ∷ (parts_if r.table columns (side (time - 1)) ++ parts_if r.table columns (side time))
 
-  abbrev rows_added : List RowKey → List (ℕ × ℤ)
+  abbrev rows_added : List RowId → List RowId
   rows_added [] = []
-  rows_added (r ∷ rs) = rows_added rs ++ (r.table, r.key) ∷ []
+  rows_added (r ∷ rs) = rows_added rs ++ r ∷ []
 
-  abbrev parts_added : List RowKey → List Partition
+  abbrev parts_added : List RowId → List Partition
   parts_added [] = []
   parts_added (r ∷ rs) = parts_added rs ++ parts_shown r
 
-  rows-shown : (rs : List RowKey) (D : DirtySet) → (fold (with_row_shown tables versions time) D rs).rows ≡ rows_added rs ++ D.rows
+  rows-shown : (rs : List RowId) (D : DirtySet) → (fold (with_row_shown tables versions time) D rs).rows ≡ rows_added rs ++ D.rows
   rows-shown [] D = refl
   rows-shown (r ∷ rs) D = rows-shown rs (with_row_shown tables versions time D r) ∙ sym (append_assoc (rows_added rs) _ D.rows)
 
-  parts-shown : (rs : List RowKey) (D : DirtySet) → (fold (with_row_shown tables versions time) D rs).partitions ≡ parts_added rs ++ D.partitions
+  parts-shown : (rs : List RowId) (D : DirtySet) → (fold (with_row_shown tables versions time) D rs).partitions ≡ parts_added rs ++ D.partitions
   parts-shown [] D = refl
   parts-shown (r ∷ rs) D = parts-shown rs (with_row_shown tables versions time D r) ∙ sym (append_assoc (parts_added rs) (parts_shown r) D.partitions)
 
   any-twice : {X : Type 0} (test : X → Bool) (xs ys : List X) → list_any test (xs ++ (xs ++ ys)) ≡ list_any test (xs ++ ys)
   any-twice test xs ys = grind (arith, list_any-append test xs (xs ++ ys), list_any-append test xs ys)
 
-  -- a list that gets dirty twice is as dirty as once
-  shown-twice : (rs : List RowKey) (D : DirtySet) → SameMembers (fold (with_row_shown tables versions time) D rs) (fold (with_row_shown tables versions time) D (rs ++ rs))
+  -- rows that get dirty twice are as dirty as once
+  shown-twice : (rs : List RowId) (D : DirtySet) → SameMembers (fold (with_row_shown tables versions time) D rs) (fold (with_row_shown tables versions time) D (rs ++ rs))
   shown-twice rs D =
       let E = fold (with_row_shown tables versions time) D rs in
       let F = fold (with_row_shown tables versions time) E rs in
@@ -209,25 +203,25 @@ module _ (tables : Tables) (versions : TablesByPosition) (time : ℕ) where
       let parts : F.partitions ≡ parts_added rs ++ (parts_added rs ++ D.partitions) = parts-shown rs E ∙ ap (λ ps. parts_added rs ++ ps) (parts-shown rs D) in
       subst (SameMembers E) (sym (fold-append (with_row_shown tables versions time) D rs rs)) (record {
         rows = λ t key.
-            let test = λ (r : ℕ × ℤ). (t == r.0) && int_eq key r.1 in
+            let test = λ (r : RowId). (t == r.table) && int_eq key r.key in
             ap (list_any test) (rows-shown rs D) ∙ sym (any-twice test (rows_added rs) D.rows) ∙ ap (list_any test) (sym rows);
         partitions = λ p.
             let test = is_same_partition p in
             ap (list_any test) (parts-shown rs D) ∙ sym (any-twice test (parts_added rs) D.partitions) ∙ ap (list_any test) (sym parts);
       })
 
-pub shown-once : (d : DirtyTables) (versions : TablesByPosition) (once all : List RowKey) (time : ℕ) → IsWholeOrHalf once all
-    → SameMembers (with_rows_shown d versions once time) (with_rows_shown d versions all time)
-shown-once d versions once all time (true, is) = subst (λ (rs : List RowKey). SameMembers (with_rows_shown d versions once time) (with_rows_shown d versions rs time)) (sym is) (shown-twice d.catalog versions time once d.dirty)
-shown-once d versions once all time (false, is) = subst (λ (rs : List RowKey). SameMembers (with_rows_shown d versions once time) (with_rows_shown d versions rs time)) (sym is) (record { rows = λ t key. refl; partitions = λ p. refl })
+pub shown-without_repeat : (d : DirtyTables) (versions : TablesByPosition) (rows all : List RowId) (time : ℕ) → MayRepeat rows all
+    → SameMembers (with_rows_shown d versions rows time) (with_rows_shown d versions all time)
+shown-without_repeat d versions rows all time (true, is) = subst (λ (rs : List RowId). SameMembers (with_rows_shown d versions rows time) (with_rows_shown d versions rs time)) (sym is) (shown-twice d.catalog versions time rows d.dirty)
+shown-without_repeat d versions rows all time (false, is) = subst (λ (rs : List RowId). SameMembers (with_rows_shown d versions rows time) (with_rows_shown d versions rs time)) (sym is) (record { rows = λ t key. refl; partitions = λ p. refl })
 
 -- ---- what the tables show of a row
 
-module _ (before after : TablesByPosition) (n : ℕ) (X Y : Content) (written all : List (ℕ × ℤ)) (start : ShowsContentBefore before (suc n) X written)
-    (redone : AreReexecuted before after all (suc n) Y) where
+module _ (before after : TablesByPosition) (n : ℕ) (X Y : Content) (written all : List RowId) (start : ShowsContentBefore before (suc n) X written)
+    (reexecuted : AreReexecuted before after all (suc n) Y) where
   -- a re-executed row shows the content before just before the slot, and the one after at its time
   shows_before : (t : ℕ) (key : ℤ) → next_of (versions_at after t) key n ≡ row_at (X t) key
-  shows_before t key = redone.next t key n ∙ by (is_row_in all t key)
+  shows_before t key = reexecuted.next t key n ∙ by (is_row_in all t key)
     where
       earlier : nat_le (suc n) n ≡ false
       earlier = grind (arith, nat_tests)
@@ -239,11 +233,11 @@ module _ (before after : TablesByPosition) (n : ℕ) (X Y : Content) (written al
   shows_after : (t : ℕ) (key : ℤ) → is_row_in all t key ≡ true → next_of (versions_at after t) key (suc n) ≡ row_at (Y t) key
   shows_after t key is =
       let now : nat_le (suc n) (suc n) ≡ true = grind (arith, nat_tests) in
-      redone.next t key (suc n) ∙ (λ i. if is i && now i then row_at (Y t) key else next_of (versions_at before t) key (suc n))
+      reexecuted.next t key (suc n) ∙ (λ i. if is i && now i then row_at (Y t) key else next_of (versions_at before t) key (suc n))
 
   -- so by what the tables show, the re-executed rows get dirty with both contents
-  shown-contents : (tables : Tables) (rows : List RowKey) (D : DirtySet) → ((t : ℕ) (key : ℤ) → is_row_in (as_pairs rows) t key ≡ true → is_row_in all t key ≡ true)
-      → fold (with_row_shown tables after (suc n)) D rows ≡ fold (with_row_of tables X Y) D (as_pairs rows)
+  shown-contents : (tables : Tables) (rows : List RowId) (D : DirtySet) → ((t : ℕ) (key : ℤ) → is_row_in rows t key ≡ true → is_row_in all t key ≡ true)
+      → fold (with_row_shown tables after (suc n)) D rows ≡ fold (with_row_of tables X Y) D rows
   shown-contents tables [] D within = refl
   shown-contents tables (r ∷ rs) D within =
       let t = r.table in
@@ -253,14 +247,14 @@ module _ (before after : TablesByPosition) (n : ℕ) (X Y : Content) (written al
       let earlier : suc n - 1 ≡ n = omega arith in
       let first : next_of (versions_at after t) key (suc n - 1) ≡ row_at (X t) key = ap (next_of (versions_at after t) key) earlier ∙ shows_before t key in
       ap (λ C. fold (with_row_shown tables after (suc n)) C rs) (λ i. with_row D t (columns_in tables t) key (first i) (shows_after t key is i))
-      ∙ shown-contents tables rs (with_row_of tables X Y D (t, key)) (λ u k later. within u k (or_right _ _ later))
+      ∙ shown-contents tables rs (with_row_of tables X Y D r) (λ u k later. within u k (or_right _ _ later))
 
-dirty-shown : (d : DirtyTables) (before after : TablesByPosition) (time : ℕ) (X Y : Content) (written all : List (ℕ × ℤ)) (redone : List RowKey) → 0 < time
-    → ShowsContentBefore before time X written → AreReexecuted before after all time Y → as_pairs redone ≡ all
-    → with_rows_shown d after redone time ≡ fold (with_row_of d.catalog X Y) d.dirty all
-dirty-shown d before after zero X Y written all redone h start rows is = let none : ⊥ = omega (arith, h) in absurd none
-dirty-shown d before after (suc n) X Y written all redone h start rows is =
-    shown-contents before after n X Y written all start rows d.catalog redone d.dirty (λ t key in_rows. ap (λ rs. is_row_in rs t key) (sym is) ∙ in_rows)
+dirty-shown : (d : DirtyTables) (before after : TablesByPosition) (time : ℕ) (X Y : Content) (written all : List RowId) (reexecuted : List RowId) → 0 < time
+    → ShowsContentBefore before time X written → AreReexecuted before after all time Y → reexecuted ≡ all
+    → with_rows_shown d after reexecuted time ≡ fold (with_row_of d.catalog X Y) d.dirty all
+dirty-shown d before after zero X Y written all reexecuted h start rows is = let none : ⊥ = omega (arith, h) in absurd none
+dirty-shown d before after (suc n) X Y written all reexecuted h start rows is =
+    shown-contents before after n X Y written all start rows d.catalog reexecuted d.dirty (λ t key in_rows. ap (λ rs. is_row_in rs t key) (sym is) ∙ in_rows)
     ∙ ap (fold (with_row_of d.catalog X Y) d.dirty) is
 
 pub just_before-positive : (time : ℕ) (rows : ℕ → Option Row) → 0 < time → just_before time rows ≡ rows (time - 1)
@@ -268,7 +262,7 @@ just_before-positive zero rows h = let none : ⊥ = omega (arith, h) in absurd n
 just_before-positive (suc n) rows h = let same : n ≡ suc n - 1 = omega arith in ap rows same
 
 -- a row of a list gets dirty with what tables show, and then those behind it
-pub shown-step : (before after : DirtyTables) (versions : TablesByPosition) (rows : List RowKey) (n : ℕ) (none : RowKey) (table : LineagesByKey) (key : ℤ) (first last : Option Row) (time : ℕ)
+pub shown-step : (before after : DirtyTables) (versions : TablesByPosition) (rows : List RowId) (n : ℕ) (none : RowId) (table : LineagesByKey) (key : ℤ) (first last : Option Row) (time : ℕ)
     → n < length rows → after.catalog ≡ before.catalog → key ≡ (get_or rows n none).key → table ≡ versions_at versions (get_or rows n none).table
     → first ≡ side_of table Next key (time - 1) → last ≡ side_of table Next key time → SameMembers after.dirty (with_row_in before (get_or rows n none).table key first last)
     → SameMembers (with_rows_shown after versions (drop (n + 1) rows) time) (with_rows_shown before versions (drop n rows) time)
@@ -281,34 +275,34 @@ shown-step before after versions rows n none table key first last time room cata
     let all : drop n rows ≡ r ∷ rest = drop-cons rows n none room ∙ (λ i. r ∷ drop (next i) rows) in
     let dirty = shown-same before.catalog versions time rest after.dirty _
     (subst (SameMembers after.dirty) (λ i. with_row before.dirty r.table (columns_in before.catalog r.table) (same i) (before_it i) (at_it i)) h) in
-    subst (λ (rs : List RowKey). SameMembers (with_rows_shown after versions rest time) (with_rows_shown before versions rs time)) (sym all)
+    subst (λ (rs : List RowId). SameMembers (with_rows_shown after versions rest time) (with_rows_shown before versions rs time)) (sym all)
     (subst (λ (tables : Tables). SameMembers (fold (with_row_shown tables versions time) after.dirty rest) (with_rows_shown before versions (r ∷ rest) time)) (sym catalog) dirty)
 
 -- ---- the next slot is re-executed
 
-pub ReexecutesSlot-done : (r after : Repair) (kept new : KeptSlot) (before : TablesByPosition) (run : Reexecution) → Reexecutes (r.done + 1) (as_pairs kept.rows) (writes_of (next_action r kept)) before run
-    → new.slot.action ≡ next_action r kept → new.slot.replies ≡ replies_if (next_action r kept) run.replies.items → new.rows ≡ run.keys.items → after.slots ≡ slice_set r.slots r.done new
-    → SameMembers after.dirty.dirty (with_rows_shown r.dirty run.rows run.redone.items (r.done + 1)) → ReexecutesSlot r kept before after run.rows
+pub ReexecutesSlot-done : (r after : Repair) (kept new : KeptSlot) (before : TablesByPosition) (run : Reexecution) → Reexecutes (r.done + 1) kept.rows (writes_of (next_action r kept)) before run
+    → new.slot.action ≡ next_action r kept → new.slot.replies ≡ replies_if (next_action r kept) run.replies.items → new.rows ≡ run.rows_written.items → after.slots ≡ slice_set r.slots r.done new
+    → SameMembers after.dirty.dirty (with_rows_shown r.dirty run.rows run.reexecuted.items (r.done + 1)) → ReexecutesSlot r kept before after run.rows
 ReexecutesSlot-done r after kept new before run reexecutes action replies rows slots dirty X start =
     let next = next_action r kept in
     let Y = content_after_action (writes_of next) X in
-    let written = as_pairs kept.rows in
+    let written = kept.rows in
     let has = reexecutes X start in
     let matched = matched-of_writes next X in
-    let all = subst (λ (rs : List (ℕ × ℤ)). AreReexecuted before run.rows (written ++ rs) (r.done + 1) Y) matched has.rows in
-    let redone : as_pairs run.redone.items ≡ written ++ slot_rows_matched next X = has.redone ∙ ap (λ rs. written ++ rs) matched in
+    let all = subst (λ (rs : List RowId). AreReexecuted before run.rows (written ++ rs) (r.done + 1) Y) matched has.rows in
+    let reexecuted : run.reexecuted.items ≡ written ++ slot_rows_matched next X = has.reexecuted ∙ ap (λ rs. written ++ rs) matched in
     let answers : new.slot.replies ≡ slot_replies next X = replies ∙ ap (replies_if next) has.replies ∙ replies-of_writes next X in
-    let keys : new.rows ≡ keys_of_slot next X = rows ∙ has.keys ∙ keys-of_writes next X in
+    let written_now : new.rows ≡ slot_rows_written next X = rows ∙ has.rows_written ∙ written-of_writes next X in
     record {
       rows = all;
-      slots = slots ∙ (λ i. slice_set r.slots r.done (record { slot = record { action = action i; replies = answers i }; rows = keys i }));
+      slots = slots ∙ (λ i. slice_set r.slots r.done (record { slot = record { action = action i; replies = answers i }; rows = written_now i }));
       dirty = subst (SameMembers after.dirty.dirty)
-          (dirty-shown r.dirty before run.rows (r.done + 1) X Y written (written ++ slot_rows_matched next X) run.redone.items (omega arith) start all redone) dirty;
+          (dirty-shown r.dirty before run.rows (r.done + 1) X Y written (written ++ slot_rows_matched next X) run.reexecuted.items (omega arith) start all reexecuted) dirty;
     }
 
 -- the tables of the rows that it re-executes are there
 pub tables-of_run : (tables : Tables) (r : Repair) (kept : KeptSlot) (before : TablesByPosition) (run : Reexecution) → All (λ k. k.table < length tables) kept.rows → IsAccepted tables (next_action r kept)
-    → ShowsFewBefore before (r.done + 1) (as_pairs kept.rows) → Reexecutes (r.done + 1) (as_pairs kept.rows) (writes_of (next_action r kept)) before run
-    → All (λ k. k.table < length tables) run.redone.items
+    → ShowsFewBefore before (r.done + 1) kept.rows → Reexecutes (r.done + 1) kept.rows (writes_of (next_action r kept)) before run
+    → All (λ k. k.table < length tables) run.reexecuted.items
 tables-of_run tables r kept before run there accepted few reexecutes =
-    tables-redone tables kept.rows run.redone.items (next_action r kept) few.content there accepted (reexecutes few.content few.shows).redone
+    tables-reexecuted tables kept.rows run.reexecuted.items (next_action r kept) few.content there accepted (reexecutes few.content few.shows).reexecuted

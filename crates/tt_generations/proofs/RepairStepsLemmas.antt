@@ -1,5 +1,5 @@
 -- What a repair keeps, before and after each event.
-use Rattle.std.proofs.Common.{◌≡◌, ℕ, zero, suc, ◌<◌, ◌≤◌, ◌+◌, ◌*◌, Bool, true, false, not, ◌||◌, ◌==◌, nat_lt, ℤ, List, [], ◌∷◌, ◌++◌, map, fold, length, Option, None, Some, is_some, if◌then◌else◌, refl, sym, ap, subst, ◌∙◌, arith, length-append}
+use Rattle.std.proofs.Common.{◌≡◌, ℕ, zero, suc, ◌<◌, ◌≤◌, ◌+◌, ◌*◌, Bool, true, false, not, ◌||◌, ◌==◌, nat_lt, ℤ, List, [], ◌∷◌, ◌++◌, fold, length, Option, None, Some, is_some, if◌then◌else◌, refl, sym, ap, subst, ◌∙◌, arith, length-append}
 use Rattle.std.proofs.lemmas.Bool.Decides.{nat_tests}
 use Rattle.std.specs.List.{All, list_any}
 use Rattle.std.specs.Option.{option_map}
@@ -9,25 +9,25 @@ use Rattle.tt_values.specs.Tables.{Tables}
 use Rattle.tt_values.specs.Limits.{max_writes}
 use Rattle.tt_values.specs.Check.{first_write_fault}
 use Rattle.tt_values.specs.Content.{Content, with_row_write}
-use Rattle.tt_values.specs.Action.{RowId, rows_of_action, content_after_action}
+use Rattle.tt_values.specs.declared.row_id.RowId.{RowId}
+use Rattle.tt_values.specs.Action.{rows_of_action, content_after_action}
 use Rattle.tt_values.specs.ActionLaws.{IsByRisingKey}
 use Rattle.tt_values.specs.RowWrites.{Slots, slot_after, slot_writes, slot_replies, row_writes, content_of}
 use Rattle.tt_values.proofs.LawProofs.{rows_rise, next_content, action_leaves_its_last_content}
 use Rattle.tt_parts.specs.Dirty.{DirtySet, DirtyTables, SameMembers, nothing_dirty, has_row}
 use Rattle.tt_repair_laws.specs.declared.edit.Edit.{Edit}
 use Rattle.tt_repair_laws.specs.Edits.{edit_of, edited_slots, slot_with_edit, replacement_of}
-use Rattle.tt_repair_laws.specs.Due.{content_after, is_due, is_slot_affected, dirty_after, rerun_count, rows_reexecuted, slot_rows_written, slot_rows_matched, row_pair, names_dirty_row, is_write_clear, with_row_of}
+use Rattle.tt_repair_laws.specs.Due.{content_after, is_due, is_slot_affected, dirty_after, reexecuted_count, rows_reexecuted, slot_rows_written, slot_rows_matched, names_dirty_row, is_write_clear, with_row_of}
 use Rattle.tt_repair_laws.specs.Laws.{IsSameRepair}
-use Rattle.tt_repair_laws.proofs.LawProofs.{edited_slots_are_as_many, edited_slot_is_next, later_slots_change_no_repair, content_after_is_kept, due_depends_on_members, dirty_rows_depend_on_members, nothing_is_dirty_at_first, undue_slots_dirty_nothing, due_slots_dirty_reexecuted_rows, no_slot_is_rerun_at_first, due_slots_are_rerun, undue_slots_are_not_rerun}
-use Rattle.tt_generations.specs.declared.slot.RowKey.{RowKey}
+use Rattle.tt_repair_laws.proofs.LawProofs.{edited_slots_are_as_many, edited_slot_is_next, later_slots_change_no_repair, content_after_is_kept, due_depends_on_members, dirty_rows_depend_on_members, nothing_is_dirty_at_first, undue_slots_dirty_nothing, due_slots_dirty_reexecuted_rows, no_slot_is_reexecuted_at_first, due_slots_are_reexecuted, undue_slots_are_not_reexecuted}
 use Rattle.tt_generations.specs.declared.slot.KeptSlot.{KeptSlot}
 use Rattle.tt_generations.specs.declared.edits.Replacement.{Replacement}
 use Rattle.tt_generations.specs.declared.repair.Repair.{Repair}
 use Rattle.tt_generations.specs.Limits.{max_slots}
-use Rattle.tt_generations.specs.Rows.{TablesByPosition, as_pairs}
-use Rattle.tt_generations.specs.ActionRun.{as_row_keys, most_rows}
+use Rattle.tt_generations.specs.Rows.{TablesByPosition}
+use Rattle.tt_generations.specs.ActionRun.{most_rows}
 use Rattle.tt_generations.specs.Reexecution.{AreReexecuted, ShowsContentBefore, ShowsFewBefore}
-use Rattle.tt_generations.specs.KeptSlots.{keys_of_slot, kept_slot, AreKept, IsAccepted, AreAccepted}
+use Rattle.tt_generations.specs.KeptSlots.{kept_slot, AreKept, IsAccepted, AreAccepted}
 use Rattle.tt_generations.specs.EditsByNumber.{HasEdits}
 use Rattle.tt_generations.specs.Repair.{is_kept_affected, is_kept_due, next_replacement, replaced_by, next_action, writes_of, HasReexecutedSlot, HasDoneDueSlot}
 use Rattle.tt_generations.specs.TwoGenerations.{NamesSlot, HasNoFault, Repairing}
@@ -48,7 +48,7 @@ IsRepair-slot tables W s r after k is last new = subst (IsRepair tables V) (sym 
   accepted = is.accepted;
   replacements = is.replacements;
   done = omega (arith, is.done, many);
-  rerun = is.rerun ∙ sym same.rerun;
+  reexecuted = is.reexecuted ∙ sym same.reexecuted;
   catalog = is.catalog;
   dirty = subst (SameMembers r.dirty.dirty) (sym same.dirty) is.dirty;
   slots = subst (AreKept (r.slots ++ k ∷ []) (next_kept_slot V E n)) (sym many)
@@ -76,7 +76,7 @@ pub record IsNewRepair (tables : Tables) (E : List Edit) (kept : List KeptSlot) 
   pub edits : r.edits ≡ E
   pub replacements : HasEdits r.replacements E
   pub done : r.done ≡ 0
-  pub rerun : r.rerun ≡ 0
+  pub reexecuted : r.reexecuted ≡ 0
   pub catalog : r.dirty.catalog ≡ tables
   pub dirty : SameMembers r.dirty.dirty nothing_dirty
   pub slots : r.slots ≡ kept
@@ -87,7 +87,7 @@ IsRepair-new tables W E kept r named accepted are new = record {
   accepted = subst (All (HasNoFault tables)) (sym new.edits) accepted;
   replacements = subst (HasEdits r.replacements) (sym new.edits) new.replacements;
   done = omega (arith, new.done);
-  rerun = new.rerun ∙ sym (no_slot_is_rerun_at_first tables W r.edits) ∙ ap (rerun_count tables W r.edits) (sym new.done);
+  reexecuted = new.reexecuted ∙ sym (no_slot_is_reexecuted_at_first tables W r.edits) ∙ ap (reexecuted_count tables W r.edits) (sym new.done);
   catalog = new.catalog;
   dirty = subst (λ n. SameMembers r.dirty.dirty (dirty_after tables W r.edits n)) (sym new.done) (subst (SameMembers r.dirty.dirty) (sym (nothing_is_dirty_at_first tables W r.edits)) new.dirty);
   slots = subst (λ n. AreKept r.slots (next_kept_slot W r.edits n) (length W)) (sym new.done)
@@ -103,7 +103,7 @@ IsRepair-undue tables W r after is room undue new = subst (IsRepair tables W) (s
   accepted = is.accepted;
   replacements = is.replacements;
   done = omega (arith, room);
-  rerun = is.rerun ∙ sym (undue_slots_are_not_rerun tables W E n undue) ∙ ap (rerun_count tables W E) next;
+  reexecuted = is.reexecuted ∙ sym (undue_slots_are_not_reexecuted tables W E n undue) ∙ ap (reexecuted_count tables W E) next;
   catalog = is.catalog;
   dirty = subst (λ m. SameMembers r.dirty.dirty (dirty_after tables W E m)) next (subst (SameMembers r.dirty.dirty) (sym (undue_slots_dirty_nothing tables W E n undue)) is.dirty);
   slots = subst (λ m. AreKept r.slots (next_kept_slot W E m) (length W)) next (AreKept-same r.slots (next_kept_slot W E n) (next_kept_slot W E (suc n)) (length W) is.slots (λ i h. each i (i == n) refl));
@@ -126,14 +126,10 @@ IsRepair-undue tables W r after is room undue new = subst (IsRepair tables W) (s
 
 -- ---- whether a slot is due
 
-any-keys : (D : DirtySet) (rs : List RowId) → list_any (λ (k : RowKey). has_row D k.table k.key) (as_row_keys rs) ≡ list_any (λ r. has_row D r.0 r.1) (map row_pair rs)
-any-keys D [] = refl
-any-keys D (r ∷ rs) = ap (λ b. has_row D r.table r.key || b) (any-keys D rs)
-
-affected-kept : (tables : Tables) (d : DirtyTables) (s : Option (List Write)) (X : Content) → d.catalog ≡ tables → is_kept_affected d (keys_of_slot s X) s ≡ is_slot_affected tables d.dirty s X
+affected-kept : (tables : Tables) (d : DirtyTables) (s : Option (List Write)) (X : Content) → d.catalog ≡ tables → is_kept_affected d (slot_rows_written s X) s ≡ is_slot_affected tables d.dirty s X
 affected-kept tables d None X catalog = refl
 affected-kept tables d (Some action) X catalog = λ i.
-    any-keys d.dirty (rows_of_action action X) i
+    list_any (λ r. has_row d.dirty r.table r.key) (rows_of_action action X)
     || list_any (names_dirty_row d.dirty) action
     || list_any (λ w. not (is_write_clear (catalog i) d.dirty w)) action
 
@@ -146,7 +142,7 @@ is_due-kept tables W r is room =
     let n = r.done in
     let edited : is_some (next_replacement r) ≡ is_some (edit_of r.edits (suc n)) =
     ap is_some (is.replacements (n + 1)) ∙ is_some-map (λ e. record { action = replacement_of e }) (edit_of r.edits (n + 1)) ∙ ap (λ t. is_some (edit_of r.edits t)) (next_number n) in
-    let affected : is_kept_affected r.dirty (keys_of_slot (slot_after W n) (content_of W n)) (slot_after W n) ≡ is_slot_affected tables r.dirty.dirty (slot_after W n) (content_after W n) =
+    let affected : is_kept_affected r.dirty (slot_rows_written (slot_after W n) (content_of W n)) (slot_after W n) ≡ is_slot_affected tables r.dirty.dirty (slot_after W n) (content_after W n) =
     affected-kept tables r.dirty (slot_after W n) (content_of W n) is.catalog
     ∙ ap (is_slot_affected tables r.dirty.dirty (slot_after W n)) (content_after_is_kept W n (omega (arith, room))) in
     (λ i. edited i || affected i) ∙ due_depends_on_members tables W r.edits n r.dirty.dirty (dirty_after tables W r.edits n) is.dirty
@@ -168,16 +164,8 @@ next_action-is tables W r is room =
     ∙ ap (λ t. slot_with_edit (edit_of r.edits t) (slot_after W n)) (next_number n)
     ∙ sym (edited_slot_is_next W r.edits n room)
 
-pairs-of_keys : (rs : List RowId) → as_pairs (as_row_keys rs) ≡ map row_pair rs
-pairs-of_keys [] = refl
-pairs-of_keys (r ∷ rs) = ap (λ ps. row_pair r ∷ ps) (pairs-of_keys rs)
-
-pairs-of_slot : (s : Option (List Write)) (X : Content) → as_pairs (keys_of_slot s X) ≡ slot_rows_written s X
-pairs-of_slot None X = refl
-pairs-of_slot (Some action) X = pairs-of_keys (rows_of_action action X)
-
-pub pairs-kept : (W : Slots) (n : ℕ) → n ≤ length W → as_pairs (kept_slot W n).rows ≡ slot_rows_written (slot_after W n) (content_after W n)
-pairs-kept W n h = pairs-of_slot (slot_after W n) (content_of W n) ∙ ap (slot_rows_written (slot_after W n)) (content_after_is_kept W n h)
+pub rows-kept : (W : Slots) (n : ℕ) → n ≤ length W → (kept_slot W n).rows ≡ slot_rows_written (slot_after W n) (content_after W n)
+rows-kept W n h = ap (slot_rows_written (slot_after W n)) (content_after_is_kept W n h)
 
 -- the content after a slot, by its writes
 after-slot : (s : Option (List Write)) (time : ℕ) (X : Content) → IsByRisingKey X → fold with_row_write X (slot_writes time s X) ≡ content_after_action (writes_of s) X
@@ -188,7 +176,7 @@ pub content-after_slot : (W : Slots) (n : ℕ) → content_after W (suc n) ≡ c
 content-after_slot W n = next_content W n ∙ after-slot (slot_after W n) (suc n) (content_after W n) (rows_rise (row_writes W n) n)
 
 record ReexecutedBy : Type 0 where
-  rows : List (ℕ × ℤ)
+  rows : List RowId
   time : ℕ
   content : Content
 
@@ -214,31 +202,31 @@ HaveBothSides-reexecuted before after tables W r next is room due have done = su
     action = next_action-is tables W r is room
 
     by_step : ReexecutedBy
-    by_step = record { rows = as_pairs (kept_slot W n).rows ++ slot_rows_matched (next_action r (kept_slot W n)) X; time = n + 1; content = content_after_action (writes_of (next_action r (kept_slot W n))) X }
+    by_step = record { rows = (kept_slot W n).rows ++ slot_rows_matched (next_action r (kept_slot W n)) X; time = n + 1; content = content_after_action (writes_of (next_action r (kept_slot W n))) X }
 
     by_slot : ReexecutedBy
     by_slot = record { rows = rows_reexecuted W E n; time = suc n; content = content_after V (suc n) }
 
     same : by_step ≡ by_slot
     same = λ i. record {
-      rows = pairs-kept W n (omega (arith, room)) i ++ slot_rows_matched (action i) X;
+      rows = rows-kept W n (omega (arith, room)) i ++ slot_rows_matched (action i) X;
       time = next_number n i;
       content = (ap (λ s. content_after_action (writes_of s) X) action ∙ sym (content-after_slot V n)) i;
     }
 
 pub IsRepair-due : (tables : Tables) (W : Slots) (r after : Repair) (before left : TablesByPosition) → IsRepair tables W r → r.done < length W → is_due tables W r.edits r.done ≡ true
     → HasDoneDueSlot r after → HasReexecutedSlot r (kept_slot W r.done) before after left (content_after (edited_slots W r.edits) r.done) → IsRepair tables W after
-IsRepair-due tables W r after before left is room due done redone = record {
+IsRepair-due tables W r after before left is room due done reexecuted = record {
   named = subst (All (NamesSlot W)) (sym done.edits) is.named;
   accepted = subst (All (HasNoFault tables)) (sym done.edits) is.accepted;
   replacements = subst (HasEdits after.replacements) (sym done.edits) (subst (λ (m : List (ℤ × Replacement)). HasEdits m E) (sym done.replacements) is.replacements);
   done = omega (arith, done.done, room);
-  rerun = done.rerun ∙ ap (λ m. m + 1) is.rerun ∙ next_number (rerun_count tables W E n) ∙ sym (due_slots_are_rerun tables W E n due) ∙ (λ i. rerun_count tables W (sym done.edits i) (now i));
+  reexecuted = done.reexecuted ∙ ap (λ m. m + 1) is.reexecuted ∙ next_number (reexecuted_count tables W E n) ∙ sym (due_slots_are_reexecuted tables W E n due) ∙ (λ i. reexecuted_count tables W (sym done.edits i) (now i));
   catalog = done.catalog ∙ is.catalog;
-  dirty = subst (λ (D : DirtySet). SameMembers after.dirty.dirty D) dirty_now (SameMembers-trans redone.dirty (dirty_rows_depend_on_members r.dirty.catalog X Y rows r.dirty.dirty (dirty_after tables W E n) is.dirty));
+  dirty = subst (λ (D : DirtySet). SameMembers after.dirty.dirty D) dirty_now (SameMembers-trans reexecuted.dirty (dirty_rows_depend_on_members r.dirty.catalog X Y rows r.dirty.dirty (dirty_after tables W E n) is.dirty));
   slots = subst (λ m. AreKept after.slots (next_kept_slot W after.edits m) (length W)) now
       (subst (λ (F : List Edit). AreKept after.slots (next_kept_slot W F (suc n)) (length W)) (sym done.edits)
-      (subst (λ (slots : List KeptSlot). AreKept slots (next_kept_slot W E (suc n)) (length W)) (sym redone.slots)
+      (subst (λ (slots : List KeptSlot). AreKept slots (next_kept_slot W E (suc n)) (length W)) (sym reexecuted.slots)
       (AreKept-set r.slots (next_kept_slot W E n) (next_kept_slot W E (suc n)) (length W) n new is.slots room (λ i h other. next_kept_slot-other W E n i other) (new_is ∙ next_kept_slot-done W E n))));
 }
   where
@@ -257,8 +245,8 @@ IsRepair-due tables W r after before left is room due done redone = record {
     Y : Content
     Y = content_after_action (writes_of (next_action r (kept_slot W n))) X
 
-    rows : List (ℕ × ℤ)
-    rows = as_pairs (kept_slot W n).rows ++ slot_rows_matched (next_action r (kept_slot W n)) X
+    rows : List RowId
+    rows = (kept_slot W n).rows ++ slot_rows_matched (next_action r (kept_slot W n)) X
 
     now : suc n ≡ after.done
     now = sym (next_number n) ∙ sym done.done
@@ -268,16 +256,16 @@ IsRepair-due tables W r after before left is room due done redone = record {
 
     dirty_now : fold (with_row_of r.dirty.catalog X Y) (dirty_after tables W E n) rows ≡ dirty_after tables W after.edits after.done
     dirty_now =
-        (λ i. fold (with_row_of (is.catalog i) X ((ap (λ s. content_after_action (writes_of s) X) action ∙ sym (content-after_slot V n)) i)) (dirty_after tables W E n) (pairs-kept W n (omega (arith, room)) i ++ slot_rows_matched (action i) X))
+        (λ i. fold (with_row_of (is.catalog i) X ((ap (λ s. content_after_action (writes_of s) X) action ∙ sym (content-after_slot V n)) i)) (dirty_after tables W E n) (rows-kept W n (omega (arith, room)) i ++ slot_rows_matched (action i) X))
         ∙ sym (due_slots_dirty_reexecuted_rows tables W E n due)
         ∙ (λ i. dirty_after tables W (sym done.edits i) (now i))
 
     new : KeptSlot
-    new = record { slot = record { action = next_action r (kept_slot W n); replies = slot_replies (next_action r (kept_slot W n)) X }; rows = keys_of_slot (next_action r (kept_slot W n)) X }
+    new = record { slot = record { action = next_action r (kept_slot W n); replies = slot_replies (next_action r (kept_slot W n)) X }; rows = slot_rows_written (next_action r (kept_slot W n)) X }
 
     new_is : new ≡ kept_slot V n
     new_is = kept_slot-is V n (slot_after V n) X new refl (content_after_is_kept V n (omega (arith, room, edited_slots_are_as_many W E)))
-        action (ap (λ s. slot_replies s X) action) (ap (λ s. keys_of_slot s X) action)
+        action (ap (λ s. slot_replies s X) action) (ap (λ s. slot_rows_written s X) action)
 
 -- ---- what the re-execution asks for
 
@@ -304,14 +292,14 @@ pub length-content : (tables : Tables) (W : Slots) (n t : ℕ) → AreAccepted t
 length-content tables W n t all few = omega (arith, few_rows_of tables W n t all, few)
 
 pub ShowsFewBefore-next : (versions : TablesByPosition) (tables : Tables) (W : Slots) (r : Repair) → IsRepair tables W r → r.done < length W → length W ≤ max_slots → AreAccepted tables W
-    → HaveBothSides versions tables (Repairing r.edits r.done) W → ShowsFewBefore versions (r.done + 1) (as_pairs (kept_slot W r.done).rows)
+    → HaveBothSides versions tables (Repairing r.edits r.done) W → ShowsFewBefore versions (r.done + 1) (kept_slot W r.done).rows
 ShowsFewBefore-next versions tables W r is room few all have =
     let n = r.done in
     let V = edited_slots W r.edits in
     let shows = ShowsContentBefore-next versions tables W r.edits n room have in
     record {
       content = content_after V n;
-      shows = subst (λ (rows : List (ℕ × ℤ)). ShowsContentBefore versions (n + 1) (content_after V n) rows) (sym (pairs-kept W n (omega (arith, room))))
+      shows = subst (λ (rows : List RowId). ShowsContentBefore versions (n + 1) (content_after V n) rows) (sym (rows-kept W n (omega (arith, room))))
           (subst (λ m. ShowsContentBefore versions m (content_after V n) (slot_rows_written (slot_after W n) (content_after W n))) (sym (next_number n)) shows);
       few = λ t. length-content tables V n t (AreAccepted-edited tables W r.edits all is.accepted) (omega (arith, room, few));
     }

@@ -6,8 +6,8 @@ use Rattle.std.proofs.lemmas.List.Folds.{list_any-append}
 use Rattle.tt_values.specs.declared.row.Row.{Row}
 use Rattle.tt_versions.specs.Sides.{LineagesByKey, RowsOverTime, current_of, next_of, is_split, all_written_from, written_from, whole_among, just_before, rolled_back_from, with_key}
 use Rattle.tt_parts.specs.Dirty.{is_row_in}
-use Rattle.tt_generations.specs.declared.slot.RowKey.{RowKey}
-use Rattle.tt_generations.specs.Rows.{as_pairs, TablesByPosition, versions_at, KeepsSplitRows, SplitsRows, WritesNext}
+use Rattle.tt_values.specs.declared.row_id.RowId.{RowId}
+use Rattle.tt_generations.specs.Rows.{TablesByPosition, versions_at, KeepsSplitRows, SplitsRows, WritesNext}
 use Rattle.tt_generations.proofs.RowsLemmas.{PutsTable, same_table}
 
 same_key : (q key : ℤ) → int_eq q key ≡ true → q ≡ key
@@ -81,19 +81,19 @@ either_split true true p = refl
 either_split true false p = refl
 either_split false s p = refl
 
-rolled_back-once : {X : Type 0} → (r s p l : Bool) (back old : X)
+rolled_back-after : {X : Type 0} → (r s p l : Bool) (back old : X)
     → (if s && not (r || p) && l then back else (if r && not p && l then back else old)) ≡ (if (r || s) && not p && l then back else old)
-rolled_back-once true true true l back old = refl
-rolled_back-once true true false true back old = refl
-rolled_back-once true true false false back old = refl
-rolled_back-once true false p l back old = refl
-rolled_back-once false true true l back old = refl
-rolled_back-once false true false true back old = refl
-rolled_back-once false true false false back old = refl
-rolled_back-once false false p l back old = refl
+rolled_back-after true true true l back old = refl
+rolled_back-after true true false true back old = refl
+rolled_back-after true true false false back old = refl
+rolled_back-after true false p l back old = refl
+rolled_back-after false true true l back old = refl
+rolled_back-after false true false true back old = refl
+rolled_back-after false true false false back old = refl
+rolled_back-after false false p l back old = refl
 
 -- rows are split, and then further ones: those that are split by then aren't rolled back again
-pub SplitsRows-append : (before between after : TablesByPosition) (rows further : List (ℕ × ℤ)) (time : ℕ)
+pub SplitsRows-append : (before between after : TablesByPosition) (rows further : List RowId) (time : ℕ)
     → SplitsRows before between rows time → SplitsRows between after further time → SplitsRows before after (rows ++ further) time
 SplitsRows-append before between after rows further time one two = record {
   current = λ t. two.current t ∙ one.current t;
@@ -112,28 +112,28 @@ SplitsRows-append before between after rows further time one two = record {
       ∙ (λ i. if s && not (one.split t key i) && l then just_before time now else one.next t key u i)
       ∙ ap (λ o. if s && not (r || p) && l then o else (if r && not p && l then just_before time old else old u)) (just_before-alike time now old (λ v earlier.
       one.next t key v ∙ not_yet (r && not p) (nat_le time v) earlier (just_before time old) (old v)))
-      ∙ rolled_back-once r s p l (just_before time old) (old u)
+      ∙ rolled_back-after r s p l (just_before time old) (old u)
       ∙ ap (λ b. if b && not p && l then just_before time old else old u) (sym (both t key));
 }
   where
     both : (t : ℕ) (key : ℤ) → is_row_in (rows ++ further) t key ≡ (is_row_in rows t key || is_row_in further t key)
-    both t key = list_any-append (λ r. (t == r.0) && int_eq key r.1) rows further
+    both t key = list_any-append (λ r. (t == r.table) && int_eq key r.key) rows further
 
     not_yet : (b l : Bool) → l ≡ false → (back old : Option Row) → (if b && l then back else old) ≡ old
     not_yet true l h back old = ap (λ c. if c then back else old) h
     not_yet false l h back old = refl
 
 -- one row of a list is split, and then those behind it
-pub SplitsRows-next : (keys : List RowKey) (n : ℕ) (none : RowKey) (before between after : TablesByPosition) (time : ℕ) → n < length keys
-    → SplitsRows before between (as_pairs (get_or keys n none ∷ [])) time → SplitsRows between after (as_pairs (drop (n + 1) keys)) time → SplitsRows before after (as_pairs (drop n keys)) time
+pub SplitsRows-next : (keys : List RowId) (n : ℕ) (none : RowId) (before between after : TablesByPosition) (time : ℕ) → n < length keys
+    → SplitsRows before between (get_or keys n none ∷ []) time → SplitsRows between after (drop (n + 1) keys) time → SplitsRows before after (drop n keys) time
 SplitsRows-next keys n none before between after time room one rest =
     let key = get_or keys n none in
     let all : drop n keys ≡ key ∷ drop (n + 1) keys = rw (add-one, drop-cons keys n none) refl in
-    subst (λ ks. SplitsRows before after (as_pairs ks) time) (sym all)
-    (SplitsRows-append before between after (as_pairs (key ∷ [])) (as_pairs (drop (n + 1) keys)) time one rest)
+    subst (λ ks. SplitsRows before after ks time) (sym all)
+    (SplitsRows-append before between after (key ∷ []) (drop (n + 1) keys) time one rest)
 
 -- one row that is split already
-pub SplitsRows-already : (tables : TablesByPosition) (table : ℕ) (key : ℤ) (time : ℕ) → is_split (versions_at tables table) key ≡ true → SplitsRows tables tables ((table, key) ∷ []) time
+pub SplitsRows-already : (tables : TablesByPosition) (table : ℕ) (key : ℤ) (time : ℕ) → is_split (versions_at tables table) key ≡ true → SplitsRows tables tables (record { table = table; key = key } ∷ []) time
 SplitsRows-already tables table key time h = record {
   current = λ t. refl;
   split = λ t k. splits t k (t == table) refl (int_eq k key) refl;
@@ -161,7 +161,7 @@ SplitsRows-already tables table key time h = record {
 pub SplitsRows-put : (before after : TablesByPosition) (table : ℕ) (key : ℤ) (time : ℕ) (new : LineagesByKey) → PutsTable table new before after
     → is_split (versions_at before table) key ≡ false → current_of new ≡ current_of (versions_at before table)
     → next_of new ≡ rolled_back_from key time (next_of (versions_at before table)) → is_split new ≡ with_key key (is_split (versions_at before table))
-    → SplitsRows before after ((table, key) ∷ []) time
+    → SplitsRows before after (record { table = table; key = key } ∷ []) time
 SplitsRows-put before after table key time new puts whole current next split = record {
   current = λ t. ap current_of (puts.each t) ∙ currents t (t == table) refl;
   split = λ t k. ap (λ v. is_split v k) (puts.each t) ∙ splits t k (t == table) refl (int_eq k key) refl;

@@ -1,12 +1,11 @@
 -- How the writes of an action are carried out on the current side, one after another.
-use Rattle.std.specs.Prelude.{◌≡◌, ℕ, ◌*◌, List, [], ◌∷◌, ◌++◌, map}
+use Rattle.std.specs.Prelude.{◌≡◌, ℕ, ◌*◌, List, [], ◌∷◌, ◌++◌}
 use Rattle.tt_values.specs.declared.statement.Write.{Write}
 use Rattle.tt_values.specs.Limits.{max_writes}
 use Rattle.tt_values.specs.Content.{Content, RowWrite, content_at}
 use Rattle.tt_values.specs.Effect.{table_of, effect}
-use Rattle.tt_values.specs.Action.{RowId, content_after_write, replies_of, rows_of_action}
+use Rattle.tt_values.specs.Action.{content_after_write, replies_of, rows_of_action}
 use Rattle.tt_versions.specs.RowsByWrites.{as_row_writes}
-use Rattle.tt_generations.specs.declared.slot.RowKey.{RowKey}
 use Rattle.tt_generations.specs.declared.action_run.ActionRun.{ActionRun}
 use Rattle.tt_generations.specs.Limits.{max_slots}
 use Rattle.tt_generations.specs.Rows.{TablesByPosition, CurrentAgrees}
@@ -16,27 +15,23 @@ abbrev pub step_writes : ℕ → List Write → Content → List RowWrite
 step_writes time [] X = []
 step_writes time (w ∷ ws) X = as_row_writes time (table_of w) (effect w X) ++ step_writes time ws (content_after_write w X)
 
--- rows, as a slot keeps them
-abbrev pub as_row_keys : List RowId → List RowKey
-as_row_keys rows = map (λ r. record { table = r.table; key = r.key }) rows
-
--- what writes leave, and what they answer, once they are carried out at a time on tables that have the rows of these row writes
+-- what writes leave, and what they answer, after they are carried out at a time on tables that have the rows of these row writes
 pub record HasCarriedOut (time : ℕ) (ws : List Write) (before after : ActionRun) (vs : List RowWrite) : Type 0 where
   pub rows : CurrentAgrees after.rows (vs ++ step_writes time ws (content_at vs time))
   pub replies : after.replies.items ≡ before.replies.items ++ replies_of ws (content_at vs time)
-  pub keys : after.keys.items ≡ before.keys.items ++ as_row_keys (rows_of_action ws (content_at vs time))
+  pub rows_written : after.rows_written.items ≡ before.rows_written.items ++ rows_of_action ws (content_at vs time)
 
--- writes are carried out at a time, whatever row writes the tables before have the rows of
+-- writes are carried out at a time, for all row writes whose rows the tables before have
 abbrev pub CarriesOut : ℕ → List Write → ActionRun → ActionRun → Type 0
 CarriesOut time ws before after = (vs : List RowWrite) → CurrentAgrees before.rows vs → HasCarriedOut time ws before after vs
 
--- the same, from nothing but rows on
+-- what writes leave, and what they answer, for a run that begins with these tables, before the first write
 pub record StartsAction (time : ℕ) (ws : List Write) (before : TablesByPosition) (after : ActionRun) (vs : List RowWrite) : Type 0 where
   pub rows : CurrentAgrees after.rows (vs ++ step_writes time ws (content_at vs time))
   pub replies : after.replies.items ≡ replies_of ws (content_at vs time)
-  pub keys : after.keys.items ≡ as_row_keys (rows_of_action ws (content_at vs time))
+  pub rows_written : after.rows_written.items ≡ rows_of_action ws (content_at vs time)
 
--- an action is carried out at a time, whatever row writes the tables before have the rows of
+-- an action is carried out at a time, for all row writes whose rows the tables before have
 abbrev pub CarriesOutAction : ℕ → List Write → TablesByPosition → ActionRun → Type 0
 CarriesOutAction time ws before after = (vs : List RowWrite) → CurrentAgrees before vs → StartsAction time ws before after vs
 

@@ -1,6 +1,7 @@
 -- The effect of a write on a side of a table with versions.
 use Rattle.std.specs.Prelude.{◌≡◌, ℕ, ℤ, Bool, List, [], ◌∷◌, map, Option, None, Some, if◌then◌else◌}
 use Rattle.tt_values.specs.declared.row.Row.{Row}
+use Rattle.tt_values.specs.declared.row_id.RowId.{RowId}
 use Rattle.tt_values.specs.declared.statement.Change.{Change}
 use Rattle.tt_values.specs.declared.statement.Write.{Write}
 use Rattle.tt_values.specs.declared.statement.Write.TheVariants.{Insert, Update, Delete}
@@ -9,7 +10,6 @@ use Rattle.tt_values.specs.Change.{changed}
 use Rattle.tt_values.specs.Content.{RowsByKey}
 use Rattle.tt_values.specs.Effect.{effect_on}
 use Rattle.tt_versions.specs.Sides.{RowsOverTime, ListsRows}
-use Rattle.tt_generations.specs.declared.slot.RowKey.{RowKey}
 
 -- pairs are the effect of a write on the rows that a side has at a time
 abbrev pub IsEffect : List (ℤ × Option Row) → Write → RowsOverTime → ℕ → Type 0
@@ -28,11 +28,11 @@ abbrev pub delete_effect : RowsByKey → List (ℤ × Option Row)
 delete_effect rows = map (λ e. (e.0, None)) rows
 
 -- the rows of a table that an effect writes
-abbrev pub row_keys : ℕ → List (ℤ × Option Row) → List RowKey
-row_keys table effect = map (λ e. record { table = table; key = e.0 }) effect
+abbrev pub rows_of_effect : ℕ → List (ℤ × Option Row) → List RowId
+rows_of_effect table effect = map (λ e. record { table = table; key = e.0 }) effect
 
 -- the rows that a write with an effect matches: those of its effect. An insert matches the row of its key, whether it is there or not
-abbrev pub matched_keys : Write → List (ℤ × Option Row) → List RowKey
-matched_keys (Insert table row) effect = record { table = table; key = key_of row } ∷ []
-matched_keys (Update table changes equals) effect = row_keys table effect
-matched_keys (Delete table equals) effect = row_keys table effect
+abbrev pub matched_rows : Write → List (ℤ × Option Row) → List RowId
+matched_rows (Insert table row) effect = record { table = table; key = key_of row } ∷ []
+matched_rows (Update table changes equals) effect = rows_of_effect table effect
+matched_rows (Delete table equals) effect = rows_of_effect table effect

@@ -7,7 +7,7 @@ use Rattle.tt_versions.specs.Sides.{current_of, next_of, is_split}
 use Rattle.tt_parts.specs.Dirty.{SameMembers}
 use Rattle.tt_repair_laws.specs.declared.edit.Edit.{Edit}
 use Rattle.tt_repair_laws.specs.Edits.{edited_slots}
-use Rattle.tt_repair_laws.specs.Due.{dirty_after, rerun_count}
+use Rattle.tt_repair_laws.specs.Due.{dirty_after, reexecuted_count}
 use Rattle.tt_repair_laws.specs.NextSide.{current_side}
 use Rattle.tt_generations.specs.declared.slot.KeptSlot.{KeptSlot}
 use Rattle.tt_generations.specs.declared.repair.Repair.{Repair}
@@ -33,7 +33,7 @@ pub record IsRepair (tables : Tables) (W : Slots) (r : Repair) : Type 0 where
   pub accepted : All (HasNoFault tables) r.edits
   pub replacements : HasEdits r.replacements r.edits
   pub done : r.done ≤ length W
-  pub rerun : r.rerun ≡ rerun_count tables W r.edits r.done
+  pub reexecuted : r.reexecuted ≡ reexecuted_count tables W r.edits r.done
   pub catalog : r.dirty.catalog ≡ tables
   pub dirty : SameMembers r.dirty.dirty (dirty_after tables W r.edits r.done)
   pub slots : AreKept r.slots (next_kept_slot W r.edits r.done) (length W)

@@ -1,16 +1,14 @@
 -- What is kept of each slot: its replies, and the rows that it wrote.
-use Rattle.std.specs.Prelude.{◌≡◌, ℕ, zero, suc, ◌<◌, nat_lt, List, [], map, length, slice_get, Option, None, Some, if◌then◌else◌}
+use Rattle.std.specs.Prelude.{◌≡◌, ℕ, zero, suc, ◌<◌, nat_lt, List, map, length, slice_get, Option, None, Some, if◌then◌else◌}
 use Rattle.std.specs.List.{All}
 use Rattle.tt_values.specs.declared.statement.Write.{Write}
 use Rattle.tt_values.specs.Tables.{Tables}
 use Rattle.tt_values.specs.Check.{action_fault}
 use Rattle.tt_values.specs.Content.{Content}
-use Rattle.tt_values.specs.Action.{rows_of_action}
 use Rattle.tt_values.specs.RowWrites.{Slots, slot_after, slot_replies, content_of}
+use Rattle.tt_repair_laws.specs.Due.{slot_rows_written}
 use Rattle.tt_generations.specs.declared.slot.Slot.{Slot}
-use Rattle.tt_generations.specs.declared.slot.RowKey.{RowKey}
 use Rattle.tt_generations.specs.declared.slot.KeptSlot.{KeptSlot}
-use Rattle.tt_generations.specs.ActionRun.{as_row_keys}
 
 -- the content that all slots leave
 abbrev pub last_content : Slots → Content
@@ -25,14 +23,9 @@ abbrev pub slot_at : Slots → ℕ → Option Slot
 slot_at W zero = None
 slot_at W (suc n) = if nat_lt n (length W) then Some (slot_with_replies W n) else None
 
--- the rows that the writes of a slot write, in their turn. A cancelled slot writes none
-abbrev pub keys_of_slot : Option (List Write) → Content → List RowKey
-keys_of_slot None X = []
-keys_of_slot (Some action) X = as_row_keys (rows_of_action action X)
-
 -- what is kept of slot n + 1
 abbrev pub kept_slot : Slots → ℕ → KeptSlot
-kept_slot W n = record { slot = slot_with_replies W n; rows = keys_of_slot (slot_after W n) (content_of W n) }
+kept_slot W n = record { slot = slot_with_replies W n; rows = slot_rows_written (slot_after W n) (content_of W n) }
 
 -- the actions of slots
 abbrev pub actions_of : List KeptSlot → Slots

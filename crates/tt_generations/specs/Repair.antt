@@ -3,6 +3,7 @@ use Rattle.std.specs.Prelude.{◌≡◌, ℕ, ◌-◌, ◌+◌, pos, Bool, true,
 use Rattle.std.specs.List.{All, list_any}
 use Rattle.std.specs.Ordering.{int_cmp, int_eq}
 use Rattle.std.specs.FinMap.Entries as sorted
+use Rattle.tt_values.specs.declared.row_id.RowId.{RowId}
 use Rattle.tt_values.specs.declared.statement.Write.{Write}
 use Rattle.tt_values.specs.Check.{HasKey}
 use Rattle.tt_values.specs.Content.{Content}
@@ -10,13 +11,11 @@ use Rattle.tt_values.specs.Action.{content_after_action}
 use Rattle.tt_values.specs.RowWrites.{slot_replies}
 use Rattle.tt_versions.specs.Sides.{next_of}
 use Rattle.tt_parts.specs.Dirty.{DirtySet, DirtyTables, SameMembers, columns_in, has_row, with_row}
-use Rattle.tt_repair_laws.specs.Due.{names_dirty_row, is_write_clear, slot_rows_matched, with_row_of}
-use Rattle.tt_generations.specs.declared.slot.RowKey.{RowKey}
+use Rattle.tt_repair_laws.specs.Due.{names_dirty_row, is_write_clear, slot_rows_written, slot_rows_matched, with_row_of}
 use Rattle.tt_generations.specs.declared.slot.KeptSlot.{KeptSlot}
 use Rattle.tt_generations.specs.declared.edits.Replacement.{Replacement}
 use Rattle.tt_generations.specs.declared.repair.Repair.{Repair}
-use Rattle.tt_generations.specs.Rows.{TablesByPosition, versions_at, as_pairs}
-use Rattle.tt_generations.specs.KeptSlots.{keys_of_slot}
+use Rattle.tt_generations.specs.Rows.{TablesByPosition, versions_at}
 use Rattle.tt_generations.specs.Reexecution.{ShowsContentBefore, AreReexecuted}
 
 -- each insert of an action has a key
@@ -25,14 +24,14 @@ HasKeysIfAny None = Unit {0}
 HasKeysIfAny (Some action) = All HasKey action
 
 -- whether what is dirty may affect an action that wrote these rows
-abbrev pub is_action_affected : DirtyTables → List RowKey → List Write → Bool
+abbrev pub is_action_affected : DirtyTables → List RowId → List Write → Bool
 is_action_affected d rows action =
     list_any (λ r. has_row d.dirty r.table r.key) rows
     || list_any (names_dirty_row d.dirty) action
     || list_any (λ w. not (is_write_clear d.catalog d.dirty w)) action
 
--- the same for a slot. A cancelled one isn't affected
-abbrev pub is_kept_affected : DirtyTables → List RowKey → Option (List Write) → Bool
+-- whether what is dirty may affect a slot that wrote these rows. A cancelled slot isn't affected
+abbrev pub is_kept_affected : DirtyTables → List RowId → Option (List Write) → Bool
 is_kept_affected d rows None = false
 is_kept_affected d rows (Some action) = is_action_affected d rows action
 
@@ -40,7 +39,7 @@ is_kept_affected d rows (Some action) = is_action_affected d rows action
 abbrev pub next_replacement : Repair → Option Replacement
 next_replacement r = sorted.find int_cmp (pos (r.done + 1)) r.replacements
 
--- whether the next slot is due, which is kept so
+-- whether the next slot, of which this is kept, is due
 abbrev pub is_kept_due : Repair → KeptSlot → Bool
 is_kept_due r kept = is_some (next_replacement r) || is_kept_affected r.dirty kept.rows kept.slot.action
 
@@ -49,7 +48,7 @@ abbrev pub replaced_by : Option Replacement → Option (List Write) → Option (
 replaced_by None action = action
 replaced_by (Some replacement) action = replacement.action
 
--- the action of the next slot, which is kept so, as the repair has it
+-- the action that the repair gives the next slot, of which this is kept
 abbrev pub next_action : Repair → KeptSlot → Option (List Write)
 next_action r kept = replaced_by (next_replacement r) kept.slot.action
 
@@ -58,41 +57,41 @@ abbrev pub writes_of : Option (List Write) → List Write
 writes_of None = []
 writes_of (Some action) = action
 
--- whether two are the same row
-abbrev pub is_same_row : RowKey → RowKey → Bool
+-- whether two rows are the same
+abbrev pub is_same_row : RowId → RowId → Bool
 is_same_row r s = (r.table == s.table) && int_eq r.key s.key
 
--- a list of rows, or half of it, where that stands there twice
-abbrev pub IsWholeOrHalf : List RowKey → List RowKey → Type 0
-IsWholeOrHalf once all = (twice : Bool) × (all ≡ (if twice then once ++ once else once))
+-- a list is these rows, or these rows twice in a row
+abbrev pub MayRepeat : List RowId → List RowId → Type 0
+MayRepeat rows all = (twice : Bool) × (all ≡ (if twice then rows ++ rows else rows))
 
 -- the dirty set with rows that tables show on the next side before a time and at it
-abbrev pub with_rows_shown : DirtyTables → TablesByPosition → List RowKey → ℕ → DirtySet
+abbrev pub with_rows_shown : DirtyTables → TablesByPosition → List RowId → ℕ → DirtySet
 with_rows_shown d versions rows time =
     fold (λ D r. let side = next_of (versions_at versions r.table) r.key in with_row D r.table (columns_in d.catalog r.table) r.key (side (time - 1)) (side time)) d.dirty rows
 
 -- what the re-execution of the next slot leaves, on tables that show a content before it
 pub record HasReexecutedSlot (r : Repair) (kept : KeptSlot) (versions : TablesByPosition) (after : Repair) (left : TablesByPosition) (X : Content) : Type 0 where
-  pub rows : AreReexecuted versions left (as_pairs kept.rows ++ slot_rows_matched (next_action r kept) X) (r.done + 1) (content_after_action (writes_of (next_action r kept)) X)
+  pub rows : AreReexecuted versions left (kept.rows ++ slot_rows_matched (next_action r kept) X) (r.done + 1) (content_after_action (writes_of (next_action r kept)) X)
   pub slots : after.slots ≡ slice_set r.slots r.done (record {
     slot = record { action = next_action r kept; replies = slot_replies (next_action r kept) X };
-    rows = keys_of_slot (next_action r kept) X;
+    rows = slot_rows_written (next_action r kept) X;
   })
   pub dirty : SameMembers after.dirty.dirty
-      (fold (with_row_of r.dirty.catalog X (content_after_action (writes_of (next_action r kept)) X)) r.dirty.dirty (as_pairs kept.rows ++ slot_rows_matched (next_action r kept) X))
+      (fold (with_row_of r.dirty.catalog X (content_after_action (writes_of (next_action r kept)) X)) r.dirty.dirty (kept.rows ++ slot_rows_matched (next_action r kept) X))
 
 abbrev pub ReexecutesSlot : Repair → KeptSlot → TablesByPosition → Repair → TablesByPosition → Type 0
-ReexecutesSlot r kept versions after left = (X : Content) → ShowsContentBefore versions (r.done + 1) X (as_pairs kept.rows) → HasReexecutedSlot r kept versions after left X
+ReexecutesSlot r kept versions after left = (X : Content) → ShowsContentBefore versions (r.done + 1) X kept.rows → HasReexecutedSlot r kept versions after left X
 
--- a repair has done one slot more, which was due
+-- a repair has done one more slot, which was due
 pub record HasDoneDueSlot (before after : Repair) : Type 0 where
   pub edits : after.edits ≡ before.edits
   pub replacements : after.replacements ≡ before.replacements
   pub done : after.done ≡ before.done + 1
-  pub rerun : after.rerun ≡ before.rerun + 1
+  pub reexecuted : after.reexecuted ≡ before.reexecuted + 1
   pub catalog : after.dirty.catalog ≡ before.dirty.catalog
 
--- the repair, if there is one, once a slot was added to the current generation
+-- the repair, if there is one, after a slot was added to the current generation
 abbrev pub repair_with_slot : KeptSlot → Option Repair → Option Repair
 repair_with_slot k None = None
 repair_with_slot k (Some r) = Some (record r { slots = r.slots ++ k ∷ [] })

@@ -1,13 +1,13 @@
 -- The tables of two generations, and how they follow row writes on each side.
-use Rattle.std.specs.Prelude.{◌≡◌, ℕ, ◌+◌, ◌≤◌, nat_le, ℤ, true, false, not, ◌==◌, ◌&&◌, ◌||◌, List, ◌++◌, get_or, length, map, Option, if◌then◌else◌}
+use Rattle.std.specs.Prelude.{◌≡◌, ℕ, ◌+◌, ◌≤◌, nat_le, ℤ, true, false, not, ◌==◌, ◌&&◌, ◌||◌, List, ◌++◌, get_or, length, Option, if◌then◌else◌}
 use Rattle.tt_values.specs.declared.row.Row.{Row}
+use Rattle.tt_values.specs.declared.row_id.RowId.{RowId}
 use Rattle.tt_values.specs.Content.{Content, RowWrite}
 use Rattle.tt_versions.specs.declared.side.Side.{Side}
 use Rattle.tt_versions.specs.declared.side.Side.TheVariants.{Current}
 use Rattle.tt_versions.specs.Sides.{LineagesByKey, no_lineages, side_of, current_of, next_of, is_split, none_split, all_written_from, just_before, ListsRows}
 use Rattle.tt_versions.specs.RowsByWrites.{rows_by, as_row_writes}
 use Rattle.tt_parts.specs.Dirty.{is_row_in}
-use Rattle.tt_generations.specs.declared.slot.RowKey.{RowKey}
 
 -- tables by position
 abbrev pub TablesByPosition : Type 0
@@ -47,12 +47,8 @@ pub record KeepsSplitRows (before after : TablesByPosition) : Type 0 where
 abbrev pub KeepsCurrent : TablesByPosition → TablesByPosition → Type 0
 KeepsCurrent before after = (table : ℕ) → current_of (versions_at after table) ≡ current_of (versions_at before table)
 
--- rows by their tables and keys
-abbrev pub as_pairs : List RowKey → List (ℕ × ℤ)
-as_pairs keys = map (λ k. (k.table, k.key)) keys
-
 -- rows are split. Each that wasn't is rolled back on its next side to before a time
-pub record SplitsRows (before after : TablesByPosition) (rows : List (ℕ × ℤ)) (time : ℕ) : Type 0 where
+pub record SplitsRows (before after : TablesByPosition) (rows : List RowId) (time : ℕ) : Type 0 where
   pub current : KeepsCurrent before after
   pub split : (table : ℕ) (key : ℤ) → is_split (versions_at after table) key ≡ (is_row_in rows table key || is_split (versions_at before table) key)
   pub next : (table : ℕ) (key : ℤ) (u : ℕ) → let old = next_of (versions_at before table) key in
@@ -65,13 +61,13 @@ pub record WritesNext (before after : TablesByPosition) (time table : ℕ) (effe
   pub split : (t : ℕ) → is_split (versions_at after t) ≡ is_split (versions_at before t)
   pub next : (t : ℕ) → next_of (versions_at after t) ≡ (if t == table then all_written_from effect time (next_of (versions_at before table)) else next_of (versions_at before t))
 
--- at a time a side of each table has no more rows than that
+-- at a time a side of each table has this number of rows at most
 pub record HasFewRows (tables : TablesByPosition) (side : Side) (time most : ℕ) : Type 0 where
   pub content : Content
   pub shows : (table : ℕ) → ListsRows (content table) (side_of (versions_at tables table) side) time
   pub few : (table : ℕ) → length (content table) ≤ most
 
--- at a time, the current side of each table gets one row more at most
+-- at a time, the current side of each table gets at most one more row
 abbrev pub AddsOneRowAtMost : ℕ → TablesByPosition → TablesByPosition → Type 0
 AddsOneRowAtMost time before after = (most : ℕ) → HasFewRows before Current time most → HasFewRows after Current time (most + 1)
 

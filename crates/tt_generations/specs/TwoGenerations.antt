@@ -17,10 +17,10 @@ use Rattle.tt_repair_laws.specs.declared.edit.Edit.{Edit}
 use Rattle.tt_generations.specs.declared.progress.Progress.{Progress}
 use Rattle.tt_repair_laws.specs.declared.edit.Edit.TheVariants.{Cancel, Replace}
 use Rattle.tt_repair_laws.specs.Edits.{slot_number, edited_slots}
-use Rattle.tt_repair_laws.specs.Due.{content_after, dirty_after, is_due, rerun_count}
+use Rattle.tt_repair_laws.specs.Due.{content_after, dirty_after, is_due, reexecuted_count}
 use Rattle.tt_repair_laws.specs.NextSide.{current_side, next_side}
 
--- what is under way: nothing, or a repair with these edits that has done so many slots
+-- what is under way: nothing, or a repair with these edits that has done the first n slots
 pub data Phase : Type 0 where
   Idle : Phase
   Repairing : List Edit → ℕ → Phase
@@ -35,7 +35,7 @@ pub record TwoGenerations : Type 0 where
 abbrev pub no_slots : Tables → TwoGenerations
 no_slots tables = record { catalog = tables; slots = []; phase = Idle }
 
--- one slot more, of an action
+-- one more slot, with an action
 abbrev pub with_action : TwoGenerations → List Write → TwoGenerations
 with_action G action = record G { slots = G.slots ++ Some action ∷ [] }
 
@@ -43,7 +43,7 @@ with_action G action = record G { slots = G.slots ++ Some action ∷ [] }
 abbrev pub with_repair : TwoGenerations → List Edit → TwoGenerations
 with_repair G edits = record G { phase = Repairing edits 0 }
 
--- one slot of the repair more is done
+-- the repair has done one more slot
 abbrev pub phase_after_step : Phase → Phase
 phase_after_step Idle = Idle
 phase_after_step (Repairing edits n) = Repairing edits (suc n)
@@ -74,15 +74,15 @@ abbrev pub done_of : Phase → ℕ
 done_of Idle = 0
 done_of (Repairing edits n) = n
 
--- how many it has left to do
+-- how many slots the repair has left to do
 abbrev pub left_of : Phase → Slots → ℕ
 left_of Idle W = 0
 left_of (Repairing edits n) W = length W - n
 
 -- how many of the slots done were due
-abbrev pub rerun_of : Tables → Phase → Slots → ℕ
-rerun_of tables Idle W = 0
-rerun_of tables (Repairing edits n) W = rerun_count tables W edits n
+abbrev pub reexecuted_of : Tables → Phase → Slots → ℕ
+reexecuted_of tables Idle W = 0
+reexecuted_of tables (Repairing edits n) W = reexecuted_count tables W edits n
 
 -- whether the next slot of the repair is due
 abbrev pub is_due_in : Tables → Phase → Slots → Bool
@@ -136,7 +136,7 @@ HasNoFault tables (Replace t action) = action_fault tables action ≡ None
 -- how far the repair is, if one is under way
 abbrev pub progress_in : Tables → Phase → Slots → Option Progress
 progress_in tables Idle W = None
-progress_in tables (Repairing edits n) W = Some (record { done = n; left = length W - n; rerun = rerun_count tables W edits n })
+progress_in tables (Repairing edits n) W = Some (record { done = n; left = length W - n; rerun = reexecuted_count tables W edits n })
 
 abbrev pub progress_of : TwoGenerations → Option Progress
 progress_of G = progress_in G.catalog G.phase G.slots

@@ -6,11 +6,11 @@ ghost use Rattle.tt_values.specs.Limits.{max_writes};
 ghost use Rattle.tt_generations.specs.Rows.{HasFewRows, AddsOneRowAtMost, KeepsSplitRows};
 ghost use Rattle.tt_generations.specs.ActionRun.{CarriesOut, CarriesOutAction, most_rows};
 
-use crate::effect::{add_keys, effect_of, reply_to};
+use crate::effect::{add_rows, effect_of, reply_to};
 use crate::rows::Rows;
-use crate::slot::{KeptSlot, RowKey};
+use crate::slot::KeptSlot;
 use std::alloc::{AllocError, Global};
-use tt_values::{Catalog, Items, Reply, Write};
+use tt_values::{Catalog, Items, Reply, RowId, Write};
 use tt_versions::Side;
 
 /// An action under way: the rows that its writes so far leave, their replies, and the rows that
@@ -19,7 +19,7 @@ use tt_versions::Side;
 pub(crate) struct ActionRun {
     pub(crate) rows: Rows,
     pub(crate) replies: Vec<Reply>,
-    pub(crate) keys: Vec<RowKey>,
+    pub(crate) rows_written: Vec<RowId>,
 }
 
 impl ActionRun {
@@ -44,17 +44,17 @@ impl ActionRun {
         Ok(run)
     }
 
-    /// An action of so many writes, before the first of them.
+    /// An action, before the first of its writes.
     fn new(alloc: Global, rows: Rows, writes: usize) -> Result<ActionRun, AllocError>
         ensures rows { IfOk result (λ run. run.rows ≡ rows) }
         ensures replies { IfOk result (λ run. run.replies.items ≡ []) }
-        ensures keys { IfOk result (λ run. run.keys.items ≡ []) }
+        ensures rows_written { IfOk result (λ run. run.rows_written.items ≡ []) }
     {
         let replies = Vec::with_capacity(alloc, writes)?;
         Ok(ActionRun {
             rows,
             replies,
-            keys: Vec::new(alloc),
+            rows_written: Vec::new(alloc),
         })
     }
 
@@ -75,7 +75,7 @@ impl ActionRun {
         let table = write.table();
         let effect = effect_of(alloc, self.rows.table(table), write, time, Side::Current)?;
         self.replies.push(reply_to(write, &effect))?;
-        add_keys(&mut self.keys, table, &effect)?;
+        add_rows(&mut self.rows_written, table, &effect)?;
         self.rows.write(catalog, table, effect, time)?;
         Ok(())
     }
@@ -91,12 +91,12 @@ impl ActionRun {
         ensures rows { rows.new ≡ self.rows }
         ensures action { IfOk result (λ r. r.0.slot.action ≡ Some action) }
         ensures kept_replies { IfOk result (λ r. r.0.slot.replies ≡ Some self.replies.items) }
-        ensures keys { IfOk result (λ r. r.0.rows ≡ self.keys.items) }
+        ensures rows_written { IfOk result (λ r. r.0.rows ≡ self.rows_written.items) }
         ensures replies { IfOk result (λ r. r.1 ≡ self.replies.items) }
     {
         *rows = self.rows;
         let replies = Items::new(alloc, self.replies)?;
-        let kept = KeptSlot::new(alloc, Some(action), &replies, self.keys)?;
+        let kept = KeptSlot::new(alloc, Some(action), &replies, self.rows_written)?;
         Ok((kept, replies))
     }
 }

@@ -5,13 +5,12 @@ ghost use Rattle.tt_values.specs.Check.{HasKey};
 ghost use Rattle.tt_parts.specs.Dirty.{has_row};
 ghost use Rattle.tt_repair_laws.specs.Due.{is_dirty_key, has_dirty_key, names_dirty_row, is_write_clear};
 
-use crate::slot::RowKey;
 use tt_parts::Dirty;
-use tt_values::{Equal, Value, Write};
+use tt_values::{Equal, RowId, Value, Write};
 
 /// Whether a slot that wrote these rows with these writes may be affected: it wrote a dirty row, or
 /// one of its writes names one or isn't clear.
-pub(crate) fn is_affected(dirty: &Dirty, rows: &[RowKey], writes: &[Write]) -> bool
+pub(crate) fn is_affected(dirty: &Dirty, rows: &[RowId], writes: &[Write]) -> bool
     requires { All HasKey writes.now }
     ensures { result ≡ (list_any (λ r. has_row dirty.now.dirty r.table r.key) rows.now
         || list_any (names_dirty_row dirty.now.dirty) writes.now
@@ -21,7 +20,7 @@ pub(crate) fn is_affected(dirty: &Dirty, rows: &[RowKey], writes: &[Write]) -> b
 }
 
 /// Whether one of the rows is dirty.
-fn has_dirty_row(dirty: &Dirty, rows: &[RowKey]) -> bool
+fn has_dirty_row(dirty: &Dirty, rows: &[RowId]) -> bool
     ensures { result ≡ list_any (λ r. has_row dirty.now.dirty r.table r.key) rows.now }
 {
     rows.iter().any(|row| dirty.has_row(row.table, row.key))

@@ -5,11 +5,10 @@ ghost use Rattle.tt_values.specs.Check.{HasKey};
 ghost use Rattle.tt_values.specs.Content.{RowsByKey};
 ghost use Rattle.tt_values.specs.Effect.{effect_on, reply_on};
 ghost use Rattle.tt_versions.specs.Sides.{side_of, rows_behind};
-ghost use Rattle.tt_generations.specs.Effect.{IsEffect, insert_effect, update_effect, delete_effect, row_keys, matched_keys};
+ghost use Rattle.tt_generations.specs.Effect.{IsEffect, insert_effect, update_effect, delete_effect, rows_of_effect, matched_rows};
 
-use crate::slot::RowKey;
 use std::alloc::{AllocError, Global};
-use tt_values::{Change, Reply, Row, Write, changed};
+use tt_values::{Change, Reply, Row, RowId, Write, changed};
 use tt_versions::{Side, Table};
 
 /// The effect of a write on a side of its table at a time: keys with the rows that they get, or
@@ -95,44 +94,44 @@ fn effect_of_delete(
 }
 
 /// Adds the rows that an effect on a table writes.
-pub(crate) fn add_keys(
-    keys: &mut Vec<RowKey>,
+pub(crate) fn add_rows(
+    rows: &mut Vec<RowId>,
     table: u16,
     effect: &[(i64, Option<Row>)],
 ) -> Result<(), AllocError>
-    ensures { OnOk result (keys.new.items ≡ keys.old.items ++ row_keys table effect.now) }
+    ensures { OnOk result (rows.new.items ≡ rows.old.items ++ rows_of_effect table effect.now) }
 {
     // An action seldom has further writes, so no more room is taken than this one needs.
-    keys.reserve_exact(effect.len())?;
+    rows.reserve_exact(effect.len())?;
     for (key, _) in effect {
-        keys.push(RowKey { table, key: *key })?;
+        rows.push(RowId { table, key: *key })?;
     }
     Ok(())
 }
 
 /// The rows that a write with that effect matches.
-pub(crate) fn matched_keys(
+pub(crate) fn matched_rows(
     alloc: Global,
     write: &Write,
     effect: &[(i64, Option<Row>)],
-) -> Result<Vec<RowKey>, AllocError>
+) -> Result<Vec<RowId>, AllocError>
     requires { HasKey write.now }
-    ensures { IfOk result (λ keys. keys.items ≡ matched_keys write.now effect.now) }
+    ensures { IfOk result (λ rows. rows.items ≡ matched_rows write.now effect.now) }
 {
-    let mut keys = Vec::new(alloc);
+    let mut rows = Vec::new(alloc);
     match write {
-        Write::Insert { table, row } => keys.push(RowKey {
+        Write::Insert { table, row } => rows.push(RowId {
             table: *table,
             key: row.key(),
         })?,
         Write::Update { table, .. } | Write::Delete { table, .. } => {
-            add_keys(&mut keys, *table, effect)?;
+            add_rows(&mut rows, *table, effect)?;
         }
     }
-    Ok(keys)
+    Ok(rows)
 }
 
-/// Further owners of the rows, in their order.
+/// Copies of the rows, in their order.
 pub(crate) fn copies_of(alloc: Global, rows: &Vec<(i64, &Row)>) -> Result<Vec<Row>, AllocError>
     ensures { IfOk result (λ r. r.items ≡ map (λ e. e.1) (rows_behind rows.now.items)) }
 {

@@ -10,7 +10,7 @@ ghost use Rattle.tt_repair_laws.specs.NextSide.{current_side};
 ghost use Rattle.tt_generations.specs.Limits.{max_slots};
 ghost use Rattle.tt_generations.specs.KeptSlots.{slot_at, last_content, actions_of};
 ghost use Rattle.tt_generations.specs.Repair.{repair_with_slot, next_slots};
-ghost use Rattle.tt_generations.specs.TwoGenerations.{no_slots, with_action, with_repair, after_step, after_switch, after_abort, is_repairing, done_of, left_of, rerun_of, is_next_due, is_due_in, phase_after_step, next_content_of, rows_on, AnswersOn, IsWithin, progress_of, next_side_of, dirty_rows_of, NamesSlot, HasNoFault, Phase};
+ghost use Rattle.tt_generations.specs.TwoGenerations.{no_slots, with_action, with_repair, after_step, after_switch, after_abort, is_repairing, done_of, left_of, reexecuted_of, is_next_due, is_due_in, phase_after_step, next_content_of, rows_on, AnswersOn, IsWithin, progress_of, next_side_of, dirty_rows_of, NamesSlot, HasNoFault, Phase};
 ghost use Rattle.tt_generations.specs.Generations.{phase_of, AreGenerations};
 
 use crate::action_run::ActionRun;
@@ -127,7 +127,7 @@ impl Generations {
         Some(Progress {
             done: repair.done,
             left: self.len() - repair.done,
-            rerun: repair.rerun,
+            rerun: repair.reexecuted,
         })
     }
 
@@ -163,11 +163,11 @@ impl Generations {
     }
 
     /// How many of the slots done were re-executed. 0 where no repair is under way.
-    pub fn rerun(&self) -> u64
-        ensures { result ≡ rerun_of self.now.catalog self.now.phase self.now.slots }
+    pub fn reexecuted(&self) -> u64
+        ensures { result ≡ reexecuted_of self.now.catalog self.now.phase self.now.slots }
     {
         match &self.state.repair {
-            Some(repair) => repair.rerun,
+            Some(repair) => repair.reexecuted,
             None => 0,
         }
     }
@@ -222,7 +222,7 @@ impl Generations {
     }
 
     /// The slots and one more, for this action, with the replies to its writes.
-    pub fn with_action(
+    pub fn into_written(
         self,
         action: Items<Write>,
     ) -> Result<(Generations, Items<Reply>), AllocError>
@@ -237,7 +237,7 @@ impl Generations {
     }
 
     /// Begins a repair with these edits, where none is under way. It has done no slot yet.
-    pub fn with_repair(self, edits: Items<Edit>) -> Result<Generations, AllocError>
+    pub fn into_repairing(self, edits: Items<Edit>) -> Result<Generations, AllocError>
         requires idle { self.phase ≡ Phase.Idle }
         requires named { All (NamesSlot self.slots) edits }
         requires accepted { All (HasNoFault self.catalog) edits }
@@ -250,7 +250,7 @@ impl Generations {
     }
 
     /// Does one slot of the repair: it is re-executed where it is due. Answers whether it was.
-    pub fn stepped(self) -> Result<(Generations, bool), AllocError>
+    pub fn into_stepped(self) -> Result<(Generations, bool), AllocError>
         requires { 0 < left_of self.phase self.slots }
         ensures state { IfOk result (λ r. r.0 ≡ after_step self) }
         ensures due { IfOk result (λ r. r.1 ≡ is_next_due self) }
@@ -261,7 +261,7 @@ impl Generations {
     }
 
     /// The next generation becomes the current one. Takes time for the split rows alone.
-    pub fn switched(self) -> Result<Generations, AllocError>
+    pub fn into_switched(self) -> Result<Generations, AllocError>
         requires { left_of self.phase self.slots ≡ 0 }
         ensures { IfOk result (λ g. g ≡ after_switch self) }
     {
@@ -273,7 +273,7 @@ impl Generations {
 
     /// The next generation is given up, and the current one stays. Takes time for the split rows
     /// alone.
-    pub fn aborted(self) -> Result<Generations, AllocError>
+    pub fn into_aborted(self) -> Result<Generations, AllocError>
         ensures { IfOk result (λ g. g ≡ after_abort self) }
     {
         let Generations { mut state } = self;

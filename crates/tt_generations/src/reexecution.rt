@@ -3,17 +3,17 @@ ghost use Rattle.std.specs.Prelude.{◌≡◌, ◌≤◌, ◌+◌, [], ◌∷◌
 ghost use Rattle.std.specs.List.{All};
 ghost use Rattle.tt_values.specs.Check.{HasKey};
 ghost use Rattle.tt_values.specs.Limits.{max_writes};
-ghost use Rattle.tt_generations.specs.Rows.{HasFewRows, as_pairs};
+ghost use Rattle.tt_generations.specs.Rows.{HasFewRows};
 ghost use Rattle.tt_generations.specs.ActionRun.{most_rows};
-ghost use Rattle.tt_generations.specs.Effect.{matched_keys};
+ghost use Rattle.tt_generations.specs.Effect.{matched_rows};
 ghost use Rattle.tt_generations.specs.Replies.{replies_if};
-ghost use Rattle.tt_generations.specs.Reexecution.{Redoes, Reexecutes, ShowsFewBefore, SplitsForRun};
+ghost use Rattle.tt_generations.specs.Reexecution.{ReexecutesWrites, Reexecutes, ShowsFewBefore, SplitsForRun};
 
-use crate::effect::{add_keys, effect_of, matched_keys, reply_to};
+use crate::effect::{add_rows, effect_of, matched_rows, reply_to};
 use crate::rows::Rows;
-use crate::slot::{KeptSlot, RowKey};
+use crate::slot::KeptSlot;
 use std::alloc::{AllocError, Global};
-use tt_values::{Catalog, Items, Reply, Row, Write};
+use tt_values::{Catalog, Items, Reply, Row, RowId, Write};
 use tt_versions::Side;
 
 /// A slot under re-execution: the rows that it leaves so far, the replies to its writes, the rows
@@ -22,8 +22,8 @@ use tt_versions::Side;
 pub(crate) struct Reexecution {
     pub(crate) rows: Rows,
     pub(crate) replies: Vec<Reply>,
-    pub(crate) keys: Vec<RowKey>,
-    pub(crate) redone: Vec<RowKey>,
+    pub(crate) rows_written: Vec<RowId>,
+    pub(crate) reexecuted: Vec<RowId>,
 }
 
 impl Reexecution {
@@ -33,14 +33,14 @@ impl Reexecution {
         alloc: Global,
         catalog: &Catalog,
         rows: Rows,
-        written: &[RowKey],
+        written: &[RowId],
         writes: &[Write],
         time: u64,
     ) -> Result<Reexecution, AllocError>
         requires keyed { All HasKey writes.now }
         requires short { length writes.now ≤ max_writes }
-        requires few { ShowsFewBefore rows time (as_pairs written.now) }
-        ensures { IfOk result (λ run. Reexecutes time (as_pairs written.now) writes.now rows run) }
+        requires few { ShowsFewBefore rows time written.now }
+        ensures { IfOk result (λ run. Reexecutes time written.now writes.now rows run) }
     {
         let mut run = Reexecution::new(alloc, rows, writes.len())?;
         run.split_rows(catalog, written, time)?;
@@ -50,19 +50,19 @@ impl Reexecution {
         Ok(run)
     }
 
-    /// A slot of so many writes, before its rows are rolled back.
+    /// A slot, before its rows are rolled back.
     fn new(alloc: Global, rows: Rows, writes: usize) -> Result<Reexecution, AllocError>
         ensures rows { IfOk result (λ run. run.rows ≡ rows) }
         ensures replies { IfOk result (λ run. run.replies.items ≡ []) }
-        ensures keys { IfOk result (λ run. run.keys.items ≡ []) }
-        ensures redone { IfOk result (λ run. run.redone.items ≡ []) }
+        ensures rows_written { IfOk result (λ run. run.rows_written.items ≡ []) }
+        ensures reexecuted { IfOk result (λ run. run.reexecuted.items ≡ []) }
     {
         let replies = Vec::with_capacity(alloc, writes)?;
         Ok(Reexecution {
             rows,
             replies,
-            keys: Vec::new(alloc),
-            redone: Vec::new(alloc),
+            rows_written: Vec::new(alloc),
+            reexecuted: Vec::new(alloc),
         })
     }
 
@@ -76,13 +76,13 @@ impl Reexecution {
     ) -> Result<(), AllocError>
         requires keyed { HasKey write.now }
         requires few { HasFewRows self.old.rows Side.Next time (most_rows + max_writes) }
-        ensures { OnOk result (Redoes time (write.now ∷ []) self.old self.new) }
+        ensures { OnOk result (ReexecutesWrites time (write.now ∷ []) self.old self.new) }
     {
         let table = write.table();
         let effect = effect_of(alloc, self.rows.table(table), write, time, Side::Next)?;
         self.split_matched(alloc, catalog, write, &effect, time)?;
         self.replies.push(reply_to(write, &effect))?;
-        add_keys(&mut self.keys, table, &effect)?;
+        add_rows(&mut self.rows_written, table, &effect)?;
         self.rows.write_next(catalog, table, effect, time)?;
         Ok(())
     }
@@ -98,24 +98,19 @@ impl Reexecution {
     ) -> Result<(), AllocError>
         requires { HasKey write.now }
         ensures { OnOk result
-            (SplitsForRun self.old self.new (matched_keys write.now effect.now) time) }
+            (SplitsForRun self.old self.new (matched_rows write.now effect.now) time) }
     {
-        let matched = matched_keys(alloc, write, effect)?;
+        let matched = matched_rows(alloc, write, effect)?;
         self.split_rows(catalog, &matched, time)?;
         Ok(())
     }
 
     /// Rolls back further rows.
-    fn split_rows(
-        &mut self,
-        catalog: &Catalog,
-        keys: &[RowKey],
-        time: u64,
-    ) -> Result<(), AllocError>
-        ensures { OnOk result (SplitsForRun self.old self.new keys.now time) }
+    fn split_rows(&mut self, catalog: &Catalog, rows: &[RowId], time: u64) -> Result<(), AllocError>
+        ensures { OnOk result (SplitsForRun self.old self.new rows.now time) }
     {
-        self.redone.extend_from_slice(keys)?;
-        self.rows.split_rows(catalog, keys, time)?;
+        self.reexecuted.extend_from_slice(rows)?;
+        self.rows.split_rows(catalog, rows, time)?;
         Ok(())
     }
 
@@ -130,11 +125,11 @@ impl Reexecution {
         ensures action { IfOk result (λ kept. kept.slot.action ≡ action) }
         ensures replies { IfOk result
             (λ kept. kept.slot.replies ≡ replies_if action self.replies.items) }
-        ensures keys { IfOk result (λ kept. kept.rows ≡ self.keys.items) }
+        ensures rows_written { IfOk result (λ kept. kept.rows ≡ self.rows_written.items) }
     {
         *rows = self.rows;
         let replies = Items::new(alloc, self.replies)?;
-        let kept = KeptSlot::new(alloc, action, &replies, self.keys)?;
+        let kept = KeptSlot::new(alloc, action, &replies, self.rows_written)?;
         Ok(kept)
     }
 }

@@ -6,23 +6,22 @@ ghost use Rattle.std.specs.Option.{option_copied};
 ghost use Rattle.tt_parts.specs.Dirty.{SameMembers, nothing_dirty};
 ghost use Rattle.tt_repair_laws.specs.Edits.{slot_number};
 ghost use Rattle.tt_generations.specs.Limits.{max_slots};
-ghost use Rattle.tt_generations.specs.Rows.{as_pairs};
 ghost use Rattle.tt_generations.specs.KeptSlots.{IsAccepted};
 ghost use Rattle.tt_generations.specs.EditsByNumber.{HasEdits};
 ghost use Rattle.tt_generations.specs.Reexecution.{ShowsFewBefore};
-ghost use Rattle.tt_generations.specs.Repair.{HasKeysIfAny, is_kept_affected, is_kept_due, next_replacement, next_action, writes_of, is_same_row, IsWholeOrHalf, with_rows_shown, HasDoneDueSlot, ReexecutesSlot, DoesSlot};
+ghost use Rattle.tt_generations.specs.Repair.{HasKeysIfAny, is_kept_affected, is_kept_due, next_replacement, next_action, writes_of, is_same_row, MayRepeat, with_rows_shown, HasDoneDueSlot, ReexecutesSlot, DoesSlot};
 
 use crate::affected::is_affected;
 use crate::edits::{Replacement, replacements_of};
 use crate::reexecution::Reexecution;
 use crate::rows::Rows;
-use crate::slot::{KeptSlot, RowKey};
+use crate::slot::KeptSlot;
 use std::alloc::{AllocError, Global};
 use std::mem;
 use tt_pages::{Kept, PagedLog, PagedMap};
 use tt_parts::Dirty;
 use tt_repair_laws::Edit;
-use tt_values::{Catalog, Items, Shared, Write};
+use tt_values::{Catalog, Items, RowId, Shared, Write};
 use tt_versions::Side;
 
 /// A repair under way.
@@ -33,7 +32,7 @@ pub(crate) struct Repair {
     /// How many slots are done.
     pub(crate) done: u64,
     /// How many of them were due.
-    pub(crate) rerun: u64,
+    pub(crate) reexecuted: u64,
     pub(crate) dirty: Dirty,
     /// The slots done as the next generation has them, and then the others of the current one.
     pub(crate) slots: PagedLog<KeptSlot>,
@@ -46,7 +45,7 @@ impl Drop for Repair {
             edits: _,
             replacements: _,
             done: _,
-            rerun: _,
+            reexecuted: _,
             dirty: _,
             slots: _,
         } = self;
@@ -65,7 +64,7 @@ impl Repair {
         ensures edits { IfOk result (λ r. r.edits ≡ edits) }
         ensures replacements { IfOk result (λ r. HasEdits r.replacements edits) }
         ensures done { IfOk result (λ r. r.done ≡ 0) }
-        ensures rerun { IfOk result (λ r. r.rerun ≡ 0) }
+        ensures reexecuted { IfOk result (λ r. r.reexecuted ≡ 0) }
         ensures catalog { IfOk result (λ r. r.dirty.catalog ≡ catalog.now) }
         ensures dirty { IfOk result (λ r. SameMembers r.dirty.dirty nothing_dirty) }
         ensures slots { IfOk result (λ r. r.slots ≡ slots.now) }
@@ -77,7 +76,7 @@ impl Repair {
             edits,
             replacements,
             done: 0,
-            rerun: 0,
+            reexecuted: 0,
             dirty: Dirty::new(alloc, catalog.into_arc()),
             slots,
         })
@@ -95,7 +94,7 @@ impl Repair {
             edits,
             replacements,
             done: self.done,
-            rerun: self.rerun,
+            reexecuted: self.reexecuted,
             dirty,
             slots,
         })
@@ -109,7 +108,7 @@ impl Repair {
             edits: _,
             replacements: _,
             done: _,
-            rerun: _,
+            reexecuted: _,
             dirty: _,
             slots,
         } = self;
@@ -162,8 +161,8 @@ impl Repair {
         ensures { IfOk result (λ action. action ≡ next_action self.now kept.now) }
     {
         match self.next_replacement() {
-            Some(replacement) => further_owner(&replacement.action),
-            None => further_owner(&kept.slot.action),
+            Some(replacement) => copy_of(&replacement.action),
+            None => copy_of(&kept.slot.action),
         }
     }
 
@@ -177,13 +176,13 @@ impl Repair {
         kept: &KeptSlot,
     ) -> Result<bool, AllocError>
         requires room { self.old.done < max_slots }
-        requires few_rerun { self.old.rerun ≤ self.old.done }
+        requires few_reexecuted { self.old.reexecuted ≤ self.old.done }
         requires there { self.old.done < length self.old.slots }
         requires catalog { self.old.dirty.catalog ≡ catalog.now }
         requires keyed { HasKeysIfAny kept.now.slot.action }
         requires written { All (λ r. r.table < length catalog.now) kept.now.rows }
         requires accepted { IsAccepted catalog.now (next_action self.old kept.now) }
-        requires few { ShowsFewBefore rows.old (self.old.done + 1) (as_pairs kept.now.rows) }
+        requires few { ShowsFewBefore rows.old (self.old.done + 1) kept.now.rows }
         ensures due { IfOk result (λ due. due ≡ is_kept_due self.old kept.now) }
         ensures step { IfOk result (λ due.
             DoesSlot self.old kept.now rows.old due self.new rows.new) }
@@ -205,12 +204,12 @@ impl Repair {
         kept: &KeptSlot,
     ) -> Result<(), AllocError>
         requires room { self.old.done < max_slots }
-        requires few_rerun { self.old.rerun ≤ self.old.done }
+        requires few_reexecuted { self.old.reexecuted ≤ self.old.done }
         requires there { self.old.done < length self.old.slots }
         requires catalog { self.old.dirty.catalog ≡ catalog.now }
         requires written { All (λ r. r.table < length catalog.now) kept.now.rows }
         requires accepted { IsAccepted catalog.now (next_action self.old kept.now) }
-        requires few { ShowsFewBefore rows.old (self.old.done + 1) (as_pairs kept.now.rows) }
+        requires few { ShowsFewBefore rows.old (self.old.done + 1) kept.now.rows }
         ensures done { OnOk result (HasDoneDueSlot self.old self.new) }
         ensures rows { OnOk result
             (ReexecutesSlot self.old kept.now rows.old self.new rows.new) }
@@ -222,7 +221,7 @@ impl Repair {
         let written = kept.rows.as_slice();
         let taken = mem::replace(rows, Rows::new(alloc));
         let run = Reexecution::of_slot(alloc, catalog, taken, written, writes_of(&action), time)?;
-        add_rows_shown(&mut self.dirty, &run.rows, &run.redone, time)?;
+        add_rows_shown(&mut self.dirty, &run.rows, &run.reexecuted, time)?;
         let slot = run.into_slot(alloc, action, rows)?;
         self.put_slot(slot)?;
         Ok(())
@@ -231,23 +230,23 @@ impl Repair {
     /// Puts the next slot as it was re-executed.
     fn put_slot(&mut self, kept: KeptSlot) -> Result<(), AllocError>
         requires room { self.old.done < max_slots }
-        requires few_rerun { self.old.rerun ≤ self.old.done }
+        requires few_reexecuted { self.old.reexecuted ≤ self.old.done }
         requires there { self.old.done < length self.old.slots }
         ensures { OnOk result (self.new ≡ record self.old {
           done = self.old.done + 1;
-          rerun = self.old.rerun + 1;
+          reexecuted = self.old.reexecuted + 1;
           slots = slice_set self.old.slots self.old.done kept;
         }) }
     {
         self.slots.replace(self.done as usize, kept)?;
         self.done += 1;
-        self.rerun += 1;
+        self.reexecuted += 1;
         Ok(())
     }
 }
 
-/// A further owner of an action, if there is one.
-fn further_owner(action: &Option<Items<Write>>) -> Result<Option<Items<Write>>, AllocError>
+/// A copy of an action, if there is one.
+fn copy_of(action: &Option<Items<Write>>) -> Result<Option<Items<Write>>, AllocError>
     ensures { IfOk result (λ copy. copy ≡ action.now) }
 {
     match action {
@@ -274,36 +273,36 @@ fn writes_of(action: &Option<Items<Write>>) -> &[Write]
 fn add_rows_shown(
     dirty: &mut Dirty,
     rows: &Rows,
-    redone: &[RowKey],
+    reexecuted: &[RowId],
     time: u64,
 ) -> Result<(), AllocError>
     requires room { 0 < time }
-    requires tables { All (λ r. r.table < length dirty.old.catalog) redone.now }
+    requires tables { All (λ r. r.table < length dirty.old.catalog) reexecuted.now }
     ensures catalog { OnOk result (dirty.new.catalog ≡ dirty.old.catalog) }
     ensures dirty { OnOk result
-        (SameMembers dirty.new.dirty (with_rows_shown dirty.old rows.now redone.now time)) }
+        (SameMembers dirty.new.dirty (with_rows_shown dirty.old rows.now reexecuted.now time)) }
 {
-    add_each_row_shown(dirty, rows, once(redone), time)?;
+    add_each_row_shown(dirty, rows, without_repeat(reexecuted), time)?;
     Ok(())
 }
 
 /// The first half of the rows, where the second half repeats it, else all of them. The writes of a
 /// slot mostly match the rows that it wrote before.
-fn once(rows: &[RowKey]) -> &[RowKey]
-    ensures { IsWholeOrHalf result.now rows.now }
+fn without_repeat(rows: &[RowId]) -> &[RowId]
+    ensures { MayRepeat result.now rows.now }
 {
     let (first, second) = rows.split_at(rows.len() / 2);
     if are_same(first, second) { first } else { rows }
 }
 
 /// Whether two lists of rows are the same.
-fn are_same(first: &[RowKey], second: &[RowKey]) -> bool
+fn are_same(first: &[RowId], second: &[RowId]) -> bool
     ensures { IsTrue result → first.now ≡ second.now }
 {
     first.len() == second.len() && are_same_pairwise(first, second)
 }
 
-fn are_same_pairwise(first: &[RowKey], second: &[RowKey]) -> bool
+fn are_same_pairwise(first: &[RowId], second: &[RowId]) -> bool
     ensures { result ≡ list_all (λ p. is_same_row p.0 p.1) (zip first.now second.now) }
 {
     first.iter().zip(second).all(|(one, other)| one.table == other.table && one.key == other.key)
@@ -313,16 +312,16 @@ fn are_same_pairwise(first: &[RowKey], second: &[RowKey]) -> bool
 fn add_each_row_shown(
     dirty: &mut Dirty,
     rows: &Rows,
-    redone: &[RowKey],
+    reexecuted: &[RowId],
     time: u64,
 ) -> Result<(), AllocError>
     requires room { 0 < time }
-    requires tables { All (λ r. r.table < length dirty.old.catalog) redone.now }
+    requires tables { All (λ r. r.table < length dirty.old.catalog) reexecuted.now }
     ensures catalog { OnOk result (dirty.new.catalog ≡ dirty.old.catalog) }
     ensures dirty { OnOk result
-        (SameMembers dirty.new.dirty (with_rows_shown dirty.old rows.now redone.now time)) }
+        (SameMembers dirty.new.dirty (with_rows_shown dirty.old rows.now reexecuted.now time)) }
 {
-    for row in redone {
+    for row in reexecuted {
         let table = rows.table(row.table);
         let (before, after) = table.around(row.key, time, Side::Next);
         dirty.add_row(row.table, row.key, before, after)?;

@@ -3,11 +3,10 @@ ghost use Rattle.std.specs.List.{All};
 ghost use Rattle.tt_versions.specs.Sides.{no_lineages, side_of, current_of, next_of, is_split, none_split};
 ghost use Rattle.tt_generations.specs.Rows.{versions_at, KeepsOthers, ShowsSide};
 
-use crate::slot::RowKey;
 use std::alloc::{AllocError, Global};
 use std::marker::Model;
 use std::mem;
-use tt_values::{Catalog, Column, Row, TableDef};
+use tt_values::{Catalog, Column, Row, RowId, TableDef};
 use tt_versions::{Side, Table};
 
 /// The rows of all tables with their versions on both sides.
@@ -43,7 +42,7 @@ impl Model for Rows {
 }
 
 impl Rows {
-    ghost use Rattle.tt_generations.specs.Rows.{AddsEffect, WritesCurrent, KeepsSplitRows, SplitsRows, WritesNext, ShowsSide, as_pairs};
+    ghost use Rattle.tt_generations.specs.Rows.{AddsEffect, WritesCurrent, KeepsSplitRows, SplitsRows, WritesNext, ShowsSide};
 
     /// No rows. Takes no memory.
     pub(crate) fn new(alloc: Global) -> Rows
@@ -104,24 +103,24 @@ impl Rows {
         Ok(())
     }
 
-    /// Splits each of these rows. One that wasn't split is rolled back on its next side to before
+    /// Splits each of these rows. A row that wasn't split is rolled back on its next side to before
     /// the time. Without memory nothing is promised of the rows.
     pub(crate) fn split_rows(
         &mut self,
         catalog: &Catalog,
-        keys: &[RowKey],
+        rows: &[RowId],
         time: u64,
     ) -> Result<(), AllocError>
-        ensures { OnOk result (SplitsRows self.old self.new (as_pairs keys.now) time) }
+        ensures { OnOk result (SplitsRows self.old self.new rows.now time) }
     {
-        for key in keys {
-            self.split_row(catalog, *key, time)?;
+        for row in rows {
+            self.split_row(catalog, *row, time)?;
         }
         Ok(())
     }
 
-    fn split_row(&mut self, catalog: &Catalog, row: RowKey, time: u64) -> Result<(), AllocError>
-        ensures { OnOk result (SplitsRows self.old self.new ((row.table, row.key) ∷ []) time) }
+    fn split_row(&mut self, catalog: &Catalog, row: RowId, time: u64) -> Result<(), AllocError>
+        ensures { OnOk result (SplitsRows self.old self.new (row ∷ []) time) }
     {
         if self.table(row.table).is_split(row.key) {
             return Ok(());
@@ -152,8 +151,8 @@ impl Rows {
         Ok(())
     }
 
-    /// Makes both sides of each table show what this one shows. Without memory nothing is promised of
-    /// the rows.
+    /// Makes both sides of each table show what this one shows. Without memory nothing is promised
+    /// of the rows.
     pub(crate) fn unsplit(&mut self, side: Side) -> Result<(), AllocError>
         ensures { OnOk result (ShowsSide side self.old self.new) }
     {

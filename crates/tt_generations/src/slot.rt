@@ -3,7 +3,7 @@ ghost use Rattle.tt_generations.specs.Replies.{replies_if};
 
 use std::alloc::{AllocError, Global};
 use tt_pages::Kept;
-use tt_values::{Items, Reply, Write};
+use tt_values::{Items, Reply, RowId, Write};
 
 /// A slot: an action, and a reply to each of its writes. Both are None where the slot was
 /// cancelled.
@@ -31,19 +31,12 @@ impl Clone for Slot {
     }
 }
 
-/// A row: the position of its table, and its key.
-#[derive(Clone, Copy, Debug, PartialEq, Eq)]
-pub(crate) struct RowKey {
-    pub(crate) table: u16,
-    pub(crate) key: i64,
-}
-
-/// A slot with the rows that it wrote, in the order of its writes. One that was written twice is
+/// A slot with the rows that it wrote, in the order of its writes. A row that was written twice is
 /// there twice. A repair asks for them, and needn't carry the slot out again to know them.
 #[derive(Drop)]
 pub(crate) struct KeptSlot {
     pub(crate) slot: Slot,
-    pub(crate) rows: Items<RowKey>,
+    pub(crate) rows: Items<RowId>,
 }
 
 impl KeptSlot {
@@ -53,7 +46,7 @@ impl KeptSlot {
         alloc: Global,
         action: Option<Items<Write>>,
         replies: &Items<Reply>,
-        rows: Vec<RowKey>,
+        rows: Vec<RowId>,
     ) -> Result<KeptSlot, AllocError>
         ensures action { IfOk result (λ kept. kept.slot.action ≡ action) }
         ensures replies { IfOk result

@@ -13,9 +13,7 @@ use std::fmt::Debug;
 use std::process::Abort;
 use std::sync::Arc;
 use tt_db::{Db, Limits};
-use tt_values::{
-    Catalog, Change, Column, Equal, Items, Kind, Row, Select, TableDef, Text, Value, Write,
-};
+use tt_values::{Catalog, Change, Column, Equal, Items, Row, Select, TableDef, Value, Write};
 
 /// Asserts that two values are equal. An `assert_eq!` in a test makes the test longer to prove.
 fn same<T: PartialEq + Debug>(rt: &impl Abort, got: &T, want: &T) {
@@ -23,32 +21,15 @@ fn same<T: PartialEq + Debug>(rt: &impl Abort, got: &T, want: &T) {
 }
 
 fn items<T: Drop, const N: usize>(rt: &impl Abort, alloc: Global, items: [T; N]) -> Items<T> {
-    let items = Vec::from_array(alloc, items).expect(rt, "memory");
-    Items::new(alloc, items).expect(rt, "memory")
-}
-
-fn text(rt: &impl Abort, alloc: Global, words: &str) -> Text {
-    let words = String::from_str(alloc, words).expect(rt, "memory");
-    Text::new(alloc, words).expect(rt, "memory")
-}
-
-fn column(rt: &impl Abort, alloc: Global, name: &str, kind: Kind, partition: bool) -> Column {
-    Column {
-        name: text(rt, alloc, name),
-        kind,
-        partition,
-    }
+    Items::of(alloc, items).expect(rt, "memory")
 }
 
 fn account_columns(rt: &impl Abort, alloc: Global) -> TableDef {
-    let columns = [
-        column(rt, alloc, "id", Kind::Int, false),
-        column(rt, alloc, "owner", Kind::Text, true),
-        column(rt, alloc, "bal", Kind::Int, false),
-    ];
-    TableDef {
-        columns: items(rt, alloc, columns),
-    }
+    let id = Column::int(alloc, "id").expect(rt, "memory");
+    let owner = Column::text(alloc, "owner").expect(rt, "memory");
+    let balance = Column::int(alloc, "bal").expect(rt, "memory");
+    let columns = [id, owner.partition(), balance];
+    TableDef::of(alloc, columns).expect(rt, "memory")
 }
 
 /// A catalog with the table `acct`.
@@ -65,45 +46,30 @@ fn new_db(rt: &impl Abort, alloc: Global) -> Db {
 }
 
 fn row(rt: &impl Abort, alloc: Global, id: i64, owner: &str, balance: i64) -> Row {
-    let owner = Value::Text(text(rt, alloc, owner));
+    let owner = Value::text(alloc, owner).expect(rt, "memory");
     let values = [Value::Int(id), owner, Value::Int(balance)];
-    Row {
-        values: items(rt, alloc, values),
-    }
+    Row::of(alloc, values).expect(rt, "memory")
 }
 
 fn insert(rt: &impl Abort, alloc: Global, id: i64, owner: &str, balance: i64) -> Write {
-    Write::Insert {
-        table: 0,
-        row: row(rt, alloc, id, owner, balance),
-    }
+    let row = row(rt, alloc, id, owner, balance);
+    Write::Insert { table: 0, row }
 }
 
 fn owned_by(rt: &impl Abort, alloc: Global, owner: &str) -> Equal {
-    Equal {
-        column: 1,
-        value: Value::Text(text(rt, alloc, owner)),
-    }
+    Equal::text(alloc, 1, owner).expect(rt, "memory")
 }
 
 fn delete(rt: &impl Abort, alloc: Global, owner: &str) -> Write {
-    Write::Delete {
-        table: 0,
-        equals: items(rt, alloc, [owned_by(rt, alloc, owner)]),
-    }
+    let owned = owned_by(rt, alloc, owner);
+    Write::delete(alloc, 0, [owned]).expect(rt, "memory")
 }
 
 fn add_to_all(rt: &impl Abort, alloc: Global, by: i64) -> Write {
-    Write::Update {
-        table: 0,
-        changes: items(rt, alloc, [Change::Add { column: 2, by }]),
-        equals: items(rt, alloc, []),
-    }
+    let add = Change::Add { column: 2, by };
+    Write::update(alloc, 0, [add], []).expect(rt, "memory")
 }
 
 fn everything(rt: &impl Abort, alloc: Global) -> Select {
-    Select {
-        table: 0,
-        equals: items(rt, alloc, []),
-    }
+    Select::all(alloc, 0).expect(rt, "memory")
 }

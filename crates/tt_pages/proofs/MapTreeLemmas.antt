@@ -1,20 +1,20 @@
--- What a change of one side does to a fork, and how trees side by side are parted otherwise.
+-- What a change of one half does to a fork, and how neighboring trees can be divided between two halves.
 use Rattle.std.proofs.Common.{◌≡◌, ℕ, suc, ◌+◌, ◌-◌, ◌<◌, ◌≤◌, false, ℤ, List, [], ◌∷◌, ◌++◌, length, IsTrue, IsSome, Option, None, Some, Result, Ok, Err, OnOk, OnErr, IfOk, IfSome, IfNone, take, drop, refl, sym, ap, ◌∙◌, subst, arith, append_assoc, length-append, length-take, length-drop, take-append-drop}
 use Rattle.std.proofs.lemmas.List.{take_all}
 use Rattle.std.specs.Ordering.{int_cmp, is_lt}
 use Rattle.std.specs.Bool.{if◌then◌else◌}
 use Rattle.std.specs.FinMap.Entries.{find, put, is_sorted}
-use Rattle.tt_pages.specs.declared.map_tree.Node.{Node}
-use Rattle.tt_pages.specs.declared.map_tree.Node.TheVariants.{Leaf, Fork}
+use Rattle.tt_pages.specs.declared.map.tree.Node.{Node}
+use Rattle.tt_pages.specs.declared.map.tree.Node.TheVariants.{Leaf, Fork}
 use Rattle.std.specs.Arc.{arc_value}
 use Rattle.std.specs.declared.sync.Arc.{Arc}
 use Rattle.std.specs.declared.alloc.Global.{Global}
-use Rattle.tt_pages.specs.declared.map_tree.Tree.{Tree}
-use Rattle.tt_pages.specs.declared.map_tree.Split.{Split}
-use Rattle.tt_pages.specs.declared.map_tree.Side.{Side}
-use Rattle.tt_pages.specs.declared.map_tree.Side.TheVariants.{Two}
+use Rattle.tt_pages.specs.declared.map.tree.Tree.{Tree}
+use Rattle.tt_pages.specs.declared.map.tree.Separator.{Separator}
+use Rattle.tt_pages.specs.declared.map.tree.Half.{Half}
+use Rattle.tt_pages.specs.declared.map.tree.Half.TheVariants.{Two}
 use Rattle.tt_pages.specs.MapEntries.{first_key, entries_without, keys_of, ChangesAt, IsPageAt}
-use Rattle.tt_pages.specs.MapTree.{entries_of, IsNode, IsPage, IsFork, IsNodeOf, side_entries, AreSides, HasMoreBeside, HasMoreInTree, IsSideWithout, IsOtherOfLone, IsTreeWithout, IsOtherTreeOfLone}
+use Rattle.tt_pages.specs.MapTree.{entries_of, IsNode, IsPage, IsFork, IsNodeOf, half_entries, AreHalves, HasMoreBeside, HasMoreInTree, IsHalfWithout, IsOtherOfLone, IsTreeWithout, IsOtherTreeOfLone}
 use Rattle.tt_pages.proofs.MapEntriesLemmas.{is_sorted-left, is_sorted-right, first_key-append, find-left, find-right, put-left, put-right, without-left, without-right, first_key-put, length-put_filled, length-without_ge, without-lone, sorted-put, sorted-without, keys-append, length-keys, sorted-keys, first_key-keys}
 
 none_beside : {X : Type 0} (found : Option X) (P Q : Type 0) → (P → Q) → IfNone found P → IfNone found Q
@@ -22,7 +22,7 @@ none_beside (Some x) P Q f h = tt
 none_beside None P Q f h = f h
 
 module _ {V : Type 0} where
-  -- ---- trees parted otherwise
+  -- ---- three lists, divided in either way
 
   pub fork-low_right : (o : List (ℤ × V)) (a : ℤ) (i : List (ℤ × V)) (k : ℤ) (r : List (ℤ × V)) → IsFork o a i → IsFork (o ++ i) k r → IsFork i k r
   fork-low_right o a i k r inner all = record {
@@ -59,7 +59,7 @@ module _ {V : Type 0} where
   pub IsFork-same : (l' l : List (ℤ × V)) (k : ℤ) (r' r : List (ℤ × V)) → l' ≡ l → r' ≡ r → IsFork l k r → IsFork l' k r'
   IsFork-same l' l k r' r left right fork = subst (λ es. IsFork es k r') (sym left) (subst (λ es. IsFork l k es) (sym right) fork)
 
-  -- the key that a right side begins with is one
+  -- the key that a right half begins with is unique
   pub IsFork-same_right : (l : List (ℤ × V)) (k : ℤ) (r : List (ℤ × V)) (k' : ℤ) → IsFork l k r → k' ≡ first_key r → IsFork l k' r
   IsFork-same_right l k r k' fork begins = record {
     left_filled = fork.left_filled;
@@ -68,7 +68,7 @@ module _ {V : Type 0} where
     sorted = fork.sorted;
   }
 
-  -- ---- a change of one side
+  -- ---- a change of one half
 
   -- what holds of both outcomes of a call
   pub either : {A E : Type 0} (r : Result A E) (new a b : List (ℤ × V)) (P : List (ℤ × V) → Type 0) → OnOk r (new ≡ a) → OnErr r (new ≡ b) → P a → P b → P new
@@ -79,18 +79,18 @@ module _ {V : Type 0} where
   on_ok (Ok x) new a f b ok same = ap f ok ∙ same
   on_ok (Err e) new a f b ok same = tt
 
-  pub keys-side_left : (l' l r : List (ℤ × V)) → keys_of l' ≡ keys_of l → keys_of (l' ++ r) ≡ keys_of (l ++ r)
-  keys-side_left l' l r same = keys-append l' r ∙ ap (λ ks. ks ++ keys_of r) same ∙ sym (keys-append l r)
+  pub keys-half_left : (l' l r : List (ℤ × V)) → keys_of l' ≡ keys_of l → keys_of (l' ++ r) ≡ keys_of (l ++ r)
+  keys-half_left l' l r same = keys-append l' r ∙ ap (λ ks. ks ++ keys_of r) same ∙ sym (keys-append l r)
 
-  pub keys-side_right : (l r' r : List (ℤ × V)) → keys_of r' ≡ keys_of r → keys_of (l ++ r') ≡ keys_of (l ++ r)
-  keys-side_right l r' r same = keys-append l r' ∙ ap (λ ks. keys_of l ++ ks) same ∙ sym (keys-append l r)
+  pub keys-half_right : (l r' r : List (ℤ × V)) → keys_of r' ≡ keys_of r → keys_of (l ++ r') ≡ keys_of (l ++ r)
+  keys-half_right l r' r same = keys-append l r' ∙ ap (λ ks. keys_of l ++ ks) same ∙ sym (keys-append l r)
 
   pub IsFork-keys_left : (l' l : List (ℤ × V)) (k : ℤ) (r : List (ℤ × V)) → keys_of l' ≡ keys_of l → IsFork l k r → IsFork l' k r
   IsFork-keys_left l' l k r same fork = record {
     left_filled = omega (arith, length-keys l' l same, fork.left_filled);
     right_filled = fork.right_filled;
     begins = fork.begins;
-    sorted = sorted-keys (l' ++ r) (l ++ r) (keys-side_left l' l r same) fork.sorted;
+    sorted = sorted-keys (l' ++ r) (l ++ r) (keys-half_left l' l r same) fork.sorted;
   }
 
   pub IsFork-keys_right : (l : List (ℤ × V)) (k : ℤ) (r' r : List (ℤ × V)) → keys_of r' ≡ keys_of r → IsFork l k r → IsFork l k r'
@@ -98,7 +98,7 @@ module _ {V : Type 0} where
     left_filled = fork.left_filled;
     right_filled = omega (arith, length-keys r' r same, fork.right_filled);
     begins = fork.begins ∙ sym (first_key-keys r' r same);
-    sorted = sorted-keys (l ++ r') (l ++ r) (keys-side_right l r' r same) fork.sorted;
+    sorted = sorted-keys (l ++ r') (l ++ r) (keys-half_right l r' r same) fork.sorted;
   }
 
   pub IsPage-keys : (es fs : List (ℤ × V)) → keys_of es ≡ keys_of fs → IsPage fs → IsPage es
@@ -143,7 +143,7 @@ module _ {V : Type 0} where
         sorted = subst (λ es. IsTrue (is_sorted int_cmp es)) (sym fork_without-left) (sorted-without key (l ++ r) fork.sorted);
       }
 
-      -- without its one entry the left side is empty
+      -- without its one entry the left half is empty
       pub without-lone_left : IsSome (find int_cmp key (l ++ r)) → length l ≤ 1 → r ≡ entries_without key (l ++ r)
       without-lone_left some lone =
           let none = without-lone key l (omega (arith, fork.left_filled)) (subst (λ o. IsSome o) fork_find-left some) in
@@ -170,7 +170,7 @@ module _ {V : Type 0} where
         sorted = subst (λ es. IsTrue (is_sorted int_cmp es)) (sym (fork_put-right v)) (sorted-put key v (l ++ r) fork.sorted);
       }
 
-      -- the right side may begin with another key then
+      -- the right half may begin with another key then
       pub IsFork-without_right : (k' : ℤ) → k' ≡ first_key (entries_without key r) → 1 < length r → IsFork l k' (entries_without key r)
       IsFork-without_right k' begins more = record {
         left_filled = fork.left_filled;
@@ -179,7 +179,7 @@ module _ {V : Type 0} where
         sorted = subst (λ es. IsTrue (is_sorted int_cmp es)) (sym fork_without-right) (sorted-without key (l ++ r) fork.sorted);
       }
 
-      -- without its one entry the right side is empty
+      -- without its one entry the right half is empty
       pub without-lone_right : IsSome (find int_cmp key (l ++ r)) → length r ≤ 1 → l ≡ entries_without key (l ++ r)
       without-lone_right some lone =
           let none = without-lone key r (omega (arith, fork.right_filled)) (subst (λ o. IsSome o) fork_find-right some) in
@@ -221,29 +221,29 @@ module _ {V : Type 0} where
     sorted = sorted-without key es page.sorted;
   }
 
-  -- ---- a side with one entry, and a tree with one
+  -- ---- a half with one entry, and a tree with one
 
-  -- what is left beside it, where it has one entry, and where it has more
-  some_lone : {X : Type 0} (side other all : List (ℤ × V)) (found : Option X) (Has : List (ℤ × V) → X → Type 0) → (length side ≤ 1 → other ≡ all) → IfSome found (λ x. (length side ≤ 1) × Has other x) → IfSome found (Has all)
-  some_lone side other all (Some x) Has same h = subst (λ es. Has es x) (same h.0) h.1
-  some_lone side other all None Has same h = tt
+  -- what remains if it has one entry, and what holds if it has more
+  some_lone : {X : Type 0} (half other all : List (ℤ × V)) (found : Option X) (Has : List (ℤ × V) → X → Type 0) → (length half ≤ 1 → other ≡ all) → IfSome found (λ x. (length half ≤ 1) × Has other x) → IfSome found (Has all)
+  some_lone half other all (Some x) Has same h = subst (λ es. Has es x) (same h.0) h.1
+  some_lone half other all None Has same h = tt
 
-  module _ (key : ℤ) (l r : Side V) (s : Split) (sides : AreSides l s.key r) (some : IsSome (find int_cmp key (side_entries l ++ side_entries r))) where
-    pub IsSideWithout-left : {E : Type 0} (out : Result (Option (Node V)) E) → IsTrue (is_lt (int_cmp key s.key)) → IfOk out (IsOtherOfLone (side_entries l) (side_entries r)) → IfOk out (IsSideWithout key (Fork l s r))
-    IsSideWithout-left (Ok node) lt h = record {
-      lone = some_lone (side_entries l) (side_entries r) (entries_without key (side_entries l ++ side_entries r)) node IsNodeOf (without-lone_left key (side_entries l) s.key (side_entries r) sides.fork lt some) h.lone;
-      beside = none_beside node (1 < length (side_entries l)) (HasMoreBeside key (Fork l s r)) (λ more. subst (λ b. 1 < length (if b then side_entries l else side_entries r)) (sym lt) more) h.beside;
+  module _ (key : ℤ) (l r : Half V) (s : Separator) (halves : AreHalves l s.key r) (some : IsSome (find int_cmp key (half_entries l ++ half_entries r))) where
+    pub IsHalfWithout-left : {E : Type 0} (out : Result (Option (Node V)) E) → IsTrue (is_lt (int_cmp key s.key)) → IfOk out (IsOtherOfLone (half_entries l) (half_entries r)) → IfOk out (IsHalfWithout key (Fork l s r))
+    IsHalfWithout-left (Ok node) lt h = record {
+      lone = some_lone (half_entries l) (half_entries r) (entries_without key (half_entries l ++ half_entries r)) node IsNodeOf (without-lone_left key (half_entries l) s.key (half_entries r) halves.fork lt some) h.lone;
+      beside = none_beside node (1 < length (half_entries l)) (HasMoreBeside key (Fork l s r)) (λ more. subst (λ b. 1 < length (if b then half_entries l else half_entries r)) (sym lt) more) h.beside;
     }
-    IsSideWithout-left (Err e) lt h = tt
+    IsHalfWithout-left (Err e) lt h = tt
 
-    pub IsSideWithout-right : {E : Type 0} (out : Result (Option (Node V)) E) → is_lt (int_cmp key s.key) ≡ false → IfOk out (IsOtherOfLone (side_entries r) (side_entries l)) → IfOk out (IsSideWithout key (Fork l s r))
-    IsSideWithout-right (Ok node) not_lt h = record {
-      lone = some_lone (side_entries r) (side_entries l) (entries_without key (side_entries l ++ side_entries r)) node IsNodeOf (without-lone_right key (side_entries l) s.key (side_entries r) sides.fork not_lt some) h.lone;
-      beside = none_beside node (1 < length (side_entries r)) (HasMoreBeside key (Fork l s r)) (λ more. subst (λ b. 1 < length (if b then side_entries l else side_entries r)) (sym not_lt) more) h.beside;
+    pub IsHalfWithout-right : {E : Type 0} (out : Result (Option (Node V)) E) → is_lt (int_cmp key s.key) ≡ false → IfOk out (IsOtherOfLone (half_entries r) (half_entries l)) → IfOk out (IsHalfWithout key (Fork l s r))
+    IsHalfWithout-right (Ok node) not_lt h = record {
+      lone = some_lone (half_entries r) (half_entries l) (entries_without key (half_entries l ++ half_entries r)) node IsNodeOf (without-lone_right key (half_entries l) s.key (half_entries r) halves.fork not_lt some) h.lone;
+      beside = none_beside node (1 < length (half_entries r)) (HasMoreBeside key (Fork l s r)) (λ more. subst (λ b. 1 < length (if b then half_entries l else half_entries r)) (sym not_lt) more) h.beside;
     }
-    IsSideWithout-right (Err e) not_lt h = tt
+    IsHalfWithout-right (Err e) not_lt h = tt
 
-  module _ (key : ℤ) (l r : Arc (Tree V) Global) (s : Split) (fork : IsFork l.value s.key r.value) (some : IsSome (find int_cmp key (l.value ++ r.value))) where
+  module _ (key : ℤ) (l r : Arc (Tree V) Global) (s : Separator) (fork : IsFork l.value s.key r.value) (some : IsSome (find int_cmp key (l.value ++ r.value))) where
     pub IsTreeWithout-left : {E : Type 0} (out : Result (Option (Arc (Tree V) Global)) E) → IsTrue (is_lt (int_cmp key s.key)) → IfOk out (IsOtherTreeOfLone l.value r.value) → IfOk out (IsTreeWithout key (Two l s r))
     IsTreeWithout-left (Ok tree) lt h = record {
       lone = some_lone l.value r.value (entries_without key (l.value ++ r.value)) tree (λ es tree. arc_value tree ≡ es) (without-lone_left key l.value s.key r.value fork lt some) h.lone;

@@ -1,4 +1,4 @@
--- What the fields of a log are seen as.
+-- The items that the fields of a log hold.
 use Rattle.std.specs.Prelude.{List, [], ◌++◌, Option, None, Some}
 use Rattle.std.specs.declared.sync.Arc.{Arc}
 use Rattle.std.specs.declared.alloc.Global.{Global}

@@ -1,4 +1,4 @@
--- What a node of a log's tree is seen as.
+-- The items that a node of a log's tree holds.
 use Rattle.std.specs.Prelude.{◌<◌, List, ◌++◌, length}
 use Rattle.std.specs.declared.sync.Arc.{Arc}
 use Rattle.std.specs.declared.alloc.Global.{Global}
@@ -16,7 +16,7 @@ module _ {T : Type 0} where
   node_items (Leaf page) = page.value
   node_items (Fork branches) = branch_items branches
 
-  -- a page has an item, and so has each branch of a fork
+  -- a page has at least one item, and so does each branch of a fork
   abbrev pub IsFilled : Node T → Type 0
   IsFilled (Leaf page) = 0 < length page.value
   IsFilled (Fork branches) = (0 < length branches.value.0) × (0 < length branches.value.1)

@@ -6,6 +6,7 @@ use Rattle.std.proofs.lemmas.Bool.Decides.{Decides-int_eq}
 use Rattle.std.proofs.lemmas.List.Folds.{list_any-append}
 use Rattle.tt_parts.specs.declared.partition.Partition.{Partition}
 use Rattle.tt_parts.specs.declared.partition.Reads.TheVariants.{All, Equated}
+use Rattle.tt_values.specs.declared.row_id.RowId.{RowId}
 use Rattle.tt_values.specs.declared.table.Column.{Column}
 use Rattle.tt_values.specs.declared.statement.Equal.{Equal}
 use Rattle.tt_parts.specs.Partitions.{key_partition, is_partition_position, partition_of, equated_partitions, is_same_partition, is_partition_in}
@@ -39,22 +40,22 @@ same_members_with_row D E table columns key before after h = record {
         list_any-append same parts D.partitions ∙ ap (λ b. list_any same parts || b) (h.partitions p) ∙ sym (list_any-append same parts E.partitions)
 
 -- a row of a list is of its table
-pub is_table_in-row : (rs : List (ℕ × ℤ)) (table : ℕ) (key : ℤ) → is_row_in rs table key ≡ true → is_table_in rs table ≡ true
+pub is_table_in-row : (rs : List RowId) (table : ℕ) (key : ℤ) → is_row_in rs table key ≡ true → is_table_in rs table ≡ true
 is_table_in-row [] table key h = h
-is_table_in-row (r ∷ rs) table key h = by (table == r.0) (int_eq key r.1) h (is_table_in-row rs table key)
+is_table_in-row (r ∷ rs) table key h = by (table == r.table) (int_eq key r.key) h (is_table_in-row rs table key)
   where
     by : (a b : Bool) → ((a && b) || is_row_in rs table key) ≡ true → (is_row_in rs table key ≡ true → is_table_in rs table ≡ true) → (a || is_table_in rs table) ≡ true
     by true b g rest = refl
     by false b g rest = rest g
 
 -- a list with a row of a table has a row with some key of it
-pub row_of_table : (rs : List (ℕ × ℤ)) (table : ℕ) → is_table_in rs table ≡ true → (key : ℤ) × (is_row_in rs table key ≡ true)
+pub row_of_table : (rs : List RowId) (table : ℕ) → is_table_in rs table ≡ true → (key : ℤ) × (is_row_in rs table key ≡ true)
 row_of_table [] table h = cc
-row_of_table (r ∷ rs) table h = by (table == r.0) refl h (row_of_table rs table)
+row_of_table (r ∷ rs) table h = by (table == r.table) refl h (row_of_table rs table)
   where
-    by : (a : Bool) → (table == r.0) ≡ a → (a || is_table_in rs table) ≡ true → (is_table_in rs table ≡ true → (key : ℤ) × (is_row_in rs table key ≡ true)) → (key : ℤ) × (is_row_in (r ∷ rs) table key ≡ true)
-    by true e g rest = (r.1, (λ j. (e j && (Decides-int_eq r.1 r.1).1 refl j) || is_row_in rs table r.1))
-    by false e g rest = ((rest g).0, (λ j. (e j && int_eq (rest g).0 r.1) || (rest g).1 j))
+    by : (a : Bool) → (table == r.table) ≡ a → (a || is_table_in rs table) ≡ true → (is_table_in rs table ≡ true → (key : ℤ) × (is_row_in rs table key ≡ true)) → (key : ℤ) × (is_row_in (r ∷ rs) table key ≡ true)
+    by true e g rest = (r.key, (λ j. (e j && (Decides-int_eq r.key r.key).1 refl j) || is_row_in rs table r.key))
+    by false e g rest = ((rest g).0, (λ j. (e j && int_eq (rest g).0 r.key) || (rest g).1 j))
 
 -- two tests agree where each holds with the other
 pub agree : (a b : Bool) → (a ≡ true → b ≡ true) → (b ≡ true → a ≡ true) → a ≡ b
@@ -63,7 +64,7 @@ agree false true h g = g refl
 agree false false h g = refl
 
 -- lists with the same rows have rows of the same tables
-same_tables : (rs ss : List (ℕ × ℤ)) (table : ℕ) → SameRows rs ss → is_table_in rs table ≡ true → is_table_in ss table ≡ true
+same_tables : (rs ss : List RowId) (table : ℕ) → SameRows rs ss → is_table_in rs table ≡ true → is_table_in ss table ≡ true
 same_tables rs ss table h e =
     let w = row_of_table rs table e in
     is_table_in-row ss table w.0 (sym (h table w.0) ∙ w.1)

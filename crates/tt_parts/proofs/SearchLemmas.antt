@@ -9,6 +9,7 @@ use Rattle.std.proofs.lemmas.Bool.{and_parts, and_from, or_left, or_right}
 use Rattle.std.proofs.lemmas.Bool.Decides.{same_from_decides, Decides-like, Decides-eqb, Decides-int_eq}
 use Rattle.std.proofs.lemmas.List.Folds.{list_any-append}
 use Rattle.std.proofs.lemmas.Map.Views.{any-filter_same}
+use Rattle.tt_values.specs.declared.row_id.RowId.{RowId}
 use Rattle.tt_values.specs.declared.value.Value.{Value}
 use Rattle.tt_values.specs.Value.{is_same}
 use Rattle.tt_values.specs.Digest.{digest_of}
@@ -54,7 +55,7 @@ any-found test found false xs same all = any-filter_same test found false same x
 
 -- ---- rows
 
-any-key : (table : ℕ) (key : ℤ) (keys : KeySet) → has_key keys key ≡ true → list_any (λ r. (table == r.0) && int_eq key r.1) (rows_of_table (pos table, keys)) ≡ true
+any-key : (table : ℕ) (key : ℤ) (keys : KeySet) → has_key keys key ≡ true → list_any (λ r. (table == r.table) && int_eq key r.key) (rows_of_table (pos table, keys)) ≡ true
 any-key table key [] h = cc
 any-key table key (k ∷ ks) h = by (int_eq key k.0) h (any-key table key ks)
   where
@@ -68,14 +69,14 @@ any-key table key (k ∷ ks) h = by (int_eq key k.0) h (any-key table key ks)
 
 pub rows_found_are : (tables : KeysByTable) (table : ℕ) (key : ℤ) → is_row_in (rows_found tables) table key ≡ finds_row tables table key
 rows_found_are tables table key =
-    any-found (λ r. (table == r.0) && int_eq key r.1) (λ r. finds_row tables r.0 r.1) (finds_row tables table key) (flat_map rows_of_table tables) same
-    (any-under rows_of_table (λ r. (table == r.0) && int_eq key r.1) (λ keys. has_key keys key) (pos table) tables refl (any-key table key))
+    any-found (λ r. (table == r.table) && int_eq key r.key) (λ r. finds_row tables r.table r.key) (finds_row tables table key) (flat_map rows_of_table tables) same
+    (any-under rows_of_table (λ r. (table == r.table) && int_eq key r.key) (λ keys. has_key keys key) (pos table) tables refl (any-key table key))
   where
-    same : (r : ℕ × ℤ) → ((table == r.0) && int_eq key r.1) ≡ true → finds_row tables r.0 r.1 ≡ finds_row tables table key
+    same : (r : RowId) → ((table == r.table) && int_eq key r.key) ≡ true → finds_row tables r.table r.key ≡ finds_row tables table key
     same r h =
-        let both = and_parts (table == r.0) (int_eq key r.1) h in
-        let t = eqb-true table r.0 both.0 in
-        let k = same_key key r.1 both.1 in
+        let both = and_parts (table == r.table) (int_eq key r.key) h in
+        let t = eqb-true table r.table both.0 in
+        let k = same_key key r.key both.1 in
         λ i. finds_row tables (sym t i) (sym k i)
 
 pub tables_found_are : (tables : KeysByTable) (table : ℕ) → is_table_in (rows_found tables) table ≡ finds_table tables table
@@ -133,7 +134,7 @@ partitions_found_are tables p =
 
 -- ---- one row or partition more
 
-pub same_rows-add : (before after : KeysByTable) (table : ℕ) (key : ℤ) → AddsRow before table key after → SameRows (rows_found after) ((table, key) ∷ rows_found before)
+pub same_rows-add : (before after : KeysByTable) (table : ℕ) (key : ℤ) → AddsRow before table key after → SameRows (rows_found after) (record { table = table; key = key } ∷ rows_found before)
 same_rows-add before after table key more t k =
     rows_found_are after t k ∙ more t k ∙ ap (λ b. ((t == table) && int_eq k key) || b) (sym (rows_found_are before t k))
 

@@ -4,6 +4,7 @@ use Rattle.std.specs.List.{list_any}
 use Rattle.std.specs.Option.{unwrap_or}
 use Rattle.std.specs.Ordering.{int_eq}
 use Rattle.tt_values.specs.declared.row.Row.{Row}
+use Rattle.tt_values.specs.declared.row_id.RowId.{RowId}
 use Rattle.tt_values.specs.declared.table.Column.{Column}
 use Rattle.tt_values.specs.Tables.{Tables, columns_at}
 use Rattle.tt_parts.specs.declared.partition.Partition.{Partition}
@@ -11,9 +12,9 @@ use Rattle.tt_parts.specs.declared.partition.Reads.{Reads}
 use Rattle.tt_parts.specs.declared.partition.Reads.TheVariants.{All, Equated}
 use Rattle.tt_parts.specs.Partitions.{parts_of, key_partition, is_partition_in}
 
--- a set of dirty rows, each by its table and key, and of dirty partitions
+-- a set of dirty rows and of dirty partitions
 pub record DirtySet : Type 0 where
-  pub rows : List (ℕ × ℤ)
+  pub rows : List RowId
   pub partitions : List Partition
 
 -- the tables of a catalog, and what is dirty in them
@@ -26,12 +27,12 @@ abbrev pub nothing_dirty : DirtySet
 nothing_dirty = record { rows = []; partitions = [] }
 
 -- whether a list of rows has the one with a key of a table
-abbrev pub is_row_in : List (ℕ × ℤ) → ℕ → ℤ → Bool
-is_row_in rows table key = list_any (λ r. (table == r.0) && int_eq key r.1) rows
+abbrev pub is_row_in : List RowId → ℕ → ℤ → Bool
+is_row_in rows table key = list_any (λ r. (table == r.table) && int_eq key r.key) rows
 
 -- whether some row of a list is of this table
-abbrev pub is_table_in : List (ℕ × ℤ) → ℕ → Bool
-is_table_in rows table = list_any (λ r. table == r.0) rows
+abbrev pub is_table_in : List RowId → ℕ → Bool
+is_table_in rows table = list_any (λ r. table == r.table) rows
 
 -- whether the row with a key of a table is dirty
 abbrev pub has_row : DirtySet → ℕ → ℤ → Bool
@@ -46,11 +47,11 @@ abbrev pub has_partition : DirtySet → Partition → Bool
 has_partition D = is_partition_in D.partitions
 
 -- the partition of the key of each row of a list is in a list of partitions
-abbrev pub HaveKeyPartitions : List (ℕ × ℤ) → List Partition → Type 0
+abbrev pub HaveKeyPartitions : List RowId → List Partition → Type 0
 HaveKeyPartitions rows ps = (table : ℕ) (key : ℤ) → is_row_in rows table key ≡ true → is_partition_in ps (key_partition table key) ≡ true
 
 -- two lists have the same rows
-abbrev pub SameRows : List (ℕ × ℤ) → List (ℕ × ℤ) → Type 0
+abbrev pub SameRows : List RowId → List RowId → Type 0
 SameRows rs ss = (table : ℕ) (key : ℤ) → is_row_in rs table key ≡ is_row_in ss table key
 
 -- two lists have the same partitions
@@ -74,11 +75,11 @@ parts_if table columns (Some row) = parts_of table columns row
 -- the set after a row gets dirty, and with it the partitions of its key and of its contents before and after
 abbrev pub with_row : DirtySet → ℕ → List Column → ℤ → Option Row → Option Row → DirtySet
 with_row D table columns key before after = record {
-  rows = (table, key) ∷ D.rows;
+  rows = record { table = table; key = key } ∷ D.rows;
   partitions = key_partition table key ∷ parts_if table columns before ++ parts_if table columns after ++ D.partitions;
 }
 
--- the same for a table of the catalog
+-- the set after a row of a table of the catalog gets dirty
 abbrev pub with_row_in : DirtyTables → ℕ → ℤ → Option Row → Option Row → DirtySet
 with_row_in d table key before after = with_row d.dirty table (columns_in d.catalog table) key before after
 

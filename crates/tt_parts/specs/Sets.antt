@@ -5,6 +5,7 @@ use Rattle.std.specs.Option.{unwrap_or}
 use Rattle.std.specs.Int.RustNames.{unsigned_abs}
 use Rattle.std.specs.Ordering.{int_cmp, int_eq}
 use Rattle.std.specs.FinMap.Entries as sorted
+use Rattle.tt_values.specs.declared.row_id.RowId.{RowId}
 use Rattle.tt_values.specs.declared.value.Value.{Value}
 use Rattle.tt_values.specs.Value.{is_same}
 use Rattle.tt_values.specs.Digest.{digest_of}
@@ -31,7 +32,7 @@ ValuesByDigest = List (ℤ × List Value)
 abbrev pub ValuesByColumn : Type 0
 ValuesByColumn = List (ℤ × ValuesByDigest)
 
--- the same by table
+-- the values of partitions, by table, column and digest
 abbrev pub ValuesByTable : Type 0
 ValuesByTable = List (ℤ × ValuesByColumn)
 
@@ -56,21 +57,21 @@ finds_table tables table = is_filled (under (pos table) tables)
 abbrev pub finds_value : ValuesByDigest → Value → Bool
 finds_value values v = list_any (is_same v) (under (digest_of v) values)
 
--- whether it finds a value in a column
+-- whether a search finds a value in a column
 abbrev pub finds_in_column : ValuesByColumn → ℕ → Value → Bool
 finds_in_column columns column = finds_value (under (pos column) columns)
 
--- whether it finds a partition
+-- whether a search finds a partition
 abbrev pub finds_partition : ValuesByTable → Partition → Bool
 finds_partition tables p = finds_in_column (under (pos p.table) tables) p.column p.value
 
 -- the rows of a table
-abbrev pub rows_of_table : ℤ × KeySet → List (ℕ × ℤ)
-rows_of_table entry = map (λ k. (unsigned_abs entry.0, k.0)) entry.1
+abbrev pub rows_of_table : ℤ × KeySet → List RowId
+rows_of_table entry = map (λ k. record { table = unsigned_abs entry.0; key = k.0 }) entry.1
 
 -- the rows that a search finds
-abbrev pub rows_found : KeysByTable → List (ℕ × ℤ)
-rows_found tables = filter (λ r. finds_row tables r.0 r.1) (flat_map rows_of_table tables)
+abbrev pub rows_found : KeysByTable → List RowId
+rows_found tables = filter (λ r. finds_row tables r.table r.key) (flat_map rows_of_table tables)
 
 -- the partitions of some values of a column
 abbrev pub partitions_of_values : ℕ → ℕ → ℤ × List Value → List Partition
@@ -87,18 +88,18 @@ partitions_of_table entry = flat_map (partitions_of_column (unsigned_abs entry.0
 abbrev pub partitions_found : ValuesByTable → List Partition
 partitions_found tables = filter (finds_partition tables) (flat_map partitions_of_table tables)
 
--- a search finds one row more
+-- a search finds one more row
 abbrev pub AddsRow : KeysByTable → ℕ → ℤ → KeysByTable → Type 0
 AddsRow before table key after = (t : ℕ) (k : ℤ) → finds_row after t k ≡ (((t == table) && int_eq k key) || finds_row before t k)
 
--- one value more
+-- a search finds one more value
 abbrev pub AddsValue : ValuesByDigest → Value → ValuesByDigest → Type 0
 AddsValue before value after = (v : Value) → finds_value after v ≡ (is_same v value || finds_value before v)
 
--- one value more, of this column
+-- a search finds one more value, in this column
 abbrev pub AddsInColumn : ValuesByColumn → ℕ → Value → ValuesByColumn → Type 0
 AddsInColumn before column value after = (c : ℕ) (v : Value) → finds_in_column after c v ≡ (((c == column) && is_same v value) || finds_in_column before c v)
 
--- one partition more
+-- a search finds one more partition
 abbrev pub AddsPartition : ValuesByTable → Partition → ValuesByTable → Type 0
 AddsPartition before partition after = (p : Partition) → finds_partition after p ≡ (is_same_partition p partition || finds_partition before p)

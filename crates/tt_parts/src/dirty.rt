@@ -12,7 +12,7 @@ use crate::partition::Reads;
 use std::alloc::{AllocError, Global};
 use std::marker::Model;
 use std::sync::Arc;
-use tt_values::{Catalog, Column, Equal, Row, Shared, TableDef, Value, Write};
+use tt_values::{Catalog, Column, Equal, Row, RowId, Shared, TableDef, Value, Write};
 
 /// A set of dirty rows and partitions, of the tables of one catalog. Contracts speak only of its
 /// members. Sets that come from one another share pages.
@@ -88,27 +88,9 @@ impl Dirty {
         })
     }
 
-    /// The set after a row gets dirty too: the row with that key, the partition of the key, and the
-    /// partitions that the row lies in by its contents before and after, where it has any.
-    pub fn with_row(
-        &self,
-        table: u16,
-        key: i64,
-        before: Option<&Row>,
-        after: Option<&Row>,
-    ) -> Result<Dirty, AllocError>
-        requires { table < length self.now.catalog }
-        ensures catalog { IfOk result (λ d. d.catalog ≡ self.now.catalog) }
-        ensures dirty { IfOk result (λ d. SameMembers d.dirty (with_row_in self.now table key
-            (option_copied before.entry) (option_copied after.entry))) }
-    {
-        let mut dirty = self.share()?;
-        dirty.add_row(table, key, before, after)?;
-        Ok(dirty)
-    }
-
-    /// Makes a row dirty in this set, as `with_row` does in a new one. Sets that share pages with
-    /// this one stay as they are. Without memory nothing is promised of the members.
+    /// Makes a row dirty in this set, as [`with_row`](Dirty::with_row) does in a new one. Sets that
+    /// share pages with this one stay as they are. Without memory nothing is promised of the
+    /// members.
     pub fn add_row(
         &mut self,
         table: u16,
@@ -123,8 +105,13 @@ impl Dirty {
     {
         let alloc = self.alloc;
         let def = table_in(self.catalog.get(), table);
+        let row = DirtyRow {
+            id: RowId { table, key },
+            before,
+            after,
+        };
         let (rows, partitions) = (&mut self.rows, &mut self.partitions);
-        let added = add_row_to(alloc, rows, partitions, table, def, key, before, after);
+        let added = add_row_to(alloc, rows, partitions, def, &row);
         if added.is_err() {
             // A row must not stay without the partition of its key.
             self.rows = DirtyRows::new(alloc);
@@ -136,7 +123,7 @@ impl Dirty {
     pub fn has_row(&self, table: u16, key: i64) -> bool
         ensures { result ≡ has_row self.now.dirty table key }
     {
-        self.rows.has(table, key)
+        self.rows.has(RowId { table, key })
     }
 
     /// Whether a statement that reads this is clear: one of its partitions isn't dirty, or, if it
@@ -184,28 +171,35 @@ impl Dirty {
     }
 }
 
-/// Adds a row, the partition of its key, and the partitions that it lies in by its contents before
-/// and after, where it has any.
+/// A row that gets dirty, with its contents before and after, where it has any.
+#[derive(Clone, Copy)]
+struct DirtyRow<'a> {
+    id: RowId,
+    before: Option<&'a Row>,
+    after: Option<&'a Row>,
+}
+
+/// Adds a row of this table, the partition of its key, and the partitions that it lies in by its
+/// contents.
 fn add_row_to(
     alloc: Global,
     rows: &mut DirtyRows,
     partitions: &mut DirtyPartitions,
-    table: u16,
     def: &TableDef,
-    key: i64,
-    before: Option<&Row>,
-    after: Option<&Row>,
+    row: &DirtyRow<'_>,
 ) -> Result<(), AllocError>
     requires few { length def.now.columns ≤ 2 ^ 16 }
     requires keys { HaveKeyPartitions rows.old partitions.old }
-    ensures rows { OnOk result (SameRows rows.new ((table, key) ∷ rows.old)) }
-    ensures partitions { OnOk result (SamePartitions partitions.new (key_partition table key
-        ∷ parts_if table def.now.columns (option_copied before.entry)
-        ++ parts_if table def.now.columns (option_copied after.entry) ++ partitions.old)) }
+    ensures rows { OnOk result (SameRows rows.new (row.now.id ∷ rows.old)) }
+    ensures partitions { OnOk result (SamePartitions partitions.new
+        (key_partition row.now.id.table row.now.id.key
+        ∷ parts_if row.now.id.table def.now.columns (option_copied row.now.before)
+        ++ parts_if row.now.id.table def.now.columns (option_copied row.now.after)
+        ++ partitions.old)) }
 {
-    add_row_and_key(alloc, rows, partitions, table, key)?;
-    add_parts(alloc, partitions, table, def, before)?;
-    add_parts(alloc, partitions, table, def, after)?;
+    add_row_and_key(alloc, rows, partitions, row.id)?;
+    add_parts(alloc, partitions, row.id.table, def, row.before)?;
+    add_parts(alloc, partitions, row.id.table, def, row.after)?;
     Ok(())
 }
 
@@ -215,19 +209,18 @@ fn add_row_and_key(
     alloc: Global,
     rows: &mut DirtyRows,
     partitions: &mut DirtyPartitions,
-    table: u16,
-    key: i64,
+    row: RowId,
 ) -> Result<(), AllocError>
     requires { HaveKeyPartitions rows.old partitions.old }
-    ensures rows { OnOk result (SameRows rows.new ((table, key) ∷ rows.old)) }
+    ensures rows { OnOk result (SameRows rows.new (row ∷ rows.old)) }
     ensures partitions { OnOk result
-        (SamePartitions partitions.new (key_partition table key ∷ partitions.old)) }
+        (SamePartitions partitions.new (key_partition row.table row.key ∷ partitions.old)) }
 {
-    if rows.has(table, key) {
+    if rows.has(row) {
         return Ok(());
     }
-    add_key(alloc, partitions, table, key)?;
-    rows.add(alloc, table, key)
+    add_key(alloc, partitions, row.table, row.key)?;
+    rows.add(alloc, row)
 }
 
 /// The table at a position.

@@ -107,7 +107,7 @@ fn has_value(values: &Values, value: &Value) -> bool
     }
 }
 
-/// Adds a partition. One that is there already stays there once.
+/// Adds a partition, unless it is there already.
 fn add_partition(
     alloc: Global,
     tables: &mut PagedMap<Columns>,

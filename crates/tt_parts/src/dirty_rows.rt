@@ -5,6 +5,7 @@ use crate::by_position::{put_value, take_value, value_at};
 use std::alloc::{AllocError, Global};
 use std::marker::Model;
 use tt_pages::PagedMap;
+use tt_values::RowId;
 
 /// A set of keys.
 type KeySet = PagedMap<()>;
@@ -17,10 +18,11 @@ pub(crate) struct DirtyRows {
 }
 
 impl Model for DirtyRows {
-    ghost use Rattle.std.specs.Prelude.{List, ℕ, ℤ};
+    ghost use Rattle.std.specs.Prelude.{List};
+    ghost use Rattle.tt_values.specs.declared.row_id.RowId.{RowId};
     ghost use Rattle.tt_parts.specs.Sets.{rows_found};
 
-    ghost Value = { List (ℕ × ℤ) };
+    ghost Value = { List RowId };
 
     ghost view = { λ r. rows_found r.tables };
 }
@@ -45,10 +47,10 @@ impl DirtyRows {
     }
 
     #[tactic(auto, using(crate::proofs::SearchLemmas::rows_found_are))]
-    pub(crate) fn has(&self, table: u16, key: i64) -> bool
-        ensures { result ≡ is_row_in self.now table key }
+    pub(crate) fn has(&self, row: RowId) -> bool
+        ensures { result ≡ is_row_in self.now row.table row.key }
     {
-        has_row(&self.tables, table, key)
+        has_row(&self.tables, row.table, row.key)
     }
 
     /// Whether it has a row of the table.
@@ -59,10 +61,10 @@ impl DirtyRows {
         has_table(&self.tables, table)
     }
 
-    pub(crate) fn add(&mut self, alloc: Global, table: u16, key: i64) -> Result<(), AllocError>
-        ensures { OnOk result (SameRows self.new ((table, key) ∷ self.old)) }
+    pub(crate) fn add(&mut self, alloc: Global, row: RowId) -> Result<(), AllocError>
+        ensures { OnOk result (SameRows self.new (row ∷ self.old)) }
     {
-        add_row(alloc, &mut self.tables, table, key)?;
+        add_row(alloc, &mut self.tables, row.table, row.key)?;
         Ok(())
     }
 }

@@ -10,6 +10,7 @@ pub mod laws;
 mod members;
 mod partition;
 mod parts;
+mod persistent;
 mod same_digest;
 mod statement_reads;
 

@@ -209,7 +209,7 @@ goes_on_then limits worker m n places later others more a b c p q = record {
       (q.alone (all_second IsWrite others more all) edits (done + m) (p.alone (all_first IsWrite others more all) edits done h));
 }
 
--- the places of so many steps behind a front
+-- the places of n steps behind a front
 abbrev pub places_behind : List Entry → ℕ → List ℕ
 places_behind front n = numbers_from (length front + 1) (length (steps n))
 
@@ -271,7 +271,7 @@ made_steps tables limits most old new p s =
       own = is.own;
     }
 
--- steps for all slots that were left at first, and more of them
+-- steps for all slots that were left at the start, and more of them
 pub made_all_then : (limits : Limits) (a b c : WorkerState) → MadeAllSteps limits a b → MadeSteps limits b c → MadeAllSteps limits a c
 unfolding made_then
 made_all_then limits a b c p q = record {
@@ -282,8 +282,8 @@ made_all_then limits a b c p q = record {
 pub made_then_all : (limits : Limits) (a b c : WorkerState) → MadeSteps limits a b → MadeAllSteps limits b c → MadeSteps limits a c
 made_then_all limits a b c p q = made_then limits a b c p q.made
 
--- a worker has made so many publishes of steps, each of at most so many. Where the others only wrote, no slot is gone, and each publish
--- was of as many steps as it could be until there was one for each slot that was left at first
+-- a worker has made this number of publishes of steps, each of at most `most` steps. Where the others only wrote, no slot is gone, and each
+-- publish was of as many steps as it could be until there was one for each slot that was left at the start
 pub record MadePublishes (limits : Limits) (most publishes : ℕ) (old new : WorkerState) : Type 0 where
   pub made : MadeSteps limits old new
   pub at_most : made.count ≤ publishes * most
@@ -338,7 +338,7 @@ publishes_more tables limits most k next a b c p pos is so_far s =
           (done_at_front limits b.seen front edits (done + m) later second (made.goes_on.alone first edits done (record { phase = phase; within = within }))));
     })
 
--- the publishes that the slots need that are left at first, and fewer of them
+-- the publishes that the slots need that are left at the start, and fewer of them
 enough : (most left publishes k m : ℕ) → publishes ≡ left / most + min 1 (left % most) → 1 ≤ most → publishes ≤ k → min (k * most) left ≤ m → left ≤ m
 enough most left publishes k m is pos le all =
     let within : left / most + min 1 (left % most) ≤ k = omega arith in
@@ -349,16 +349,24 @@ too_few most left publishes k m is pos less at_most =
     let within : k + 1 ≤ left / most + min 1 (left % most) = omega arith in
     omega (arith, (div_ceil_times left most pos).1, mul-le-mul_right most within)
 
-same_publishes : (most step left publishes : ℕ) → publishes ≡ left / step + min 1 (left % step) → step ≡ most → publishes ≡ left / most + min 1 (left % most)
-same_publishes most step left publishes is same = subst (λ k. publishes ≡ left / k + min 1 (left % k)) same is
+-- the slots that a worker sees left need this number of publishes, each of at most `most` steps
+pub record NeedPublishes (limits : Limits) (most step left publishes : ℕ) (seen : List Entry) : Type 0 where
+  pub left_is : left ≡ slots_left (after limits seen)
+  pub publishes_is : publishes ≡ left / step + min 1 (left % step)
+  pub step_is : step ≡ most
+  pub some : 1 ≤ most
 
-pub made_all : (limits : Limits) (most step left publishes k : ℕ) (a b : WorkerState) → left ≡ slots_left (after limits a.seen) → publishes ≡ left / step + min 1 (left % step) → step ≡ most
-    → 1 ≤ most → publishes ≤ k → MadePublishes limits most k a b → MadeAllSteps limits a b
-made_all limits most step left publishes k a b left_is is same pos le so_far = record {
+needed : (limits : Limits) (most step left publishes : ℕ) (seen : List Entry) → NeedPublishes limits most step left publishes seen
+    → publishes ≡ left / most + min 1 (left % most)
+needed limits most step left publishes seen need = subst (λ k. publishes ≡ left / k + min 1 (left % k)) need.step_is need.publishes_is
+
+pub made_all : (limits : Limits) (most step left publishes k : ℕ) (a b : WorkerState) → NeedPublishes limits most step left publishes a.seen
+    → publishes ≤ k → MadePublishes limits most k a b → MadeAllSteps limits a b
+made_all limits most step left publishes k a b need le so_far = record {
   made = so_far.made;
-  all = λ all. subst (λ l. l ≤ so_far.made.count) left_is
-      (enough most left publishes k so_far.made.count (same_publishes most step left publishes is same) pos le
-      (subst (λ l. min (k * most) l ≤ so_far.made.count) (sym left_is) (so_far.all all)));
+  all = λ all. subst (λ l. l ≤ so_far.made.count) need.left_is
+      (enough most left publishes k so_far.made.count (needed limits most step left publishes a.seen need) need.some le
+      (subst (λ l. min (k * most) l ≤ so_far.made.count) (sym need.left_is) (so_far.all all)));
 }
 
 -- a call that is refused, by the events that it makes
@@ -367,13 +375,13 @@ pub refused_with : (tables : Tables) (limits : Limits) (made : State → List Ev
 refused_with tables limits made call a b cause same refused = (call, same, refused)
 
 -- a call that is refused behind too few publishes
-pub stopped_early : (tables : Tables) (limits : Limits) (made : State → List Event) (call : _) (most step left publishes k : ℕ) (a b c : WorkerState) (cause : StoreError)
-    → left ≡ slots_left (after limits a.seen) → publishes ≡ left / step + min 1 (left % step) → step ≡ most → 1 ≤ most → k < publishes
-    → ((S : State) → events_of call S ≡ made S) → MadePublishes limits most k a b → IsRefused tables limits call b c cause → StoppedEarly tables limits made a c cause
-stopped_early tables limits made call most step left publishes k a b c cause left_is is same pos less same_events so_far refused = record {
-  stopped = record { middle = b; before = so_far.made; refused = (call, same_events, refused) };
-  fewer = subst (λ l. so_far.made.count < l) left_is
-      (too_few most left publishes k so_far.made.count (same_publishes most step left publishes is same) pos less so_far.at_most);
+pub stopped_early : (tables : Tables) (limits : Limits) (made : State → List Event) (most step left publishes k : ℕ) (a b c : WorkerState) (cause : StoreError)
+    → NeedPublishes limits most step left publishes a.seen → k < publishes
+    → MadePublishes limits most k a b → IsRefusedWith tables limits made b c cause → StoppedEarly tables limits made a c cause
+stopped_early tables limits made most step left publishes k a b c cause need less so_far refused = record {
+  stopped = record { middle = b; before = so_far.made; refused = refused };
+  fewer = subst (λ l. so_far.made.count < l) need.left_is
+      (too_few most left publishes k so_far.made.count (needed limits most step left publishes a.seen need) need.some less so_far.at_most);
 }
 
 pub stopped_later : (tables : Tables) (limits : Limits) (made : State → List Event) (a b c : WorkerState) (cause : StoreError)

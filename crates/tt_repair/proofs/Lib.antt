@@ -1,4 +1,2 @@
-pub mod ChangesLemmas
 pub mod GrowthLemmas
 pub mod RepairLemmas
-pub mod SameLemmas

@@ -214,10 +214,10 @@ switch_seen front seen worker number n same is =
 switch_outcome : (tables : Tables) (limits : Limits) (front : List Entry) (worker n : ℕ) (o : Option Outcome) (generation slots rerun : ℕ)
     → o ≡ last_outcome tables limits (after limits front) (steps n ++ events.Switch ∷ []) → o ≡ Some (outcomes.Switched generation slots rerun)
     → outcome_of tables (after limits (front ++ entries_by worker (steps n))) events.Switch ≡ outcomes.Switched generation slots rerun
-switch_outcome tables limits front worker n o generation slots rerun is told =
+switch_outcome tables limits front worker n o generation slots rerun is is_switched =
     ap (λ U. outcome_of tables U events.Switch) (after-entries limits front worker (steps n))
     ∙ some_is (outcome_of tables (state_after limits (after limits front) (steps n)) events.Switch) (outcomes.Switched generation slots rerun)
-    (sym (last_outcome-snoc tables limits (after limits front) (steps n) events.Switch) ∙ sym is ∙ told)
+    (sym (last_outcome-snoc tables limits (after limits front) (steps n) events.Switch) ∙ sym is ∙ is_switched)
 
 same_outcome : (g s u : ℕ) (h t v : ℕ) → g ≡ h → s ≡ t → u ≡ v → ◌≡◌ {A = Outcome} (outcomes.Switched g s u) (outcomes.Switched h t v)
 same_outcome g s u h t v p q w = cc (p, q, w)
@@ -267,7 +267,7 @@ has_repaired tables limits edits a b c d e place f r begun first second fin same
     (subst (λ k. GoesOn limits k n rest is.later.0 d.seen (is.front ++ entries_by k (steps n))) number (finish_goes_on limits tables d e f fin)) in
     let accepted : refusal tables limits (after limits front) events.Switch ≡ None = switch_accepted tables limits is.front a.number n is.accepted in
     let outcome : outcome_of tables (after limits front) events.Switch ≡ outcomes.Switched r.generation r.slots r.rerun =
-    switch_outcome tables limits is.front a.number n fin.outcome f.generation f.slots f.rerun is.outcome_is fin.told
+    switch_outcome tables limits is.front a.number n fin.outcome f.generation f.slots f.rerun is.outcome_is fin.outcome_is
     ∙ sym (same_outcome r.generation r.slots r.rerun f.generation f.slots f.rerun same_generation same_slots same_rerun) in
     let done : All IsWrite (made.others ++ is.later.0) → HasDone edits (0 + (m + n)) (after limits front) =
     λ all. on.alone all edits 0 (subst (λ l. HasDone edits 0 (after limits l)) (sym begun.published.seen) (begun_done limits edits begun.front a.number)) in
@@ -298,7 +298,7 @@ has_repaired tables limits edits a b c d e place f r begun first second fin same
       same_edits = λ all. (done all).phase ∙ ap (Repairing edits) (let same : 0 + (m + n) ≡ r.slots = omega (arith, slots all) in same);
     }
 
--- how many slots are left, by what is told of a repair
+-- how many slots are left, by the progress of a repair
 left_in : (tables : Tables) (phase : Phase) (W : Slots) (p : Progress) → progress_in tables phase W ≡ Some p → p.left ≡ left_of phase W
 left_in tables Idle W p h = absurd (cc h)
 left_in tables (Repairing edits n) W p h = ap (λ (q : Progress). q.left) (sym (some_is _ p h))
@@ -307,8 +307,8 @@ none_left_idle : (tables : Tables) (phase : Phase) (W : Slots) → progress_in t
 none_left_idle tables Idle W h = refl
 none_left_idle tables (Repairing edits n) W h = absurd (cc h)
 
-pub left_told : (tables : Tables) (S : State) (p : Progress) → progress_in tables S.phase S.slots ≡ Some p → p.left ≡ slots_left S
-left_told tables S p h = left_in tables S.phase S.slots p h
+pub left_by_progress : (tables : Tables) (S : State) (p : Progress) → progress_in tables S.phase S.slots ≡ Some p → p.left ≡ slots_left S
+left_by_progress tables S p h = left_in tables S.phase S.slots p h
 
-pub none_told : (tables : Tables) (S : State) → progress_in tables S.phase S.slots ≡ None → 0 ≡ slots_left S
-none_told tables S h = none_left_idle tables S.phase S.slots h
+pub none_left_without_progress : (tables : Tables) (S : State) → progress_in tables S.phase S.slots ≡ None → 0 ≡ slots_left S
+none_left_without_progress tables S h = none_left_idle tables S.phase S.slots h

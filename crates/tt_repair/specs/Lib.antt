@@ -1,4 +1,2 @@
-pub mod Same
-pub mod Changes
 pub mod Growth
 pub mod Repairing

@@ -11,10 +11,10 @@ use tt_db::{DbError, Edit};
 use tt_store::{Finished, Gate, Naming, Store, StoreError, Worker};
 use tt_values::Items;
 
-/// Makes a repair with these edits of slots: it begins the repair, makes steps for the slots that are
-/// there by then, at most `batch` in one publish, goes at most `rounds` rounds over the slots that were
-/// written meanwhile, and switches to the next generation. It never gives up a repair that it has
-/// begun: where a call is refused, its begun repair may stay open.
+/// Makes a repair with these edits of slots: it begins the repair, makes steps for the slots that
+/// are there by then, at most `batch` in one publish, goes at most `rounds` rounds over the slots
+/// that were written meanwhile, and switches to the next generation. It never aborts a repair that
+/// it has begun: where a call is refused, the repair may stay open.
 #[tactic(auto, using(crate::proofs::RepairLemmas::failed_at_begin, crate::proofs::RepairLemmas::failed_in_steps, crate::proofs::RepairLemmas::failed_in_catch_up, crate::proofs::RepairLemmas::failed_in_finish, crate::proofs::RepairLemmas::has_repaired))]
 pub fn repair<L: Naming, G: Gate + Drop, R: Wait + Drop>(
     rt: &impl Wait,
@@ -49,7 +49,7 @@ pub fn repair<L: Naming, G: Gate + Drop, R: Wait + Drop>(
     }
 }
 
-/// Makes as many publishes of steps as the slots need that are left at first.
+/// Makes as many publishes of steps as the slots need that are left at the start.
 #[tactic(auto, using(crate::proofs::GrowthLemmas::no_publishes))]
 fn make_steps<L: Naming, G: Gate + Drop, R: Wait + Drop>(
     rt: &impl Wait,
@@ -72,7 +72,7 @@ fn make_steps<L: Naming, G: Gate + Drop, R: Wait + Drop>(
     Ok(())
 }
 
-/// Makes the steps that are left, in at most so many rounds, since others write meanwhile.
+/// Makes the steps that are left, in at most `rounds` rounds, since others write meanwhile.
 #[tactic(auto, using(crate::proofs::GrowthLemmas::made_none, crate::proofs::GrowthLemmas::made_then_all))]
 fn catch_up<L: Naming, G: Gate + Drop, R: Wait + Drop>(
     rt: &impl Wait,
@@ -99,7 +99,7 @@ fn catch_up<L: Naming, G: Gate + Drop, R: Wait + Drop>(
 }
 
 /// How many slots the repair has left, in the last state that the worker has seen.
-#[tactic(auto, using(crate::proofs::RepairLemmas::left_told, crate::proofs::RepairLemmas::none_told))]
+#[tactic(auto, using(crate::proofs::RepairLemmas::left_by_progress, crate::proofs::RepairLemmas::none_left_without_progress))]
 fn slots_left<L: Naming>(worker: &Worker<L>) -> u64
     ensures { result ≡ slots_left (after L.limits worker.now.seen) }
 {
@@ -109,7 +109,7 @@ fn slots_left<L: Naming>(worker: &Worker<L>) -> u64
     }
 }
 
-/// The answer to a repair, of its last call's.
+/// The answer of a repair, from that of its last call.
 fn repaired(finished: Finished) -> Repaired
     ensures generation { result.generation ≡ finished.generation }
     ensures place { result.place ≡ finished.place }
@@ -124,7 +124,7 @@ fn repaired(finished: Finished) -> Repaired
     }
 }
 
-/// The fault where the call of a phase is refused.
+/// The fault where a call of this phase is refused.
 fn fault_in(phase: Phase, cause: StoreError) -> RepairFault
     ensures { result
         ≡ record { phase = phase; still_open = is_still_open phase cause; cause = cause } }

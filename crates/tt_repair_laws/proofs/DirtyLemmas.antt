@@ -5,6 +5,7 @@ use Rattle.std.specs.Ordering.{int_eq}
 use Rattle.std.proofs.lemmas.Bool.{and_parts, or_left, or_right, or_parts, false_from_ne_true, not_from_true}
 use Rattle.std.proofs.lemmas.List.Folds.{list_any-append}
 use Rattle.tt_values.specs.declared.row.Row.{Row}
+use Rattle.tt_values.specs.declared.row_id.RowId.{RowId}
 use Rattle.tt_values.specs.declared.table.Column.{Column}
 use Rattle.tt_values.specs.declared.statement.Equal.{Equal}
 use Rattle.tt_values.specs.Matches.{matches}
@@ -19,17 +20,17 @@ use Rattle.tt_repair_laws.specs.Steps.{DirtyRowsGrow}
 use Rattle.tt_repair_laws.proofs.RowListsLemmas.{list_all_if, list_any_if, none_fails, same_key}
 
 -- whether a row is that of a key of a table
-abbrev pub is_row : ℕ → ℤ → ℕ × ℤ → Bool
-is_row table key r = (table == r.0) && int_eq key r.1
+abbrev pub is_row : ℕ → ℤ → RowId → Bool
+is_row table key r = (table == r.table) && int_eq key r.key
 
-same_row : (table : ℕ) (key : ℤ) (r : ℕ × ℤ) → is_row table key r ≡ true → (table ≡ r.0) × (key ≡ r.1)
-same_row table key r h = let both = and_parts _ _ h in (eqb-true table r.0 both.0, same_key key r.1 both.1)
+same_row : (table : ℕ) (key : ℤ) (r : RowId) → is_row table key r ≡ true → (table ≡ r.table) × (key ≡ r.key)
+same_row table key r h = let both = and_parts _ _ h in (eqb-true table r.table both.0, same_key key r.key both.1)
 
 -- a dirty row isn't one of some rows that are clean
-pub clean_rows_differ : (D : DirtySet) (rs : List (ℕ × ℤ)) (table : ℕ) (key : ℤ) → has_row D table key ≡ true → list_any (λ r. has_row D r.0 r.1) rs ≡ false → list_any (is_row table key) rs ≡ false
-clean_rows_differ D rs table key dirty clean = false_from_ne_true _ (λ there. true≢false (sym (list_any_if (is_row table key) (λ r. has_row D r.0 r.1) like rs there) ∙ clean))
+pub clean_rows_differ : (D : DirtySet) (rs : List RowId) (table : ℕ) (key : ℤ) → has_row D table key ≡ true → list_any (λ r. has_row D r.table r.key) rs ≡ false → list_any (is_row table key) rs ≡ false
+clean_rows_differ D rs table key dirty clean = false_from_ne_true _ (λ there. true≢false (sym (list_any_if (is_row table key) (λ r. has_row D r.table r.key) like rs there) ∙ clean))
   where
-    like : (r : ℕ × ℤ) → is_row table key r ≡ true → has_row D r.0 r.1 ≡ true
+    like : (r : RowId) → is_row table key r ≡ true → has_row D r.table r.key ≡ true
     like r h = let same = same_row table key r h in (λ i. has_row D (sym same.0 i) (sym same.1 i)) ∙ dirty
 
 -- a test that each partition of a list passes is passed by a partition that is in the list
@@ -49,7 +50,7 @@ equated_partitions_are_dirty D table columns row qs h dirty =
 
 -- a statement isn't clear if its table has a dirty row, and each of its partitions is dirty
 pub not_clear : (D : DirtySet) (table : ℕ) (key : ℤ) (ps : List Partition) → has_row D table key ≡ true → list_all (has_partition D) ps ≡ true → is_clear D table ps ≡ false
-not_clear D table key [] dirty all = not_from_true (has_row_of D table) (list_any_if (is_row table key) (λ r. table == r.0) (λ r h. (and_parts _ _ h).0) D.rows dirty)
+not_clear D table key [] dirty all = not_from_true (has_row_of D table) (list_any_if (is_row table key) (λ r. table == r.table) (λ r h. (and_parts _ _ h).0) D.rows dirty)
 not_clear D table key (p ∷ ps) dirty all = none_fails (has_partition D) (p ∷ ps) all
 
 -- the partitions that are dirty after one row gets dirty
@@ -74,26 +75,26 @@ or-swap false true c = refl
 or-swap false false c = refl
 
 module _ (tables : Tables) (before after : Content) where
-  abbrev with_rows : DirtySet → List (ℕ × ℤ) → DirtySet
+  abbrev with_rows : DirtySet → List RowId → DirtySet
   with_rows D rs = fold (with_row_of tables before after) D rs
 
-  pub has_row-with_rows : (rs : List (ℕ × ℤ)) (D : DirtySet) (table : ℕ) (key : ℤ) → has_row (with_rows D rs) table key ≡ (list_any (is_row table key) rs || has_row D table key)
+  pub has_row-with_rows : (rs : List RowId) (D : DirtySet) (table : ℕ) (key : ℤ) → has_row (with_rows D rs) table key ≡ (list_any (is_row table key) rs || has_row D table key)
   has_row-with_rows [] D table key = refl
   has_row-with_rows (r ∷ rs) D table key =
       has_row-with_rows rs (with_row_of tables before after D r) table key ∙ or-swap (is_row table key r) (list_any (is_row table key) rs) (has_row D table key)
 
   -- a row that is clean after some rows get dirty isn't one of them, and was clean before
-  pub clean_before : (rs : List (ℕ × ℤ)) (D : DirtySet) (table : ℕ) (key : ℤ) → has_row (with_rows D rs) table key ≡ false → (list_any (is_row table key) rs ≡ false) × (has_row D table key ≡ false)
+  pub clean_before : (rs : List RowId) (D : DirtySet) (table : ℕ) (key : ℤ) → has_row (with_rows D rs) table key ≡ false → (list_any (is_row table key) rs ≡ false) × (has_row D table key ≡ false)
   clean_before rs D table key h = or_parts (list_any (is_row table key) rs) (has_row D table key) (sym (has_row-with_rows rs D table key) ∙ h)
 
   -- a dirty partition stays dirty
-  pub has_partition-with_rows : (rs : List (ℕ × ℤ)) (D : DirtySet) (p : Partition) → has_partition D p ≡ true → has_partition (with_rows D rs) p ≡ true
+  pub has_partition-with_rows : (rs : List RowId) (D : DirtySet) (p : Partition) → has_partition D p ≡ true → has_partition (with_rows D rs) p ≡ true
   has_partition-with_rows [] D p h = h
   has_partition-with_rows (r ∷ rs) D p h =
-      has_partition-with_rows rs (with_row_of tables before after D r) p (has_partition-with_row D r.0 (columns_in tables r.0) r.1 (row_at (before r.0) r.1) (row_at (after r.0) r.1) p h)
+      has_partition-with_rows rs (with_row_of tables before after D r) p (has_partition-with_row D r.table (columns_in tables r.table) r.key (row_at (before r.table) r.key) (row_at (after r.table) r.key) p h)
 
   -- each of the rows lies in dirty partitions
-  pub rows_lie_in_dirty_partitions : (rs : List (ℕ × ℤ)) (D : DirtySet) (table : ℕ) (key : ℤ) (row : Row) → list_any (is_row table key) rs ≡ true → row_at (after table) key ≡ Some row →
+  pub rows_lie_in_dirty_partitions : (rs : List RowId) (D : DirtySet) (table : ℕ) (key : ℤ) (row : Row) → list_any (is_row table key) rs ≡ true → row_at (after table) key ≡ Some row →
       list_all (has_partition (with_rows D rs)) (parts_of table (columns_in tables table) row) ≡ true
   rows_lie_in_dirty_partitions [] D table key row among there = absurd (true≢false (sym among))
   rows_lie_in_dirty_partitions (r ∷ rs) D table key row among there = by (is_row table key r) refl among (λ later. rows_lie_in_dirty_partitions rs next table key row later there)
@@ -109,7 +110,7 @@ module _ (tables : Tables) (before after : Content) where
           let parts = ap (λ o. parts_if table (columns_in tables table) o) (sym there) ∙ (λ i. parts_if (same.0 i) (columns_in tables (same.0 i)) (row_at (after (same.0 i)) (same.1 i))) in
           ap (list_all (has_partition (with_rows next rs))) parts
           ∙ list_all_if (has_partition next) (has_partition (with_rows next rs)) (λ p. has_partition-with_rows rs next p) _
-          (parts_after_are_dirty D r.0 (columns_in tables r.0) r.1 (row_at (before r.0) r.1) (row_at (after r.0) r.1))
+          (parts_after_are_dirty D r.table (columns_in tables r.table) r.key (row_at (before r.table) r.key) (row_at (after r.table) r.key))
       by false e g rest = rest g
 
 pub dirty_rows_grow : DirtyRowsGrow

@@ -1,8 +1,7 @@
 -- The rows that a slot doesn't write.
-use Rattle.std.proofs.Common.{◌≡◌, ℕ, ℤ, Bool, true, false, cond, ◌||◌, List, [], ◌∷◌, ◌++◌, map, fold, Option, None, Some, is_some, if◌then◌else◌, refl, sym, ap, ◌∙◌, true≢false}
+use Rattle.std.proofs.Common.{◌≡◌, ℕ, ℤ, Bool, true, false, cond, ◌||◌, List, [], ◌∷◌, map, fold, Option, None, Some, is_some, if◌then◌else◌, refl, sym, ap, ◌∙◌, true≢false}
 use Rattle.std.specs.List.{list_any}
 use Rattle.std.proofs.lemmas.Bool.{or_parts}
-use Rattle.std.proofs.lemmas.List.{map-append}
 use Rattle.std.proofs.lemmas.List.Folds.{list_any-append}
 use Rattle.std.proofs.lemmas.Simd.{map-map}
 use Rattle.tt_values.specs.declared.row.Row.{Row}
@@ -11,23 +10,18 @@ use Rattle.tt_values.specs.declared.statement.Write.TheVariants.{Insert, Update,
 use Rattle.tt_values.specs.Row.{key_of}
 use Rattle.tt_values.specs.Change.{changed}
 use Rattle.tt_values.specs.Content.{Content, RowWrite, row_at, with_row_write, for_key, last_row_written_or}
-use Rattle.tt_values.specs.Effect.{matching_rows, table_of, effect}
-use Rattle.tt_values.specs.Action.{RowId, content_after_write, rows_of_write, rows_of_action, is_among, effect_of_action, action_writes}
+use Rattle.tt_values.specs.Effect.{matching_rows}
+use Rattle.tt_values.specs.declared.row_id.RowId.{RowId}
+use Rattle.tt_values.specs.Action.{content_after_write, rows_of_write, rows_of_action, is_among, effect_of_action, action_writes}
 use Rattle.tt_values.specs.RowWrites.{slot_writes}
 use Rattle.tt_values.proofs.LawProofs.{last_row_write_counts, action_writes_each_row_once}
-use Rattle.tt_repair_laws.specs.Due.{rows_written, rows_matched, row_pair, action_rows_written, action_rows_matched, slot_rows_written, slot_rows_matched}
+use Rattle.tt_repair_laws.specs.Due.{rows_matched, action_rows_matched, slot_rows_written, slot_rows_matched}
 use Rattle.tt_repair_laws.specs.Steps.{WrittenRowsAreMatched, UpdatesAndDeletesWriteWhatTheyMatch}
-use Rattle.tt_repair_laws.proofs.RowListsLemmas.{list_any-map, list_none-append}
+use Rattle.tt_repair_laws.proofs.RowListsLemmas.{list_none-append}
 use Rattle.tt_repair_laws.proofs.DirtyLemmas.{is_row}
 
 abbrev id : ℕ → ℤ → RowId
 id table key = record { table = table; key = key }
-
--- the rows that an action writes: those of its first write, then those of the others
-pub action_rows_written-next : (w : Write) (ws : List Write) (X : Content) → action_rows_written (w ∷ ws) X ≡ rows_written w X ++ action_rows_written ws (content_after_write w X)
-action_rows_written-next w ws X =
-    let next = content_after_write w X in
-    map-append row_pair (rows_of_write w X) (rows_of_action ws next) ∙ ap (λ rs. rs ++ action_rows_written ws next) (map-map row_pair (λ (e : ℤ × Option Row). id (table_of w) e.0) (effect w X))
 
 -- an effect without a row has no row write for it
 for_key-none : (time : ℕ) (es : List (RowId × Option Row)) (table : ℕ) (key : ℤ) → is_among (id table key) (map (λ e. e.0) es) ≡ false →
@@ -43,7 +37,7 @@ pub row_at-unwritten : (time : ℕ) (s : Option (List Write)) (X : Content) (tab
 row_at-unwritten time None X table key h = refl
 row_at-unwritten time (Some action) X table key h =
     let once = action_writes_each_row_once action X in
-    let none = once.1 (id table key) ∙ sym (list_any-map (is_row table key) row_pair (rows_of_action action X)) ∙ h in
+    let none = once.1 (id table key) ∙ h in
     last_row_write_counts (action_writes time action X) X table key
     ∙ ap (last_row_written_or (row_at (X table) key)) (for_key-none time (effect_of_action action X) table key none)
 
@@ -51,16 +45,16 @@ row_at-unwritten time (Some action) X table key h =
 pub row_at-agree : (ws : List RowWrite) (X Y : Content) (table : ℕ) (key : ℤ) → row_at (X table) key ≡ row_at (Y table) key → row_at (fold with_row_write X ws table) key ≡ row_at (fold with_row_write Y ws table) key
 row_at-agree ws X Y table key h = last_row_write_counts ws X table key ∙ ap (λ d. last_row_written_or d (for_key table key ws)) h ∙ sym (last_row_write_counts ws Y table key)
 
-unmatched_unwritten-insert : (b : Bool) (of : ℕ) (k : ℤ) (row : Row) (table : ℕ) (key : ℤ) → list_any (is_row table key) ((of, k) ∷ []) ≡ false →
-    let es : List (ℤ × Option Row) = if b then [] else (k, Some row) ∷ [] in list_any (is_row table key) (map (λ e. (of, e.0)) es) ≡ false
+unmatched_unwritten-insert : (b : Bool) (of : ℕ) (k : ℤ) (row : Row) (table : ℕ) (key : ℤ) → list_any (is_row table key) (id of k ∷ []) ≡ false →
+    let es : List (ℤ × Option Row) = if b then [] else (k, Some row) ∷ [] in list_any (is_row table key) (map (λ e. id of e.0) es) ≡ false
 unmatched_unwritten-insert true of k row table key h = refl
 unmatched_unwritten-insert false of k row table key h = h
 
 -- a write doesn't write a row that it doesn't match
-unmatched_unwritten : (w : Write) (X : Content) (table : ℕ) (key : ℤ) → list_any (is_row table key) (rows_matched w X) ≡ false → list_any (is_row table key) (rows_written w X) ≡ false
+unmatched_unwritten : (w : Write) (X : Content) (table : ℕ) (key : ℤ) → list_any (is_row table key) (rows_matched w X) ≡ false → list_any (is_row table key) (rows_of_write w X) ≡ false
 unmatched_unwritten (Insert of row) X table key h = unmatched_unwritten-insert (is_some (row_at (X of) (key_of row))) of (key_of row) row table key h
-unmatched_unwritten (Update of cs qs) X table key h = ap (list_any (is_row table key)) (map-map (λ e. (of, e.0)) (λ e. (e.0, Some (changed e.1 cs))) (matching_rows qs (X of))) ∙ h
-unmatched_unwritten (Delete of qs) X table key h = ap (list_any (is_row table key)) (map-map (λ e. (of, e.0)) (λ e. (e.0, None)) (matching_rows qs (X of))) ∙ h
+unmatched_unwritten (Update of cs qs) X table key h = ap (list_any (is_row table key)) (map-map (λ e. id of e.0) (λ e. (e.0, Some (changed e.1 cs))) (matching_rows qs (X of))) ∙ h
+unmatched_unwritten (Delete of qs) X table key h = ap (list_any (is_row table key)) (map-map (λ e. id of e.0) (λ e. (e.0, None)) (matching_rows qs (X of))) ∙ h
 
 pub written_rows_are_matched : WrittenRowsAreMatched
 written_rows_are_matched w X table key h = by (list_any (is_row table key) (rows_matched w X)) refl
@@ -71,20 +65,19 @@ written_rows_are_matched w X table key h = by (list_any (is_row table key) (rows
 
 pub updates_and_deletes_write_what_they_match : UpdatesAndDeletesWriteWhatTheyMatch
 updates_and_deletes_write_what_they_match of cs qs X = (
-  sym (map-map (λ e. (of, e.0)) (λ e. (e.0, Some (changed e.1 cs))) (matching_rows qs (X of))),
-  sym (map-map (λ e. (of, e.0)) (λ e. (e.0, None)) (matching_rows qs (X of))),
+  sym (map-map (λ e. id of e.0) (λ e. (e.0, Some (changed e.1 cs))) (matching_rows qs (X of))),
+  sym (map-map (λ e. id of e.0) (λ e. (e.0, None)) (matching_rows qs (X of))),
 )
 
 -- an action doesn't write a row that none of its writes matches in its turn
-action_unmatched_unwritten : (ws : List Write) (X : Content) (table : ℕ) (key : ℤ) → list_any (is_row table key) (action_rows_matched ws X) ≡ false → list_any (is_row table key) (action_rows_written ws X) ≡ false
+action_unmatched_unwritten : (ws : List Write) (X : Content) (table : ℕ) (key : ℤ) → list_any (is_row table key) (action_rows_matched ws X) ≡ false → list_any (is_row table key) (rows_of_action ws X) ≡ false
 action_unmatched_unwritten [] X table key h = refl
 action_unmatched_unwritten (w ∷ ws) X table key h =
     let next = content_after_write w X in
     let both = list_none-append (is_row table key) (rows_matched w X) (action_rows_matched ws next) h in
     let first = unmatched_unwritten w X table key both.0 in
     let rest = action_unmatched_unwritten ws next table key both.1 in
-    ap (list_any (is_row table key)) (action_rows_written-next w ws X)
-    ∙ list_any-append (is_row table key) (rows_written w X) (action_rows_written ws next)
+    list_any-append (is_row table key) (rows_of_write w X) (rows_of_action ws next)
     ∙ (λ i. first i || rest i)
 
 pub slot_unmatched_unwritten : (s : Option (List Write)) (X : Content) (table : ℕ) (key : ℤ) → list_any (is_row table key) (slot_rows_matched s X) ≡ false → list_any (is_row table key) (slot_rows_written s X) ≡ false

@@ -7,7 +7,7 @@ use Rattle.tt_values.proofs.LawProofs.{earlier_slots_stay, later_slots_change_no
 use Rattle.tt_parts.specs.Dirty.{DirtySet}
 use Rattle.tt_repair_laws.specs.declared.edit.Edit.{Edit}
 use Rattle.tt_repair_laws.specs.Edits.{edit_of, edited_slots, edited_slots_from}
-use Rattle.tt_repair_laws.specs.Due.{is_slot_affected, slot_rows_written, slot_rows_matched, with_row_of, is_due_by, is_due, dirty_after, rerun_count}
+use Rattle.tt_repair_laws.specs.Due.{is_slot_affected, slot_rows_written, slot_rows_matched, with_row_of, is_due_by, is_due, dirty_after, reexecuted_count}
 use Rattle.tt_repair_laws.specs.Laws.{IsSameRepair, LaterSlotsChangeNoRepair}
 use Rattle.tt_repair_laws.proofs.EditsLemmas.{length-edited_slots_from, edited_slots-append}
 
@@ -43,12 +43,12 @@ module _ (tables : Tables) (W X : Slots) (E : List Edit) where
   same_due : (n : ℕ) → n < length W → is_due tables (W ++ X) E n ≡ is_due tables W E n
   same_due n h = same_due_by n h _ _ (same_dirty n (omega (arith, h)))
 
-  same_rerun : (n : ℕ) → n ≤ length W → rerun_count tables (W ++ X) E n ≡ rerun_count tables W E n
-  unfolding rerun_count
-  same_rerun zero h = refl
-  same_rerun (suc n) h =
+  same_reexecuted : (n : ℕ) → n ≤ length W → reexecuted_count tables (W ++ X) E n ≡ reexecuted_count tables W E n
+  unfolding reexecuted_count
+  same_reexecuted zero h = refl
+  same_reexecuted (suc n) h =
       let due = same_due n h in
-      let before = same_rerun n (omega (arith, h)) in
+      let before = same_reexecuted n (omega (arith, h)) in
       λ i. if due i then suc (before i) else before i
 
 pub later_slots_change_no_repair : LaterSlotsChangeNoRepair
@@ -56,7 +56,7 @@ later_slots_change_no_repair tables W X E n h =
     let same : IsSameRepair tables W (W ++ X) E n = record {
       dirty = same_dirty tables W X E n h;
       due = λ i early. same_due tables W X E i (omega (arith, h, early));
-      rerun = same_rerun tables W X E n h;
+      reexecuted = same_reexecuted tables W X E n h;
       slots = λ i early. same_slot tables W X E i (omega (arith, h, early));
       writes = same_writes tables W X E n h;
     } in same

@@ -1,6 +1,6 @@
 -- The proofs of this crate's laws. Other crates cite these lemmas of it, and no others.
 use Rattle.tt_repair_laws.specs.Laws.{ActionsAreAffectedByTheirWrites, NoAffectedSlotIsMissed, CleanRowsAgree, DirtyRowsLieInDirtyPartitions, LaterSlotsChangeNoRepair, EditedSlotsAreAsMany, EditedSlotIsNext, UneditedSlotsStay, LaterSlotsStay}
-use Rattle.tt_repair_laws.specs.Steps.{DueDependsOnMembers, DirtyRowsDependOnMembers, DirtyRowsGrow, NothingIsDirtyAtFirst, UndueSlotsDirtyNothing, DueSlotsDirtyReexecutedRows, NoSlotIsRerunAtFirst, DueSlotsAreRerun, UndueSlotsAreNotRerun, UnwrittenRowsStay, WrittenRowsAreMatched, UpdatesAndDeletesWriteWhatTheyMatch, ContentAfterIsKept}
+use Rattle.tt_repair_laws.specs.Steps.{DueDependsOnMembers, DirtyRowsDependOnMembers, DirtyRowsGrow, NothingIsDirtyAtFirst, UndueSlotsDirtyNothing, DueSlotsDirtyReexecutedRows, NoSlotIsReexecutedAtFirst, DueSlotsAreReexecuted, UndueSlotsAreNotReexecuted, UnwrittenRowsStay, WrittenRowsAreMatched, UpdatesAndDeletesWriteWhatTheyMatch, ContentAfterIsKept}
 use Rattle.tt_repair_laws.specs.NextSide.{LastRowsStay, LastEditedRowsStay, DirtyRowsAreAsEdited, CleanRowsAreAsCurrent, NextSideBeginsAsCurrent, NextSideShowsEditedSlots, UndueSlotsLeaveNextSide, DueSlotsChangeReexecutedRows, LaterSlotsLeaveDirtyRows, NextSideEndsAsEditedSlots}
 use Rattle.tt_repair_laws.proofs.EditsLemmas as edits
 use Rattle.tt_repair_laws.proofs.AffectedLemmas as affected
@@ -57,14 +57,14 @@ undue_slots_dirty_nothing = steps.undue_slots_dirty_nothing
 pub due_slots_dirty_reexecuted_rows : DueSlotsDirtyReexecutedRows
 due_slots_dirty_reexecuted_rows = steps.due_slots_dirty_reexecuted_rows
 
-pub no_slot_is_rerun_at_first : NoSlotIsRerunAtFirst
-no_slot_is_rerun_at_first = steps.no_slot_is_rerun_at_first
+pub no_slot_is_reexecuted_at_first : NoSlotIsReexecutedAtFirst
+no_slot_is_reexecuted_at_first = steps.no_slot_is_reexecuted_at_first
 
-pub due_slots_are_rerun : DueSlotsAreRerun
-due_slots_are_rerun = steps.due_slots_are_rerun
+pub due_slots_are_reexecuted : DueSlotsAreReexecuted
+due_slots_are_reexecuted = steps.due_slots_are_reexecuted
 
-pub undue_slots_are_not_rerun : UndueSlotsAreNotRerun
-undue_slots_are_not_rerun = steps.undue_slots_are_not_rerun
+pub undue_slots_are_not_reexecuted : UndueSlotsAreNotReexecuted
+undue_slots_are_not_reexecuted = steps.undue_slots_are_not_reexecuted
 
 pub unwritten_rows_stay : UnwrittenRowsStay
 unwritten_rows_stay = steps.unwritten_rows_stay

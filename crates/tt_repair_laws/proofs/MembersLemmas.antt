@@ -7,6 +7,7 @@ use Rattle.tt_values.specs.declared.statement.Write.{Write}
 use Rattle.tt_values.specs.declared.statement.Write.TheVariants.{Insert, Update, Delete}
 use Rattle.tt_values.specs.Row.{key_of}
 use Rattle.tt_values.specs.Tables.{Tables}
+use Rattle.tt_values.specs.Action.{rows_of_action}
 use Rattle.tt_values.specs.Content.{Content, row_at}
 use Rattle.tt_values.specs.Effect.{table_of}
 use Rattle.tt_values.specs.RowWrites.{slot_after}
@@ -15,7 +16,7 @@ use Rattle.tt_parts.specs.Partitions.{partitions_read, reads_or_all}
 use Rattle.tt_parts.specs.Dirty.{DirtySet, SameMembers, columns_in, is_clear}
 use Rattle.tt_parts.proofs.LawProofs.{same_members_with_row, clear_depends_on_members, reads_decide_clear}
 use Rattle.tt_repair_laws.specs.Edits.{edit_of}
-use Rattle.tt_repair_laws.specs.Due.{content_after, is_dirty_key, names_dirty_row, is_write_clear, action_rows_written, is_affected, is_slot_affected, with_row_of}
+use Rattle.tt_repair_laws.specs.Due.{content_after, is_dirty_key, names_dirty_row, is_write_clear, is_affected, is_slot_affected, with_row_of}
 use Rattle.tt_repair_laws.specs.Steps.{DueDependsOnMembers, DirtyRowsDependOnMembers}
 
 module _ (tables : Tables) (C D : DirtySet) (same : SameMembers C D) where
@@ -37,7 +38,7 @@ module _ (tables : Tables) (C D : DirtySet) (same : SameMembers C D) where
 
   same_affected : (action : List Write) (X : Content) → is_affected tables C action X ≡ is_affected tables D action X
   same_affected action X = λ i.
-      list_any (λ r. same.rows r.0 r.1 i) (action_rows_written action X)
+      list_any (λ r. same.rows r.table r.key i) (rows_of_action action X)
       || list_any (λ w. same_named w i) action
       || list_any (λ w. not (same_write_clear w i)) action
 
@@ -52,5 +53,5 @@ due_depends_on_members tables W E n C D same =
 pub dirty_rows_depend_on_members : DirtyRowsDependOnMembers
 dirty_rows_depend_on_members tables X Y [] C D same = same
 dirty_rows_depend_on_members tables X Y (r ∷ rs) C D same =
-    let next = same_members_with_row C D r.0 (columns_in tables r.0) r.1 (row_at (X r.0) r.1) (row_at (Y r.0) r.1) same in
+    let next = same_members_with_row C D r.table (columns_in tables r.table) r.key (row_at (X r.table) r.key) (row_at (Y r.table) r.key) same in
     dirty_rows_depend_on_members tables X Y rs (with_row_of tables X Y C r) (with_row_of tables X Y D r) next

@@ -9,8 +9,8 @@ use Rattle.tt_values.proofs.LawProofs.{past_stays, next_content}
 use Rattle.tt_parts.specs.Dirty.{DirtySet, has_row}
 use Rattle.tt_repair_laws.specs.declared.edit.Edit.{Edit}
 use Rattle.tt_repair_laws.specs.Edits.{edit_of, edited_slots}
-use Rattle.tt_repair_laws.specs.Due.{content_after, is_slot_affected, slot_rows_written, slot_rows_matched, is_due, rows_reexecuted, with_row_of, dirty_after, rerun_count}
-use Rattle.tt_repair_laws.specs.Steps.{NothingIsDirtyAtFirst, UndueSlotsDirtyNothing, DueSlotsDirtyReexecutedRows, NoSlotIsRerunAtFirst, DueSlotsAreRerun, UndueSlotsAreNotRerun, UnwrittenRowsStay, ContentAfterIsKept}
+use Rattle.tt_repair_laws.specs.Due.{content_after, is_slot_affected, slot_rows_written, slot_rows_matched, is_due, rows_reexecuted, with_row_of, dirty_after, reexecuted_count}
+use Rattle.tt_repair_laws.specs.Steps.{NothingIsDirtyAtFirst, UndueSlotsDirtyNothing, DueSlotsDirtyReexecutedRows, NoSlotIsReexecutedAtFirst, DueSlotsAreReexecuted, UndueSlotsAreNotReexecuted, UnwrittenRowsStay, ContentAfterIsKept}
 use Rattle.tt_repair_laws.proofs.RowListsLemmas.{list_none-append}
 use Rattle.tt_repair_laws.proofs.DirtyLemmas.{is_row, clean_rows_differ, has_row-with_rows}
 use Rattle.tt_repair_laws.proofs.EffectsLemmas.{row_at-unwritten, slot_unmatched_unwritten}
@@ -36,17 +36,17 @@ pub due_slots_dirty_reexecuted_rows : DueSlotsDirtyReexecutedRows
 unfolding dirty_after
 due_slots_dirty_reexecuted_rows tables W E n h = ap (dirty_if tables W E n) h
 
-pub no_slot_is_rerun_at_first : NoSlotIsRerunAtFirst
-unfolding rerun_count
-no_slot_is_rerun_at_first tables W E = refl
+pub no_slot_is_reexecuted_at_first : NoSlotIsReexecutedAtFirst
+unfolding reexecuted_count
+no_slot_is_reexecuted_at_first tables W E = refl
 
-pub due_slots_are_rerun : DueSlotsAreRerun
-unfolding rerun_count
-due_slots_are_rerun tables W E n h = let count = rerun_count tables W E n in ap (λ b. if b then suc count else count) h
+pub due_slots_are_reexecuted : DueSlotsAreReexecuted
+unfolding reexecuted_count
+due_slots_are_reexecuted tables W E n h = let count = reexecuted_count tables W E n in ap (λ b. if b then suc count else count) h
 
-pub undue_slots_are_not_rerun : UndueSlotsAreNotRerun
-unfolding rerun_count
-undue_slots_are_not_rerun tables W E n h = let count = rerun_count tables W E n in ap (λ b. if b then suc count else count) h
+pub undue_slots_are_not_reexecuted : UndueSlotsAreNotReexecuted
+unfolding reexecuted_count
+undue_slots_are_not_reexecuted tables W E n h = let count = reexecuted_count tables W E n in ap (λ b. if b then suc count else count) h
 
 pub unwritten_rows_stay : UnwrittenRowsStay
 unwritten_rows_stay W n table key h =

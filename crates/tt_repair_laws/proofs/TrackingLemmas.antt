@@ -6,6 +6,7 @@ use Rattle.std.specs.Cmp.{int_cmp_total}
 use Rattle.std.specs.Ordering.{is_eq}
 use Rattle.std.proofs.lemmas.Bool.{or_parts, not-false}
 use Rattle.tt_values.specs.declared.row.Row.{Row}
+use Rattle.tt_values.specs.declared.row_id.RowId.{RowId}
 use Rattle.tt_values.specs.declared.statement.Equal.{Equal}
 use Rattle.tt_values.specs.declared.statement.Write.{Write}
 use Rattle.tt_values.specs.declared.statement.Write.TheVariants.{Insert, Update, Delete}
@@ -72,9 +73,9 @@ module _ (tables : Tables) (D : DirtySet) (X Y : Content) (tracks : Tracks table
 
   -- a write that isn't affected has the same effect and the same reply on both
   module _ (rises : IsByRisingKey X) (rises2 : IsByRisingKey Y) where
-    clean_matching_rows : (table : ℕ) (f : ℤ × Row → Option Row) (es : List (ℤ × Row)) → list_any (λ (r : ℕ × ℤ). has_row D r.0 r.1) (map (λ (e : ℤ × Option Row). (table, e.0)) (map (λ e. (e.0, f e)) es)) ≡ false → list_any (λ e. has_row D table e.0) es ≡ false
+    clean_matching_rows : (table : ℕ) (f : ℤ × Row → Option Row) (es : List (ℤ × Row)) → list_any (λ (r : RowId). has_row D r.table r.key) (map (λ (e : ℤ × Option Row). record { table = table; key = e.0 }) (map (λ e. (e.0, f e)) es)) ≡ false → list_any (λ e. has_row D table e.0) es ≡ false
     clean_matching_rows table f es h =
-        sym (list_any-map (λ (r : ℕ × ℤ). has_row D r.0 r.1) (λ (e : ℤ × Option Row). (table, e.0)) (map (λ e. (e.0, f e)) es) ∙ list_any-map (λ (e : ℤ × Option Row). has_row D table e.0) (λ e. (e.0, f e)) es) ∙ h
+        sym (list_any-map (λ (r : RowId). has_row D r.table r.key) (λ (e : ℤ × Option Row). record { table = table; key = e.0 }) (map (λ e. (e.0, f e)) es) ∙ list_any-map (λ (e : ℤ × Option Row). has_row D table e.0) (λ e. (e.0, f e)) es) ∙ h
 
     pub unaffected : (w : Write) → is_write_affected tables D w X ≡ false → (effect w Y ≡ effect w X) × (reply_of w Y ≡ reply_of w X)
     unaffected (Insert table row) h =
@@ -103,7 +104,7 @@ module _ (tables : Tables) (D : DirtySet) (X Y : Content) (tracks : Tracks table
       Tracks tables (fold (with_row_of tables Y Y2) D (slot_rows_written s X ++ slot_rows_matched v Y)) X2 Y2
   Tracks-reexecuted time s v X2 Y2 is is2 = record { agree = agree2; parts = λ table key row dirty there. parts2 table key row there (list_any (is_row table key) rows) refl dirty }
     where
-      rows : List (ℕ × ℤ)
+      rows : List RowId
       rows = slot_rows_written s X ++ slot_rows_matched v Y
 
       E : DirtySet

@@ -11,15 +11,15 @@ use Rattle.tt_values.specs.declared.statement.Write.{Write}
 use Rattle.tt_values.specs.Tables.{Tables}
 use Rattle.tt_values.specs.Content.{RowsByKey, Content, RowWrite, row_at, with_row_at, with_row_write}
 use Rattle.tt_values.specs.Effect.{table_of, effect}
-use Rattle.tt_values.specs.Action.{RowId, content_after_write, content_after_action, replies_of, rows_of_action, is_among, each_row_once, action_writes}
+use Rattle.tt_values.specs.declared.row_id.RowId.{RowId}
+use Rattle.tt_values.specs.Action.{content_after_write, content_after_action, replies_of, rows_of_write, rows_of_action, is_among, each_row_once, action_writes}
 use Rattle.tt_values.specs.ActionLaws.{IsByRisingKey}
 use Rattle.tt_values.specs.RowWrites.{slot_writes, slot_replies}
 use Rattle.tt_values.proofs.LawProofs.{rows_stay_by_rising_key, action_leaves_its_last_content, action_of_one_write, action_writes_each_row_once}
 use Rattle.tt_parts.specs.Dirty.{DirtySet, has_row}
-use Rattle.tt_repair_laws.specs.Due.{rows_written, is_write_affected, row_pair, action_rows_written, is_affected, is_slot_affected, slot_rows_written}
-use Rattle.tt_repair_laws.proofs.RowListsLemmas.{list_any-map}
+use Rattle.tt_repair_laws.specs.Due.{is_write_affected, is_affected, is_slot_affected, slot_rows_written}
 use Rattle.tt_repair_laws.proofs.DirtyLemmas.{is_row, clean_rows_differ}
-use Rattle.tt_repair_laws.proofs.EffectsLemmas.{action_rows_written-next, row_at-unwritten}
+use Rattle.tt_repair_laws.proofs.EffectsLemmas.{row_at-unwritten}
 use Rattle.tt_repair_laws.proofs.AffectedLemmas.{actions_are_affected_by_their_writes}
 use Rattle.tt_repair_laws.proofs.TrackingLemmas.{Tracks, unaffected, Tracks-same_writes}
 
@@ -47,10 +47,10 @@ after_write w X rising =
     sym (action_leaves_its_last_content 0 (w ∷ []) X rising) ∙ ap (fold with_row_write X) one.0
 
 -- a row that a write doesn't write stays the same
-row_at-after_write : (w : Write) (X : Content) → IsByRisingKey X → (table : ℕ) (key : ℤ) → list_any (is_row table key) (rows_written w X) ≡ false → row_at (content_after_write w X table) key ≡ row_at (X table) key
+row_at-after_write : (w : Write) (X : Content) → IsByRisingKey X → (table : ℕ) (key : ℤ) → list_any (is_row table key) (rows_of_write w X) ≡ false → row_at (content_after_write w X table) key ≡ row_at (X table) key
 row_at-after_write w X rising table key none =
     ap (λ Z. row_at (Z table) key) (sym (action_leaves_its_last_content 0 (w ∷ []) X rising))
-    ∙ row_at-unwritten 0 (Some (w ∷ [])) X table key (ap (list_any (is_row table key)) (action_rows_written-next w [] X ∙ append-nil (rows_written w X)) ∙ none)
+    ∙ row_at-unwritten 0 (Some (w ∷ [])) X table key (ap (list_any (is_row table key)) (append-nil (rows_of_write w X)) ∙ none)
 
 -- a row is the same as itself
 itself : (r : RowId) → ((r.table == r.table) && int_eq r.key r.key) ≡ true
@@ -84,8 +84,8 @@ module _ (tables : Tables) (D : DirtySet) where
 
       stays : (table : ℕ) (key : ℤ) → has_row D table key ≡ true → row_at (content_after_write w Y table) key ≡ row_at (Y table) key
       stays table key dirty =
-          let clean = clean_rows_differ D (rows_written w X) table key dirty (or_parts _ _ (or_parts _ _ h).0).0 in
-          row_at-after_write w Y rising2 table key (ap (λ es. list_any (is_row table key) (map (λ e. (table_of w, e.0)) es)) same ∙ clean)
+          let clean = clean_rows_differ D (rows_of_write w X) table key dirty (or_parts _ _ (or_parts _ _ h).0).0 in
+          row_at-after_write w Y rising2 table key (ap (λ es. list_any (is_row table key) (map (λ e. record { table = table_of w; key = e.0 }) es)) same ∙ clean)
 
   -- an action writes the same rows on both contents, has the same replies, and leaves contents that the set tracks
   record SameAction (action : List Write) (X Y : Content) : Type 0 where
@@ -109,10 +109,10 @@ module _ (tables : Tables) (D : DirtySet) where
   module _ (X Y : Content) (tracks : Tracks tables D X Y) (rising : IsByRisingKey X) (rising2 : IsByRisingKey Y) where
     -- the rows that an action writes are clean, if it isn't affected
     written_rows_are_clean : (action : List Write) → is_affected tables D action X ≡ false → (r : RowId) → is_among r (rows_of_action action X) ≡ true → has_row D r.table r.key ≡ false
-    written_rows_are_clean action h r among = false_from_ne_true _ (λ dirty. true≢false (sym among ∙ sym (list_any-map (is_row r.table r.key) row_pair (rows_of_action action X)) ∙ other dirty))
+    written_rows_are_clean action h r among = false_from_ne_true _ (λ dirty. true≢false (sym among ∙ other dirty))
       where
-        other : has_row D r.table r.key ≡ true → list_any (is_row r.table r.key) (action_rows_written action X) ≡ false
-        other dirty = clean_rows_differ D (action_rows_written action X) r.table r.key dirty (or_parts _ _ (or_parts _ _ h).0).0
+        other : has_row D r.table r.key ≡ true → list_any (is_row r.table r.key) (rows_of_action action X) ≡ false
+        other dirty = clean_rows_differ D (rows_of_action action X) r.table r.key dirty (or_parts _ _ (or_parts _ _ h).0).0
 
     -- so their last rows agree
     action_writes-unaffected : (time : ℕ) (action : List Write) → is_affected tables D action X ≡ false → action_writes time action Y ≡ action_writes time action X
@@ -143,9 +143,9 @@ module _ (tables : Tables) (D : DirtySet) where
 
     pub slot_rows_written-unaffected : (s : Option (List Write)) → is_slot_affected tables D s X ≡ false → slot_rows_written s Y ≡ slot_rows_written s X
     slot_rows_written-unaffected None h = refl
-    slot_rows_written-unaffected (Some action) h = let same = unaffected_action action X Y tracks rising rising2 h in ap (map row_pair) same.rows
+    slot_rows_written-unaffected (Some action) h = let same = unaffected_action action X Y tracks rising rising2 h in same.rows
 
-    pub unaffected_writes_clean_rows : (s : Option (List Write)) → is_slot_affected tables D s X ≡ false → list_any (λ r. has_row D r.0 r.1) (slot_rows_written s X) ≡ false
+    pub unaffected_writes_clean_rows : (s : Option (List Write)) → is_slot_affected tables D s X ≡ false → list_any (λ r. has_row D r.table r.key) (slot_rows_written s X) ≡ false
     unaffected_writes_clean_rows None h = refl
     unaffected_writes_clean_rows (Some action) h = (or_parts _ _ (or_parts _ _ h).0).0
 

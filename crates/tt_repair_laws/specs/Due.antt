@@ -1,6 +1,7 @@
 -- The slots that a repair re-executes, and what is dirty after each slot.
-use Rattle.std.specs.Prelude.{ℕ, zero, suc, ℤ, Bool, false, not, ◌&&◌, ◌||◌, ◌==◌, List, [], ◌∷◌, ◌++◌, map, fold, Option, None, Some, is_some, if◌then◌else◌}
+use Rattle.std.specs.Prelude.{ℕ, zero, suc, Bool, false, not, ◌&&◌, ◌||◌, ◌==◌, List, [], ◌∷◌, ◌++◌, map, fold, Option, None, Some, is_some, if◌then◌else◌}
 use Rattle.std.specs.List.{list_any}
+use Rattle.tt_values.specs.declared.row_id.RowId.{RowId}
 use Rattle.tt_values.specs.declared.value.Value.{Value}
 use Rattle.tt_values.specs.declared.value.Value.TheVariants as values
 use Rattle.tt_values.specs.declared.statement.Equal.{Equal}
@@ -9,8 +10,8 @@ use Rattle.tt_values.specs.declared.statement.Write.TheVariants.{Insert, Update,
 use Rattle.tt_values.specs.Row.{key_of}
 use Rattle.tt_values.specs.Tables.{Tables}
 use Rattle.tt_values.specs.Content.{Content, content_at, row_at}
-use Rattle.tt_values.specs.Effect.{matching_rows, table_of, effect}
-use Rattle.tt_values.specs.Action.{RowId, content_after_write, rows_of_action}
+use Rattle.tt_values.specs.Effect.{matching_rows, table_of}
+use Rattle.tt_values.specs.Action.{content_after_write, rows_of_write, rows_of_action}
 use Rattle.tt_values.specs.RowWrites.{Slots, slot_after, row_writes}
 use Rattle.tt_parts.specs.Partitions.{partitions_read}
 use Rattle.tt_parts.specs.Dirty.{DirtySet, nothing_dirty, columns_in, has_row, with_row, is_clear}
@@ -21,15 +22,11 @@ use Rattle.tt_repair_laws.specs.Edits.{edit_of, edited_slots}
 abbrev pub content_after : Slots → ℕ → Content
 content_after W n = content_at (row_writes W n) n
 
--- the rows that a write writes on a content, each by its table and key
-abbrev pub rows_written : Write → Content → List (ℕ × ℤ)
-rows_written w X = map (λ e. (table_of w, e.0)) (effect w X)
-
 -- the rows that a write matches in a content. An insert matches the row of its key, whether it is there or not
-abbrev pub rows_matched : Write → Content → List (ℕ × ℤ)
-rows_matched (Insert table row) X = (table, key_of row) ∷ []
-rows_matched (Update table changes equals) X = map (λ e. (table, e.0)) (matching_rows equals (X table))
-rows_matched (Delete table equals) X = map (λ e. (table, e.0)) (matching_rows equals (X table))
+abbrev pub rows_matched : Write → Content → List RowId
+rows_matched (Insert table row) X = record { table = table; key = key_of row } ∷ []
+rows_matched (Update table changes equals) X = map (λ e. record { table = table; key = e.0 }) (matching_rows equals (X table))
+rows_matched (Delete table equals) X = map (λ e. record { table = table; key = e.0 }) (matching_rows equals (X table))
 
 -- whether a value is the key of a dirty row of a table
 abbrev pub is_dirty_key : DirtySet → ℕ → Value → Bool
@@ -53,36 +50,28 @@ is_write_clear tables D w = is_clear D (table_of w) (partitions_read (columns_in
 -- whether what is dirty may affect a write: the write writes a dirty row, names one, or isn't clear
 abbrev pub is_write_affected : Tables → DirtySet → Write → Content → Bool
 is_write_affected tables D w X =
-    list_any (λ r. has_row D r.0 r.1) (rows_written w X)
+    list_any (λ r. has_row D r.table r.key) (rows_of_write w X)
     || names_dirty_row D w
     || not (is_write_clear tables D w)
 
--- a row by its table and key
-abbrev pub row_pair : RowId → ℕ × ℤ
-row_pair r = (r.table, r.key)
-
--- the rows that the writes of an action write, in their turn
-abbrev pub action_rows_written : List Write → Content → List (ℕ × ℤ)
-action_rows_written action X = map row_pair (rows_of_action action X)
-
 -- the rows that the writes of an action match, each on the content that the ones before it left
-abbrev pub action_rows_matched : List Write → Content → List (ℕ × ℤ)
+abbrev pub action_rows_matched : List Write → Content → List RowId
 action_rows_matched [] X = []
 action_rows_matched (w ∷ ws) X = rows_matched w X ++ action_rows_matched ws (content_after_write w X)
 
 -- whether what is dirty may affect an action: it writes a dirty row, or one of its writes names one or isn't clear
 abbrev pub is_affected : Tables → DirtySet → List Write → Content → Bool
 is_affected tables D action X =
-    list_any (λ r. has_row D r.0 r.1) (action_rows_written action X)
+    list_any (λ r. has_row D r.table r.key) (rows_of_action action X)
     || list_any (names_dirty_row D) action
     || list_any (λ w. not (is_write_clear tables D w)) action
 
--- the same for slots. A cancelled slot writes and matches nothing, and isn't affected
-abbrev pub slot_rows_written : Option (List Write) → Content → List (ℕ × ℤ)
+-- the rows that a slot writes, those that it matches, and whether it is affected. A cancelled slot writes and matches nothing, and isn't affected
+abbrev pub slot_rows_written : Option (List Write) → Content → List RowId
 slot_rows_written None X = []
-slot_rows_written (Some action) X = action_rows_written action X
+slot_rows_written (Some action) X = rows_of_action action X
 
-abbrev pub slot_rows_matched : Option (List Write) → Content → List (ℕ × ℤ)
+abbrev pub slot_rows_matched : Option (List Write) → Content → List RowId
 slot_rows_matched None X = []
 slot_rows_matched (Some action) X = action_rows_matched action X
 
@@ -90,16 +79,16 @@ abbrev pub is_slot_affected : Tables → DirtySet → Option (List Write) → Co
 is_slot_affected tables D None X = false
 is_slot_affected tables D (Some action) X = is_affected tables D action X
 
--- the set after a row gets dirty that is in one content before, and in another one after
-abbrev pub with_row_of : Tables → Content → Content → DirtySet → ℕ × ℤ → DirtySet
-with_row_of tables before after D r = with_row D r.0 (columns_in tables r.0) r.1 (row_at (before r.0) r.1) (row_at (after r.0) r.1)
+-- the set after a row gets dirty, with what it is in the contents before and after
+abbrev pub with_row_of : Tables → Content → Content → DirtySet → RowId → DirtySet
+with_row_of tables before after D r = with_row D r.table (columns_in tables r.table) r.key (row_at (before r.table) r.key) (row_at (after r.table) r.key)
 
 -- whether slot n + 1 is due, by what is dirty before it: it has an edit, or may be affected
 abbrev pub is_due_by : Tables → Slots → List Edit → ℕ → DirtySet → Bool
 is_due_by tables W E n D = is_some (edit_of E (suc n)) || is_slot_affected tables D (slot_after W n) (content_after W n)
 
 -- the rows that get dirty where slot n + 1 is re-executed: those that it wrote, and those that its edited action matches after the first n edited slots
-abbrev pub rows_reexecuted : Slots → List Edit → ℕ → List (ℕ × ℤ)
+abbrev pub rows_reexecuted : Slots → List Edit → ℕ → List RowId
 rows_reexecuted W E n =
     slot_rows_written (slot_after W n) (content_after W n)
     ++ slot_rows_matched (slot_after (edited_slots W E) n) (content_after (edited_slots W E) n)
@@ -120,6 +109,6 @@ abbrev pub is_due : Tables → Slots → List Edit → ℕ → Bool
 is_due tables W E n = is_due_by tables W E n (dirty_after tables W E n)
 
 -- how many of the first n slots are due
-unfoldable pub rerun_count : Tables → Slots → List Edit → ℕ → ℕ
-rerun_count tables W E zero = 0
-rerun_count tables W E (suc n) = if is_due tables W E n then suc (rerun_count tables W E n) else rerun_count tables W E n
+unfoldable pub reexecuted_count : Tables → Slots → List Edit → ℕ → ℕ
+reexecuted_count tables W E zero = 0
+reexecuted_count tables W E (suc n) = if is_due tables W E n then suc (reexecuted_count tables W E n) else reexecuted_count tables W E n

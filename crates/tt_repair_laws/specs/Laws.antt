@@ -11,7 +11,7 @@ use Rattle.tt_parts.specs.Partitions.{parts_of}
 use Rattle.tt_parts.specs.Dirty.{columns_in, DirtySet, has_row, has_partition}
 use Rattle.tt_repair_laws.specs.declared.edit.Edit.{Edit}
 use Rattle.tt_repair_laws.specs.Edits.{edit_of, slot_with_edit, edited_slots}
-use Rattle.tt_repair_laws.specs.Due.{content_after, slot_rows_written, is_write_affected, is_affected, is_due, dirty_after, rerun_count}
+use Rattle.tt_repair_laws.specs.Due.{content_after, slot_rows_written, is_write_affected, is_affected, is_due, dirty_after, reexecuted_count}
 
 -- an action is affected exactly where its first write is, or the others are on the content that this write leaves
 abbrev pub ActionsAreAffectedByTheirWrites : Type 0
@@ -19,14 +19,14 @@ ActionsAreAffectedByTheirWrites = (tables : Tables) (D : DirtySet) (X : Content)
     (is_affected tables D [] X ≡ false)
     × ((w : Write) (ws : List Write) → is_affected tables D (w ∷ ws) X ≡ (is_write_affected tables D w X || is_affected tables D ws (content_after_write w X)))
 
--- slot n + 1 is the same in two lists of slots, and in each, after the slots before it, has the same row writes and the same replies, and writes the same rows, in turn
+-- slot n + 1 is the same in two lists of slots, and after the slots before it in each it has the same row writes and the same replies, and writes the same rows in the same order
 pub record IsSameSlot (W V : Slots) (n : ℕ) : Type 0 where
   pub slot : slot_after V n ≡ slot_after W n
   pub writes : slot_writes (suc n) (slot_after V n) (content_after V n) ≡ slot_writes (suc n) (slot_after W n) (content_after W n)
   pub replies : slot_replies (slot_after V n) (content_after V n) ≡ slot_replies (slot_after W n) (content_after W n)
   pub rows : slot_rows_written (slot_after V n) (content_after V n) ≡ slot_rows_written (slot_after W n) (content_after W n)
 
--- a slot that isn't due is the same among the edited slots, with the same row writes and the same replies, and writes the same rows, in turn
+-- a slot that isn't due is the same among the edited slots, with the same row writes and the same replies, and writes the same rows in the same order
 abbrev pub NoAffectedSlotIsMissed : Type 0
 NoAffectedSlotIsMissed = (tables : Tables) (W : Slots) (E : List Edit) (n : ℕ) → is_due tables W E n ≡ false → IsSameSlot W (edited_slots W E) n
 
@@ -44,7 +44,7 @@ DirtyRowsLieInDirtyPartitions = (tables : Tables) (W : Slots) (E : List Edit) (n
 pub record IsSameRepair (tables : Tables) (W V : Slots) (E : List Edit) (n : ℕ) : Type 0 where
   pub dirty : dirty_after tables V E n ≡ dirty_after tables W E n
   pub due : (i : ℕ) → i < n → is_due tables V E i ≡ is_due tables W E i
-  pub rerun : rerun_count tables V E n ≡ rerun_count tables W E n
+  pub reexecuted : reexecuted_count tables V E n ≡ reexecuted_count tables W E n
   pub slots : (i : ℕ) → i < n → slot_after (edited_slots V E) i ≡ slot_after (edited_slots W E) i
   pub writes : row_writes (edited_slots V E) n ≡ row_writes (edited_slots W E) n
 

@@ -28,7 +28,7 @@ abbrev pub LastRowsStay : Type 0
 LastRowsStay = (W : Slots) (n table : ℕ) (key : ℤ) (time : ℕ) → n ≤ time →
     rows_by table (row_writes W n) key time ≡ row_at (content_after W n table) key
 
--- the same by the edited slots
+-- after the last of the first n edited slots each row stays the same
 abbrev pub LastEditedRowsStay : Type 0
 LastEditedRowsStay = (W : Slots) (E : List Edit) (n table : ℕ) (key : ℤ) (time : ℕ) → n ≤ time →
     edited_side W E n table key time ≡ row_at (content_after (edited_slots W E) n table) key
@@ -38,7 +38,7 @@ abbrev pub DirtyRowsAreAsEdited : Type 0
 DirtyRowsAreAsEdited = (tables : Tables) (W : Slots) (E : List Edit) (n table : ℕ) (key : ℤ) →
     has_row (dirty_after tables W E n) table key ≡ true → next_side tables W E n table key ≡ edited_side W E n table key
 
--- any other row is on the next side as on the current side
+-- a row that isn't dirty is on the next side as on the current side
 abbrev pub CleanRowsAreAsCurrent : Type 0
 CleanRowsAreAsCurrent = (tables : Tables) (W : Slots) (E : List Edit) (n table : ℕ) (key : ℤ) →
     has_row (dirty_after tables W E n) table key ≡ false → next_side tables W E n table key ≡ current_side W table key
@@ -47,29 +47,29 @@ CleanRowsAreAsCurrent = (tables : Tables) (W : Slots) (E : List Edit) (n table :
 abbrev pub NextSideBeginsAsCurrent : Type 0
 NextSideBeginsAsCurrent = (tables : Tables) (W : Slots) (E : List Edit) (table : ℕ) → next_side tables W E 0 table ≡ current_side W table
 
--- after n slots it shows the first n edited slots, at each time up to n
+-- after n slots the next side shows the first n edited slots, at each time up to n
 abbrev pub NextSideShowsEditedSlots : Type 0
 NextSideShowsEditedSlots = (tables : Tables) (W : Slots) (E : List Edit) (n time table : ℕ) (key : ℤ) → n ≤ length W → time ≤ n →
     next_side tables W E n table key time ≡ edited_side W E n table key time
 
--- a slot that isn't due leaves it as it is
+-- a slot that isn't due leaves the next side as it is
 abbrev pub UndueSlotsLeaveNextSide : Type 0
 UndueSlotsLeaveNextSide = (tables : Tables) (W : Slots) (E : List Edit) (n table : ℕ) → is_due tables W E n ≡ false →
     next_side tables W E (suc n) table ≡ next_side tables W E n table
 
--- a slot that is due changes only the re-executed rows: from its time on, each is as the edited slots leave it
+-- a slot that is due changes only the re-executed rows of the next side: from its time on, each is as the edited slots leave it
 abbrev pub DueSlotsChangeReexecutedRows : Type 0
 DueSlotsChangeReexecutedRows = (tables : Tables) (W : Slots) (E : List Edit) (n table : ℕ) (key : ℤ) (time : ℕ) → n ≤ length W → is_due tables W E n ≡ true →
     let before = next_side tables W E n table key time in
     next_side tables W E (suc n) table key time ≡
     (if is_row_in (rows_reexecuted W E n) table key then (if nat_le (suc n) time then row_at (content_after (edited_slots W E) (suc n) table) key else before) else before)
 
--- a slot that is added during the repair leaves the dirty rows as they are; any other row is as on the current side
+-- a slot that is added during the repair leaves the dirty rows of the next side as they are; any other row is as on the current side
 abbrev pub LaterSlotsLeaveDirtyRows : Type 0
 LaterSlotsLeaveDirtyRows = (tables : Tables) (W : Slots) (s : Option (List Write)) (E : List Edit) (n table : ℕ) (key : ℤ) → n ≤ length W →
     let V = W ++ s ∷ [] in
     next_side tables V E n table key ≡ (if has_row (dirty_after tables W E n) table key then next_side tables W E n table key else current_side V table key)
 
--- after all slots it shows the edited slots, at each time
+-- after all slots the next side shows the edited slots, at each time
 abbrev pub NextSideEndsAsEditedSlots : Type 0
 NextSideEndsAsEditedSlots = (tables : Tables) (W : Slots) (E : List Edit) (table : ℕ) → next_side tables W E (length W) table ≡ edited_side W E (length W) table

@@ -1,16 +1,18 @@
 -- One slot of a repair: when it is due, what gets dirty with it, and which rows it changes.
 use Rattle.std.specs.Prelude.{◌≡◌, ℕ, suc, ◌≤◌, ℤ, true, false, ◌||◌, List, fold, length}
+use Rattle.tt_values.specs.declared.row_id.RowId.{RowId}
 use Rattle.tt_values.specs.declared.statement.Equal.{Equal}
 use Rattle.tt_values.specs.declared.statement.Change.{Change}
 use Rattle.tt_values.specs.declared.statement.Write.{Write}
 use Rattle.tt_values.specs.declared.statement.Write.TheVariants.{Update, Delete}
 use Rattle.tt_values.specs.Tables.{Tables}
 use Rattle.tt_values.specs.Content.{Content, row_at}
+use Rattle.tt_values.specs.Action.{rows_of_write}
 use Rattle.tt_values.specs.RowWrites.{Slots, slot_after, content_of}
 use Rattle.tt_parts.specs.Dirty.{DirtySet, SameMembers, nothing_dirty, has_row, is_row_in}
 use Rattle.tt_repair_laws.specs.declared.edit.Edit.{Edit}
 use Rattle.tt_repair_laws.specs.Edits.{edited_slots}
-use Rattle.tt_repair_laws.specs.Due.{content_after, rows_written, rows_matched, slot_rows_written, with_row_of, is_due_by, is_due, rows_reexecuted, dirty_after, rerun_count}
+use Rattle.tt_repair_laws.specs.Due.{content_after, rows_matched, slot_rows_written, with_row_of, is_due_by, is_due, rows_reexecuted, dirty_after, reexecuted_count}
 
 -- whether a slot is due depends only on the members of the dirty set
 abbrev pub DueDependsOnMembers : Type 0
@@ -19,12 +21,12 @@ DueDependsOnMembers = (tables : Tables) (W : Slots) (E : List Edit) (n : ℕ) (C
 
 -- sets with the same members have the same members after the same rows get dirty in both
 abbrev pub DirtyRowsDependOnMembers : Type 0
-DirtyRowsDependOnMembers = (tables : Tables) (X Y : Content) (rs : List (ℕ × ℤ)) (C D : DirtySet) → SameMembers C D →
+DirtyRowsDependOnMembers = (tables : Tables) (X Y : Content) (rs : List RowId) (C D : DirtySet) → SameMembers C D →
     SameMembers (fold (with_row_of tables X Y) C rs) (fold (with_row_of tables X Y) D rs)
 
 -- after rows get dirty, these rows are dirty and those that were before, and no others
 abbrev pub DirtyRowsGrow : Type 0
-DirtyRowsGrow = (tables : Tables) (X Y : Content) (rs : List (ℕ × ℤ)) (D : DirtySet) (table : ℕ) (key : ℤ) →
+DirtyRowsGrow = (tables : Tables) (X Y : Content) (rs : List RowId) (D : DirtySet) (table : ℕ) (key : ℤ) →
     has_row (fold (with_row_of tables X Y) D rs) table key ≡ (is_row_in rs table key || has_row D table key)
 
 -- at first nothing is dirty
@@ -44,20 +46,20 @@ DueSlotsDirtyReexecutedRows = (tables : Tables) (W : Slots) (E : List Edit) (n :
     dirty_after tables W E (suc n) ≡ fold (with_row_of tables X Y) (dirty_after tables W E n) (rows_reexecuted W E n)
 
 -- at first no slot is re-executed
-abbrev pub NoSlotIsRerunAtFirst : Type 0
-NoSlotIsRerunAtFirst = (tables : Tables) (W : Slots) (E : List Edit) → rerun_count tables W E 0 ≡ 0
+abbrev pub NoSlotIsReexecutedAtFirst : Type 0
+NoSlotIsReexecutedAtFirst = (tables : Tables) (W : Slots) (E : List Edit) → reexecuted_count tables W E 0 ≡ 0
 
--- a slot that is due is one more to be re-executed
-abbrev pub DueSlotsAreRerun : Type 0
-DueSlotsAreRerun = (tables : Tables) (W : Slots) (E : List Edit) (n : ℕ) → is_due tables W E n ≡ true →
-    rerun_count tables W E (suc n) ≡ suc (rerun_count tables W E n)
+-- a slot that is due adds one to the slots that are re-executed
+abbrev pub DueSlotsAreReexecuted : Type 0
+DueSlotsAreReexecuted = (tables : Tables) (W : Slots) (E : List Edit) (n : ℕ) → is_due tables W E n ≡ true →
+    reexecuted_count tables W E (suc n) ≡ suc (reexecuted_count tables W E n)
 
--- a slot that isn't due is not re-executed
-abbrev pub UndueSlotsAreNotRerun : Type 0
-UndueSlotsAreNotRerun = (tables : Tables) (W : Slots) (E : List Edit) (n : ℕ) → is_due tables W E n ≡ false →
-    rerun_count tables W E (suc n) ≡ rerun_count tables W E n
+-- a slot that isn't due adds none
+abbrev pub UndueSlotsAreNotReexecuted : Type 0
+UndueSlotsAreNotReexecuted = (tables : Tables) (W : Slots) (E : List Edit) (n : ℕ) → is_due tables W E n ≡ false →
+    reexecuted_count tables W E (suc n) ≡ reexecuted_count tables W E n
 
--- a slot leaves the rows as they are that it doesn't write
+-- a slot leaves each row as it is that it doesn't write
 abbrev pub UnwrittenRowsStay : Type 0
 UnwrittenRowsStay = (W : Slots) (n table : ℕ) (key : ℤ) →
     is_row_in (slot_rows_written (slot_after W n) (content_after W n)) table key ≡ false →
@@ -66,13 +68,13 @@ UnwrittenRowsStay = (W : Slots) (n table : ℕ) (key : ℤ) →
 -- a write matches each row that it writes
 abbrev pub WrittenRowsAreMatched : Type 0
 WrittenRowsAreMatched = (w : Write) (X : Content) (table : ℕ) (key : ℤ) →
-    is_row_in (rows_written w X) table key ≡ true → is_row_in (rows_matched w X) table key ≡ true
+    is_row_in (rows_of_write w X) table key ≡ true → is_row_in (rows_matched w X) table key ≡ true
 
 -- an update and a delete write the rows that they match, and no others
 abbrev pub UpdatesAndDeletesWriteWhatTheyMatch : Type 0
 UpdatesAndDeletesWriteWhatTheyMatch = (table : ℕ) (changes : List Change) (equals : List Equal) (X : Content) →
-    (rows_matched (Update table changes equals) X ≡ rows_written (Update table changes equals) X)
-    × (rows_matched (Delete table equals) X ≡ rows_written (Delete table equals) X)
+    (rows_matched (Update table changes equals) X ≡ rows_of_write (Update table changes equals) X)
+    × (rows_matched (Delete table equals) X ≡ rows_of_write (Delete table equals) X)
 
 -- the content after the first n slots is that of all slots at time n
 abbrev pub ContentAfterIsKept : Type 0

@@ -1,7 +1,7 @@
 //! Laws of repairs, for the proofs of the crates above. Each is the contract of a function with an
 //! empty body.
 ghost use Rattle.tt_repair_laws.specs.Laws.{ActionsAreAffectedByTheirWrites, NoAffectedSlotIsMissed, CleanRowsAgree, DirtyRowsLieInDirtyPartitions, LaterSlotsChangeNoRepair, EditedSlotsAreAsMany, EditedSlotIsNext, UneditedSlotsStay, LaterSlotsStay};
-ghost use Rattle.tt_repair_laws.specs.Steps.{DueDependsOnMembers, DirtyRowsDependOnMembers, DirtyRowsGrow, NothingIsDirtyAtFirst, UndueSlotsDirtyNothing, DueSlotsDirtyReexecutedRows, NoSlotIsRerunAtFirst, DueSlotsAreRerun, UndueSlotsAreNotRerun, UnwrittenRowsStay, WrittenRowsAreMatched, UpdatesAndDeletesWriteWhatTheyMatch, ContentAfterIsKept};
+ghost use Rattle.tt_repair_laws.specs.Steps.{DueDependsOnMembers, DirtyRowsDependOnMembers, DirtyRowsGrow, NothingIsDirtyAtFirst, UndueSlotsDirtyNothing, DueSlotsDirtyReexecutedRows, NoSlotIsReexecutedAtFirst, DueSlotsAreReexecuted, UndueSlotsAreNotReexecuted, UnwrittenRowsStay, WrittenRowsAreMatched, UpdatesAndDeletesWriteWhatTheyMatch, ContentAfterIsKept};
 ghost use Rattle.tt_repair_laws.specs.NextSide.{LastRowsStay, LastEditedRowsStay, DirtyRowsAreAsEdited, CleanRowsAreAsCurrent, NextSideBeginsAsCurrent, NextSideShowsEditedSlots, UndueSlotsLeaveNextSide, DueSlotsChangeReexecutedRows, LaterSlotsLeaveDirtyRows, NextSideEndsAsEditedSlots};
 
 /// An action is affected exactly where its first write is, or the others are on the content that
@@ -11,7 +11,7 @@ pub fn actions_are_affected_by_their_writes()
 {}
 
 /// A slot that isn't due is the same among the edited slots, with the same row writes and the same
-/// replies, and writes the same rows, in turn.
+/// replies, and writes the same rows in the same order.
 pub fn no_affected_slot_is_missed()
     ensures { NoAffectedSlotIsMissed }
 {}
@@ -83,21 +83,21 @@ pub fn due_slots_dirty_the_reexecuted_rows()
 {}
 
 /// At first no slot is re-executed.
-pub fn no_slot_is_rerun_at_first()
-    ensures { NoSlotIsRerunAtFirst }
+pub fn no_slot_is_reexecuted_at_first()
+    ensures { NoSlotIsReexecutedAtFirst }
 {}
 
-/// A slot that is due is one more to be re-executed.
-pub fn due_slots_are_rerun()
-    ensures { DueSlotsAreRerun }
+/// A slot that is due adds one to the slots that are re-executed.
+pub fn due_slots_are_reexecuted()
+    ensures { DueSlotsAreReexecuted }
 {}
 
-/// A slot that isn't due is not re-executed.
-pub fn undue_slots_are_not_rerun()
-    ensures { UndueSlotsAreNotRerun }
+/// A slot that isn't due adds none.
+pub fn undue_slots_are_not_reexecuted()
+    ensures { UndueSlotsAreNotReexecuted }
 {}
 
-/// A slot leaves the rows as they are that it doesn't write.
+/// A slot leaves each row as it is that it doesn't write.
 pub fn unwritten_rows_stay()
     ensures { UnwrittenRowsStay }
 {}

@@ -1,5 +1,5 @@
-//! Tests of a repair as one call, of what no contract says: that ample memory is enough for it, what
-//! it makes of answers, in how many publishes, and how it goes beside the calls of another thread.
+//! Tests of a repair as one call, of what no contract says: that ample memory is enough for it, how
+//! it changes answers, how often it publishes, and what it does beside calls of another thread.
 #![tactic(auto)]
 
 #[cfg(test)]

@@ -2,7 +2,7 @@
 use crate::error::ServiceError;
 use std::alloc::{AllocError, Global};
 use tt_values::{
-    Catalog, Change, Column, Equal, Items, Kind, Reply, Row, Select, TableDef, Text, Value, Write,
+    Catalog, Change, Column, Equal, Items, Reply, Row, Select, TableDef, Value, Write,
 };
 
 /// How many clerks book payments. Each has one account, with the clerk's number as its id.
@@ -18,31 +18,12 @@ const BALANCE: u16 = 2;
 
 /// A catalog with the one table.
 pub(crate) fn catalog(alloc: Global) -> Result<Catalog, ServiceError> {
-    let columns = columns(alloc)?;
+    let id = Column::int(alloc, "id")?;
+    let owner = Column::text(alloc, "owner")?.partition();
+    let balance = Column::int(alloc, "balance")?;
     let mut catalog = Catalog::new(alloc);
-    catalog.add("account", TableDef { columns })?;
+    catalog.add("account", TableDef::of(alloc, [id, owner, balance])?)?;
     Ok(catalog)
-}
-
-fn columns(alloc: Global) -> Result<Items<Column>, AllocError> {
-    let columns = [
-        column(alloc, "id", Kind::Int, false)?,
-        column(alloc, "owner", Kind::Text, true)?,
-        column(alloc, "balance", Kind::Int, false)?,
-    ];
-    Items::new(alloc, Vec::from_array(alloc, columns)?)
-}
-
-fn column(alloc: Global, name: &str, kind: Kind, partition: bool) -> Result<Column, AllocError> {
-    Ok(Column {
-        name: text(alloc, name)?,
-        kind,
-        partition,
-    })
-}
-
-fn text(alloc: Global, words: &str) -> Result<Text, AllocError> {
-    Text::new(alloc, String::from_str(alloc, words)?)
 }
 
 /// Opens an account with a balance of 100.
@@ -51,20 +32,8 @@ pub(crate) fn open_account(
     id: i64,
     owner: &str,
 ) -> Result<Items<Write>, AllocError> {
-    let values = [
-        Value::Int(id),
-        Value::Text(text(alloc, owner)?),
-        Value::Int(100),
-    ];
-    let values = Items::new(alloc, Vec::from_array(alloc, values)?)?;
-    let row = Row { values };
-    one(
-        alloc,
-        Write::Insert {
-            table: ACCOUNT,
-            row,
-        },
-    )
+    let values = [Value::Int(id), Value::text(alloc, owner)?, Value::Int(100)];
+    Items::of(alloc, [Write::insert(alloc, ACCOUNT, values)?])
 }
 
 /// Books a payment to one account, or to all of them.
@@ -73,45 +42,23 @@ pub(crate) fn pay(
     amount: i64,
     account: Option<i64>,
 ) -> Result<Items<Write>, AllocError> {
-    let change = Change::Add {
+    let changes = [Change::Add {
         column: BALANCE,
         by: amount,
+    }];
+    let write = match account {
+        Some(id) => Write::update(alloc, ACCOUNT, changes, [Equal::int(ID, id)])?,
+        None => Write::update(alloc, ACCOUNT, changes, [])?,
     };
-    let changes = Items::new(alloc, Vec::from_array(alloc, [change])?)?;
-    let equals = is_account(alloc, account)?;
-    one(
-        alloc,
-        Write::Update {
-            table: ACCOUNT,
-            changes,
-            equals,
-        },
-    )
+    Items::of(alloc, [write])
 }
 
 /// Selects one account, or all of them.
 pub(crate) fn select(alloc: Global, account: Option<i64>) -> Result<Select, AllocError> {
-    let equals = is_account(alloc, account)?;
-    Ok(Select {
-        table: ACCOUNT,
-        equals,
-    })
-}
-
-fn is_account(alloc: Global, account: Option<i64>) -> Result<Items<Equal>, AllocError> {
-    let mut equals = Vec::new(alloc);
-    if let Some(id) = account {
-        equals.push(Equal {
-            column: ID,
-            value: Value::Int(id),
-        })?;
+    match account {
+        Some(id) => Select::matching(alloc, ACCOUNT, [Equal::int(ID, id)]),
+        None => Select::all(alloc, ACCOUNT),
     }
-    Items::new(alloc, equals)
-}
-
-/// An action of one write.
-fn one(alloc: Global, write: Write) -> Result<Items<Write>, AllocError> {
-    Items::new(alloc, Vec::from_array(alloc, [write])?)
 }
 
 /// The balance of an account.

@@ -1,6 +1,7 @@
 use std::alloc::AllocError;
 use thiserror::Error;
 use tt_db::ReadError;
+use tt_repair::RepairFault;
 use tt_store::{OpenError, StoreError};
 use tt_values::CatalogError;
 
@@ -13,6 +14,8 @@ pub(crate) enum ServiceError {
     Open(#[from] OpenError),
     #[error("a call is refused: {0}")]
     Store(#[from] StoreError),
+    #[error("{0}")]
+    Repair(#[from] RepairFault),
     #[error("a read isn't answered: {0}")]
     Read(#[from] ReadError),
     #[error("the store can't be closed")]

@@ -1,8 +1,7 @@
 //! The service: a store, and its workers in threads of their own.
-ghost use Rattle.std.specs.Prelude.{◌≡◌};
 ghost use Rattle.std.specs.Arc.{arc_value};
 ghost use Rattle.tt_db.specs.Limits.{usual_limits};
-ghost use Rattle.tt_store.specs.Published.{SaysThat};
+ghost use Rattle.tt_store.specs.Naming.{IsNameOf};
 
 use crate::accounts::{open_account, pay};
 use crate::administrator::repair_fee;
@@ -31,12 +30,8 @@ pub(crate) fn serve<L: Naming + Send + Sync, R: Threads + Wait + Sync>(
     opened: Opened,
     catalog: Arc<Catalog>,
 ) -> Result<Summary, ServiceError>
-    requires book { opened.front.book ≡ L.book }
-    requires tables { arc_value catalog ≡ L.tables }
-    requires limits { usual_limits ≡ L.limits }
-    requires tied { SaysThat L.holds L.book L.tables L.limits }
-    requires name { opened.blank.name ≡ L.name }
-    requires parts { opened.blank.parts ≡ L.parts }
+    requires named { IsNameOf opened (arc_value catalog) usual_limits
+        L.holds L.book L.tables L.limits L.name L.parts }
 {
     let limits = Limits::usual();
     let (store, mut workers) = opened.named::<L, NoGate, &R>(rt, alloc, catalog, limits, NoGate)?;

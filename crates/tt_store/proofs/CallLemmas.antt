@@ -14,7 +14,7 @@ use Rattle.tt_db.specs.Database.{Database, state_of}
 use Rattle.tt_store.specs.declared.errors.Unreached.{Unreached}
 use Rattle.tt_store.specs.declared.errors.Unreached.TheVariants as unreached
 use Rattle.tt_store.specs.History.{entries_by}
-use Rattle.tt_store.specs.declared.reached.Reached.{Reached}
+use Rattle.tt_store.specs.declared.call.Reached.{Reached}
 use Rattle.tt_store.specs.Reaching.{IsOneMore, IsInWayOfMore, IsPlanned, IsInWayOfPlan}
 use Rattle.tt_store.specs.Calls.{steps, planned, state_after, first_refused, last_outcome, with_events, Reaches, IsInWay}
 

@@ -3,9 +3,9 @@ use denote.RattleType.{RattleType}
 use denote.Param.Send.{IsSend, IsSync, view_send, recorded_send, recorded_sync, struct_send, struct_sync, sendable}
 use denote.Struct.Declared as structs
 use Rattle.std.proofs.Crossing.{crosses, Arc-send, Arc-sync}
-use Rattle.tt_pages.proofs.map_tree.Tree.TheLaws.TheKnot as map_tree
+use Rattle.tt_pages.proofs.map.tree.Tree.TheLaws.TheKnot as map_tree
 use Rattle.tt_pages.proofs.log.tree.Tree.TheLaws.TheKnot as log_tree
-use Rattle.tt_pages.specs.contracts.map_tree.Tree.TheKnot as map_knot
+use Rattle.tt_pages.specs.contracts.map.tree.Tree.TheKnot as map_knot
 use Rattle.tt_pages.specs.contracts.log.tree.Tree.TheKnot as log_knot
 use Rattle.tt_pages.specs.contracts.map.PagedMap as map
 use Rattle.tt_pages.specs.contracts.log.PagedLog as log
@@ -36,7 +36,7 @@ use Rattle.tt_parts.specs.contracts.dirty_rows.DirtyRows as dirty_rows_type
 use Rattle.tt_parts.specs.contracts.dirty_partitions.DirtyPartitions as dirty_partitions_type
 use Rattle.tt_parts.specs.contracts.dirty.Dirty as dirty_type
 use Rattle.tt_repair_laws.specs.contracts.edit.Edit as edit_type
-use Rattle.tt_generations.specs.contracts.slot.RowKey as row_key_type
+use Rattle.tt_values.specs.contracts.row_id.RowId as row_id_type
 use Rattle.tt_generations.specs.contracts.slot.Slot as slot_type
 use Rattle.tt_generations.specs.contracts.slot.KeptSlot as kept_slot_type
 use Rattle.tt_generations.specs.contracts.edits.Replacement as replacement_type
@@ -49,12 +49,12 @@ use Rattle.tt_db.specs.contracts.event.Entry as entry_type
 use Rattle.tt_db.specs.contracts.closed.ClosedGeneration as closed_type
 use Rattle.tt_db.specs.contracts.database.Db as db_type
 use Rattle.tt_store.specs.contracts.front.Front as front_type
-use Rattle.tt_store.specs.contracts.shown.Shown as shown_type
+use Rattle.tt_store.specs.contracts.snapshot.Snapshot as snapshot_type
 use Rattle.tt_store.specs.contracts.worker.Worker as worker_type
 use Rattle.tt_store.specs.contracts.store.Store as store_type
 use Rattle.tt_store.specs.contracts.locked.Core as core_type
-use Rattle.tt_store.specs.contracts.lane.Lane as lane_type
-use Rattle.tt_store.specs.declared.shown.Naming as naming
+use Rattle.tt_store.specs.contracts.snapshot.Publisher as publisher_type
+use Rattle.tt_store.specs.declared.snapshot.Naming as naming
 use Rattle.std.specs.declared.sync.ledger.Ledger as ledger
 use Rattle.crossbeam_utils.specs.declared.rule.Protocol as protocol
 use Rattle.tt_store.specs.Published.{Published}
@@ -68,7 +68,7 @@ use Rattle.std.specs.contracts.alloc.Global as heap
 use Rattle.std.specs.contracts.impls.GlobalAllocator.TheImpl as allocator
 use Rattle.left_right.specs.contracts.reader.Reader as reader
 use Rattle.std.proofs.sync.ledger.Share.TheSendSync as share
-use Rattle.std.proofs.sync.ledger.Book.TheSendSync as book
+use Rattle.std.proofs.sync.ledger.Book.TheSendSync as ledger_book
 use Rattle.logbook.proofs.word.Word.TheSendSync as word
 use Rattle.left_right.proofs.part.Part.TheSendSync as part
 use Rattle.left_right.proofs.part.Deed.TheSendSync as deed
@@ -100,13 +100,13 @@ ruleset tables = (
 module _ (V : RattleType) (s : IsSend V) (y : IsSync V) where
   map_tree_send : IsSend (map_knot.hole-Tree V)
   map_tree_send =
-      map_tree.both_send-Tree V (search (crosses, sendable) depth 20) (search (crosses, sendable) depth 20) (search (crosses, sendable) depth 20) Arc-send
-      (search (crosses, sendable) depth 20) (search (crosses, sendable) depth 20) (search (crosses, sendable) depth 20) Arc-sync
+      map_tree.both_send-Tree V (search (crosses, sendable) depth 20) Arc-send (search (crosses, sendable) depth 20) (search (crosses, sendable) depth 20)
+      (search (crosses, sendable) depth 20) Arc-sync (search (crosses, sendable) depth 20) (search (crosses, sendable) depth 20)
 
   map_tree_sync : IsSync (map_knot.hole-Tree V)
   map_tree_sync =
-      map_tree.both_sync-Tree V (search (crosses, sendable) depth 20) (search (crosses, sendable) depth 20) (search (crosses, sendable) depth 20) Arc-send
-      (search (crosses, sendable) depth 20) (search (crosses, sendable) depth 20) (search (crosses, sendable) depth 20) Arc-sync
+      map_tree.both_sync-Tree V (search (crosses, sendable) depth 20) Arc-send (search (crosses, sendable) depth 20) (search (crosses, sendable) depth 20)
+      (search (crosses, sendable) depth 20) Arc-sync (search (crosses, sendable) depth 20) (search (crosses, sendable) depth 20)
 
   pub map_send : IsSend (map.the_row V)
   map_send = let a = map_tree_send in let b = map_tree_sync in search (crosses, sendable) depth 20
@@ -319,11 +319,11 @@ edit_field_send = search (items_send, items_sync, write_send, write_sync, crosse
 pub edit_field_sync : IsSync (edit_type.the_field).row
 edit_field_sync = search (items_send, items_sync, write_send, write_sync, crosses, sendable) depth 60 fits 50000
 
-pub row_key_send : IsSend row_key_type.the_row
-row_key_send = search (crosses, sendable) depth 60 fits 50000
+pub row_id_send : IsSend row_id_type.the_row
+row_id_send = search (crosses, sendable) depth 60 fits 50000
 
-pub row_key_sync : IsSync row_key_type.the_row
-row_key_sync = search (crosses, sendable) depth 60 fits 50000
+pub row_id_sync : IsSync row_id_type.the_row
+row_id_sync = search (crosses, sendable) depth 60 fits 50000
 
 pub slot_send : IsSend slot_type.the_row
 slot_send = search (items_send, items_sync, write_send, write_sync, reply_send, reply_sync, crosses, sendable) depth 60 fits 50000
@@ -338,10 +338,10 @@ pub slot_field_sync : IsSync (slot_type.the_field).row
 slot_field_sync = search (items_send, items_sync, write_send, write_sync, reply_send, reply_sync, crosses, sendable) depth 60 fits 50000
 
 pub kept_slot_send : IsSend kept_slot_type.the_row
-kept_slot_send = search (items_send, items_sync, slot_field_send, slot_field_sync, row_key_send, row_key_sync, crosses, sendable) depth 60 fits 50000
+kept_slot_send = search (items_send, items_sync, slot_field_send, slot_field_sync, row_id_send, row_id_sync, crosses, sendable) depth 60 fits 50000
 
 pub kept_slot_sync : IsSync kept_slot_type.the_row
-kept_slot_sync = search (items_send, items_sync, slot_field_send, slot_field_sync, row_key_send, row_key_sync, crosses, sendable) depth 60 fits 50000
+kept_slot_sync = search (items_send, items_sync, slot_field_send, slot_field_sync, row_id_send, row_id_sync, crosses, sendable) depth 60 fits 50000
 
 pub replacement_send : IsSend replacement_type.the_row
 replacement_send = search (items_send, items_sync, write_send, write_sync, crosses, sendable) depth 60 fits 50000
@@ -421,33 +421,33 @@ front_send = search (seen_send, seen_sync, crosses, sendable) depth 60 fits 5000
 pub front_sync : IsSync front_type.the_row
 front_sync = search (seen_send, seen_sync, crosses, sendable) depth 60 fits 50000
 
-pub shown_send : IsSend shown_type.the_row
-shown_send = search (shared_send, shared_sync, db_send, db_sync, front_send, front_sync, crosses, sendable) depth 60 fits 50000
+pub snapshot_send : IsSend snapshot_type.the_row
+snapshot_send = search (shared_send, shared_sync, db_send, db_sync, front_send, front_sync, crosses, sendable) depth 60 fits 50000
 
-pub shown_sync : IsSync shown_type.the_row
-shown_sync = search (shared_send, shared_sync, db_send, db_sync, front_send, front_sync, crosses, sendable) depth 60 fits 50000
+pub snapshot_sync : IsSync snapshot_type.the_row
+snapshot_sync = search (shared_send, shared_sync, db_send, db_sync, front_send, front_sync, crosses, sendable) depth 60 fits 50000
 
 module _ (L : RattleType) (n : naming.Ghosts L.Denot) (l : ledger.Ghosts L.Denot) (p : protocol.Ghosts L.Denot Published (unit-field).Value) (s : IsSend L) (y : IsSync L) where
-  reader_send : IsSend (reader.the_row shown_type.the_row unit L heap.the_row p allocator.ghosts)
+  reader_send : IsSend (reader.the_row snapshot_type.the_row unit L heap.the_row p allocator.ghosts)
   reader_send =
-      search (shown_send, shown_sync, tables, crosses, sendable) depth 60 fits 50000
+      search (snapshot_send, snapshot_sync, tables, crosses, sendable) depth 60 fits 50000
 
   inside_worker_send : IsSend (worker_type.TheInside.the_row L n l p)
   inside_worker_send =
       let t = worker_type.TheInside.the_type L n l p in
-      recorded_send _ _ t.to t.to_one (struct_send (structs.shape t) (search (crosses, sendable) depth 20, (search (reader_send, crosses, sendable) depth 20, (search (shown_send, shown_sync, crosses, sendable) depth 20, (search (crosses, sendable) depth 20, (search (share.the_send, crosses, sendable) depth 20, tt))))))
+      recorded_send _ _ t.to t.to_one (struct_send (structs.shape t) (search (crosses, sendable) depth 20, (search (reader_send, crosses, sendable) depth 20, (search (snapshot_send, snapshot_sync, crosses, sendable) depth 20, (search (crosses, sendable) depth 20, (search (share.the_send, crosses, sendable) depth 20, tt))))))
 
   pub worker_send : IsSend (worker_type.the_row L n l p)
   worker_send = view_send (worker_type.TheInside.the_row L n l p) _ _ _ _ inside_worker_send
 
 module _ (L R : RattleType) (n : naming.Ghosts L.Denot) (l : ledger.Ghosts L.Denot) (p : protocol.Ghosts L.Denot Published (unit-field).Value) (s : IsSend L) (y : IsSync L) (r : IsSend R) where
-  lane_send : IsSend (lane_type.the_row L R p)
-  lane_send = search (shown_send, shown_sync, tables, crosses, sendable) depth 60 fits 50000
+  publisher_send : IsSend (publisher_type.the_row L R p)
+  publisher_send = search (snapshot_send, snapshot_sync, tables, crosses, sendable) depth 60 fits 50000
 
   inside_core_send : IsSend (core_type.TheInside.the_row L R n l p)
   inside_core_send =
       let t = core_type.TheInside.the_type L R n l p in
-      recorded_send _ _ t.to t.to_one (struct_send (structs.shape t) (search (lane_send, crosses, sendable) depth 20, (search (word.the_send, word.the_sync, crosses, sendable) depth 20, (search (shown_send, shown_sync, crosses, sendable) depth 20, (search (book.the_send, crosses, sendable) depth 20, (search (crosses, sendable) depth 20, (search (share.the_send, crosses, sendable) depth 20, tt)))))))
+      recorded_send _ _ t.to t.to_one (struct_send (structs.shape t) (search (publisher_send, crosses, sendable) depth 20, (search (word.the_send, word.the_sync, crosses, sendable) depth 20, (search (snapshot_send, snapshot_sync, crosses, sendable) depth 20, (search (ledger_book.the_send, crosses, sendable) depth 20, (search (crosses, sendable) depth 20, (search (share.the_send, crosses, sendable) depth 20, tt)))))))
 
   core_send : IsSend (core_type.the_row L R n l p)
   core_send = view_send (core_type.TheInside.the_row L R n l p) _ _ _ _ inside_core_send

@@ -11,10 +11,10 @@ use Rattle.tt_db.specs.declared.event.Entry.{Entry}
 use Rattle.tt_db.specs.declared.outcome.Outcome.{Outcome}
 use Rattle.tt_db.specs.State.{after}
 use Rattle.tt_db.specs.Database.{Database}
-use Rattle.tt_store.specs.declared.draft.Draft.{Draft}
+use Rattle.tt_store.specs.declared.call.Draft.{Draft}
 use Rattle.tt_store.specs.declared.call.Call.{Call}
-use Rattle.tt_store.specs.declared.attempt.Attempt.{Attempt}
-use Rattle.tt_store.specs.declared.attempt.Attempt.TheVariants as attempts
+use Rattle.tt_store.specs.declared.store.Attempt.{Attempt}
+use Rattle.tt_store.specs.declared.store.Attempt.TheVariants as attempts
 use Rattle.tt_store.specs.declared.errors.Unreached.{Unreached}
 use Rattle.tt_store.specs.declared.errors.Unreached.TheVariants as unreached
 use Rattle.tt_store.specs.declared.errors.StoreError.{StoreError}
@@ -22,7 +22,7 @@ use Rattle.tt_store.specs.declared.errors.StoreError.TheVariants as errors
 use Rattle.tt_store.specs.History.{entries_by, places_from, places_of}
 use Rattle.tt_store.specs.Calls.{events_of, first_refused, last_outcome, numbers_from, IsInWay}
 use Rattle.tt_store.specs.Workers.{WorkerState, Looks, IsAmong, Publishes, IsCause, IsRefused, own_entries, database_at}
-use Rattle.tt_store.specs.Drafts.{IsMadeBy, Adds, IsDraft, error_of, Committed, Tries}
+use Rattle.tt_store.specs.Drafts.{IsMadeBy, Adds, IsDraft, error_of, CommitsOrRetries, Tries}
 use Rattle.tt_store.specs.Own.{entries_at}
 use Rattle.tt_store.proofs.Prefixes.{prefix_trans, prefix_length}
 use Rattle.tt_store.proofs.OwnLemmas.{own_added}
@@ -133,7 +133,7 @@ refused_draft tables limits call old new unreached.Memory looks h = record { loo
 
 -- a try that publishes a draft, or comes too late with it
 pub tries_committed : (tables : Tables) (limits : Limits) (call : Call) (old mid new : WorkerState) (d : Draft) (result : Result Attempt StoreError) → Looks old mid
-    → IsDraft tables limits call mid (Some d) → Committed mid new d.for_worker d.outcome result → Tries tables limits call old new result
+    → IsDraft tables limits call mid (Some d) → CommitsOrRetries mid new d.for_worker d.outcome result → Tries tables limits call old new result
 tries_committed tables limits call old mid new d (Ok (attempts.Done o)) looks draft h =
     subst (Publishes tables limits call old new) (sym h.0) (publishes_draft tables limits call old mid new d looks draft h.1)
 tries_committed tables limits call old mid new d (Ok attempts.Again) looks draft h = subst (Looks old) (sym h) looks
@@ -181,6 +181,6 @@ numbers_end items place to h =
 pub last_stays : {X : Type 0} (f : X → X → X) → ((s x : X) → f s x ≡ x) → (x : X) (before : List X) (last : X) → fold f x (before ++ last ∷ []) ≡ last
 last_stays f replaces x before last = fold-append f x before (last ∷ []) ∙ replaces (fold f x before) last
 
--- so what is shown is what was appended last
-pub shown_last : {X : Type 0} (f : X → X → X) → ((s x : X) → f s x ≡ x) → (x next last : X) (before after : List X) → next ≡ fold f x after → after ≡ before ++ last ∷ [] → next ≡ last
-shown_last f replaces x next last before after is appended = is ∙ ap (fold f x) appended ∙ last_stays f replaces x before last
+-- so what is published is what was appended last
+pub last_snapshot : {X : Type 0} (f : X → X → X) → ((s x : X) → f s x ≡ x) → (x next last : X) (before after : List X) → next ≡ fold f x after → after ≡ before ++ last ∷ [] → next ≡ last
+last_snapshot f replaces x next last before after is appended = is ∙ ap (fold f x) appended ∙ last_stays f replaces x before last

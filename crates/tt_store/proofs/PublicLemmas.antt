@@ -50,10 +50,10 @@ some_is x y h = cc h
 
 pub wrote : (tables : Tables) (limits : Limits) (action : List Write) (old new : WorkerState) (o : Option Outcome) (w : Written)
     → Publishes tables limits (calls.One (events.Write action)) old new o → o ≡ Some (outcomes.Written w.slot w.replies) → w.place ≡ length new.seen → Wrote tables limits action old new w
-wrote tables limits action old new o w is told at = record {
+wrote tables limits action old new o w is outcome_is at = record {
   front = is.front;
   published = publishes_one tables limits (events.Write action) old new o w.place is at;
-  outcome = some_is (outcome_of tables (after limits is.front) (events.Write action)) (outcomes.Written w.slot w.replies) (sym is.outcome_is ∙ told);
+  outcome = some_is (outcome_of tables (after limits is.front) (events.Write action)) (outcomes.Written w.slot w.replies) (sym is.outcome_is ∙ outcome_is);
 }
 
 -- where an event leaves the slots, the current answers stay
@@ -100,7 +100,7 @@ outcome_of_switch tables limits old new o is =
 
 pub finished : (tables : Tables) (limits : Limits) (old new : WorkerState) (o : Option Outcome) (f : Finished)
     → Publishes tables limits calls.Finish old new o → o ≡ Some (outcomes.Switched f.generation f.slots f.rerun) → f.place ≡ length new.seen → HasFinished tables limits old new f
-finished tables limits old new o f is told at =
+finished tables limits old new o f is outcome_is at =
     let S = after limits is.front in
     let n = slots_left S in
     let T = state_after limits S (steps n) in
@@ -109,7 +109,7 @@ finished tables limits old new o f is told at =
     record {
       outcome = o;
       published = is;
-      told = told;
+      outcome_is = outcome_is;
       place_is = at;
       slots = ap (λ (U : State). U.slots) all ∙ ap (λ W. slots_edited_by T.phase W) (steps_leave limits n S) ∙ edited_after_steps limits n S S.slots;
     }
@@ -146,13 +146,13 @@ progress_known tables limits most old new o is =
 
 pub stepped : (tables : Tables) (limits : Limits) (most : ℕ) (old new : WorkerState) (o : Option Outcome) (p : Progress) → Publishes tables limits (calls.Steps most) old new o
     → repair_of (database_at tables limits new.seen) ≡ Some p → Stepped tables limits most old new p
-stepped tables limits most old new o p is told =
+stepped tables limits most old new o p is progress_is =
     let S = after limits is.front in
     let n = steps_wanted most S in
     let all : after limits new.seen ≡ state_after limits S (steps n) = ap (after limits) is.seen ∙ after-entries limits is.front old.number (steps n) in
     record {
       outcome = o;
       published = is;
-      progress_is = told;
+      progress_is = progress_is;
       current = λ time. shows_the_same S (after limits new.seen) (ap (λ (U : State). U.slots) all ∙ steps_leave limits n S) time;
     }

@@ -1,4 +1,4 @@
--- The calls that publish: the events that they make, what refuses them, and what they are told.
+-- The calls that publish: the events that they make, what refuses these, and their outcomes.
 use Rattle.std.specs.Prelude.{◌≡◌, ℕ, zero, suc, ◌+◌, min, List, [], ◌∷◌, ◌++◌, fold, replicate, Option, None, Some, if◌then◌else◌}
 use Rattle.std.specs.Option.{option_or}
 use Rattle.tt_values.specs.Tables.{Tables}
@@ -16,7 +16,7 @@ use Rattle.tt_store.specs.History.{entries_by}
 use Rattle.tt_store.specs.declared.call.Call.{Call}
 use Rattle.tt_store.specs.declared.call.Call.TheVariants as calls
 
--- so many steps
+-- a number of steps
 abbrev pub steps : ℕ → List Event
 steps n = replicate n events.Step
 
@@ -25,8 +25,8 @@ abbrev pub planned : ℕ → Option Event → List Event
 planned n None = steps n
 planned n (Some event) = steps n ++ event ∷ []
 
--- how many steps a call for at most so many makes: as many as the repair has slots left. Where none is under way it makes one,
--- which is then refused
+-- how many steps a call makes that asks for at most this number: no more than the repair has slots left. Where no repair is under
+-- way it makes one, which is then refused
 abbrev pub steps_wanted : ℕ → State → ℕ
 steps_wanted most S = if is_repairing S.phase then min most (slots_left S) else 1
 
@@ -51,7 +51,7 @@ last_outcome tables limits S [] = None
 last_outcome tables limits S (e ∷ []) = Some (outcome_of tables S e)
 last_outcome tables limits S (e ∷ d ∷ made) = last_outcome tables limits (next_state limits S e) (d ∷ made)
 
--- so many numbers in order, from a first one on
+-- consecutive numbers: the first one, and how many there are
 abbrev pub numbers_from : ℕ → ℕ → List ℕ
 numbers_from first zero = []
 numbers_from first (suc n) = first ∷ numbers_from (first + 1) n

@@ -2,13 +2,14 @@
 use Rattle.std.specs.Prelude.{◌≡◌, ℕ, List, All}
 use Rattle.tt_values.specs.Tables.{Tables}
 use Rattle.tt_db.specs.declared.limits.Limits.{Limits}
-use Rattle.tt_store.specs.declared.closed.Closed.{Closed}
-use Rattle.tt_store.specs.declared.closed.CloseFault.{CloseFault}
-use Rattle.tt_store.specs.declared.closed.CloseFault.TheVariants as faults
+use Rattle.tt_store.specs.declared.closing.Closed.{Closed}
+use Rattle.tt_store.specs.declared.closing.CloseFault.{CloseFault}
+use Rattle.tt_store.specs.declared.closing.CloseFault.TheVariants as faults
 use Rattle.tt_store.specs.Workers.{WorkerState}
 use Rattle.tt_store.specs.Closing.{EachOnce, IsPartOf, IsOfWorker, places_by_worker, lists_of}
 
--- so many workers close a store: its one history, in a database of its tables and limits, begins with what each had seen, and is theirs
+-- a store with this number of workers is closed: the history of its database, which has the tables and limits of the store, begins
+-- with what each worker had seen, and has the entries of the workers and no others
 pub record Closes (tables : Tables) (limits : Limits) (count : ℕ) (workers : List WorkerState) (closed : Closed) : Type 0 where
   pub each_once : EachOnce count workers
   pub same_tables : closed.db.catalog ≡ tables
@@ -17,7 +18,8 @@ pub record Closes (tables : Tables) (limits : Limits) (count : ℕ) (workers : L
   pub places : lists_of closed.places.items ≡ places_by_worker count closed.db.history
   pub entries : All (IsOfWorker count) closed.db.history
 
--- why so many workers don't close a store: one is missing exactly where their numbers aren't those that opening gave. They are handed back
+-- why a store with this number of workers isn't closed: `Missing` exactly where the numbers of the workers aren't those that opening
+-- gave, each once. The workers are handed back
 abbrev pub HandsBack : {L G R : Type 0} → ℕ → List WorkerState → CloseFault L G R → Type 0
 HandsBack count workers (faults.Missing store back) = (EachOnce count workers → ⊥) × (back.items ≡ workers)
 HandsBack count workers (faults.NoReading store back) = EachOnce count workers × (back.items ≡ workers)

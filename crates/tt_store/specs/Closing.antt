@@ -2,8 +2,8 @@
 use Rattle.std.specs.Prelude.{◌≡◌, ℕ, ◌-◌, ◌<◌, ◌≤◌, ◌==◌, List, [], ◌∷◌, length, map, set, count_by, sum_by, Vec}
 use mathlib.Core.List.{IsPrefix}
 use Rattle.tt_db.specs.declared.event.Entry.{Entry}
-use Rattle.tt_store.specs.declared.closed.Unclosed.{Unclosed}
-use Rattle.tt_store.specs.declared.closed.Unclosed.TheVariants as unclosed
+use Rattle.tt_store.specs.declared.closing.Unclosed.{Unclosed}
+use Rattle.tt_store.specs.declared.closing.Unclosed.TheVariants as unclosed
 use Rattle.tt_store.specs.History.{places_of}
 use Rattle.tt_store.specs.Calls.{numbers_from}
 use Rattle.tt_store.specs.Workers.{WorkerState, IsAmong}
@@ -17,7 +17,7 @@ pub record EachOnce (count : ℕ) (workers : List WorkerState) : Type 0 where
   pub as_many : length workers ≡ count
   pub once : (number : ℕ) → 0 < number → number ≤ count → bearers number workers ≡ 1
 
--- why workers don't close a store: one is missing exactly where they aren't those of the store, each once
+-- why a store isn't closed with these workers: `Missing` exactly where they aren't those of the store, each once
 abbrev pub IsUnclosed : ℕ → List WorkerState → Unclosed → Type 0
 IsUnclosed count workers unclosed.Missing = EachOnce count workers → ⊥
 IsUnclosed count workers unclosed.NoReading = EachOnce count workers
@@ -43,7 +43,7 @@ pub record IsOfWorker (count : ℕ) (e : Entry) : Type 0 where
   pub some : 0 < e.worker
   pub within : e.worker ≤ count
 
--- the places of each of so many workers, by number
+-- the places of the entries of each worker: a list for each number from 1 to the count, in this order
 abbrev pub places_by_worker : ℕ → List Entry → List (List ℕ)
 places_by_worker count history = map (λ number. places_of number history) (numbers_from 1 count)
 

@@ -8,10 +8,10 @@ use Rattle.tt_db.specs.declared.event.Entry.{Entry}
 use Rattle.tt_db.specs.declared.outcome.Outcome.{Outcome}
 use Rattle.tt_db.specs.State.{after}
 use Rattle.tt_db.specs.Database.{Database}
-use Rattle.tt_store.specs.declared.draft.Draft.{Draft}
+use Rattle.tt_store.specs.declared.call.Draft.{Draft}
 use Rattle.tt_store.specs.declared.call.Call.{Call}
-use Rattle.tt_store.specs.declared.attempt.Attempt.{Attempt}
-use Rattle.tt_store.specs.declared.attempt.Attempt.TheVariants as attempts
+use Rattle.tt_store.specs.declared.store.Attempt.{Attempt}
+use Rattle.tt_store.specs.declared.store.Attempt.TheVariants as attempts
 use Rattle.tt_store.specs.declared.errors.Unread.{Unread}
 use Rattle.tt_store.specs.declared.errors.Unread.TheVariants as unread
 use Rattle.tt_store.specs.declared.errors.Unreached.{Unreached}
@@ -38,6 +38,14 @@ pub record Adds (old new : WorkerState) (history : List Entry) : Type 0 where
   pub own : new.own ≡ old.own ++ numbers_from (length old.seen + 1) (length history - length old.seen)
   pub entries : own_entries new ≡ own_entries old ++ drop (length old.seen) history
 
+-- what a worker adds is counted: the total of the ledger grows by the number of its entries
+abbrev pub AddsCounted : WorkerState → WorkerState → List Entry → ℕ → ℕ → Type 0
+AddsCounted old new history before total = Adds old new history × (total ≡ before + (length history - length old.seen))
+
+-- nothing is added: the worker and the total of the ledger stay
+abbrev pub AddsNothing : WorkerState → WorkerState → ℕ → ℕ → Type 0
+AddsNothing old new before total = (new ≡ old) × (total ≡ before)
+
 -- a database is published whole, by a worker that had seen all of the history; or nothing is
 abbrev pub Commits : WorkerState → WorkerState → List Entry → List Entry → Database → Outcome → Result (Option Outcome) AllocError → Type 0
 Commits old new before now db outcome (Ok (Some o)) = (o ≡ outcome) × (before ≡ old.seen) × (now ≡ db.history) × Adds old new db.history
@@ -51,28 +59,28 @@ Tries tables limits call old new (Ok attempts.Again) = Looks old new
 Tries tables limits call old new (Err error) = IsRefused tables limits call old new error
 
 -- a draft is published whole; or it comes too late, and is to be tried again; or there is no memory for it
-abbrev pub Committed : WorkerState → WorkerState → Database → Outcome → Result Attempt StoreError → Type 0
-Committed old new db outcome (Ok (attempts.Done o)) = (o ≡ Some outcome) × Adds old new db.history
-Committed old new db outcome (Ok attempts.Again) = new ≡ old
-Committed old new db outcome (Err e) = (e ≡ errors.Memory) × (new ≡ old)
+abbrev pub CommitsOrRetries : WorkerState → WorkerState → Database → Outcome → Result Attempt StoreError → Type 0
+CommitsOrRetries old new db outcome (Ok (attempts.Done o)) = (o ≡ Some outcome) × Adds old new db.history
+CommitsOrRetries old new db outcome (Ok attempts.Again) = new ≡ old
+CommitsOrRetries old new db outcome (Err e) = (e ≡ errors.Memory) × (new ≡ old)
 
--- the whole of a call that publishes
-abbrev pub Answered : Tables → Limits → Call → WorkerState → WorkerState → Result (Option Outcome) StoreError → Type 0
-Answered tables limits call old new (Ok outcome) = Publishes tables limits call old new outcome
-Answered tables limits call old new (Err error) = IsRefused tables limits call old new error
+-- a call publishes, or is refused
+abbrev pub PublishesOrRefuses : Tables → Limits → Call → WorkerState → WorkerState → Result (Option Outcome) StoreError → Type 0
+PublishesOrRefuses tables limits call old new (Ok outcome) = Publishes tables limits call old new outcome
+PublishesOrRefuses tables limits call old new (Err error) = IsRefused tables limits call old new error
 
--- of what had been seen before, what is read and what the store tells, by their numbers of entries: more is read than is told, and that
--- is no less than was seen before; or else there is no reading
+-- of the numbers of entries that the worker had seen before, that it has read, and that the store has under its lock: `Raced` where it
+-- has read more than the store has, and the store has no fewer than the worker had seen before; else `NoReading`
 abbrev pub race : ℕ → ℕ → ℕ → StoreError
-race before read told = if nat_le before told && nat_lt told read then errors.Raced read told else errors.NoReading
+race before read latest = if nat_le before latest && nat_lt latest read then errors.Raced read latest else errors.NoReading
 
--- why a worker doesn't get to see the whole history: the lengths of what it reads and of what the store tells race, or it has no reading or
--- no memory, and then sees what it had seen
+-- why a worker doesn't get to see the whole history: it has read more than the store has under its lock, or it has no reading, and then
+-- sees what it had seen, or no memory
 abbrev pub IsMissed : List Entry → List Entry → List Entry → StoreError → Type 0
-IsMissed told before seen (errors.Db e) = ⊥
-IsMissed told before seen (errors.Raced r t) = errors.Raced r t ≡ race (length before) (length seen) (length told)
-IsMissed told before seen errors.NoReading = (seen ≡ before) ⊎ (errors.NoReading ≡ race (length before) (length seen) (length told))
-IsMissed told before seen errors.Memory = Unit {0}
+IsMissed latest before seen (errors.Db e) = ⊥
+IsMissed latest before seen (errors.Raced r t) = errors.Raced r t ≡ race (length before) (length seen) (length latest)
+IsMissed latest before seen errors.NoReading = (seen ≡ before) ⊎ (errors.NoReading ≡ race (length before) (length seen) (length latest))
+IsMissed latest before seen errors.Memory = Unit {0}
 
 -- the answer of the last try, under the lock
 abbrev pub answer_of : Result (Option Outcome) AllocError → Result (Option Outcome) StoreError
@@ -80,7 +88,7 @@ answer_of (Ok (Some o)) = Ok (Some o)
 answer_of (Ok None) = Err errors.NoReading
 answer_of (Err e) = Err errors.Memory
 
--- what came of a try without the lock
+-- the result of a try without the lock
 abbrev pub attempt_of : Result (Option Outcome) AllocError → Result Attempt StoreError
 attempt_of (Ok (Some o)) = Ok (attempts.Done (Some o))
 attempt_of (Ok None) = Ok attempts.Again

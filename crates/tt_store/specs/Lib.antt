@@ -7,6 +7,7 @@ pub mod Workers
 pub mod Drafts
 pub mod Store
 pub mod Opening
+pub mod Naming
 pub mod Closing
 pub mod Closed
 pub mod Own

@@ -10,7 +10,7 @@ max_workers = 16
 abbrev pub new_worker : ℕ → WorkerState
 new_worker number = record { number = number; seen = []; own = [] }
 
--- so many of them, numbered from 1 in the order of the list
+-- a number of new workers, numbered from 1 in the order of the list
 abbrev pub new_workers : ℕ → List WorkerState
 new_workers zero = []
 new_workers (suc n) = new_workers n ++ new_worker (suc n) ∷ []

@@ -11,12 +11,13 @@ pub record Published : Type 0 where
   pub db : Database
 
 -- what is published is of this book, on these tables and within these limits
-pub record IsOf (book : Book) (tables : Tables) (limits : Limits) (shown : Published) : Type 0 where
-  pub same_book : shown.book ≡ book
-  pub same_tables : shown.db.catalog ≡ tables
-  pub same_limits : shown.db.limits ≡ limits
+pub record IsOf (book : Book) (tables : Tables) (limits : Limits) (published : Published) : Type 0 where
+  pub same_book : published.book ≡ book
+  pub same_tables : published.db.catalog ≡ tables
+  pub same_limits : published.db.limits ≡ limits
 
--- a rule on what is published, whatever readers know, says just that
-pub record SaysThat {K : Type 0} (rule : Published → List K → Type 0) (book : Book) (tables : Tables) (limits : Limits) : Type 0 where
-  pub opens : (shown : Published) (known : List K) → rule shown known → IsOf book tables limits shown
-  pub shuts : (shown : Published) (known : List K) → IsOf book tables limits shown → rule shown known
+-- a rule on what is published, whatever readers know, holds exactly of what belongs to the store of this book, on these tables and
+-- within these limits
+pub record RuleIsMembership {K : Type 0} (rule : Published → List K → Type 0) (book : Book) (tables : Tables) (limits : Limits) : Type 0 where
+  pub is_of : (published : Published) (known : List K) → rule published known → IsOf book tables limits published
+  pub holds : (published : Published) (known : List K) → IsOf book tables limits published → rule published known

@@ -3,7 +3,7 @@ use Rattle.std.specs.Prelude.{◌≡◌, ℕ, List, [], ◌∷◌, ◌++◌, Opt
 use Rattle.tt_db.specs.declared.event.Event.{Event}
 use Rattle.tt_db.specs.Database.{Database}
 use Rattle.tt_store.specs.declared.errors.Unreached.{Unreached}
-use Rattle.tt_store.specs.declared.reached.Reached.{Reached}
+use Rattle.tt_store.specs.declared.call.Reached.{Reached}
 use Rattle.tt_store.specs.Calls.{steps, planned, Reaches, IsInWay}
 
 -- events of a worker have led from a database to this one; none, where there were no events

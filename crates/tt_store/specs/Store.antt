@@ -44,18 +44,20 @@ pub record Placed (tables : Tables) (limits : Limits) (event : Event) (old new :
   pub published : PublishesOne tables limits event old new front place
   pub current : ShowsTheSame limits front new.seen
 
--- so many steps were made of a repair that is under way, all at once, and this is how far it is. No current answer changes
+-- a repair that is under way has made steps, at most this number and with no other entry between them, and this is how far it is then.
+-- No current answer changes
 pub record Stepped (tables : Tables) (limits : Limits) (most : ℕ) (old new : WorkerState) (progress : Progress) : Type 0 where
   pub outcome : Option Outcome
   pub published : Publishes tables limits (calls.Steps most) old new outcome
   pub progress_is : repair_of (database_at tables limits new.seen) ≡ Some progress
   pub current : ShowsTheSame limits published.front new.seen
 
--- all steps that were left and the switch, all at once: the slots are then those of the front as edited, and this is the switch's outcome and place
+-- the steps that a repair had left and the switch are published, with no other entry between them. The slots are then those of the
+-- front as edited, and these are the outcome and the place of the switch
 pub record HasFinished (tables : Tables) (limits : Limits) (old new : WorkerState) (f : Finished) : Type 0 where
   pub outcome : Option Outcome
   pub published : Publishes tables limits calls.Finish old new outcome
-  pub told : outcome ≡ Some (outcomes.Switched f.generation f.slots f.rerun)
+  pub outcome_is : outcome ≡ Some (outcomes.Switched f.generation f.slots f.rerun)
   pub place_is : f.place ≡ length new.seen
   pub slots : (after limits new.seen).slots ≡ slots_edited_by (after limits published.front).phase (after limits published.front).slots
 

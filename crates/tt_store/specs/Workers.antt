@@ -58,8 +58,8 @@ AnswersRightly tables q right time old new (Err read_errors.NoReading) = (select
 AnswersRightly tables q right time old new (Err read_errors.Memory) = (select_fault tables q ≡ None) × ((new ≡ old) ⊎ IsOk right)
 AnswersRightly tables q right time old new (Err error) = right ≡ Err error
 
--- a call publishes. At a front that begins with what the worker had seen, none of its events is refused; the front grows by their
--- entries, all at once, and the worker's own by their places, which have just these entries
+-- a call publishes. At a front that begins with what the worker had seen, none of its events is refused. The front grows by their
+-- entries, with no other entry between them, and the worker's own places by the places of these entries
 pub record Publishes (tables : Tables) (limits : Limits) (call : Call) (old new : WorkerState) (outcome : Option Outcome) : Type 0 where
   pub front : List Entry
   pub later : IsPrefix old.seen front
@@ -70,7 +70,7 @@ pub record Publishes (tables : Tables) (limits : Limits) (call : Call) (old new 
   pub own : new.own ≡ old.own ++ numbers_from (length front + 1) (length (events_of call (after limits front)))
   pub entries : own_entries new ≡ own_entries old ++ entries_by old.number (events_of call (after limits front))
 
--- why a call publishes nothing, where this much is then seen: the first of its events that is refused, or what the store couldn't do
+-- why a call publishes nothing: the first of its events that is refused at what the worker has then seen, or what the store couldn't do
 abbrev pub IsCause : Tables → Limits → Call → List Entry → List Entry → StoreError → Type 0
 IsCause tables limits call before seen (errors.Db e) = first_refused tables limits (after limits seen) (events_of call (after limits seen)) ≡ Some e
 IsCause tables limits call before seen (errors.Raced read told) = (read ≡ length seen) × (told < read) × (length before ≤ told)
@@ -83,9 +83,9 @@ pub record IsRefused (tables : Tables) (limits : Limits) (call : Call) (old new 
   pub cause : IsCause tables limits call old.seen new.seen error
 
 -- what a worker keeps: a database of its store, places of its own entries there, and one part of the ledger, with their number
-pub record IsWorker (book : Book) (tables : Tables) (limits : Limits) (number : ℕ) (shown : Published) (own : List ℕ) (parts amount : ℕ) : Type 0 where
-  pub of : IsOf book tables limits shown
-  pub among : IsAmong own (places_of number shown.db.history)
+pub record IsWorker (book : Book) (tables : Tables) (limits : Limits) (number : ℕ) (published : Published) (own : List ℕ) (parts amount : ℕ) : Type 0 where
+  pub of : IsOf book tables limits published
+  pub among : IsAmong own (places_of number published.db.history)
   pub one_part : parts ≡ 1
   pub counts : amount ≡ length own
 

@@ -1,46 +1,58 @@
 //! The end of a store.
-ghost use Rattle.std.specs.Prelude.{◌≡◌, ◌+◌, ◌<◌, ◌≤◌, [], length, replicate, vec_len, All, IfOk, IfErr, IsTrue};
-ghost use Rattle.tt_store.specs.Closing.{EachOnce, IsBehind, IsNumbered, IsUnclosed, lists_of, with_places, places_made};
+ghost use Rattle.std.specs.Prelude.{◌≡◌, ◌+◌, ◌<◌, ◌≤◌, [], length, replicate, vec_len, All, IfOk, IfErr, IsTrue, MatchBool};
+ghost use Rattle.tt_store.specs.Closing.{EachOnce, IsBehind, IsNumbered, IsUnclosed, lists_of, with_places, places_made, bearers};
 ghost use Rattle.tt_store.specs.Closed.{Closes, HandsBack};
 
-use crate::closed::{CloseFault, Closed, Unclosed};
 use crate::gate::Gate;
 use crate::locked::Core;
-use crate::numbers::are_each_once;
-use crate::shown::Naming;
+use crate::snapshot::Naming;
 use crate::store::Store;
 use crate::worker::Worker;
 use std::alloc::{AllocError, Global};
 use std::sync::Wait;
 use std::sync::ledger::Share;
+use tt_db::Db;
+use tt_values::Shared;
 
-impl<L: Naming, G: Gate + Drop, R: Wait + Drop> Store<L, G, R> {
-    /// Closes the store with all of its workers, handed in in any order. Leaves the database that
-    /// has the history, and for each worker the places of its entries. A refusal hands the store
-    /// and the workers back as they were.
-    pub fn close(
-        self,
-        _rt: &impl Wait,
+/// What a closed store leaves: the database with its whole history, and the places of each worker's
+/// entries there; those of worker n stand at position n - 1.
+#[derive(Drop)]
+pub struct Closed {
+    pub db: Shared<Db>,
+    pub places: Vec<Vec<u64>>,
+}
+
+/// Why a store isn't closed. The store and its workers are handed back as they were.
+#[derive(Drop)]
+pub enum CloseFault<L: Naming, G: Gate + Drop, R: Wait + Drop> {
+    /// The workers aren't those that came with the store, each once.
+    Missing {
+        store: Store<L, G, R>,
         workers: Vec<Worker<L>>,
-    ) -> Result<Closed, CloseFault<L, G, R>>
-        ensures closed { IfOk result (λ closed.
-            Closes L.tables L.limits L.parts workers.items closed) }
-        ensures fault { IfErr result (λ fault. HandsBack L.parts workers.items fault) }
-    {
-        let (alloc, core, gate) = self.into_parts();
-        match room_for(alloc, &core, &workers) {
-            Ok(places) => Ok(closed(core, workers, places)),
-            Err(unclosed) => {
-                let store = Store::over(alloc, core, gate);
-                Err(fault(unclosed, store, workers))
-            }
-        }
-    }
+    },
+    /// A worker has seen more than the store has under its lock, or there is no reading.
+    NoReading {
+        store: Store<L, G, R>,
+        workers: Vec<Worker<L>>,
+    },
+    /// Out of memory.
+    Memory {
+        store: Store<L, G, R>,
+        workers: Vec<Worker<L>>,
+    },
+}
+
+/// Why workers don't close a store.
+#[derive(Clone, Copy)]
+pub(crate) enum Unclosed {
+    Missing,
+    NoReading,
+    Memory,
 }
 
 /// An empty list of places for each worker, where these are all workers of the store, and none has
 /// seen more than the store has under its lock.
-fn room_for<L: Naming, R: Wait + Drop>(
+pub(crate) fn room_for<L: Naming, R: Wait + Drop>(
     alloc: Global,
     core: &Core<L, R>,
     workers: &[Worker<L>],
@@ -74,7 +86,7 @@ fn are_behind<L: Naming, R: Wait + Drop>(core: &Core<L, R>, workers: &[Worker<L>
     true
 }
 
-/// So many empty lists.
+/// As many empty lists as `count` says.
 fn empty_lists(alloc: Global, count: u32) -> Result<Vec<Vec<u64>>, AllocError>
     ensures { IfOk result (λ lists. lists_of lists.items ≡ replicate count []) }
 {
@@ -86,7 +98,7 @@ fn empty_lists(alloc: Global, count: u32) -> Result<Vec<Vec<u64>>, AllocError>
 }
 
 /// What a store and its workers leave, once they were looked at.
-fn closed<L: Naming, R: Wait + Drop>(
+pub(crate) fn closed_of<L: Naming, R: Wait + Drop>(
     core: Core<L, R>,
     workers: Vec<Worker<L>>,
     mut places: Vec<Vec<u64>>,
@@ -96,9 +108,9 @@ fn closed<L: Naming, R: Wait + Drop>(
     requires room { lists_of places.items ≡ replicate L.parts [] }
     ensures { Closes L.tables L.limits L.parts workers.items result }
 {
-    let (latest, mut book, mut whole) = core.into_parts();
+    let (latest, mut ledger, mut whole) = core.into_parts();
     take_in(workers, &mut places, &mut whole);
-    book.audit(&mut whole);
+    ledger.audit(&mut whole);
     Closed {
         db: latest.into_db(),
         places,
@@ -122,7 +134,7 @@ fn take_in<L: Naming>(workers: Vec<Worker<L>>, places: &mut Vec<Vec<u64>>, whole
 }
 
 /// The store and its workers, handed back.
-fn fault<L: Naming, G: Gate + Drop, R: Wait + Drop>(
+pub(crate) fn fault_of<L: Naming, G: Gate + Drop, R: Wait + Drop>(
     unclosed: Unclosed,
     store: Store<L, G, R>,
     workers: Vec<Worker<L>>,
@@ -135,4 +147,32 @@ fn fault<L: Naming, G: Gate + Drop, R: Wait + Drop>(
         Unclosed::NoReading => CloseFault::NoReading { store, workers },
         Unclosed::Memory => CloseFault::Memory { store, workers },
     }
+}
+
+/// Whether the workers bear the numbers from 1 to `count`, each once.
+fn are_each_once<L: Naming>(workers: &[Worker<L>], count: u32) -> bool
+    ensures { MatchBool result (EachOnce count workers.now) (EachOnce count workers.now → ⊥) }
+{
+    if workers.len() != count as usize {
+        return false;
+    }
+    for before in 0..count {
+        if bearers(workers, before + 1) != 1 {
+            return false;
+        }
+    }
+    true
+}
+
+/// How many workers bear a number.
+fn bearers<L: Naming>(workers: &[Worker<L>], number: u32) -> usize
+    ensures { result ≡ bearers number workers.now }
+{
+    let mut count = 0;
+    for worker in workers {
+        if number == worker.number() {
+            count += 1;
+        }
+    }
+    count
 }

@@ -1,3 +1,6 @@
+ghost use Rattle.std.specs.Prelude.{◌≡◌};
+ghost use Rattle.tt_store.specs.Drafts.{error_of, error_of_read};
+
 use thiserror::Error;
 use tt_db::DbError;
 
@@ -9,8 +12,8 @@ pub enum StoreError {
     /// events this is the first refusal that it meets. It is never `DbError::Memory`.
     #[error("{0}")]
     Db(DbError),
-    /// The worker has read a front of `read` entries, longer than the `told` entries that the store
-    /// has under its lock, which are no fewer than the worker had seen before.
+    /// The worker has read a front of `read` entries, longer than the history of `told` entries
+    /// that the store has under its lock, which is no shorter than what the worker had seen before.
     #[error("raced: {read} entries read, {told} told")]
     Raced { read: u64, told: u64 },
     /// There is no reading of what is published, or its length differs in another way from that of
@@ -48,4 +51,24 @@ pub(crate) enum Unread {
 pub(crate) enum Unreached {
     Db(DbError),
     Memory,
+}
+
+/// The error of a call whose events don't lead to a database.
+pub(crate) fn error_of(unreached: Unreached) -> StoreError
+    ensures { result ≡ error_of unreached }
+{
+    match unreached {
+        Unreached::Db(refusal) => StoreError::Db(refusal),
+        Unreached::Memory => StoreError::Memory,
+    }
+}
+
+/// The error of a call whose worker doesn't reach what is published.
+pub(crate) fn error_of_read(unread: Unread) -> StoreError
+    ensures { result ≡ error_of_read unread }
+{
+    match unread {
+        Unread::NoReading => StoreError::NoReading,
+        Unread::Memory => StoreError::Memory,
+    }
 }

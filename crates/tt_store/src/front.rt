@@ -113,7 +113,7 @@ impl Front {
     }
 
     /// A copy.
-    pub(crate) fn again(&self) -> Front
+    pub(crate) fn share(&self) -> Front
         ensures { result ≡ self.now }
     {
         Front {

@@ -11,11 +11,11 @@ pub enum Point {
     Answered,
 }
 
-/// Is told where each call that publishes is. Tests wait in it; `NoGate` does nothing. Reads pass no
-/// point.
+/// A hook that each call that publishes runs at its points. Tests wait in it; `NoGate` does
+/// nothing. Reads pass no point.
 pub trait Gate {
-    /// The worker of this number passes this point. At `Locked` and `Published` the lock is held, and
-    /// in the last try at `Building` too: a gate that calls the store there never returns.
+    /// The worker of this number passes this point. At `Locked` and `Published` the lock is held,
+    /// and in the last try at `Building` too: a gate that calls the store there never returns.
     fn at(&self, worker: u32, point: Point);
 }
 

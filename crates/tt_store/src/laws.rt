@@ -3,7 +3,7 @@
 ghost use Rattle.std.specs.Prelude.{◌≡◌};
 ghost use Rattle.tt_store.specs.Opening.{max_workers};
 
-use crate::opened::MAX_WORKERS;
+use crate::opening::MAX_WORKERS;
 
 /// A store is opened with `MAX_WORKERS` workers at most, and with as many as that.
 pub fn opening_allows_max_workers()

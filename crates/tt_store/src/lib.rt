@@ -5,35 +5,23 @@
 #![tactic(auto)]
 
 mod answer;
-mod attempt;
 mod call;
-mod causes;
-mod closed;
 mod closing;
-mod draft;
 mod errors;
 mod front;
 mod gate;
-mod hiring;
-mod lane;
 pub mod laws;
 mod locked;
-mod numbers;
-mod opened;
-mod places;
-mod plan;
-mod reached;
-mod reaching;
-mod shown;
+mod opening;
+mod snapshot;
 mod store;
-mod unpacking;
 mod worker;
 
 pub use answer::{Answer, Finished, Written};
-pub use closed::{CloseFault, Closed};
+pub use closing::{CloseFault, Closed};
 pub use errors::{OpenError, StoreError};
 pub use gate::{Gate, NoGate, Point};
-pub use opened::{MAX_WORKERS, Opened};
-pub use shown::Naming;
+pub use opening::{MAX_WORKERS, Opened};
+pub use snapshot::Naming;
 pub use store::Store;
 pub use worker::Worker;

@@ -1,19 +1,16 @@
 //! What lies under the lock of a store.
 ghost use Rattle.std.specs.Prelude.{◌≡◌, [], length, IfErr, OnOk, IsSome, IsTrue};
 ghost use mathlib.Core.List.{IsPrefix};
-ghost use Rattle.tt_store.specs.Published.{IsOf, SaysThat};
+ghost use Rattle.tt_store.specs.Published.{IsOf, RuleIsMembership};
 ghost use Rattle.tt_store.specs.Workers.{Looks};
-ghost use Rattle.tt_store.specs.Drafts.{IsMadeBy, Commits, Answered, IsMissed, race, answer_of};
+ghost use Rattle.tt_store.specs.Drafts.{IsMadeBy, Commits, PublishesOrRefuses, IsMissed, race, answer_of};
 ghost use Rattle.tt_store.specs.Closing.{IsBehind};
 
-use crate::call::Call;
-use crate::causes::{error_of, error_of_read};
-use crate::draft::Draft;
-use crate::errors::StoreError;
+use crate::call::{Call, Draft};
+use crate::errors::{StoreError, error_of, error_of_read};
 use crate::front::Head;
 use crate::gate::{Gate, Point};
-use crate::lane::Lane;
-use crate::shown::{Naming, Shown};
+use crate::snapshot::{Naming, Publisher, Snapshot};
 use crate::worker::Worker;
 use std::alloc::{AllocError, Global};
 use std::marker::Model;
@@ -24,10 +21,10 @@ use tt_db::Outcome;
 /// The latest state, the word that counts the history, and the sum of what the workers made, with
 /// how many workers there are and a share of the ledger without parts. Contracts see its history.
 pub(crate) struct Core<L: Naming, R: Wait + Drop> {
-    lane: Option<Lane<L, R>>,
+    publisher: Option<Publisher<L, R>>,
     head: Head,
-    latest: Shown,
-    book: Book<L>,
+    latest: Snapshot,
+    ledger: Book<L>,
     workers: u32,
     empty: Share<L>,
 }
@@ -36,10 +33,10 @@ pub(crate) struct Core<L: Naming, R: Wait + Drop> {
 impl<L: Naming, R: Wait + Drop> Drop for Core<L, R> {
     fn drop(self) {
         let Core {
-            lane: _,
+            publisher: _,
             head: _,
             latest: _,
-            book: _,
+            ledger: _,
             workers: _,
             empty: _,
         } = self;
@@ -49,17 +46,17 @@ impl<L: Naming, R: Wait + Drop> Drop for Core<L, R> {
 impl<L: Naming, R: Wait + Drop> Model for Core<L, R> {
     ghost use Rattle.std.specs.Prelude.{◌≡◌, length, List, IsSome};
     ghost use Rattle.tt_db.specs.declared.event.Entry.{Entry};
-    ghost use Rattle.tt_store.specs.Published.{SaysThat, IsOf};
+    ghost use Rattle.tt_store.specs.Published.{RuleIsMembership, IsOf};
 
     ghost Value = { List Entry };
 
     ghost view = { λ c. c.latest.db.history };
 
-    ghost invariant = { λ c. IsSome c.lane
-        × SaysThat L.holds L.book L.tables L.limits
+    ghost invariant = { λ c. IsSome c.publisher
+        × RuleIsMembership L.holds L.book L.tables L.limits
         × IsOf L.book L.tables L.limits c.latest
         × (c.head ≡ L.book)
-        × (c.book.total ≡ length c.latest.db.history)
+        × (c.ledger.total ≡ length c.latest.db.history)
         × (c.workers ≡ L.parts)
         × (c.empty.parts ≡ 0)
         × (c.empty.amount ≡ 0) };
@@ -68,28 +65,28 @@ impl<L: Naming, R: Wait + Drop> Model for Core<L, R> {
 impl<L: Naming, R: Wait + Drop> Core<L, R> {
     /// The core of a new store.
     pub(crate) fn new(
-        lane: Lane<L, R>,
+        publisher: Publisher<L, R>,
         head: Head,
-        latest: Shown,
-        book: Book<L>,
+        latest: Snapshot,
+        ledger: Book<L>,
         workers: u32,
         empty: Share<L>,
     ) -> Core<L, R>
-        requires tied { SaysThat L.holds L.book L.tables L.limits }
+        requires tied { RuleIsMembership L.holds L.book L.tables L.limits }
         requires of { IsOf L.book L.tables L.limits latest }
         requires head { head ≡ L.book }
         requires empty { latest.db.history ≡ [] }
-        requires total { book.total ≡ 0 }
+        requires total { ledger.total ≡ 0 }
         requires workers { workers ≡ L.parts }
         requires parts { empty.parts ≡ 0 }
         requires amount { empty.amount ≡ 0 }
         ensures { result ≡ [] }
     {
         Core {
-            lane: Some(lane),
+            publisher: Some(publisher),
             head,
             latest,
-            book,
+            ledger,
             workers,
             empty,
         }
@@ -117,7 +114,7 @@ impl<L: Naming, R: Wait + Drop> Core<L, R> {
     }
 
     /// The latest state, the sum of what the workers made, and the share without parts.
-    pub(crate) fn into_parts(self) -> (Shown, Book<L>, Share<L>)
+    pub(crate) fn into_parts(self) -> (Snapshot, Book<L>, Share<L>)
         ensures of { IsOf L.book L.tables L.limits result.0 }
         ensures history { result.0.db.history ≡ self }
         ensures total { result.1.total ≡ length self }
@@ -125,20 +122,20 @@ impl<L: Naming, R: Wait + Drop> Core<L, R> {
         ensures amount { result.2.amount ≡ 0 }
     {
         let Self {
-            lane: _,
+            publisher: _,
             head: _,
             latest,
-            book,
+            ledger,
             workers: _,
             empty,
         } = self;
-        (latest, book, empty)
+        (latest, ledger, empty)
     }
 
-    /// Lets a worker see all that was published.
-    pub(crate) fn tell(&self, worker: &mut Worker<L>) -> Result<(), AllocError>
+    /// Lets a worker see the whole history.
+    pub(crate) fn bring_up_to_date(&self, worker: &mut Worker<L>) -> Result<(), AllocError>
         ensures looks { Looks worker.old worker.new }
-        ensures told { OnOk result (IsPrefix self.now worker.new.seen) }
+        ensures up_to_date { OnOk result (IsPrefix self.now worker.new.seen) }
     {
         let latest = self.latest.share()?;
         worker.keep(latest);
@@ -169,12 +166,12 @@ impl<L: Naming, R: Wait + Drop> Core<L, R> {
             for_readers,
             outcome,
         } = draft;
-        if !worker.add(&self.head, &mut self.book, for_worker)? {
+        if !worker.add(&self.head, &mut self.ledger, for_worker)? {
             return Ok(None);
         }
-        self.latest = Shown::new(for_store, worker.front().again());
-        let shown = Shown::new(for_readers, worker.front().again());
-        self.lane = shown_by(self.lane.take(), shown);
+        self.latest = Snapshot::new(for_store, worker.front().share());
+        let snapshot = Snapshot::new(for_readers, worker.front().share());
+        self.publisher = publish_by(self.publisher.take(), snapshot);
         gate.at(worker.number(), Point::Published);
         Ok(Some(outcome))
     }
@@ -188,14 +185,14 @@ impl<L: Naming, R: Wait + Drop> Core<L, R> {
         alloc: Global,
         call: &Call,
     ) -> Result<Option<Outcome>, StoreError>
-        ensures { Answered L.tables L.limits call.now worker.old worker.new result }
+        ensures { PublishesOrRefuses L.tables L.limits call.now worker.old worker.new result }
     {
         if let Err(error) = self.catch_up(worker) {
             return Err(error);
         }
         gate.at(worker.number(), Point::Building);
         match worker.draft(alloc, call) {
-            Ok(Some(draft)) => known(self.commit(gate, worker, draft)),
+            Ok(Some(draft)) => answer_of(self.commit(gate, worker, draft)),
             Ok(None) => Ok(None),
             Err(unreached) => Err(error_of(unreached)),
         }
@@ -205,7 +202,7 @@ impl<L: Naming, R: Wait + Drop> Core<L, R> {
     #[tactic(auto, using(crate::proofs::RaceLemmas::missed_by_race, crate::proofs::RaceLemmas::missed_unread))]
     fn catch_up(&self, worker: &mut Worker<L>) -> Result<(), StoreError>
         ensures looks { Looks worker.old worker.new }
-        ensures told { OnOk result (IsPrefix self.now worker.new.seen) }
+        ensures up_to_date { OnOk result (IsPrefix self.now worker.new.seen) }
         ensures missed { IfErr result (IsMissed self.now worker.old.seen worker.new.seen) }
     {
         let before = worker.seen();
@@ -215,27 +212,30 @@ impl<L: Naming, R: Wait + Drop> Core<L, R> {
         if !worker.front().begins(self.latest.front()) {
             return Err(raced(before, worker.seen(), self.latest.len()));
         }
-        match self.tell(worker) {
+        match self.bring_up_to_date(worker) {
             Ok(()) => Ok(()),
             Err(AllocError) => Err(StoreError::Memory),
         }
     }
 }
 
-/// Shows readers something new, where there is a lane to show it in.
-fn shown_by<L: Naming, R: Wait + Drop>(lane: Option<Lane<L, R>>, shown: Shown) -> Option<Lane<L, R>>
-    requires tied { SaysThat L.holds L.book L.tables L.limits }
-    requires of { IsOf L.book L.tables L.limits shown }
-    ensures { IsSome lane → IsSome result }
+/// Publishes a snapshot to readers, where there is a publisher.
+fn publish_by<L: Naming, R: Wait + Drop>(
+    publisher: Option<Publisher<L, R>>,
+    snapshot: Snapshot,
+) -> Option<Publisher<L, R>>
+    requires tied { RuleIsMembership L.holds L.book L.tables L.limits }
+    requires of { IsOf L.book L.tables L.limits snapshot }
+    ensures { IsSome publisher → IsSome result }
 {
-    match lane {
-        Some(lane) => Some(lane.show(shown).0),
+    match publisher {
+        Some(publisher) => Some(publisher.publish(snapshot).0),
         None => None,
     }
 }
 
-/// The answer of the last try, under the lock.
-fn known(committed: Result<Option<Outcome>, AllocError>) -> Result<Option<Outcome>, StoreError>
+/// The answer to a call after its last try, under the lock.
+fn answer_of(committed: Result<Option<Outcome>, AllocError>) -> Result<Option<Outcome>, StoreError>
     ensures { result ≡ answer_of committed }
 {
     match committed {
@@ -245,12 +245,13 @@ fn known(committed: Result<Option<Outcome>, AllocError>) -> Result<Option<Outcom
     }
 }
 
-/// Why a worker that has read this much can't publish, where the store has told so many entries.
-fn raced(before: u64, read: u64, told: u64) -> StoreError
-    ensures { result ≡ race before read told }
+/// Why a worker can't publish that had seen `before` entries and has read `read`, where the store
+/// has `latest` under its lock.
+fn raced(before: u64, read: u64, latest: u64) -> StoreError
+    ensures { result ≡ race before read latest }
 {
-    if before <= told && told < read {
-        StoreError::Raced { read, told }
+    if before <= latest && latest < read {
+        StoreError::Raced { read, told: latest }
     } else {
         StoreError::NoReading
     }

@@ -1,18 +1,16 @@
 ghost use Rattle.std.specs.Prelude.{◌≡◌, length, IfOk, IfErr};
 ghost use Rattle.tt_store.specs.Workers.{Looks, IsRefused};
-ghost use Rattle.tt_store.specs.Drafts.{Tries, Answered, Committed, IsMadeBy, attempt_of};
+ghost use Rattle.tt_store.specs.Drafts.{Tries, PublishesOrRefuses, CommitsOrRetries, IsMadeBy, attempt_of};
 ghost use Rattle.tt_store.specs.Store.{Wrote, Placed, Stepped, HasFinished};
+ghost use Rattle.tt_store.specs.Closed.{Closes, HandsBack};
 
-use crate::answer::{Finished, Written};
-use crate::attempt::Attempt;
-use crate::call::Call;
-use crate::causes::{error_of, error_of_read};
-use crate::draft::Draft;
-use crate::errors::StoreError;
+use crate::answer::{Finished, Written, finished_of, progress_of, written_of};
+use crate::call::{Call, Draft};
+use crate::closing::{CloseFault, Closed, closed_of, fault_of, room_for};
+use crate::errors::{StoreError, error_of, error_of_read};
 use crate::gate::{Gate, Point};
 use crate::locked::Core;
-use crate::shown::Naming;
-use crate::unpacking::{finished, under_way, written};
+use crate::snapshot::Naming;
 use crate::worker::Worker;
 use std::alloc::{AllocError, Global};
 use std::sync::{Mutex, Wait};
@@ -21,6 +19,15 @@ use tt_values::{Items, Write};
 
 /// How often a call that publishes builds its state without the lock, before it does so under it.
 const TRIES: u32 = 4;
+
+/// The result of a try to publish.
+#[derive(Drop)]
+enum Attempt {
+    /// It was published, and this is the outcome of the last event, if there was one.
+    Done(Option<Outcome>),
+    /// Another worker was faster.
+    Again,
+}
 
 /// A database that several threads share: one history, to which workers add by calls of the store,
 /// and which they read without it.
@@ -57,8 +64,8 @@ impl<L: Naming, G: Gate + Drop, R: Wait + Drop> Store<L, G, R> {
         (alloc, core.into_inner(), gate)
     }
 
-    /// Carries out an action, as one slot: all of its writes in order. Answers the place of its entry,
-    /// its slot and the replies to its writes.
+    /// Carries out an action, as one slot: all of its writes in order. Answers the place of its
+    /// entry, its slot and the replies to its writes.
     #[tactic(auto, using(crate::proofs::PublicLemmas::wrote, crate::proofs::PublicLemmas::outcome_of_action))]
     pub fn write(
         &self,
@@ -73,7 +80,7 @@ impl<L: Naming, G: Gate + Drop, R: Wait + Drop> Store<L, G, R> {
     {
         let call = Call::One(Event::Write(action));
         match self.publish(rt, worker, &call) {
-            Ok(outcome) => Ok(written(worker.seen(), outcome)),
+            Ok(outcome) => Ok(written_of(worker.seen(), outcome)),
             Err(error) => Err(error),
         }
     }
@@ -114,9 +121,9 @@ impl<L: Naming, G: Gate + Drop, R: Wait + Drop> Store<L, G, R> {
         }
     }
 
-    /// Makes so many steps of the repair that is under way, or as many as it has slots left, all at
-    /// once. Where that is none, it publishes nothing. Answers how far the repair is then. No current
-    /// answer changes.
+    /// Makes steps of the repair that is under way: `most` of them, or as many as it has slots left
+    /// if these are fewer. They are published together, and none publishes nothing. Answers how far
+    /// the repair is then. No current answer changes.
     #[tactic(auto, using(crate::proofs::PublicLemmas::stepped, crate::proofs::PublicLemmas::progress_known))]
     pub fn step(
         &self,
@@ -130,14 +137,14 @@ impl<L: Naming, G: Gate + Drop, R: Wait + Drop> Store<L, G, R> {
             (Call.Steps most) worker.old worker.new e) }
     {
         match self.publish(rt, worker, &Call::Steps(most)) {
-            Ok(_) => Ok(under_way(worker.progress())),
+            Ok(_) => Ok(progress_of(worker.progress())),
             Err(error) => Err(error),
         }
     }
 
-    /// Makes all steps that the repair has left, and switches to the next generation, all at once, or
-    /// makes none of them: after it the current answers are those of the slots as edited, with each action that was
-    /// carried out during the repair.
+    /// Makes all steps that the repair has left, and switches to the next generation. These are
+    /// published together, or none of them is. Afterwards the current answers are those of the
+    /// slots as edited, with each action that was carried out during the repair.
     #[tactic(auto, using(crate::proofs::PublicLemmas::finished, crate::proofs::PublicLemmas::outcome_of_switch))]
     pub fn finish(&self, rt: &impl Wait, worker: &mut Worker<L>) -> Result<Finished, StoreError>
         ensures finished { IfOk result (λ f.
@@ -146,7 +153,7 @@ impl<L: Naming, G: Gate + Drop, R: Wait + Drop> Store<L, G, R> {
             Call.Finish worker.old worker.new e) }
     {
         match self.publish(rt, worker, &Call::Finish) {
-            Ok(outcome) => Ok(finished(worker.seen(), outcome)),
+            Ok(outcome) => Ok(finished_of(worker.seen(), outcome)),
             Err(error) => Err(error),
         }
     }
@@ -158,9 +165,31 @@ impl<L: Naming, G: Gate + Drop, R: Wait + Drop> Store<L, G, R> {
         ensures seen { IfOk result (λ n. n ≡ length worker.new.seen) }
         ensures memory { IfErr result (λ e. e ≡ StoreError.Memory) }
     {
-        match self.core.lock(rt).tell(worker) {
+        match self.core.lock(rt).bring_up_to_date(worker) {
             Ok(()) => Ok(worker.seen()),
             Err(AllocError) => Err(StoreError::Memory),
+        }
+    }
+
+    /// Closes the store with all of its workers, handed in in any order. Leaves the database that
+    /// has the history, and for each worker the places of its entries. A refusal hands the store
+    /// and the workers back as they were.
+    pub fn close(
+        self,
+        _rt: &impl Wait,
+        workers: Vec<Worker<L>>,
+    ) -> Result<Closed, CloseFault<L, G, R>>
+        ensures closed { IfOk result (λ closed.
+            Closes L.tables L.limits L.parts workers.items closed) }
+        ensures fault { IfErr result (λ fault. HandsBack L.parts workers.items fault) }
+    {
+        let (alloc, core, gate) = self.into_parts();
+        match room_for(alloc, &core, &workers) {
+            Ok(places) => Ok(closed_of(core, workers, places)),
+            Err(unclosed) => {
+                let store = Store::over(alloc, core, gate);
+                Err(fault_of(unclosed, store, workers))
+            }
         }
     }
 
@@ -172,7 +201,7 @@ impl<L: Naming, G: Gate + Drop, R: Wait + Drop> Store<L, G, R> {
         worker: &mut Worker<L>,
         call: &Call,
     ) -> Result<Option<Outcome>, StoreError>
-        ensures { Answered L.tables L.limits call.now worker.old worker.new result }
+        ensures { PublishesOrRefuses L.tables L.limits call.now worker.old worker.new result }
     {
         for _ in 0..TRIES {
             match self.attempt(rt, worker, call) {
@@ -218,18 +247,18 @@ impl<L: Naming, G: Gate + Drop, R: Wait + Drop> Store<L, G, R> {
         requires tables { draft.for_worker.catalog ≡ L.tables }
         requires limits { draft.for_worker.limits ≡ L.limits }
         requires made { IsMadeBy worker.old draft.for_worker.history }
-        ensures { Committed worker.old worker.new draft.for_worker draft.outcome result }
+        ensures { CommitsOrRetries worker.old worker.new draft.for_worker draft.outcome result }
     {
         let mut core = self.core.lock(rt);
         if !core.is_seen_by(worker) {
             return Ok(Attempt::Again);
         }
-        attempted(core.commit(&self.gate, worker, draft))
+        attempt_of(core.commit(&self.gate, worker, draft))
     }
 }
 
-/// What came of a try without the lock.
-fn attempted(committed: Result<Option<Outcome>, AllocError>) -> Result<Attempt, StoreError>
+/// The result of a try without the lock.
+fn attempt_of(committed: Result<Option<Outcome>, AllocError>) -> Result<Attempt, StoreError>
     ensures { result ≡ attempt_of committed }
 {
     match committed {

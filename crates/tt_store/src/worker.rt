@@ -1,46 +1,41 @@
-ghost use Rattle.std.specs.Prelude.{◌≡◌, ◌+◌, ◌-◌, [], length, Ok, IfOk, IfErr, IfSome, OnErr, IsTrue, IsFalse};
+ghost use Rattle.std.specs.Prelude.{◌≡◌, ◌+◌, ◌-◌, [], length, Ok, IfOk, IfErr, IfSome, OnErr, IsTrue, IsFalse, ◌≤◌, ◌++◌, vec_len, vec_capacity};
 ghost use Rattle.std.specs.Option.{option_copied};
 ghost use mathlib.Core.List.{IsPrefix};
 ghost use Rattle.tt_values.specs.Check.{select_fault};
 ghost use Rattle.tt_generations.specs.TwoGenerations.{done_of};
-ghost use Rattle.tt_db.specs.Database.{state_of, time_of, nth_item, repair_of, right_answer, right_answer_at, right_answer_in, right_preview_of};
+ghost use Rattle.tt_db.specs.Database.{state_of, now_in, nth_item, repair_of, right_answer, right_answer_at, right_answer_in, right_preview_of};
 ghost use Rattle.tt_db.specs.State.{after, IsLegal};
 ghost use Rattle.tt_store.specs.History.{places_of};
-ghost use Rattle.tt_store.specs.Calls.{events_of, IsInWay};
-ghost use Rattle.tt_store.specs.Drafts.{IsDraft, IsMadeBy, Adds};
+ghost use Rattle.tt_store.specs.Calls.{events_of, IsInWay, numbers_from};
+ghost use Rattle.tt_store.specs.Drafts.{IsDraft, IsMadeBy, AddsCounted, AddsNothing};
 ghost use Rattle.tt_store.specs.Own.{RisesAbove};
-ghost use Rattle.tt_store.specs.Published.{IsOf, SaysThat};
+ghost use Rattle.tt_store.specs.Published.{IsOf, RuleIsMembership};
 ghost use Rattle.tt_store.specs.Closing.{IsBehind};
 ghost use Rattle.tt_store.specs.Workers.{Looks, IsAmong, AnswersRightly, IsUnreached, database_at, timed};
 
 use crate::answer::Answer;
-use crate::call::Call;
-use crate::draft::Draft;
+use crate::call::{Call, Draft, Plan, by_plan};
 use crate::errors::{Unreached, Unread};
 use crate::front::{Front, Head};
-use crate::places::push_places;
-use crate::plan::Plan;
-use crate::reaching::by_plan;
-use crate::shown::{Naming, Shown};
-use crossbeam_utils::rule::Outcome;
+use crate::snapshot::{Naming, Sees, Snapshot};
 use left_right::reader::Reader;
 use std::alloc::{AllocError, Global};
-use std::marker::{Model, PhantomData};
+use std::marker::Model;
 use std::sync::ledger::{Book, Share};
 use tt_db::{Db, Entry, Progress, ReadError};
 use tt_values::{Reply, Select, Shared, check_select};
 
-/// A worker of a store. It has seen a front, which is a beginning of the one history and only grows,
-/// and has made some of its entries. Its reads take no lock and wait for nobody. It keeps the last
-/// state that it has seen, so one that is idle keeps that in memory.
+/// A worker of a store. It has seen a front, which is a beginning of the one history and only
+/// grows, and has made some of its entries. Its reads take no lock and wait for nobody. It keeps
+/// the last state that it has seen, so one that is idle keeps that in memory.
 ///
 /// Keep each worker until the store is closed. `Store::close` takes all of them, and without one
 /// that was dropped it is refused as `Missing` for ever: the store hands its database out by no
 /// other way.
 pub struct Worker<L: Naming> {
     number: u32,
-    reader: Option<Reader<Shown, (), L>>,
-    seen: Shown,
+    reader: Option<Reader<Snapshot, (), L>>,
+    seen: Snapshot,
     own: Vec<u64>,
     share: Share<L>,
 }
@@ -60,7 +55,7 @@ impl<L: Naming> Drop for Worker<L> {
 
 impl<L: Naming> Model for Worker<L> {
     ghost use Rattle.std.specs.Prelude.{IsSome};
-    ghost use Rattle.tt_store.specs.Published.{SaysThat};
+    ghost use Rattle.tt_store.specs.Published.{RuleIsMembership};
     ghost use Rattle.tt_store.specs.Workers.{WorkerState, IsWorker};
 
     ghost Value = { WorkerState };
@@ -72,30 +67,21 @@ impl<L: Naming> Model for Worker<L> {
     } };
 
     ghost invariant = { λ w. IsSome w.reader
-        × SaysThat L.holds L.book L.tables L.limits
+        × RuleIsMembership L.holds L.book L.tables L.limits
         × IsWorker L.book L.tables L.limits w.number w.seen w.own.items
         w.share.parts w.share.amount };
 }
 
-/// What a reading tells: that what is published is of the store.
-pub(crate) struct Sees<L>(PhantomData<L>);
-
-impl<L: Naming> Outcome<Shown, ()> for Sees<L> {
-    ghost use Rattle.tt_store.specs.Published.{IsOf};
-
-    ghost then = { λ before x y after. IsOf L.book L.tables L.limits y };
-}
-
 impl<L: Naming> Worker<L> {
-    /// A worker that has seen this much, and made nothing.
+    /// A worker that has seen this snapshot, and made nothing.
     pub(crate) fn new(
         alloc: Global,
         number: u32,
-        reader: Reader<Shown, (), L>,
-        seen: Shown,
+        reader: Reader<Snapshot, (), L>,
+        seen: Snapshot,
         share: Share<L>,
     ) -> Worker<L>
-        requires tied { SaysThat L.holds L.book L.tables L.limits }
+        requires tied { RuleIsMembership L.holds L.book L.tables L.limits }
         requires of { IsOf L.book L.tables L.limits seen }
         requires parts { share.parts ≡ 1 }
         requires amount { share.amount ≡ 0 }
@@ -160,21 +146,21 @@ impl<L: Naming> Worker<L> {
     }
 
     /// The rows that match now, by rising key, and the current time. They are right at a front that
-    /// begins with what it had seen, and it has then seen this front. `NoReading` leaves what it had
-    /// seen; with `Memory` that may have grown.
+    /// begins with what it had seen, and it has then seen this front. `NoReading` leaves what it
+    /// had seen; with `Memory` that may have grown.
     pub fn read(&mut self, select: &Select) -> Result<Answer, ReadError>
         ensures looks { Looks self.old self.new }
         ensures right { AnswersRightly L.tables select.now
             (right_answer (database_at L.tables L.limits self.new.seen) select.now)
-            (time_of (database_at L.tables L.limits self.new.seen)) self.old self.new result }
+            (now_in (database_at L.tables L.limits self.new.seen)) self.old self.new result }
     {
         self.look_for(select)?;
         let db = self.seen.db();
         timed(db.now(), db.select(select))
     }
 
-    /// The rows that match at a time, by rising key: a point-in-time read. Time 0 is before the first
-    /// action; past the current time it is refused as `Later`.
+    /// The rows that match at a time, by rising key: a point-in-time read. Time 0 is before the
+    /// first action; past the current time it is refused as `Later`.
     pub fn read_at(&mut self, select: &Select, time: u64) -> Result<Answer, ReadError>
         ensures looks { Looks self.old self.new }
         ensures right { AnswersRightly L.tables select.now
@@ -254,8 +240,8 @@ impl<L: Naming> Worker<L> {
         let (reader, newer) = newer(reader, self.seen.len());
         self.reader = Some(reader);
         match newer {
-            Ok(Some(shown)) => {
-                self.keep(shown);
+            Ok(Some(snapshot)) => {
+                self.keep(snapshot);
                 Ok(())
             }
             Ok(None) => Ok(()),
@@ -263,14 +249,14 @@ impl<L: Naming> Worker<L> {
         }
     }
 
-    /// Sees at least this much.
-    pub(crate) fn keep(&mut self, shown: Shown)
-        requires { IsOf L.book L.tables L.limits shown }
+    /// Sees the history of this snapshot, unless it has seen more.
+    pub(crate) fn keep(&mut self, snapshot: Snapshot)
+        requires { IsOf L.book L.tables L.limits snapshot }
         ensures looks { Looks self.old self.new }
-        ensures reached { IsPrefix shown.db.history self.new.seen }
+        ensures reached { IsPrefix snapshot.db.history self.new.seen }
     {
-        if self.seen.front().begins(shown.front()) {
-            self.seen = shown;
+        if self.seen.front().begins(snapshot.front()) {
+            self.seen = snapshot;
         }
     }
 
@@ -282,20 +268,20 @@ impl<L: Naming> Worker<L> {
         self.seen.front()
     }
 
-    /// Whether it has seen just this much.
-    pub(crate) fn is_at(&self, shown: &Shown) -> bool
-        requires { IsOf L.book L.tables L.limits shown.now }
-        ensures { IsTrue result → shown.now.db.history ≡ self.now.seen }
+    /// Whether what it has seen is the history of this snapshot.
+    pub(crate) fn is_at(&self, snapshot: &Snapshot) -> bool
+        requires { IsOf L.book L.tables L.limits snapshot.now }
+        ensures { IsTrue result → snapshot.now.db.history ≡ self.now.seen }
     {
-        self.seen.len() == shown.len() && self.seen.front().begins(shown.front())
+        self.seen.len() == snapshot.len() && self.seen.front().begins(snapshot.front())
     }
 
-    /// Whether it has seen no more than this.
-    pub(crate) fn is_behind(&self, shown: &Shown) -> bool
-        requires { IsOf L.book L.tables L.limits shown.now }
-        ensures { IsTrue result → IsBehind shown.now.db.history self.now }
+    /// Whether what it has seen begins the history of this snapshot.
+    pub(crate) fn is_behind(&self, snapshot: &Snapshot) -> bool
+        requires { IsOf L.book L.tables L.limits snapshot.now }
+        ensures { IsTrue result → IsBehind snapshot.now.db.history self.now }
     {
-        self.seen.front().begins(shown.front())
+        self.seen.front().begins(snapshot.front())
     }
 
     /// Its places, and its part of the ledger.
@@ -338,40 +324,41 @@ impl<L: Naming> Worker<L> {
     pub(crate) fn add(
         &mut self,
         head: &Head,
-        book: &mut Book<L>,
+        ledger: &mut Book<L>,
         db: Shared<Db>,
     ) -> Result<bool, AllocError>
         requires head { head.now ≡ L.book }
         requires tables { db.catalog ≡ L.tables }
         requires limits { db.limits ≡ L.limits }
         requires made { IsMadeBy self.old db.history }
-        ensures added { IfOk result (λ done. IsTrue done → Adds self.old self.new db.history
-            × (book.new.total ≡ book.old.total + (length db.history - length self.old.seen))) }
-        ensures not_added { IfOk result (λ done. IsFalse done → (self.new ≡ self.old)
-            × (book.new.total ≡ book.old.total)) }
-        ensures err { OnErr result ((self.new ≡ self.old) × (book.new.total ≡ book.old.total)) }
+        ensures added { IfOk result (λ done. IsTrue done → AddsCounted self.old self.new db.history
+            ledger.old.total ledger.new.total) }
+        ensures not_added { IfOk result (λ done. IsFalse done → AddsNothing self.old self.new
+            ledger.old.total ledger.new.total) }
+        ensures err { OnErr result (AddsNothing self.old self.new
+            ledger.old.total ledger.new.total) }
     {
         let seen = self.seen.len();
         let events = db.get().events();
         self.own.reserve((events - seen) as usize)?;
-        let mut front = self.seen.front().again();
+        let mut front = self.seen.front().share();
         if !front.grow(head, db.get()) {
             return Ok(false);
         }
-        book.add(&mut self.share, events - seen);
+        ledger.add(&mut self.share, events - seen);
         push_places(&mut self.own, seen, events);
-        self.seen = Shown::new(db, front);
+        self.seen = Snapshot::new(db, front);
         Ok(true)
     }
 }
 
-/// What is published, by a further owner, where its history has more than so many entries. Where
-/// nothing is new, the counter of owners, which all workers share, stays untouched.
+/// A further owner of what is published, where its history has more entries than were seen. Where
+/// it has no more, the counter of owners, which all workers share, stays untouched.
 fn newer<L: Naming>(
-    reader: Reader<Shown, (), L>,
+    reader: Reader<Snapshot, (), L>,
     seen: u64,
-) -> (Reader<Shown, (), L>, Result<Option<Shown>, Unread>)
-    requires { SaysThat L.holds L.book L.tables L.limits }
+) -> (Reader<Snapshot, (), L>, Result<Option<Snapshot>, Unread>)
+    requires { RuleIsMembership L.holds L.book L.tables L.limits }
     ensures { IfOk result.1 (λ newer. IfSome newer (IsOf L.book L.tables L.limits)) }
 {
     match reader.enter_as::<Sees<L>>() {
@@ -383,15 +370,15 @@ fn newer<L: Naming>(
     }
 }
 
-/// A further owner of a state, where its history has more than so many entries.
-fn owner_of_newer(shown: &Shown, seen: u64) -> Result<Option<Shown>, Unread>
-    ensures { IfOk result (λ newer. IfSome newer (λ s. s ≡ shown.now)) }
+/// A further owner of a snapshot, where its history has more entries than were seen.
+fn owner_of_newer(snapshot: &Snapshot, seen: u64) -> Result<Option<Snapshot>, Unread>
+    ensures { IfOk result (λ newer. IfSome newer (λ s. s ≡ snapshot.now)) }
 {
-    if shown.len() <= seen {
+    if snapshot.len() <= seen {
         return Ok(None);
     }
-    match shown.share() {
-        Ok(shown) => Ok(Some(shown)),
+    match snapshot.share() {
+        Ok(snapshot) => Ok(Some(snapshot)),
         Err(AllocError) => Err(Unread::Memory),
     }
 }
@@ -413,5 +400,17 @@ fn timed(time: u64, reply: Result<Reply, ReadError>) -> Result<Answer, ReadError
     match reply {
         Ok(reply) => Ok(Answer { time, reply }),
         Err(error) => Err(error),
+    }
+}
+
+/// Adds the places after the first `from` ones, up to `to`.
+#[tactic(auto, using(crate::proofs::DraftLemmas::numbers_next, crate::proofs::DraftLemmas::numbers_end))]
+pub(crate) fn push_places(places: &mut Vec<u64>, from: u64, to: u64)
+    requires order { from ≤ to }
+    requires room { vec_len places.old + (to - from) ≤ vec_capacity places.old }
+    ensures { places.new.items ≡ places.old.items ++ numbers_from (from + 1) (to - from) }
+{
+    for place in from..to {
+        places.push_reserved(place + 1);
     }
 }

@@ -1,9 +1,7 @@
 //! The table of accounts, and the statements on it.
 use crate::error::BenchError;
 use std::alloc::{AllocError, Global};
-use tt_values::{
-    Catalog, Change, Column, Equal, Items, Kind, Row, Select, TableDef, Text, Value, Write,
-};
+use tt_values::{Catalog, Change, Column, Equal, Items, Select, TableDef, Text, Value, Write};
 
 /// The position of the table `account`.
 const ACCOUNT: u16 = 0;
@@ -15,50 +13,25 @@ const BALANCE: u16 = 2;
 
 /// A catalog with the one table.
 pub(crate) fn catalog(alloc: Global) -> Result<Catalog, BenchError> {
-    let columns = columns(alloc)?;
+    let def = columns(alloc)?;
     let mut catalog = Catalog::new(alloc);
-    catalog.add("account", TableDef { columns })?;
+    catalog.add("account", def)?;
     Ok(catalog)
 }
 
-fn columns(alloc: Global) -> Result<Items<Column>, AllocError> {
-    let columns = [
-        column(alloc, "id", Kind::Int, false)?,
-        column(alloc, "owner", Kind::Text, true)?,
-        column(alloc, "balance", Kind::Int, false)?,
-    ];
-    Items::new(alloc, Vec::from_array(alloc, columns)?)
-}
-
-fn column(alloc: Global, name: &str, kind: Kind, partition: bool) -> Result<Column, AllocError> {
-    Ok(Column {
-        name: text(alloc, name)?,
-        kind,
-        partition,
-    })
-}
-
-fn text(alloc: Global, words: &str) -> Result<Text, AllocError> {
-    Text::new(alloc, String::from_str(alloc, words)?)
+fn columns(alloc: Global) -> Result<TableDef, AllocError> {
+    let id = Column::int(alloc, "id")?;
+    let owner = Column::text(alloc, "owner")?.partition();
+    let balance = Column::int(alloc, "balance")?;
+    TableDef::of(alloc, [id, owner, balance])
 }
 
 /// Opens an account; each owner has ten of them.
 pub(crate) fn open_account(alloc: Global, id: u32) -> Result<Items<Write>, AllocError> {
     let owner = format!(in alloc; "owner{}", id / 10)?;
-    let values = [
-        Value::Int(i64::from(id)),
-        Value::Text(Text::new(alloc, owner)?),
-        Value::Int(0),
-    ];
-    let values = Items::new(alloc, Vec::from_array(alloc, values)?)?;
-    let row = Row { values };
-    one(
-        alloc,
-        Write::Insert {
-            table: ACCOUNT,
-            row,
-        },
-    )
+    let owner = Value::Text(Text::new(alloc, owner)?);
+    let values = [Value::Int(i64::from(id)), owner, Value::Int(0)];
+    Items::of(alloc, [Write::insert(alloc, ACCOUNT, values)?])
 }
 
 /// Books a payment of 1 to an account.
@@ -67,36 +40,15 @@ pub(crate) fn pay(alloc: Global, id: u32) -> Result<Items<Write>, AllocError> {
         column: BALANCE,
         by: 1,
     };
-    let changes = Items::new(alloc, Vec::from_array(alloc, [change])?)?;
-    let equals = is_account(alloc, id)?;
-    one(
-        alloc,
-        Write::Update {
-            table: ACCOUNT,
-            changes,
-            equals,
-        },
-    )
+    let update = Write::update(alloc, ACCOUNT, [change], [is_account(id)])?;
+    Items::of(alloc, [update])
 }
 
 /// Selects one account.
 pub(crate) fn select(alloc: Global, id: u32) -> Result<Select, AllocError> {
-    let equals = is_account(alloc, id)?;
-    Ok(Select {
-        table: ACCOUNT,
-        equals,
-    })
+    Select::matching(alloc, ACCOUNT, [is_account(id)])
 }
 
-fn is_account(alloc: Global, id: u32) -> Result<Items<Equal>, AllocError> {
-    let equal = Equal {
-        column: ID,
-        value: Value::Int(i64::from(id)),
-    };
-    Items::new(alloc, Vec::from_array(alloc, [equal])?)
-}
-
-/// An action of one write.
-fn one(alloc: Global, write: Write) -> Result<Items<Write>, AllocError> {
-    Items::new(alloc, Vec::from_array(alloc, [write])?)
+fn is_account(id: u32) -> Equal {
+    Equal::int(ID, i64::from(id))
 }

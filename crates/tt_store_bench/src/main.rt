@@ -4,7 +4,7 @@
 ghost use Rattle.std.specs.Prelude.{◌≡◌};
 ghost use Rattle.std.specs.Arc.{arc_value};
 ghost use Rattle.tt_db.specs.Limits.{usual_limits};
-ghost use Rattle.tt_store.specs.Published.{SaysThat};
+ghost use Rattle.tt_store.specs.Published.{RuleIsMembership};
 
 use accounts::catalog;
 use error::BenchError;

@@ -2,7 +2,7 @@
 ghost use Rattle.std.specs.Prelude.{◌≡◌};
 ghost use Rattle.std.specs.Arc.{arc_value};
 ghost use Rattle.tt_db.specs.Limits.{usual_limits};
-ghost use Rattle.tt_store.specs.Published.{SaysThat};
+ghost use Rattle.tt_store.specs.Published.{RuleIsMembership};
 
 use crate::accounts::open_account;
 use crate::error::BenchError;
@@ -29,7 +29,7 @@ pub(crate) fn measure<L: Naming + Send + Sync, R: Threads + Wait + Clock + Sync>
     requires book { opened.front.book ≡ L.book }
     requires tables { arc_value catalog ≡ L.tables }
     requires limits { usual_limits ≡ L.limits }
-    requires tied { SaysThat L.holds L.book L.tables L.limits }
+    requires tied { RuleIsMembership L.holds L.book L.tables L.limits }
     requires name { opened.blank.name ≡ L.name }
     requires parts { opened.blank.parts ≡ L.parts }
 {
@@ -41,7 +41,7 @@ pub(crate) fn measure<L: Naming + Send + Sync, R: Threads + Wait + Clock + Sync>
     results_of(alloc, figures)
 }
 
-/// Opens so many accounts.
+/// Opens the accounts 0 to `rows` - 1.
 fn fill<L: Naming, R: Wait>(
     rt: &R,
     alloc: Global,
@@ -101,8 +101,8 @@ fn results_of(
     for figures in figures {
         match figures? {
             Figures::Reads(reads) => results.reads.push(reads)?,
-            Figures::Writes { count, median } => {
-                results.writes = count;
+            Figures::Writes { rate, median } => {
+                results.writes = rate;
                 results.median = median;
             }
         }

@@ -1,16 +1,16 @@
 /// What is measured.
 #[derive(Clone, Copy)]
 pub(crate) struct Plan {
-    /// How many workers read, 0 to 15.
+    /// The number of workers that read, 0 to 15.
     pub(crate) readers: u32,
-    /// For how long, in seconds.
+    /// The length of the measurement in seconds.
     pub(crate) seconds: u32,
-    /// How many rows the table has, 1 to 900,000.
+    /// The number of rows of the table, 1 to 900,000.
     pub(crate) rows: u32,
 }
 
 impl Plan {
-    /// For how many nanoseconds is measured.
+    /// The length of the measurement in nanoseconds.
     pub(crate) fn nanoseconds(&self) -> u64 {
         u64::from(self.seconds).saturating_mul(1_000_000_000)
     }

@@ -1,6 +1,6 @@
 //! A reader: a thread that reads one account after another until its time is over.
 use crate::accounts::select;
-use crate::clock::{a_second, nanoseconds_since};
+use crate::clock::{nanoseconds_since, per_second};
 use crate::error::BenchError;
 use crate::plan::Plan;
 use crate::results::Figures;
@@ -10,10 +10,10 @@ use std::time::Instant;
 use tt_store::{Answer, Naming, Worker};
 use tt_values::{Reply, Select};
 
-/// How many statements a reader has at hand. It looks at the clock after as many reads.
+/// The number of statements of a reader. It reads the clock after each pass over them.
 const STATEMENTS: u32 = 4096;
 
-/// Between the ids of two statements that follow one another: a prime, so that they are scattered.
+/// The distance between the ids of two consecutive statements: a prime, so that ids are scattered.
 const STRIDE: u32 = 7919;
 
 /// Reads for as long as the plan says.
@@ -36,10 +36,10 @@ pub(crate) fn reads_of<L: Naming>(
             break;
         }
     }
-    Ok(Figures::Reads(a_second(reads, nanoseconds_since(rt, &start)?)))
+    Ok(Figures::Reads(per_second(reads, nanoseconds_since(rt, &start)?)))
 }
 
-/// Selects of rows that lie apart from one another.
+/// Selects of rows with scattered ids.
 fn statements(alloc: Global, reader: u32, rows: u32) -> Result<Vec<Select>, BenchError> {
     let mut statements = Vec::new(alloc);
     let mut id = reader;

@@ -3,20 +3,20 @@ use std::io;
 /// What a worker has counted.
 #[derive(Clone, Copy)]
 pub(crate) enum Figures {
-    /// How many reads it made a second.
+    /// The reads per second of a reader.
     Reads(u64),
-    /// How many writes it made a second, and how many nanoseconds one took in the median.
-    Writes { count: u64, median: u64 },
+    /// The writes per second of the writer, and the median time of a write in nanoseconds.
+    Writes { rate: u64, median: u64 },
 }
 
 /// What was measured.
 #[derive(Drop)]
 pub(crate) struct Results {
-    /// How many reads each reader made a second.
+    /// The reads per second of each reader.
     pub(crate) reads: Vec<u64>,
-    /// How many writes the writer made a second.
+    /// The writes per second of the writer.
     pub(crate) writes: u64,
-    /// How many nanoseconds a write took in the median.
+    /// The median time of a write in nanoseconds.
     pub(crate) median: u64,
 }
 

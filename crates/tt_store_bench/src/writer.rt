@@ -1,6 +1,6 @@
 //! The writer: a thread that writes without pause until its time is over.
 use crate::accounts::pay;
-use crate::clock::{a_second, nanoseconds_since};
+use crate::clock::{nanoseconds_since, per_second};
 use crate::error::BenchError;
 use crate::plan::Plan;
 use crate::results::Figures;
@@ -10,10 +10,10 @@ use std::sync::Wait;
 use std::time::Instant;
 use tt_store::{Naming, NoGate, Store, Worker};
 
-/// Between the ids of two writes that follow one another: a prime, so that they are scattered.
+/// The distance between the ids of two consecutive writes: a prime, so that ids are scattered.
 const STRIDE: u32 = 15_485_863;
 
-/// The most writes that are made; a store takes no more than a million.
+/// The largest number of writes; a store takes no more than a million.
 const MOST: u32 = 900_000;
 
 /// Writes for as long as the plan says.
@@ -35,14 +35,14 @@ pub(crate) fn writes_of<L: Naming, R: Wait + Clock>(
             break;
         }
     }
-    let count = a_second(each.len() as u64, nanoseconds_since(rt, &start)?);
+    let rate = per_second(each.len() as u64, nanoseconds_since(rt, &start)?);
     Ok(Figures::Writes {
-        count,
+        rate,
         median: median(each),
     })
 }
 
-/// Makes one write. Answers how many nanoseconds it took.
+/// Makes one write, and answers its time in nanoseconds.
 fn write_one<L: Naming, R: Wait + Clock>(
     rt: &R,
     alloc: Global,

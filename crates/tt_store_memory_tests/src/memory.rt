@@ -2,7 +2,7 @@
 ghost use Rattle.std.specs.Prelude.{◌≡◌};
 ghost use Rattle.std.specs.Arc.{arc_value};
 ghost use Rattle.tt_db.specs.Limits.{usual_limits};
-ghost use Rattle.tt_store.specs.Published.{SaysThat};
+ghost use Rattle.tt_store.specs.Published.{RuleIsMembership};
 
 mod changes;
 mod closing;
@@ -28,7 +28,7 @@ use std::sync::{Arc, Wait};
 use tt_db::{Edit, Limits};
 use tt_store::{Naming, NoGate, OpenError, Opened, Store, Worker};
 use tt_values::{
-    Catalog, Change, Column, Equal, Items, Kind, Reply, Row, Select, TableDef, Text, Value, Write,
+    Catalog, Change, Column, Equal, Items, Reply, Row, Select, TableDef, Value, Write,
 };
 use whole_repairs::repairs_at_once;
 use writes::writes_five;
@@ -56,8 +56,8 @@ struct Scene<'a, L: Naming, T: Wait> {
     second: Worker<L>,
 }
 
-/// Plays a scenario on a store of its own, which is opened anew where the first call finds no memory.
-/// All that was taken is given back.
+/// Plays a scenario on a store of its own, which is opened again where the first call finds no
+/// memory. All that was taken is given back.
 fn plays<T: Wait + Abort>(rt: &T, alloc: Global, scenario: Scenario) {
     let _tally = Tally::new(alloc);
     let tried = tries(rt, alloc, Opened::new(2), bank(rt, alloc), scenario);
@@ -91,7 +91,7 @@ fn plays_named<L: Naming, T: Wait + Abort>(
     requires book { opened.front.book ≡ L.book }
     requires tables { arc_value catalog ≡ L.tables }
     requires limits { usual_limits ≡ L.limits }
-    requires tied { SaysThat L.holds L.book L.tables L.limits }
+    requires tied { RuleIsMembership L.holds L.book L.tables L.limits }
     requires name { opened.blank.name ≡ L.name }
     requires parts { opened.blank.parts ≡ L.parts }
 {
@@ -142,44 +142,27 @@ fn same<T: PartialEq + Debug>(rt: &impl Abort, got: &T, want: &T) {
 /// An account: its id, its owner and its balance.
 type Account = (i64, &'static str, i64);
 
-fn text(rt: &impl Abort, alloc: Global, words: &str) -> Text {
-    let words = String::from_str(alloc, words).expect(rt, "memory");
-    Text::new(alloc, words).expect(rt, "memory")
-}
-
 fn items<T: Drop, const N: usize>(rt: &impl Abort, alloc: Global, items: [T; N]) -> Items<T> {
-    let items = Vec::from_array(alloc, items).expect(rt, "memory");
-    Items::new(alloc, items).expect(rt, "memory")
+    Items::of(alloc, items).expect(rt, "memory")
 }
 
-fn column(rt: &impl Abort, alloc: Global, name: &str, kind: Kind, partition: bool) -> Column {
-    Column {
-        name: text(rt, alloc, name),
-        kind,
-        partition,
-    }
-}
-
+/// A catalog with the table `acct`.
 fn bank(rt: &impl Abort, alloc: Global) -> Arc<Catalog> {
-    let columns = [
-        column(rt, alloc, "id", Kind::Int, false),
-        column(rt, alloc, "owner", Kind::Text, true),
-        column(rt, alloc, "bal", Kind::Int, false),
-    ];
-    let columns = items(rt, alloc, columns);
+    let id = Column::int(alloc, "id").expect(rt, "memory");
+    let owner = Column::text(alloc, "owner").expect(rt, "memory");
+    let balance = Column::int(alloc, "bal").expect(rt, "memory");
+    let columns = [id, owner.partition(), balance];
+    let def = TableDef::of(alloc, columns).expect(rt, "memory");
     let mut catalog = Catalog::new(alloc);
-    let added = catalog.add("acct", TableDef { columns });
-    added.expect(rt, "a table");
+    catalog.add("acct", def).expect(rt, "a table");
     Arc::new(alloc, catalog).expect(rt, "memory")
 }
 
 fn row(rt: &impl Abort, alloc: Global, account: Account) -> Row {
     let (id, owner, balance) = account;
-    let owner = Value::Text(text(rt, alloc, owner));
+    let owner = Value::text(alloc, owner).expect(rt, "memory");
     let values = [Value::Int(id), owner, Value::Int(balance)];
-    Row {
-        values: items(rt, alloc, values),
-    }
+    Row::of(alloc, values).expect(rt, "memory")
 }
 
 fn insert(rt: &impl Abort, alloc: Global, account: Account) -> Items<Write> {
@@ -188,28 +171,19 @@ fn insert(rt: &impl Abort, alloc: Global, account: Account) -> Items<Write> {
 }
 
 fn delete(rt: &impl Abort, alloc: Global, owner: &str) -> Items<Write> {
-    let equal = Equal {
-        column: 1,
-        value: Value::Text(text(rt, alloc, owner)),
-    };
-    let equals = items(rt, alloc, [equal]);
-    items(rt, alloc, [Write::Delete { table: 0, equals }])
+    let equal = Equal::text(alloc, 1, owner).expect(rt, "memory");
+    let delete = Write::delete(alloc, 0, [equal]).expect(rt, "memory");
+    items(rt, alloc, [delete])
 }
 
 fn add_to_all(rt: &impl Abort, alloc: Global, by: i64) -> Items<Write> {
-    let update = Write::Update {
-        table: 0,
-        changes: items(rt, alloc, [Change::Add { column: 2, by }]),
-        equals: items(rt, alloc, []),
-    };
+    let add = Change::Add { column: 2, by };
+    let update = Write::update(alloc, 0, [add], []).expect(rt, "memory");
     items(rt, alloc, [update])
 }
 
 fn all(rt: &impl Abort, alloc: Global) -> Select {
-    Select {
-        table: 0,
-        equals: items(rt, alloc, []),
-    }
+    Select::all(alloc, 0).expect(rt, "memory")
 }
 
 /// The reply with these rows, in this order.

@@ -3,7 +3,7 @@
 ghost use Rattle.std.specs.Prelude.{◌≡◌};
 ghost use Rattle.std.specs.Arc.{arc_value};
 ghost use Rattle.tt_db.specs.Limits.{Fits};
-ghost use Rattle.tt_store.specs.Published.{SaysThat};
+ghost use Rattle.tt_store.specs.Published.{RuleIsMembership};
 
 mod closing;
 mod crowd;
@@ -28,7 +28,7 @@ use std::thread::Threads;
 use tt_db::{Edit, Limits};
 use tt_store::{Closed, Gate, Naming, NoGate, OpenError, Opened, Store, Worker, Written};
 use tt_values::{
-    Catalog, Change, Column, Equal, Items, Kind, Reply, Row, Select, TableDef, Text, Value, Write,
+    Catalog, Change, Column, Equal, Items, Reply, Row, Select, TableDef, Value, Write,
 };
 use writes::{reads_beside, writes_behind, writes_in_threads};
 
@@ -49,7 +49,7 @@ enum Scenario {
     WritesInThreads,
 }
 
-/// Plays a scenario on a store of its own, with so many workers and the usual limits.
+/// Plays a scenario on a store of its own, with this number of workers and the usual limits.
 fn plays<T: Threads + Wait + Abort + Sync>(
     rt: &T,
     alloc: Global,
@@ -87,7 +87,7 @@ fn plays_named<L: Naming + Send + Sync, T: Threads + Wait + Abort + Sync>(
     requires book { opened.front.book ≡ L.book }
     requires tables { arc_value catalog ≡ L.tables }
     requires limits { limits ≡ L.limits }
-    requires tied { SaysThat L.holds L.book L.tables L.limits }
+    requires tied { RuleIsMembership L.holds L.book L.tables L.limits }
     requires name { opened.blank.name ≡ L.name }
     requires parts { opened.blank.parts ≡ L.parts }
 {
@@ -144,45 +144,28 @@ fn same<T: PartialEq + Debug>(rt: &impl Abort, got: &T, want: &T) {
 /// An account: its id, its owner and its balance.
 type Account = (i64, &'static str, i64);
 
-fn text(rt: &impl Abort, alloc: Global, words: &str) -> Text {
-    let words = String::from_str(alloc, words).expect(rt, "memory");
-    Text::new(alloc, words).expect(rt, "memory")
-}
-
-fn column(rt: &impl Abort, alloc: Global, name: &str, kind: Kind, partition: bool) -> Column {
-    Column {
-        name: text(rt, alloc, name),
-        kind,
-        partition,
-    }
-}
-
+/// A catalog with the table `acct`.
 fn bank(rt: &impl Abort, alloc: Global) -> Arc<Catalog> {
-    let id = column(rt, alloc, "id", Kind::Int, false);
-    let owner = column(rt, alloc, "owner", Kind::Text, true);
-    let balance = column(rt, alloc, "bal", Kind::Int, false);
-    let columns = Vec::from_array(alloc, [id, owner, balance]).expect(rt, "memory");
-    let columns = Items::new(alloc, columns).expect(rt, "memory");
+    let id = Column::int(alloc, "id").expect(rt, "memory");
+    let owner = Column::text(alloc, "owner").expect(rt, "memory");
+    let balance = Column::int(alloc, "bal").expect(rt, "memory");
+    let columns = [id, owner.partition(), balance];
+    let def = TableDef::of(alloc, columns).expect(rt, "memory");
     let mut catalog = Catalog::new(alloc);
-    catalog
-        .add("acct", TableDef { columns })
-        .expect(rt, "a table");
+    catalog.add("acct", def).expect(rt, "a table");
     Arc::new(alloc, catalog).expect(rt, "memory")
 }
 
 fn row(rt: &impl Abort, alloc: Global, account: Account) -> Row {
     let (id, owner, balance) = account;
-    let owner = text(rt, alloc, owner);
-    let values = [Value::Int(id), Value::Text(owner), Value::Int(balance)];
-    let values = Vec::from_array(alloc, values).expect(rt, "memory");
-    Row {
-        values: Items::new(alloc, values).expect(rt, "memory"),
-    }
+    let owner = Value::text(alloc, owner).expect(rt, "memory");
+    let values = [Value::Int(id), owner, Value::Int(balance)];
+    Row::of(alloc, values).expect(rt, "memory")
 }
 
+/// An action of one write.
 fn action(rt: &impl Abort, alloc: Global, write: Write) -> Items<Write> {
-    let writes = Vec::from_array(alloc, [write]).expect(rt, "memory");
-    Items::new(alloc, writes).expect(rt, "memory")
+    Items::of(alloc, [write]).expect(rt, "memory")
 }
 
 fn insert(rt: &impl Abort, alloc: Global, account: Account) -> Items<Write> {
@@ -191,39 +174,19 @@ fn insert(rt: &impl Abort, alloc: Global, account: Account) -> Items<Write> {
 }
 
 fn delete(rt: &impl Abort, alloc: Global, owner: &str) -> Items<Write> {
-    let equal = Equal {
-        column: 1,
-        value: Value::Text(text(rt, alloc, owner)),
-    };
-    let equals = Vec::from_array(alloc, [equal]).expect(rt, "memory");
-    let equals = Items::new(alloc, equals).expect(rt, "memory");
-    action(rt, alloc, Write::Delete { table: 0, equals })
-}
-
-fn any_account(rt: &impl Abort, alloc: Global) -> Items<Equal> {
-    Items::new(alloc, Vec::new(alloc)).expect(rt, "memory")
+    let equal = Equal::text(alloc, 1, owner).expect(rt, "memory");
+    let delete = Write::delete(alloc, 0, [equal]).expect(rt, "memory");
+    action(rt, alloc, delete)
 }
 
 fn add_to_all(rt: &impl Abort, alloc: Global, by: i64) -> Items<Write> {
-    let changes = Vec::from_array(alloc, [Change::Add { column: 2, by }]).expect(rt, "memory");
-    let changes = Items::new(alloc, changes).expect(rt, "memory");
-    let equals = any_account(rt, alloc);
-    action(
-        rt,
-        alloc,
-        Write::Update {
-            table: 0,
-            changes,
-            equals,
-        },
-    )
+    let add = Change::Add { column: 2, by };
+    let update = Write::update(alloc, 0, [add], []).expect(rt, "memory");
+    action(rt, alloc, update)
 }
 
 fn all(rt: &impl Abort, alloc: Global) -> Select {
-    Select {
-        table: 0,
-        equals: any_account(rt, alloc),
-    }
+    Select::all(alloc, 0).expect(rt, "memory")
 }
 
 /// The reply with these rows, in this order.
@@ -238,8 +201,7 @@ fn rows(rt: &impl Abort, alloc: Global, accounts: &[Account]) -> Reply {
 /// The edit that replaces slot 4 by another delete.
 fn delete_bob(rt: &impl Abort, alloc: Global) -> Items<Edit> {
     let edit = Edit::Replace(4, delete(rt, alloc, "bob"));
-    let edits = Vec::from_array(alloc, [edit]).expect(rt, "memory");
-    Items::new(alloc, edits).expect(rt, "memory")
+    Items::of(alloc, [edit]).expect(rt, "memory")
 }
 
 /// The last of the workers.
@@ -257,8 +219,7 @@ fn inserts<L: Naming, G: Gate + Drop, T: Wait + Abort>(
     (place, slot): (u64, u64),
 ) {
     let written = store.write(rt, worker, insert(rt, alloc, account));
-    let replies = Vec::from_array(alloc, [Reply::Inserted]).expect(rt, "memory");
-    let replies = Items::new(alloc, replies).expect(rt, "memory");
+    let replies = Items::of(alloc, [Reply::Inserted]).expect(rt, "memory");
     let want = Written {
         place,
         slot,

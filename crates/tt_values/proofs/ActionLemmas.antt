@@ -19,7 +19,8 @@ use Rattle.tt_values.specs.Matches.{matches}
 use Rattle.tt_values.specs.Change.{changed}
 use Rattle.tt_values.specs.Content.{RowsByKey, Content, RowWrite, row_at, with_row_at, with_row_write}
 use Rattle.tt_values.specs.Effect.{table_of, effect, effect_on, matching_rows, reply_of}
-use Rattle.tt_values.specs.Action.{RowId, content_after_write, content_after_action, rows_of_write, rows_of_action, is_among, row_id_cmp, with_row_once, each_row_once, effect_of_action, action_writes}
+use Rattle.tt_values.specs.declared.row_id.RowId.{RowId}
+use Rattle.tt_values.specs.Action.{content_after_write, content_after_action, rows_of_write, rows_of_action, is_among, row_id_cmp, with_row_once, each_row_once, effect_of_action, action_writes}
 use Rattle.tt_values.specs.ActionLaws.{ActionLeavesItsLastContent, ActionOfOneWrite, ActionWritesEachRowOnce, ActionsFollow}
 use Rattle.tt_values.proofs.ContentLemmas.{one_key_changes, row_write_changes_one_row, is_sorted-with_row_at, is_sorted-fold, true_from_T}
 

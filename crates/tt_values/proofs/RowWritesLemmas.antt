@@ -6,7 +6,8 @@ use Rattle.std.specs.Option.{unwrap_or}
 use Rattle.tt_values.specs.declared.row.Row.{Row}
 use Rattle.tt_values.specs.declared.statement.Write.{Write}
 use Rattle.tt_values.specs.Content.{Content, RowWrite, with_row_write, content_at, empty_content, up_to}
-use Rattle.tt_values.specs.Action.{RowId, effect_of_action}
+use Rattle.tt_values.specs.declared.row_id.RowId.{RowId}
+use Rattle.tt_values.specs.Action.{effect_of_action}
 use Rattle.tt_values.specs.RowWrites.{Slots, slot_after, slot_writes, row_writes}
 use Rattle.tt_values.specs.Laws.{SlotsFollow, LaterSlotsChangeNothing, PastStays, LastContentStays, NextContent, EarlierSlotsStay, AddedSlotIsNext, AddedSlotLeavesPast}
 

@@ -6,12 +6,13 @@ use Rattle.std.specs.declared.cmp.Ordering.{Ordering}
 use Rattle.std.specs.Ordering.{nat_cmp, int_cmp, int_eq, ordering_then}
 use Rattle.std.specs.FinMap.Entries as sorted
 use Rattle.tt_values.specs.declared.row.Row.{Row}
+use Rattle.tt_values.specs.declared.row_id.RowId.{RowId}
 use Rattle.tt_values.specs.declared.statement.Write.{Write}
 use Rattle.tt_values.specs.declared.reply.Reply.{Reply}
 use Rattle.tt_values.specs.Content.{Content, RowWrite, row_at, with_row_at}
 use Rattle.tt_values.specs.Effect.{table_of, effect, reply_of}
 
--- a content, once some keys of a table have these rows, or none
+-- the content in which some keys of a table have these rows, or none
 abbrev pub with_rows_at : ℕ → List (ℤ × Option Row) → Content → Content
 with_rows_at table es X t = if t == table then fold (λ rows e. with_row_at rows e.0 e.1) (X t) es else X t
 
@@ -28,11 +29,6 @@ content_after_action (w ∷ ws) X = content_after_action ws (content_after_write
 abbrev pub replies_of : List Write → Content → List Reply
 replies_of [] X = []
 replies_of (w ∷ ws) X = reply_of w X ∷ replies_of ws (content_after_write w X)
-
--- a row: the position of its table, and its key
-pub record RowId : Type 0 where
-  pub table : ℕ
-  pub key : ℤ
 
 -- the rows that a write writes
 abbrev pub rows_of_write : Write → Content → List RowId

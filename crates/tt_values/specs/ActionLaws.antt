@@ -8,7 +8,8 @@ use Rattle.tt_values.specs.Tables.{Tables, IsCatalog}
 use Rattle.tt_values.specs.Check.{action_fault, HasKey}
 use Rattle.tt_values.specs.Content.{Content, with_row_write}
 use Rattle.tt_values.specs.Effect.{table_of, effect, reply_of}
-use Rattle.tt_values.specs.Action.{RowId, content_after_action, replies_of, rows_of_action, is_among, row_id_cmp, effect_of_action, action_writes}
+use Rattle.tt_values.specs.declared.row_id.RowId.{RowId}
+use Rattle.tt_values.specs.Action.{content_after_action, replies_of, rows_of_action, is_among, row_id_cmp, effect_of_action, action_writes}
 
 -- the rows of each table are in strictly ascending order of their keys
 abbrev pub IsByRisingKey : Content → Type 0

@@ -28,7 +28,7 @@ table_tests tables name def =
 abbrev pub table_fault : Tables → List ℕ → TableDef → Option CatalogError
 table_fault tables name def = first_fault (table_tests tables name def)
 
--- the fault that an error reports. Out of memory is none
+-- the fault that an error reports. `Memory` reports none
 abbrev pub fault_of_error : CatalogError → Option CatalogError
 fault_of_error errors.Memory = None
 fault_of_error e = Some e

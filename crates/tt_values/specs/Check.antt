@@ -19,7 +19,7 @@ use Rattle.tt_values.specs.Row.{first_int}
 use Rattle.tt_values.specs.Change.{column_of}
 use Rattle.tt_values.specs.Tables.{Tables, columns_at, is_int}
 
--- whether there is a column, and the value is of another kind
+-- whether there is a column, and it is of another kind than the value
 abbrev pub is_wrong_kind : Option Column → Value → Bool
 is_wrong_kind None v = false
 is_wrong_kind (Some c) v = not (is_of_kind c.kind v)
@@ -98,7 +98,7 @@ update_tests columns cs qs =
     ∷ (has_too_many qs, errors.TooManyEquals)
     ∷ []
 
--- the first fault of a statement on a table with these columns, or on no table
+-- the first fault of a statement on a table with these columns, or without a table
 abbrev pub fault_on : Option (List Column) → (List Column → List (Bool × CheckError)) → Option CheckError
 fault_on None tests = Some errors.NoTable
 fault_on (Some columns) tests = first_fault (tests columns)
@@ -122,7 +122,7 @@ action_fault tables ws = if nat_lt max_writes (length ws) then Some errors.TooMa
 abbrev pub select_fault : Tables → Select → Option CheckError
 select_fault tables s = fault_on (columns_at tables s.table) (λ columns. equals_tests columns s.equals)
 
--- an insert is of a row with a key
+-- if the write is an insert, its row has a key
 abbrev pub HasKey : Write → Type 0
 HasKey (Insert table row) = IsSome (first_int row.values)
 HasKey (Update table cs qs) = Unit {0}

@@ -43,13 +43,13 @@ up_to time ws = filter (λ w. nat_le w.time time) ws
 abbrev pub content_at : List RowWrite → ℕ → Content
 content_at ws time = fold with_row_write empty_content (up_to time ws)
 
--- the row of the last row write, none if there is no row write
+-- the row of the last row write, or none if there is no row write
 abbrev pub last_row_written : List RowWrite → Option Row
 last_row_written [] = None
 last_row_written (w ∷ []) = w.row
 last_row_written (w ∷ v ∷ ws) = last_row_written (v ∷ ws)
 
--- the row of the last row write, the row before if there is no row write
+-- the row of the last row write, or the row before if there is no row write
 abbrev pub last_row_written_or : Option Row → List RowWrite → Option Row
 last_row_written_or before [] = before
 last_row_written_or before (w ∷ ws) = last_row_written_or w.row ws

@@ -1,4 +1,4 @@
--- Numbers that stand for values, where a search may find too much.
+-- Digests: numbers that stand for values in an index. Two values may have the same digest.
 use Rattle.std.specs.Prelude.{ℕ, ◌+◌, ◌*◌, ◌%◌, ℤ, pos, List, fold}
 use Rattle.tt_values.specs.declared.value.Value.{Value}
 use Rattle.tt_values.specs.declared.value.Value.TheVariants as values

@@ -11,7 +11,7 @@ abbrev pub is_value : Value → Option Value → Bool
 is_value v None = false
 is_value v (Some w) = is_same v w
 
--- whether an equality holds in a row. One past the end of the row does not
+-- whether an equality holds in a row. One on a column past the end of the row doesn't
 abbrev pub holds : Equal → Row → Bool
 holds q r = is_value q.value (slice_get r.values q.column)
 

@@ -43,7 +43,7 @@ pub struct Catalog {
     tables: IndexMap<String, TableDef>,
 }
 
-// Written out, so that each place that lets one go calls one function.
+// Written by hand, so that every place that drops a catalog calls one function.
 impl Drop for Catalog {
     fn drop(self) {
         let Catalog { tables: _ } = self;

@@ -85,7 +85,7 @@ pub fn check(catalog: &Catalog, write: &Write) -> Result<(), CheckError>
 }
 
 /// Whether an action, a list of writes, can run on the tables of a catalog. Its writes are counted
-/// first; then the first of them that can't run decides. Allocates nothing.
+/// first; then the first write that can't run decides. Allocates nothing.
 pub fn check_action(catalog: &Catalog, writes: &[Write]) -> Result<(), CheckError>
     ensures fault { ReportsFault result (action_fault catalog.now writes.now) }
     ensures keys { OnOk result (All HasKey writes.now) }

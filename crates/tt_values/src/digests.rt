@@ -7,7 +7,7 @@ const FACTOR: u64 = 257;
 
 const MODULUS: u64 = 1 << 55;
 
-/// A number that depends on the value alone. Other values seldom have the same.
+/// A number that depends on the value alone. Different values rarely have the same.
 pub fn digest(value: &Value) -> i64
     ensures { result ≡ digest_of value.now }
 {

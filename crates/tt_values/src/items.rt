@@ -5,7 +5,7 @@ use std::alloc::{AllocError, Global};
 use std::marker::Model;
 use std::sync::Arc;
 
-/// A list that never changes, and that several owners share. Contracts see its items.
+/// An immutable list. Its owners share it: `clone` copies no items. Contracts see its items.
 #[derive(Debug, Drop)]
 pub struct Items<T> {
     items: Arc<Vec<T>>,
@@ -24,12 +24,20 @@ impl<T> Model for Items<T> {
 }
 
 impl<T: Drop> Items<T> {
-    /// Moves the items to memory that several owners can share; the result is the first of them.
+    /// Moves the items to memory that owners can share; the result is their first owner.
     pub fn new(alloc: Global, items: Vec<T>) -> Result<Self, AllocError>
         ensures { IfOk result (λ list. list ≡ items.items) }
     {
         let items = Arc::new(alloc, items)?;
         Ok(Items { items })
+    }
+
+    /// A list of the items of an array, in order: `Items::of(alloc, [write])?` is an action of one
+    /// write.
+    pub fn of<const N: usize>(alloc: Global, items: [T; N]) -> Result<Self, AllocError>
+        ensures { IfOk result (λ list. list ≡ items) }
+    {
+        Items::new(alloc, Vec::from_array(alloc, items)?)
     }
 
     pub fn len(&self) -> usize
@@ -70,7 +78,7 @@ impl<T: PartialEq + Drop> PartialEq for Items<T> {
     }
 }
 
-/// A clone is a further owner of the same items.
+/// A clone shares the items.
 impl<T: Drop> Clone for Items<T> {
     ghost use Rattle.std.specs.Prelude.{◌≡◌};
 

@@ -1,4 +1,8 @@
 //! Values, rows, statements and the catalog of a small time-travel database.
+//!
+//! A statement is one line, and so is an action, which is a list of writes:
+//! `let write = Write::insert(alloc, 0, [Value::Int(1), Value::text(alloc, "ann")?])?;`
+//! `let action = Items::of(alloc, [write])?;`
 #![tactic(auto)]
 
 mod catalog;
@@ -11,6 +15,7 @@ mod matching;
 mod naming;
 mod reply;
 mod row;
+mod row_id;
 mod shared;
 mod statement;
 mod table;
@@ -25,6 +30,7 @@ pub use items::Items;
 pub use matching::matches;
 pub use reply::Reply;
 pub use row::Row;
+pub use row_id::RowId;
 pub use shared::Shared;
 pub use statement::{Change, Equal, Select, Write};
 pub use table::{Column, TableDef};

@@ -4,7 +4,7 @@ ghost use Rattle.tt_values.specs.Matches.{holds, matches};
 use crate::row::Row;
 use crate::statement::Equal;
 
-/// Whether every equality holds in the row. One past the end of the row doesn't hold.
+/// Whether every equality holds in the row. One on a column past the end of the row doesn't.
 pub fn matches(equals: &[Equal], row: &Row) -> bool
     ensures { result ≡ matches equals.now row.now }
 {

@@ -1,4 +1,4 @@
-//! The tests of names and columns that a catalog does on a table.
+//! The tests of names and columns that a catalog runs on a new table.
 ghost use Rattle.std.specs.Prelude.{◌≡◌, ◌&&◌};
 ghost use Rattle.std.specs.List.{list_all, list_any};
 ghost use Rattle.std.specs.Str.{bytes_eq};

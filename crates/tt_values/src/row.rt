@@ -2,7 +2,7 @@ ghost use Rattle.std.specs.Prelude.{◌≡◌, Some, IsSome, IfOk};
 
 use crate::items::Items;
 use crate::value::Value;
-use std::alloc::AllocError;
+use std::alloc::{AllocError, Global};
 
 /// A row: a value for each column of its table. The first value is its key.
 #[derive(Clone, Debug, PartialEq, Drop)]
@@ -12,6 +12,14 @@ pub struct Row {
 
 impl Row {
     ghost use Rattle.tt_values.specs.Row.{first_int};
+
+    /// A row of these values.
+    pub fn of<const N: usize>(alloc: Global, values: [Value; N]) -> Result<Row, AllocError>
+        ensures { IfOk result (λ row. row.values ≡ values.entry) }
+    {
+        let values = Items::of(alloc, values)?;
+        Ok(Row { values })
+    }
 
     /// The key, which identifies the row in its table.
     pub fn key(&self) -> i64

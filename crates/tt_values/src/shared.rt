@@ -6,7 +6,7 @@ use std::marker::Model;
 use std::sync::Arc;
 use tt_pages::Kept;
 
-/// A value that several owners share. Contracts see only the value.
+/// A value that its owners share: `clone` doesn't copy it. Contracts see only the value.
 #[derive(Debug, Drop)]
 pub struct Shared<T> {
     owner: Arc<T>,
@@ -23,7 +23,7 @@ impl<T> Model for Shared<T> {
 }
 
 impl<T: Drop> Shared<T> {
-    /// Moves a value to memory that several owners can share; the result is the first of them.
+    /// Moves a value to memory that owners can share; the result is its first owner.
     pub fn new(alloc: Global, value: T) -> Result<Self, AllocError>
         ensures { IfOk result (λ shared. shared ≡ value) }
     {
@@ -53,7 +53,7 @@ impl<T: Drop> Shared<T> {
 }
 
 impl<T: Kept + Drop> Shared<T> {
-    /// The value: moved out where nobody else owns it, and copied otherwise.
+    /// The value: moved out if this is its only owner, and otherwise shared by `Kept::kept`.
     pub fn into_value(self) -> Result<T, AllocError>
         ensures { IfOk result (λ value. value ≡ self) }
     {
@@ -64,7 +64,7 @@ impl<T: Kept + Drop> Shared<T> {
     }
 }
 
-/// A clone is a further owner of the same value.
+/// A clone shares the value.
 impl<T: Drop> Clone for Shared<T> {
     ghost use Rattle.std.specs.Prelude.{◌≡◌};
 

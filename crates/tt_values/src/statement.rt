@@ -1,10 +1,10 @@
 //! Statements. They name tables and columns by their positions, counted from 0.
-ghost use Rattle.std.specs.Prelude.{◌≡◌, IfOk};
+ghost use Rattle.std.specs.Prelude.{◌≡◌, [], IfOk};
 
 use crate::items::Items;
 use crate::row::Row;
 use crate::value::Value;
-use std::alloc::AllocError;
+use std::alloc::{AllocError, Global};
 
 /// The condition that a column has a value.
 #[derive(Clone, Debug, PartialEq, Drop)]
@@ -52,6 +52,25 @@ pub struct Select {
 }
 
 impl Equal {
+    /// The condition that a column of kind Int has this value. Allocates nothing.
+    pub fn int(column: u16, value: i64) -> Equal
+        ensures { result ≡ record { column = column; value = Value.Int value } }
+    {
+        Equal {
+            column,
+            value: Value::Int(value),
+        }
+    }
+
+    /// The condition that a column of kind Text has this value.
+    pub fn text(alloc: Global, column: u16, value: &str) -> Result<Equal, AllocError>
+        ensures { IfOk result (λ equal.
+            equal ≡ record { column = column; value = Value.Text value.now }) }
+    {
+        let value = Value::text(alloc, value)?;
+        Ok(Equal { column, value })
+    }
+
     /// An equal condition, which shares its text with this one.
     pub fn copy(&self) -> Result<Equal, AllocError>
         ensures { IfOk result (λ copy. copy ≡ self.now) }
@@ -71,6 +90,51 @@ impl Change {
 
 impl Write {
     ghost use Rattle.tt_values.specs.Effect.{table_of};
+
+    /// The insert of a row with these values.
+    pub fn insert<const N: usize>(
+        alloc: Global,
+        table: u16,
+        values: [Value; N],
+    ) -> Result<Write, AllocError>
+        ensures { IfOk result (λ write.
+            write ≡ Write.Insert table (record { values = values.entry })) }
+    {
+        let row = Row::of(alloc, values)?;
+        Ok(Write::Insert { table, row })
+    }
+
+    /// The update that makes these changes to the rows that match all equalities. Without
+    /// equalities it changes all rows of the table.
+    pub fn update<const M: usize, const N: usize>(
+        alloc: Global,
+        table: u16,
+        changes: [Change; M],
+        equals: [Equal; N],
+    ) -> Result<Write, AllocError>
+        ensures { IfOk result (λ write. write ≡ Write.Update table changes.entry equals.entry) }
+    {
+        let changes = Items::of(alloc, changes)?;
+        let equals = Items::of(alloc, equals)?;
+        Ok(Write::Update {
+            table,
+            changes,
+            equals,
+        })
+    }
+
+    /// The delete of the rows that match all equalities. Without equalities it deletes all rows
+    /// of the table.
+    pub fn delete<const N: usize>(
+        alloc: Global,
+        table: u16,
+        equals: [Equal; N],
+    ) -> Result<Write, AllocError>
+        ensures { IfOk result (λ write. write ≡ Write.Delete table equals.entry) }
+    {
+        let equals = Items::of(alloc, equals)?;
+        Ok(Write::Delete { table, equals })
+    }
 
     /// The position of the table that the statement writes to. Allocates nothing.
     pub fn table(&self) -> u16
@@ -92,6 +156,26 @@ impl Write {
 }
 
 impl Select {
+    /// The select of all rows of a table.
+    pub fn all(alloc: Global, table: u16) -> Result<Select, AllocError>
+        ensures { IfOk result (λ select. select ≡ record { table = table; equals = [] }) }
+    {
+        Select::matching(alloc, table, [])
+    }
+
+    /// The select of the rows that match all equalities.
+    pub fn matching<const N: usize>(
+        alloc: Global,
+        table: u16,
+        equals: [Equal; N],
+    ) -> Result<Select, AllocError>
+        ensures { IfOk result (λ select.
+            select ≡ record { table = table; equals = equals.entry }) }
+    {
+        let equals = Items::of(alloc, equals)?;
+        Ok(Select { table, equals })
+    }
+
     /// An equal statement, which shares its lists with this one.
     pub fn copy(&self) -> Result<Select, AllocError>
         ensures { IfOk result (λ copy. copy ≡ self.now) }

@@ -5,8 +5,8 @@ use std::alloc::{AllocError, Global};
 use std::marker::Model;
 use std::sync::Arc;
 
-/// A text in UTF-8, as a value of a row or a name. It never changes, and several owners share it.
-/// Contracts see its bytes.
+/// An immutable text in UTF-8, for a value of a row or for a name. Its owners share it: `clone`
+/// copies no bytes. Contracts see its bytes.
 #[derive(Debug, Drop)]
 pub struct Text {
     text: Arc<String>,
@@ -23,12 +23,19 @@ impl Model for Text {
 }
 
 impl Text {
-    /// Moves the string to memory that several owners can share; the result is the first of them.
+    /// Moves the string to memory that owners can share; the result is its first owner.
     pub fn new(alloc: Global, text: String) -> Result<Self, AllocError>
         ensures { IfOk result (λ t. t ≡ string_bytes text) }
     {
         let text = Arc::new(alloc, text)?;
         Ok(Text { text })
+    }
+
+    /// A text with a copy of these bytes.
+    pub fn copied(alloc: Global, text: &str) -> Result<Self, AllocError>
+        ensures { IfOk result (λ t. t ≡ text.now) }
+    {
+        Text::new(alloc, String::from_str(alloc, text)?)
     }
 
     pub fn as_str(&self) -> &str
@@ -65,7 +72,7 @@ impl PartialEq for Text {
     }
 }
 
-/// A clone is a further owner of the same text.
+/// A clone shares the text.
 impl Clone for Text {
     ghost use Rattle.std.specs.Prelude.{◌≡◌};
 

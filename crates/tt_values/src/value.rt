@@ -1,7 +1,7 @@
 ghost use Rattle.std.specs.Prelude.{◌≡◌, IfOk};
 
 use crate::text::Text;
-use std::alloc::AllocError;
+use std::alloc::{AllocError, Global};
 
 /// The kind of values that a column has.
 #[derive(Clone, Copy, Debug, PartialEq, Eq)]
@@ -19,6 +19,13 @@ pub enum Value {
 
 impl Value {
     ghost use Rattle.tt_values.specs.Value.{is_of_kind, is_same};
+
+    /// A value of kind Text, with a copy of this text.
+    pub fn text(alloc: Global, text: &str) -> Result<Value, AllocError>
+        ensures { IfOk result (λ value. value ≡ Value.Text text.now) }
+    {
+        Ok(Value::Text(Text::copied(alloc, text)?))
+    }
 
     pub fn is_of_kind(&self, kind: Kind) -> bool
         ensures { result ≡ is_of_kind kind self.now }

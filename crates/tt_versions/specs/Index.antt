@@ -34,7 +34,7 @@ KeepsKeys before after = (digest key : ℤ) → IsTrue (has_key (keys_under dige
 abbrev pub ColumnLists : IndexedColumn → ℤ → Row → Type 0
 ColumnLists c key row = IfSome (slice_get row.values c.position) (λ v. IsTrue (has_key (keys_under (digest_of v) c.sets) key))
 
--- each column does
+-- each column lists a row under the value that it has there, if it has one
 abbrev pub ColumnsList : List IndexedColumn → ℤ → Row → Type 0
 ColumnsList [] key row = Unit {0}
 ColumnsList (c ∷ cs) key row = ColumnLists c key row × ColumnsList cs key row
@@ -49,7 +49,7 @@ pub record ListsRow (index : IndexState) (key : ℤ) (row : Row) : Type 0 where
   pub columns : ColumnsList index.columns key row
   pub first : IsTrue index.is_keyed → first_int row.values ≡ Some key
 
--- an index lists all that another one lists
+-- the second index lists each row that the first lists
 abbrev pub KeepsRows : IndexState → IndexState → Type 0
 KeepsRows before after = (key : ℤ) (row : Row) → ListsRow before key row → ListsRow after key row
 
@@ -70,7 +70,7 @@ abbrev pub ChainHas : (Row → Type 0) → List Version → Type 0
 ChainHas P [] = Unit {0}
 ChainHas P (v ∷ vs) = IfSome v.row P × ChainHas P vs
 
--- the versions of both sides do
+-- each version with a row, of both sides, has a property
 abbrev pub LineageHas : (Row → Type 0) → Lineage → Type 0
 LineageHas P l = ChainHas P l.current × IfSome l.next (λ vs. ChainHas P vs)
 
@@ -78,7 +78,7 @@ LineageHas P l = ChainHas P l.current × IfSome l.next (λ vs. ChainHas P vs)
 abbrev pub ListsTable : IndexState → LineagesByKey → Type 0
 ListsTable index t = (key : ℤ) → LineageHas (ListsRow index key) (lineage_at t key)
 
--- the same, but for one key
+-- an index lists each row of a table, of all times and both sides, except those with one key
 abbrev pub ListsTableBut : ℤ → IndexState → LineagesByKey → Type 0
 ListsTableBut but index t = (key : ℤ) → int_eq key but ≡ false → LineageHas (ListsRow index key) (lineage_at t key)
 

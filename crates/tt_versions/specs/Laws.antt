@@ -1,4 +1,4 @@
--- What holds of tables, in the subject's own words.
+-- What holds of all tables.
 use Rattle.std.specs.Prelude.{◌≡◌, ℤ, false}
 use Rattle.tt_versions.specs.declared.side.Side.{Side}
 use Rattle.tt_versions.specs.Sides.{LineagesByKey, no_lineages, side_of, current_of, next_of, is_split, no_rows, none_split}

@@ -16,7 +16,7 @@ use Rattle.tt_versions.specs.Lineage.{unwritten, chain_on, with_write_on, unspli
 abbrev pub LineagesByKey : Type 0
 LineagesByKey = List (ℤ × Lineage)
 
--- those of a table that was never written
+-- the lineages of a table that was never written
 abbrev pub no_lineages : LineagesByKey
 no_lineages = []
 
@@ -47,7 +47,7 @@ is_split t key = is_some (lineage_at t key).next
 abbrev pub HasSplitKeys : List (ℤ × Unit {0}) → LineagesByKey → Type 0
 HasSplitKeys keys t = (key : ℤ) → is_some (sorted.find int_cmp key keys) ≡ is_split t key
 
--- the same, but for one key
+-- a set of keys has those of the split rows, and no others, except for one key
 abbrev pub HasSplitKeysBut : ℤ → List (ℤ × Unit {0}) → LineagesByKey → Type 0
 HasSplitKeysBut key keys t = (q : ℤ) → int_eq q key ≡ false → is_some (sorted.find int_cmp q keys) ≡ is_split t q
 

@@ -11,7 +11,7 @@ started_by time vs = filter (λ v. nat_le v.start time) vs
 abbrev pub HaveStarted : ℕ → List Version → Type 0
 HaveStarted time vs = started_by time vs ≡ vs
 
--- none of them did
+-- none of some versions started by a time
 abbrev pub NoneHasStarted : ℕ → List Version → Type 0
 NoneHasStarted time vs = started_by time vs ≡ []
 

@@ -1,4 +1,4 @@
-//! Laws of the definitions that the contracts of this crate speak by. Each is the contract of a
+//! Laws of the definitions that the contracts of this crate use. Each is the contract of a
 //! function without a body.
 ghost use Rattle.tt_versions.specs.Laws.{EmptyTableShowsNoRows, EmptyTableSplitsNothing, WholeRowsShowTheSame};
 

@@ -10,6 +10,7 @@ mod lineage;
 mod lineages;
 mod next_chain;
 mod pace;
+mod persistent;
 mod row_write;
 mod side;
 mod table;

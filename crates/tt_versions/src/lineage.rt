@@ -2,6 +2,7 @@ ghost use Rattle.std.specs.Prelude.{◌≡◌, None, is_some, IfOk, OnOk};
 ghost use Rattle.std.specs.Option.{option_copied};
 
 use crate::next_chain::NextChain;
+use crate::row_write::RowWrite;
 use crate::side::Side;
 use crate::version_chain::VersionChain;
 use std::alloc::{AllocError, Global};
@@ -90,17 +91,13 @@ impl Lineage {
     /// Writes the row, or none, at the time on that side: on the current one in the chain that both
     /// sides share where the row isn't split, on the next one in a chain of its own. Without memory
     /// the lineage may be any.
-    pub(crate) fn write(
-        &mut self,
-        side: Side,
-        row: Option<Row>,
-        time: u64,
-    ) -> Result<(), AllocError>
-        ensures { OnOk result (self.new ≡ with_write_on side row time self.old) }
+    pub(crate) fn write(&mut self, write: RowWrite) -> Result<(), AllocError>
+        ensures { OnOk result
+            (self.new ≡ with_write_on write.side write.row write.time self.old) }
     {
-        match side {
-            Side::Current => self.current.write(row, time),
-            Side::Next => self.write_next(row, time),
+        match write.side {
+            Side::Current => self.current.write(write.row, write.time),
+            Side::Next => self.write_next(write.row, write.time),
         }
     }
 

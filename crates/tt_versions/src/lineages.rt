@@ -123,9 +123,11 @@ impl Lineages {
             mut index,
         } = self;
         let (mut lineage, is_there) = take_lineage(alloc, &mut entries, key)?;
-        list_row(alloc, &mut index, &lineage, side, key, &row, time)?;
-        lineage.write(side, row, time)?;
-        with_lineage(alloc, entries, split_keys, index, key, lineage, is_there)
+        let write = RowWrite { side, row, time };
+        list_row(alloc, &mut index, &lineage, key, &write)?;
+        lineage.write(write)?;
+        let taken = TakenLineage { lineage, is_there };
+        with_lineage(alloc, entries, split_keys, index, key, taken)
     }
 
     /// The rows with these keys, or none, are written at the time on that side. On the next side
@@ -175,7 +177,8 @@ impl Lineages {
         } = self;
         let (lineage, is_there) = take_lineage(alloc, &mut entries, key)?;
         let lineage = lineage.split_back(time)?;
-        with_lineage(alloc, entries, split_keys, index, key, lineage, is_there)
+        let taken = TakenLineage { lineage, is_there };
+        with_lineage(alloc, entries, split_keys, index, key, taken)
     }
 
     /// Each lineage is unsplit: both sides show what this one shows.
@@ -214,7 +217,14 @@ fn write_rows(
     ensures stored { OnOk result (IsStored split_keys.now index.new entries.new) }
 {
     for (key, row) in rows {
-        write_row(alloc, side, entries, split_keys, index, key, row, time)?;
+        write_row(
+            alloc,
+            entries,
+            split_keys,
+            index,
+            key,
+            RowWrite { side, row, time },
+        )?;
     }
     Ok(())
 }
@@ -222,30 +232,28 @@ fn write_rows(
 /// Writes a row, or none, on a side. The index lists it then.
 fn write_row(
     alloc: Global,
-    side: Side,
     entries: &mut PagedMap<Lineage>,
     _split_keys: &KeySet,
     index: &mut Index,
     key: i64,
-    row: Option<Row>,
-    time: u64,
+    write: RowWrite,
 ) -> Result<(), AllocError>
     requires stored { IsStored _split_keys.now index.old entries.old }
-    requires split { StaysSplit side (is_split entries.old) key }
+    requires split { StaysSplit write.side (is_split entries.old) key }
     ensures entries { OnOk result (
-        let lineage = with_write_on side row time (lineage_at entries.old key) in
+        let lineage = with_write_on write.side write.row write.time (lineage_at entries.old key) in
         entries.new ≡ put int_cmp key lineage entries.old) }
     ensures stored { OnOk result (IsStored _split_keys.now index.new entries.new) }
 {
     match entries.get(key) {
         Some(lineage) => {
-            list_row(alloc, index, lineage, side, key, &row, time)?;
-            entries.change(key, RowWrite { side, row, time })
+            list_row(alloc, index, lineage, key, &write)?;
+            entries.change(key, write)
         }
         None => {
             let mut lineage = Lineage::new(alloc);
-            list_row(alloc, index, &lineage, side, key, &row, time)?;
-            lineage.write(side, row, time)?;
+            list_row(alloc, index, &lineage, key, &write)?;
+            lineage.write(write)?;
             entries.put(key, lineage)
         }
     }
@@ -267,24 +275,22 @@ fn take_lineage(
     Ok((lineage, is_there))
 }
 
-/// Lists a row in the index, if there is one. The lineage is the one that is to get it.
+/// Lists the row of a write in the index, if there is one. The lineage is the one that is to get it.
 fn list_row(
     alloc: Global,
     index: &mut Index,
     lineage: &Lineage,
-    side: Side,
     key: i64,
-    row: &Option<Row>,
-    time: u64,
+    write: &RowWrite,
 ) -> Result<(), AllocError>
     requires { LineageHas (ListsRow index.old key) lineage.now }
     ensures keeps { OnOk result (KeepsRows index.old index.new) }
-    ensures lists { OnOk result (IfSome row.now (ListsRow index.new key)) }
+    ensures lists { OnOk result (IfSome write.now.row (ListsRow index.new key)) }
 {
-    let Some(row) = row else {
+    let Some(row) = &write.row else {
         return Ok(());
     };
-    if is_listed(index, lineage, side, row, time) {
+    if is_listed(index, lineage, write.side, row, write.time) {
         return Ok(());
     }
     let old = mem::replace(index, Index::new(alloc, Vec::new(alloc)));
@@ -304,6 +310,13 @@ fn is_listed(index: &Index, lineage: &Lineage, side: Side, row: &Row, time: u64)
     }
 }
 
+/// A lineage that was taken out of a map, and whether the map has its key.
+#[derive(Drop)]
+struct TakenLineage {
+    lineage: Lineage,
+    is_there: bool,
+}
+
 /// The map with that lineage at the key.
 fn with_lineage(
     alloc: Global,
@@ -311,15 +324,15 @@ fn with_lineage(
     split_keys: KeySet,
     index: Index,
     key: i64,
-    lineage: Lineage,
-    is_there: bool,
+    taken: TakenLineage,
 ) -> Result<Lineages, AllocError>
-    requires there { IsTrue is_there → IsSome (find int_cmp key entries) }
+    requires there { IsTrue taken.is_there → IsSome (find int_cmp key entries) }
     requires others { HasSplitKeysBut key split_keys entries }
     requires listed_others { ListsTableBut key index entries }
-    requires listed { LineageHas (ListsRow index key) lineage }
-    ensures { IfOk result (λ m. m ≡ put int_cmp key lineage entries) }
+    requires listed { LineageHas (ListsRow index key) taken.lineage }
+    ensures { IfOk result (λ m. m ≡ put int_cmp key taken.lineage entries) }
 {
+    let TakenLineage { lineage, is_there } = taken;
     let mut entries = entries;
     let mut split_keys = split_keys;
     mark(&mut split_keys, key, lineage.is_split())?;

@@ -1,11 +1,12 @@
 //! Where a search looks next.
 ghost use Rattle.std.specs.Prelude.{◌<◌, ◌≤◌};
 
-/// After so many guesses a search halves what is left, in case the versions have no even pace.
+/// After this many guesses a search halves the versions that are left, in case they have no even
+/// pace.
 const MAX_GUESSES: u32 = 8;
 
-/// Rows are often written at an even pace, so that the place of a time among the versions that are
-/// left of a search can be guessed from the times at their ends.
+/// Rows are often written at an even pace, so the place of a time among the versions that a search
+/// has left can be guessed from the times at their ends.
 #[derive(Clone, Copy)]
 pub(crate) struct Pace {
     earliest: u64,
@@ -22,7 +23,7 @@ impl Pace {
         }
     }
 
-    /// What is left starts after this time.
+    /// The versions that are left start after this time.
     pub(crate) fn after(self, time: u64) -> Pace {
         Pace {
             earliest: time,
@@ -31,7 +32,7 @@ impl Pace {
         }
     }
 
-    /// What is left starts before this time.
+    /// The versions that are left start before this time.
     pub(crate) fn before(self, time: u64) -> Pace {
         Pace {
             earliest: self.earliest,

@@ -3,7 +3,7 @@ ghost use Rattle.tt_versions.specs.Lineage.{with_write_on};
 use crate::lineage::Lineage;
 use crate::side::Side;
 use std::alloc::AllocError;
-use tt_pages::Change;
+use tt_pages::Modify;
 use tt_values::Row;
 
 /// The row with a key, or none, is written at a time on a side.
@@ -14,10 +14,10 @@ pub(crate) struct RowWrite {
     pub(crate) time: u64,
 }
 
-impl Change<Lineage> for RowWrite {
+impl Modify<Lineage> for RowWrite {
     ghost after = { λ write. with_write_on write.side write.row write.time };
 
     fn apply(self, lineage: &mut Lineage) -> Result<(), AllocError> {
-        lineage.write(self.side, self.row, self.time)
+        lineage.write(self)
     }
 }

@@ -248,24 +248,6 @@ impl Table {
         })
     }
 
-    /// The key has that row, or none, from the time on: on both sides, or only on the current one
-    /// where the row is split.
-    pub fn written(&self, key: i64, row: Option<Row>, time: u64) -> Result<Table, AllocError>
-        ensures current { IfOk result (λ t.
-            current_of t ≡ written_from key row time (current_of self.now)) }
-        ensures next { IfOk result (λ t. next_of t ≡ (if is_split self.now key
-            then next_of self.now else written_from key row time (next_of self.now))) }
-        ensures split { IfOk result (λ t. is_split t ≡ is_split self.now) }
-        ensures current_adds { IfOk result (λ t.
-            AddsRowWrite (current_of self.now) (current_of t) key row time) }
-        ensures next_adds { IfOk result (λ t. is_split self.now key ≡ false
-            → AddsRowWrite (next_of self.now) (next_of t) key row time) }
-    {
-        let shared = self.share()?;
-        let table = shared.into_written(key, row, time)?;
-        Ok(table)
-    }
-
     /// As [`written`](Table::written), of a table that isn't needed any more.
     #[tactic(auto, using(crate::proofs::SidesLemmas::writes))]
     pub fn into_written(self, key: i64, row: Option<Row>, time: u64) -> Result<Table, AllocError>
@@ -306,21 +288,6 @@ impl Table {
         Ok(Table { alloc, lineages })
     }
 
-    /// The row is split, and its next side is rolled back: from the time on it is what it was just
-    /// before. The current side stays.
-    pub fn split_back(&self, key: i64, time: u64) -> Result<Table, AllocError>
-        ensures current { IfOk result (λ t. current_of t ≡ current_of self.now) }
-        ensures next { IfOk result
-            (λ t. next_of t ≡ rolled_back_from key time (next_of self.now)) }
-        ensures split { IfOk result (λ t. is_split t ≡ with_key key (is_split self.now)) }
-        ensures next_drops { IfOk result (λ t.
-            DropsRowWrites (next_of self.now) (next_of t) key time) }
-    {
-        let shared = self.share()?;
-        let table = shared.into_split_back(key, time)?;
-        Ok(table)
-    }
-
     /// As [`split_back`](Table::split_back), of a table that isn't needed any more.
     #[tactic(auto, using(crate::proofs::SidesLemmas::writes))]
     pub fn into_split_back(self, key: i64, time: u64) -> Result<Table, AllocError>
@@ -333,21 +300,6 @@ impl Table {
         let Table { alloc, lineages } = self;
         let lineages = lineages.split_back(key, time)?;
         Ok(Table { alloc, lineages })
-    }
-
-    /// The key has that row, or none, from the time on, only on the next side.
-    pub fn next_written(&self, key: i64, row: Option<Row>, time: u64) -> Result<Table, AllocError>
-        requires { IsTrue (is_split self.now key) }
-        ensures current { IfOk result (λ t. current_of t ≡ current_of self.now) }
-        ensures next { IfOk result
-            (λ t. next_of t ≡ written_from key row time (next_of self.now)) }
-        ensures split { IfOk result (λ t. is_split t ≡ is_split self.now) }
-        ensures next_adds { IfOk result (λ t.
-            AddsRowWrite (next_of self.now) (next_of t) key row time) }
-    {
-        let shared = self.share()?;
-        let table = shared.into_next_written(key, row, time)?;
-        Ok(table)
     }
 
     /// As [`next_written`](Table::next_written), of a table that isn't needed any more.
@@ -369,9 +321,9 @@ impl Table {
         Ok(table)
     }
 
-    /// Each of these keys, whose rows are split, has its row, or none, from the time on, only on the
-    /// next side, as by one [`next_written`](Table::next_written) after another, of a table that
-    /// isn't needed any more.
+    /// Each of these keys, whose rows are split, has its row, or none, from the time on, only on
+    /// the next side, as by one [`next_written`](Table::next_written) after another, of a table
+    /// that isn't needed any more.
     #[tactic(auto, using(crate::proofs::SidesLemmas::writes_all_next))]
     pub fn into_all_next_written(
         self,
@@ -391,18 +343,6 @@ impl Table {
         Ok(Table { alloc, lineages })
     }
 
-    /// The next side becomes the current one, and no row is split. Takes time for the split rows
-    /// alone.
-    pub fn switched(&self) -> Result<Table, AllocError>
-        ensures current { IfOk result (λ t. current_of t ≡ next_of self.now) }
-        ensures next { IfOk result (λ t. next_of t ≡ next_of self.now) }
-        ensures split { IfOk result (λ t. is_split t ≡ none_split) }
-    {
-        let shared = self.share()?;
-        let table = shared.into_switched()?;
-        Ok(table)
-    }
-
     /// As [`switched`](Table::switched), of a table that isn't needed any more.
     pub fn into_switched(self) -> Result<Table, AllocError>
         ensures current { IfOk result (λ t. current_of t ≡ next_of self) }
@@ -410,18 +350,6 @@ impl Table {
         ensures split { IfOk result (λ t. is_split t ≡ none_split) }
     {
         self.unsplit(Side::Next)
-    }
-
-    /// The next side is given up for the current one, and no row is split. Takes time for the split
-    /// rows alone.
-    pub fn aborted(&self) -> Result<Table, AllocError>
-        ensures current { IfOk result (λ t. current_of t ≡ current_of self.now) }
-        ensures next { IfOk result (λ t. next_of t ≡ current_of self.now) }
-        ensures split { IfOk result (λ t. is_split t ≡ none_split) }
-    {
-        let shared = self.share()?;
-        let table = shared.into_aborted()?;
-        Ok(table)
     }
 
     /// As [`aborted`](Table::aborted), of a table that isn't needed any more.

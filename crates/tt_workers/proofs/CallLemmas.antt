@@ -18,8 +18,8 @@ use Rattle.tt_db.specs.declared.errors.ReadError.{ReadError}
 use Rattle.tt_db.specs.declared.errors.ReadError.TheVariants as read_errors
 use Rattle.tt_db.specs.State.{State, after, now_of, current_at, next_at}
 use Rattle.tt_db.specs.RightAnswers.{unless_fault, unless_later, unless_idle, right_select, right_select_at, right_preview}
-use Rattle.tt_repair.specs.declared.record.What.{What}
-use Rattle.tt_repair.specs.declared.record.What.TheVariants as whats
+use Rattle.tt_records.specs.declared.record.What.{What}
+use Rattle.tt_records.specs.declared.record.What.TheVariants as whats
 use Rattle.tt_repair.specs.Growth.{GrewBy}
 use Rattle.tt_repair.proofs.GrowthLemmas.{grew_none, grew_one}
 use Rattle.tt_document.specs.declared.document.Call.{Call}
@@ -32,7 +32,7 @@ use Rattle.tt_store.specs.Store.{Wrote}
 use Rattle.tt_store.proofs.Prefixes.{prefix_length}
 use Rattle.tt_workload.specs.Records.{read_in, preview_in, answer_in}
 use Rattle.tt_workload.specs.History.{entries_of_ask}
-use Rattle.tt_workers.specs.Calls.{IsMade, Makes, behind, what_of_read, what_of_preview}
+use Rattle.tt_workers.specs.Calls.{IsMade, Makes, seen_after, what_of_read, what_of_preview}
 
 pub take_front : {A : Type 0} (xs ys : List A) → take (length xs) (xs ++ ys) ≡ xs
 take_front [] ys = refl
@@ -73,7 +73,7 @@ made_action tables limits action old new w wrote =
 
 -- a read, or a preview, at what the worker has then seen
 pub made_reading : (limits : Limits) (ask : Ask) (old new : WorkerState) (what : What) (front : ℕ) → Looks old new → front ≡ length new.seen
-    → entries_of_ask old.number ask ≡ [] → behind ask front ≡ front → what ≡ answer_in (after limits new.seen) ask → IsMade limits ask old new what front
+    → entries_of_ask old.number ask ≡ [] → seen_after ask front ≡ front → what ≡ answer_in (after limits new.seen) ask → IsMade limits ask old new what front
 made_reading limits ask old new what front looks is none reads right = record {
   grew = subst (λ es. GrewBy old new es) (sym none) (grew_none old new looks);
   later = omega (arith, is, prefix_length old.seen new.seen looks.seen);
@@ -206,7 +206,7 @@ right_preview_in tables S q old new (Err (read_errors.Later now)) what none h is
 -- a call of the worker that bears its number, and its record
 pub makes_call : (limits : Limits) (number : ℕ) (call : Call) (old new : WorkerState) (what : What) (front : ℕ) → call.worker ≡ old.number
     → IsMade limits call.ask old new what front
-    → Makes limits number call old new (record { told = record { call = number; worker = call.worker; what = what }; front = front })
+    → Makes limits number call old new (record { answer = record { call = number; worker = call.worker; what = what }; front = front })
 makes_call limits number call old new what front own made = record {
   grew = subst (λ n. GrewBy old new (entries_of_ask n call.ask)) (sym own) made.grew;
   later = made.later;

@@ -3,6 +3,6 @@ pub mod WorkLemmas
 pub mod MergingLemmas
 pub mod MadeLemmas
 pub mod RunningLemmas
-pub mod PhaseLemmas
-pub mod Threads
+pub mod ThreadsLemmas
+pub mod Crossing
 pub mod QueueLemmas

@@ -13,7 +13,7 @@ use Rattle.tt_store.specs.Workers.{WorkerState, IsAmong, own_entries}
 use Rattle.tt_store.specs.Opening.{new_worker, new_workers}
 use Rattle.tt_store.specs.Closing.{IsPartOf}
 use Rattle.tt_workload.specs.History.{entries_of, history_of}
-use Rattle.tt_workers.specs.declared.answered.Answered.{Answered}
+use Rattle.tt_workers.specs.declared.answered_call.AnsweredCall.{AnsweredCall}
 use Rattle.tt_workers.specs.Calls.{made_by, AllWork}
 use Rattle.tt_workers.proofs.MergingLemmas.{NumberedFrom}
 
@@ -34,7 +34,7 @@ made_by-append : (worker : ℕ) (calls more : List Call) → made_by worker (his
 made_by-append worker calls more = ap (made_by worker) (history_of-append calls more) ∙ filter-append (λ e. e.worker == worker) (history_of calls) (history_of more)
 
 -- further calls
-pub made_more : (limits : Limits) (number k : ℕ) (before calls : List Call) (olds news : List WorkerState) (queues : List (List Answered))
+pub made_more : (limits : Limits) (number k : ℕ) (before calls : List Call) (olds news : List WorkerState) (queues : List (List AnsweredCall))
     → HaveMade k before olds → AllWork limits number calls olds news queues → HaveMade k (before ++ calls) news
 made_more limits number k before calls [] [] [] made h = tt
 made_more limits number k before calls [] [] (q ∷ queues) made h = absurd h
@@ -47,7 +47,7 @@ made_more limits number k before calls (old ∷ olds) (new ∷ news) (q ∷ queu
     grew.entries ∙ (λ i. made.1 i ++ made_by (made.0 i) (history_of calls)) in
     (grew.number ∙ made.0, own ∙ sym (made_by-append k before calls), made_more limits number (k + 1) before calls olds news queues made.2 h.1)
 
-pub length-work : (limits : Limits) (number : ℕ) (calls : List Call) (olds news : List WorkerState) (queues : List (List Answered)) → AllWork limits number calls olds news queues
+pub length-work : (limits : Limits) (number : ℕ) (calls : List Call) (olds news : List WorkerState) (queues : List (List AnsweredCall)) → AllWork limits number calls olds news queues
     → length news ≡ length olds
 length-work limits number calls [] [] [] h = refl
 length-work limits number calls [] [] (q ∷ queues) h = absurd h
@@ -56,7 +56,7 @@ length-work limits number calls (old ∷ olds) [] queues h = absurd h
 length-work limits number calls (old ∷ olds) (new ∷ news) [] h = absurd h
 length-work limits number calls (old ∷ olds) (new ∷ news) (q ∷ queues) h = ap suc (length-work limits number calls olds news queues h.1)
 
-pub length-queues : (limits : Limits) (number : ℕ) (calls : List Call) (olds news : List WorkerState) (queues : List (List Answered)) → AllWork limits number calls olds news queues
+pub length-queues : (limits : Limits) (number : ℕ) (calls : List Call) (olds news : List WorkerState) (queues : List (List AnsweredCall)) → AllWork limits number calls olds news queues
     → length queues ≡ length olds
 length-queues limits number calls [] [] [] h = refl
 length-queues limits number calls [] [] (q ∷ queues) h = absurd h

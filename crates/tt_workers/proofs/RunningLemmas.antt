@@ -19,9 +19,9 @@ use Rattle.tt_document.specs.declared.document.Document.{Document}
 use Rattle.tt_document.specs.declared.document.Plan.{Plan}
 use Rattle.tt_document.specs.declared.document.Call.{Call}
 use Rattle.tt_document.specs.Document.{IsValidCall, IsValidEdit, IsValidPlan, IsValidDocument}
-use Rattle.tt_repair.specs.declared.record.Record.{Record}
+use Rattle.tt_records.specs.declared.record.Record.{Record}
 use Rattle.tt_repair.specs.declared.repaired.Repaired.{Repaired}
-use Rattle.tt_repair.specs.Changes.{changes_of}
+use Rattle.tt_records.specs.Changes.{changes_of}
 use Rattle.tt_repair.specs.Repairing.{HasRepaired, begun_steps, entry_by}
 use Rattle.tt_store.specs.History.{entries_by, places_of}
 use Rattle.tt_store.specs.Calls.{numbers_from}
@@ -31,14 +31,14 @@ use Rattle.tt_store.specs.Closing.{IsPartOf, IsOfWorker}
 use Rattle.tt_store.proofs.Prefixes.{prefix_trans}
 use Rattle.tt_workload.specs.History.{history_of, edit_of_slot, slot_in_record, administrator}
 use Rattle.tt_workload.specs.declared.run_fault.RunFault.{RunFault}
-use Rattle.tt_workers.specs.declared.answered.Answered.{Answered}
+use Rattle.tt_workers.specs.declared.answered_call.AnsweredCall.{AnsweredCall}
 use Rattle.tt_workers.specs.declared.report.Report.{Report}
 use Rattle.tt_workers.specs.declared.merging.Records.{Records}
-use Rattle.tt_workers.specs.Calls.{made_by, behind, AllWork}
-use Rattle.tt_workers.specs.Merging.{AreOf, first_of, without_first, merged}
+use Rattle.tt_workers.specs.Calls.{made_by, seen_after, AllWork}
+use Rattle.tt_workers.specs.Merging.{AreOf, first_of, without_first, merged_answers}
 use Rattle.tt_workers.specs.Running.{MadeCalls, MadeRepair, MadeRepairIf, MadeAll}
 use Rattle.tt_workers.specs.Report.{with_seen, AreAnswered, nothing_seen, all_calls, meanwhile_of, IsRepaired, IsRepairOf, IsReportOf}
-use Rattle.tt_workers.proofs.MergingLemmas.{AreMerged, HaveSeen, seen_by, has_queues, merged_right, merged_answered, merged_lower, merged_append, length-merged}
+use Rattle.tt_workers.proofs.MergingLemmas.{AreMerged, HaveSeen, seen_by, has_queues, merged_right, merged_answered, merged_lower, merged_append, length-merged_answers}
 use Rattle.tt_workers.proofs.MadeLemmas.{HaveMade, numbered, made_more, length-work, length-new_workers, new_made, all_own}
 
 -- ---- lists of workers
@@ -110,7 +110,7 @@ numbered_records limits history seen number (c ∷ calls) [] fronts h = absurd h
 numbered_records limits history seen number (c ∷ calls) (r ∷ records) [] h = absurd h
 numbered_records limits history seen number (c ∷ calls) (r ∷ records) (f ∷ fronts) h =
     let is : r.call ≡ number = ap (λ (x : Record). x.call) h.0.right in
-    let rest = numbered_records limits history (with_seen seen c.worker (behind c.ask f)) (number + 1) calls records fronts h.1 in
+    let rest = numbered_records limits history (with_seen seen c.worker (seen_after c.ask f)) (number + 1) calls records fronts h.1 in
     (λ i. is i ∷ rest i)
 
 -- ---- edits
@@ -139,7 +139,7 @@ edits_longer records more calls tables (e ∷ edits) count valid =
 
 pub phase_merged : (limits : Limits) (history : List Entry) (n number : ℕ) (calls : List Call) (olds news : List WorkerState) (before now : Records) (done : List Call)
     → (made : MadeCalls limits number calls olds news before now) → HaveMade 1 done olds → length olds ≡ n → HaveSeen history news → AreOf n calls
-    → AreMerged limits history n number (seen_by olds) calls (merged calls made.queues) (seen_by news)
+    → AreMerged limits history n number (seen_by olds) calls (merged_answers calls made.queues) (seen_by news)
 phase_merged limits history n number calls olds news before now done made have count seen of =
     merged_right limits history n number (seen_by olds) (seen_by news) calls made.queues
     (has_queues limits history n number calls olds news made.queues made.work (numbered 1 done olds have) seen count) of
@@ -151,85 +151,15 @@ pub record Leaves (document : Document) (history : List Entry) (records : List R
   pub repair : IsRepairOf document records history document.repair repaired
 
 -- the calls of a document, before its repair
-pub record FirstCalls (limits : Limits) (document : Document) (history : List Entry) (news : List WorkerState) (middle : Records) (answers : List Answered) : Type 0 where
-  pub records : middle.records.items ≡ map (λ a. a.told) answers
+pub record FirstCalls (limits : Limits) (document : Document) (history : List Entry) (news : List WorkerState) (middle : Records) (answers : List AnsweredCall) : Type 0 where
+  pub records : middle.records.items ≡ map (λ a. a.answer) answers
   pub fronts : middle.fronts.items ≡ map (λ a. a.front) answers
   pub merged_is : AreMerged limits history document.workers 1 nothing_seen document.calls answers (seen_by news)
   pub have : HaveMade 1 document.calls news
   pub count : length news ≡ document.workers
 
-first_calls : (limits : Limits) (document : Document) (history : List Entry) (none middle : Records) (news : List WorkerState) → IsValidDocument document
-    → none.records.items ≡ [] → none.fronts.items ≡ [] → (made : MadeCalls limits 1 document.calls (new_workers document.workers) news none middle) → HaveSeen history news
-    → FirstCalls limits document history news middle (merged document.calls made.queues)
-first_calls limits document history none middle news valid no_records no_fronts made seen =
-    let answers = merged document.calls made.queues in
-    let of = of_valid_calls document.catalog document.workers document.calls valid.valid_calls in
-    let start = new_workers document.workers in
-    record {
-      records = made.records ∙ ap (λ rs. rs ++ map (λ a. a.told) answers) no_records;
-      fronts = made.fronts ∙ ap (λ fs. fs ++ map (λ a. a.front) answers) no_fronts;
-      merged_is = merged_lower limits history document.workers 1 nothing_seen (seen_by start) (seen_by news) document.calls answers (λ w some last. omega arith) of
-          (phase_merged limits history document.workers 1 document.calls start news none middle [] made (new_made document.workers) (length-new_workers document.workers) seen of);
-      have = made_more limits 1 1 [] document.calls start news made.queues (new_made document.workers) made.work;
-      count = length-work limits 1 document.calls start news made.queues made.work ∙ length-new_workers document.workers;
-    }
-
--- a document without a repair
-leaves_alone : (limits : Limits) (document : Document) (history : List Entry) (none now : Records) (news : List WorkerState) → IsValidDocument document → limits ≡ usual_limits
-    → none.records.items ≡ [] → none.fronts.items ≡ [] → MadeCalls limits 1 document.calls (new_workers document.workers) news none now → document.repair ≡ None
-    → Each (λ w. IsAmong w.own (places_of w.number w.seen)) (news ++ new_worker (suc document.workers) ∷ []) → Each (IsPartOf history) (news ++ new_worker (suc document.workers) ∷ [])
-    → Leaves document history now.records.items now.fronts.items None
-leaves_alone limits document history none now news valid same_limits no_records no_fronts made no_repair among parts =
-    let last = new_worker (suc document.workers) in
-    let owns = owns_each history (news ++ last ∷ []) among parts in
-    let own = each_front (OwnsAll history) news (last ∷ []) owns in
-    let seen = seen_each history news (each_front (IsPartOf history) news (last ∷ []) parts) in
-    let first = first_calls limits document history none now news valid no_records no_fronts made seen in
-    let answers = merged document.calls made.queues in
-    let all : document.calls ≡ all_calls document = sym (ap (λ (p : Option Plan). document.calls ++ meanwhile_of p) no_repair ∙ append-nil document.calls) in
-    let answered : AreAnswered limits history nothing_seen 1 document.calls now.records.items now.fronts.items =
-    subst (λ (rs : List Record). AreAnswered limits history nothing_seen 1 document.calls rs now.fronts.items) (sym first.records)
-    (subst (λ (fs : List ℕ). AreAnswered limits history nothing_seen 1 document.calls (map (λ a. a.told) answers) fs) (sym first.fronts)
-    (merged_answered limits history document.workers 1 nothing_seen (seen_by news) document.calls answers first.merged_is)) in
-    record {
-      answered = subst (λ (l : Limits). AreAnswered l history nothing_seen 1 (all_calls document) now.records.items now.fronts.items) same_limits
-          (subst (λ (cs : List Call). AreAnswered limits history nothing_seen 1 cs now.records.items now.fronts.items) all answered);
-      made = subst (λ (cs : List Call). (worker : ℕ) → 1 ≤ worker → worker ≤ document.workers → made_by worker history ≡ made_by worker (history_of cs)) all
-          (made_by_all history document.workers document.calls news first.have own first.count);
-      repair = subst (λ (p : Option Plan). IsRepairOf document now.records.items history p None) (sym no_repair)
-          (ap (λ k. made_by k history) (let same : administrator document ≡ suc document.workers = omega arith in same) ∙ sym (each_last (OwnsAll history) news last owns));
-    }
-
--- what the administrator has made
-repaired_is : (tables : Tables) (limits : Limits) (document : Document) (plan : Plan) (history : List Entry) (edits all_edits : List Edit) (records : List Record) (start middle last : WorkerState) (r : Repaired)
-    → tables ≡ document.catalog → limits ≡ usual_limits → start ≡ new_worker (suc document.workers) → Looks start middle → HasRepaired tables limits edits middle last r → edits ≡ all_edits
-    → all_edits ≡ map (edit_of_slot records) plan.edits → OwnsAll history last → IsPrefix last.seen history → IsRepaired document plan records history r
-repaired_is tables limits document plan history edits all_edits records start middle last r same_tables same_limits is looks has same_edits edits_are owns seen =
-    let number : middle.number ≡ administrator document =
-    looks.number ∙ ap (λ (w : WorkerState). w.number) is ∙ (let same : suc document.workers ≡ administrator document = omega arith in same) in
-    let last_number : last.number ≡ administrator document = has.grew.number ∙ number in
-    let nothing : own_entries middle ≡ [] = looks.entries ∙ ap own_entries is in
-    let made = begun_steps edits has.count ++ events.Switch ∷ [] in
-    let own : own_entries last ≡ entries_by middle.number made = has.grew.entries ∙ ap (λ es. es ++ entries_by middle.number made) nothing in
-    let entries : made_by (administrator document) history ≡ entries_by (administrator document) made =
-    ap (λ k. made_by k history) (sym last_number) ∙ sym owns ∙ own ∙ ap (λ k. entries_by k made) number in
-    let switch : Entry = entry_by (administrator document) events.Switch in
-    let whole : history ≡ has.front ++ switch ∷ seen.0 =
-    sym seen.1 ∙ ap (λ xs. xs ++ seen.0) (has.seen ∙ ap (λ k. has.front ++ entry_by k events.Switch ∷ []) number) ∙ append_assoc has.front (switch ∷ []) seen.0 in
-    let switched : Outcome = Switched r.generation r.slots r.rerun in
-    record {
-      steps = has.count;
-      before = has.front;
-      behind = seen.0;
-      entries = entries ∙ ap (λ es. entries_by (administrator document) (begun_steps es has.count ++ events.Switch ∷ [])) (same_edits ∙ edits_are);
-      switch = whole;
-      place = has.place_is ∙ ap length has.seen ∙ length-append has.front (entry_by middle.number events.Switch ∷ []);
-      outcome = subst (λ (l : Limits). outcome_of document.catalog (after l has.front) events.Switch ≡ switched) same_limits
-          (subst (λ (ts : Tables). outcome_of ts (after limits has.front) events.Switch ≡ switched) same_tables has.outcome);
-    }
-
 -- what was seen before further calls is a beginning of the history, too
-have_seen_before : (limits : Limits) (number : ℕ) (calls : List Call) (history : List Entry) (olds news : List WorkerState) (queues : List (List Answered)) → AllWork limits number calls olds news queues
+have_seen_before : (limits : Limits) (number : ℕ) (calls : List Call) (history : List Entry) (olds news : List WorkerState) (queues : List (List AnsweredCall)) → AllWork limits number calls olds news queues
     → HaveSeen history news → HaveSeen history olds
 have_seen_before limits number calls history [] [] [] work seen = tt
 have_seen_before limits number calls history [] [] (q ∷ queues) work seen = absurd work
@@ -239,115 +169,192 @@ have_seen_before limits number calls history (old ∷ olds) (new ∷ news) [] wo
 have_seen_before limits number calls history (old ∷ olds) (new ∷ news) (q ∷ queues) work seen =
     (prefix_trans old.seen new.seen history work.0.grew.seen seen.0, have_seen_before limits number calls history olds news queues work.1 seen.1)
 
--- a document with a repair
-leaves_repaired : (tables : Tables) (limits : Limits) (document : Document) (plan : Plan) (history : List Entry) (none middle now : Records) (start : WorkerState) (olds all : List WorkerState) (r : Repaired)
-    → IsValidDocument document → IsValidPlan document.catalog document.workers document.calls plan → tables ≡ document.catalog → limits ≡ usual_limits → start ≡ new_worker (suc document.workers)
-    → none.records.items ≡ [] → none.fronts.items ≡ [] → MadeCalls limits 1 document.calls (new_workers document.workers) olds none middle → document.repair ≡ Some plan
-    → MadeRepair tables limits plan start olds middle all now r
-    → Each (λ w. IsAmong w.own (places_of w.number w.seen)) all → Each (IsPartOf history) all
-    → Leaves document history now.records.items now.fronts.items (Some r)
-leaves_repaired tables limits document plan history none middle now start olds all r valid valid_plan same_tables same_limits start_is no_records no_fronts made has_repair repair among parts =
-    let n = document.workers in
-    let news = repair.news in
-    let last = repair.last in
-    let parts' : Each (IsPartOf history) (news ++ last ∷ []) = subst (λ (ws : List WorkerState). Each (IsPartOf history) ws) repair.all_is parts in
-    let among' : Each (λ w. IsAmong w.own (places_of w.number w.seen)) (news ++ last ∷ []) = subst (λ (ws : List WorkerState). Each (λ w. IsAmong w.own (places_of w.number w.seen)) ws) repair.all_is among in
-    let owns = owns_each history (news ++ last ∷ []) among' parts' in
-    let own = each_front (OwnsAll history) news (last ∷ []) owns in
-    let seen = seen_each history news (each_front (IsPartOf history) news (last ∷ []) parts') in
-    let seen_before = have_seen_before limits (length middle.records.items + 1) plan.meanwhile history olds news repair.calls.queues repair.calls.work seen in
-    let first = first_calls limits document history none middle olds valid no_records no_fronts made seen_before in
-    let answers = merged document.calls made.queues in
-    let others = merged plan.meanwhile repair.calls.queues in
-    let of_more = of_valid_calls document.catalog n plan.meanwhile valid_plan.valid_calls in
-    let more = phase_merged limits history n (length middle.records.items + 1) plan.meanwhile olds news middle now document.calls repair.calls first.have first.count seen of_more in
-    let many : length middle.records.items ≡ length document.calls =
-    ap length first.records ∙ length-map answers (λ a. a.told) ∙ length-merged limits history n 1 nothing_seen (seen_by olds) document.calls answers first.merged_is in
-    let both = merged_append limits history n 1 (length middle.records.items + 1) nothing_seen (seen_by olds) (seen_by news) document.calls plan.meanwhile answers others (omega (arith, many)) of_more first.merged_is more in
-    let all : document.calls ++ plan.meanwhile ≡ all_calls document = sym (ap (λ (p : Option Plan). document.calls ++ meanwhile_of p) has_repair) in
-    let records : now.records.items ≡ map (λ a. a.told) (answers ++ others) =
-    repair.calls.records ∙ ap (λ rs. rs ++ map (λ a. a.told) others) first.records ∙ sym (map-append (λ a. a.told) answers others) in
-    let fronts : now.fronts.items ≡ map (λ a. a.front) (answers ++ others) =
-    repair.calls.fronts ∙ ap (λ fs. fs ++ map (λ a. a.front) others) first.fronts ∙ sym (map-append (λ a. a.front) answers others) in
-    let calls = document.calls ++ plan.meanwhile in
-    let answered : AreAnswered limits history nothing_seen 1 calls now.records.items now.fronts.items =
-    subst (λ (rs : List Record). AreAnswered limits history nothing_seen 1 calls rs now.fronts.items) (sym records)
-    (subst (λ (fs : List ℕ). AreAnswered limits history nothing_seen 1 calls (map (λ a. a.told) (answers ++ others)) fs) (sym fronts)
-    (merged_answered limits history n 1 nothing_seen (seen_by news) calls (answers ++ others) both)) in
-    let have = made_more limits (length middle.records.items + 1) 1 document.calls plan.meanwhile olds news repair.calls.queues first.have repair.calls.work in
-    let count : length news ≡ n = length-work limits (length middle.records.items + 1) plan.meanwhile olds news repair.calls.queues repair.calls.work ∙ first.count in
-    let edits = edits_longer middle.records.items (map (λ a. a.told) others) document.calls document.catalog plan.edits many
-    (recursion_from_All (IsValidEdit document.catalog document.calls) plan.edits valid_plan.valid_edits) in
-    let edits_are : map (edit_of_slot (middle.records.items ++ map (λ a. a.told) others)) plan.edits ≡ map (edit_of_slot now.records.items) plan.edits =
-    ap (λ rs. map (edit_of_slot rs) plan.edits) (sym repair.calls.records) in
-    let last_part = each_last (IsPartOf history) news last parts' in
-    record {
-      answered = subst (λ (l : Limits). AreAnswered l history nothing_seen 1 (all_calls document) now.records.items now.fronts.items) same_limits
-          (subst (λ (cs : List Call). AreAnswered limits history nothing_seen 1 cs now.records.items now.fronts.items) all answered);
-      made = subst (λ (cs : List Call). (worker : ℕ) → 1 ≤ worker → worker ≤ n → made_by worker history ≡ made_by worker (history_of cs)) all
-          (made_by_all history n calls news have own count);
-      repair = subst (λ (p : Option Plan). IsRepairOf document now.records.items history p (Some r)) (sym has_repair)
-          (repaired_is tables limits document plan history (map (edit_of_slot middle.records.items) plan.edits) (map (edit_of_slot (middle.records.items ++ map (λ a. a.told) others)) plan.edits) now.records.items
-          start repair.middle last r same_tables same_limits start_is repair.looks repair.repaired edits edits_are (each_last (OwnsAll history) news last owns) last_part.seen);
-    }
+-- how a run of a document begins: on a store with its tables and the usual limits, with new workers and without records
+pub record Begins (tables : Tables) (limits : Limits) (document : Document) (start : List WorkerState) (none : Records) : Type 0 where
+  pub valid : IsValidDocument document
+  pub same_tables : tables ≡ document.catalog
+  pub same_limits : limits ≡ usual_limits
+  pub new : start ≡ new_workers (document.workers + 1)
+  pub no_records : none.records.items ≡ []
+  pub no_fronts : none.fronts.items ≡ []
 
--- what workers that have made all leave
-pub leaves : (tables : Tables) (limits : Limits) (document : Document) (history : List Entry) (start all : List WorkerState) (none now : Records) (repaired : Option Repaired)
-    → IsValidDocument document → tables ≡ document.catalog → limits ≡ usual_limits → start ≡ new_workers (document.workers + 1) → none.records.items ≡ [] → none.fronts.items ≡ []
-    → MadeAll tables limits document start none all now repaired
-    → All (λ w. IsAmong w.own (places_of w.number w.seen)) all → All (IsPartOf history) all → Leaves document history now.records.items now.fronts.items repaired
-leaves tables limits document history start all none now repaired valid same_tables same_limits start_is no_records no_fronts made among parts = by document.repair refl repaired made.repair valid.valid_repair
-  where
-    next : document.workers + 1 ≡ suc document.workers
-    next = omega arith
+module _ (tables : Tables) (limits : Limits) (document : Document) (history : List Entry) (start : List WorkerState) (none : Records) (begins : Begins tables limits document start none) where
+  first_calls : (middle : Records) (news : List WorkerState) → (made : MadeCalls limits 1 document.calls (new_workers document.workers) news none middle) → HaveSeen history news
+      → FirstCalls limits document history news middle (merged_answers document.calls made.queues)
+  first_calls middle news made seen =
+      let answers = merged_answers document.calls made.queues in
+      let of = of_valid_calls document.catalog document.workers document.calls begins.valid.valid_calls in
+      let new = new_workers document.workers in
+      record {
+        records = made.records ∙ ap (λ rs. rs ++ map (λ a. a.answer) answers) begins.no_records;
+        fronts = made.fronts ∙ ap (λ fs. fs ++ map (λ a. a.front) answers) begins.no_fronts;
+        merged_is = merged_lower limits history document.workers 1 nothing_seen (seen_by new) (seen_by news) document.calls answers (λ w some last. omega arith) of
+            (phase_merged limits history document.workers 1 document.calls new news none middle [] made (new_made document.workers) (length-new_workers document.workers) seen of);
+        have = made_more limits 1 1 [] document.calls new news made.queues (new_made document.workers) made.work;
+        count = length-work limits 1 document.calls new news made.queues made.work ∙ length-new_workers document.workers;
+      }
 
-    ends : (made.olds ≡ new_workers document.workers) × (made.administrator ≡ new_worker (suc document.workers))
-    ends = snoc_same made.olds (new_workers document.workers) made.administrator (new_worker (suc document.workers))
-        (sym made.start_is ∙ start_is ∙ ap new_workers next)
+  -- a document without a repair
+  leaves_alone : (now : Records) (news : List WorkerState) → MadeCalls limits 1 document.calls (new_workers document.workers) news none now → document.repair ≡ None
+      → Each (λ w. IsAmong w.own (places_of w.number w.seen)) (news ++ new_worker (suc document.workers) ∷ []) → Each (IsPartOf history) (news ++ new_worker (suc document.workers) ∷ [])
+      → Leaves document history now.records.items now.fronts.items None
+  leaves_alone now news made no_repair among parts =
+      let last = new_worker (suc document.workers) in
+      let owns = owns_each history (news ++ last ∷ []) among parts in
+      let own = each_front (OwnsAll history) news (last ∷ []) owns in
+      let seen = seen_each history news (each_front (IsPartOf history) news (last ∷ []) parts) in
+      let first = first_calls now news made seen in
+      let answers = merged_answers document.calls made.queues in
+      let all : document.calls ≡ all_calls document = sym (ap (λ (p : Option Plan). document.calls ++ meanwhile_of p) no_repair ∙ append-nil document.calls) in
+      let answered : AreAnswered limits history nothing_seen 1 document.calls now.records.items now.fronts.items =
+      subst (λ (rs : List Record). AreAnswered limits history nothing_seen 1 document.calls rs now.fronts.items) (sym first.records)
+      (subst (λ (fs : List ℕ). AreAnswered limits history nothing_seen 1 document.calls (map (λ a. a.answer) answers) fs) (sym first.fronts)
+      (merged_answered limits history document.workers 1 nothing_seen (seen_by news) document.calls answers first.merged_is)) in
+      record {
+        answered = subst (λ (l : Limits). AreAnswered l history nothing_seen 1 (all_calls document) now.records.items now.fronts.items) begins.same_limits
+            (subst (λ (cs : List Call). AreAnswered limits history nothing_seen 1 cs now.records.items now.fronts.items) all answered);
+        made = subst (λ (cs : List Call). (worker : ℕ) → 1 ≤ worker → worker ≤ document.workers → made_by worker history ≡ made_by worker (history_of cs)) all
+            (made_by_all history document.workers document.calls news first.have own first.count);
+        repair = subst (λ (p : Option Plan). IsRepairOf document now.records.items history p None) (sym no_repair)
+            (ap (λ k. made_by k history) (let same : administrator document ≡ suc document.workers = omega arith in same) ∙ sym (each_last (OwnsAll history) news last owns));
+      }
 
-    calls : MadeCalls limits 1 document.calls (new_workers document.workers) made.news none made.middle
-    calls = subst (λ (ws : List WorkerState). MadeCalls limits 1 document.calls ws made.news none made.middle) ends.0 made.calls
+  -- what the administrator has made
+  repaired_is : (plan : Plan) (edits : List Edit) (records : List Record) (new middle last : WorkerState) (r : Repaired) → new ≡ new_worker (suc document.workers)
+      → Looks new middle → HasRepaired tables limits edits middle last r → edits ≡ map (edit_of_slot records) plan.edits → OwnsAll history last → IsPrefix last.seen history → IsRepaired document plan records history r
+  repaired_is plan edits records new middle last r is looks has edits_are owns seen =
+      let number : middle.number ≡ administrator document =
+      looks.number ∙ ap (λ (w : WorkerState). w.number) is ∙ (let same : suc document.workers ≡ administrator document = omega arith in same) in
+      let last_number : last.number ≡ administrator document = has.grew.number ∙ number in
+      let nothing : own_entries middle ≡ [] = looks.entries ∙ ap own_entries is in
+      let made = begun_steps edits has.count ++ events.Switch ∷ [] in
+      let own : own_entries last ≡ entries_by middle.number made = has.grew.entries ∙ ap (λ es. es ++ entries_by middle.number made) nothing in
+      let entries : made_by (administrator document) history ≡ entries_by (administrator document) made =
+      ap (λ k. made_by k history) (sym last_number) ∙ sym owns ∙ own ∙ ap (λ k. entries_by k made) number in
+      let switch : Entry = entry_by (administrator document) events.Switch in
+      let whole : history ≡ has.front ++ switch ∷ seen.0 =
+      sym seen.1 ∙ ap (λ xs. xs ++ seen.0) (has.seen ∙ ap (λ k. has.front ++ entry_by k events.Switch ∷ []) number) ∙ append_assoc has.front (switch ∷ []) seen.0 in
+      let switched : Outcome = Switched r.generation r.slots r.rerun in
+      record {
+        steps = has.count;
+        before = has.front;
+        rest = seen.0;
+        entries = entries ∙ ap (λ es. entries_by (administrator document) (begun_steps es has.count ++ events.Switch ∷ [])) edits_are;
+        switch = whole;
+        place = has.place_is ∙ ap length has.seen ∙ length-append has.front (entry_by middle.number events.Switch ∷ []);
+        outcome = subst (λ (l : Limits). outcome_of document.catalog (after l has.front) events.Switch ≡ switched) begins.same_limits
+            (subst (λ (ts : Tables). outcome_of ts (after limits has.front) events.Switch ≡ switched) begins.same_tables has.outcome);
+      }
 
-    among' : Each (λ w. IsAmong w.own (places_of w.number w.seen)) all
-    among' = recursion_from_All (λ (w : WorkerState). IsAmong w.own (places_of w.number w.seen)) all among
+  -- a document with a repair
+  leaves_repaired : (plan : Plan) (middle now : Records) (new : WorkerState) (olds all : List WorkerState) (r : Repaired)
+      → IsValidPlan document.catalog document.workers document.calls plan → new ≡ new_worker (suc document.workers)
+      → MadeCalls limits 1 document.calls (new_workers document.workers) olds none middle → document.repair ≡ Some plan
+      → MadeRepair tables limits plan new olds middle all now r
+      → Each (λ w. IsAmong w.own (places_of w.number w.seen)) all → Each (IsPartOf history) all
+      → Leaves document history now.records.items now.fronts.items (Some r)
+  leaves_repaired plan middle now new olds all r valid_plan new_is made has_repair repair among parts =
+      let n = document.workers in
+      let news = repair.news in
+      let last = repair.last in
+      let parts' : Each (IsPartOf history) (news ++ last ∷ []) = subst (λ (ws : List WorkerState). Each (IsPartOf history) ws) repair.all_is parts in
+      let among' : Each (λ w. IsAmong w.own (places_of w.number w.seen)) (news ++ last ∷ []) = subst (λ (ws : List WorkerState). Each (λ w. IsAmong w.own (places_of w.number w.seen)) ws) repair.all_is among in
+      let owns = owns_each history (news ++ last ∷ []) among' parts' in
+      let own = each_front (OwnsAll history) news (last ∷ []) owns in
+      let seen = seen_each history news (each_front (IsPartOf history) news (last ∷ []) parts') in
+      let seen_before = have_seen_before limits (length middle.records.items + 1) plan.meanwhile history olds news repair.calls.queues repair.calls.work seen in
+      let first = first_calls middle olds made seen_before in
+      let answers = merged_answers document.calls made.queues in
+      let others = merged_answers plan.meanwhile repair.calls.queues in
+      let of_more = of_valid_calls document.catalog n plan.meanwhile valid_plan.valid_calls in
+      let more = phase_merged limits history n (length middle.records.items + 1) plan.meanwhile olds news middle now document.calls repair.calls first.have first.count seen of_more in
+      let many : length middle.records.items ≡ length document.calls =
+      ap length first.records ∙ length-map answers (λ a. a.answer) ∙ length-merged_answers limits history n 1 nothing_seen (seen_by olds) document.calls answers first.merged_is in
+      let both = merged_append limits history n 1 (length middle.records.items + 1) nothing_seen (seen_by olds) (seen_by news) document.calls plan.meanwhile answers others (omega (arith, many)) of_more first.merged_is more in
+      let all : document.calls ++ plan.meanwhile ≡ all_calls document = sym (ap (λ (p : Option Plan). document.calls ++ meanwhile_of p) has_repair) in
+      let records : now.records.items ≡ map (λ a. a.answer) (answers ++ others) =
+      repair.calls.records ∙ ap (λ rs. rs ++ map (λ a. a.answer) others) first.records ∙ sym (map-append (λ a. a.answer) answers others) in
+      let fronts : now.fronts.items ≡ map (λ a. a.front) (answers ++ others) =
+      repair.calls.fronts ∙ ap (λ fs. fs ++ map (λ a. a.front) others) first.fronts ∙ sym (map-append (λ a. a.front) answers others) in
+      let calls = document.calls ++ plan.meanwhile in
+      let answered : AreAnswered limits history nothing_seen 1 calls now.records.items now.fronts.items =
+      subst (λ (rs : List Record). AreAnswered limits history nothing_seen 1 calls rs now.fronts.items) (sym records)
+      (subst (λ (fs : List ℕ). AreAnswered limits history nothing_seen 1 calls (map (λ a. a.answer) (answers ++ others)) fs) (sym fronts)
+      (merged_answered limits history n 1 nothing_seen (seen_by news) calls (answers ++ others) both)) in
+      let have = made_more limits (length middle.records.items + 1) 1 document.calls plan.meanwhile olds news repair.calls.queues first.have repair.calls.work in
+      let count : length news ≡ n = length-work limits (length middle.records.items + 1) plan.meanwhile olds news repair.calls.queues repair.calls.work ∙ first.count in
+      let edits = edits_longer middle.records.items (map (λ a. a.answer) others) document.calls document.catalog plan.edits many
+      (recursion_from_All (IsValidEdit document.catalog document.calls) plan.edits valid_plan.valid_edits) in
+      let edits_are : map (edit_of_slot (middle.records.items ++ map (λ a. a.answer) others)) plan.edits ≡ map (edit_of_slot now.records.items) plan.edits =
+      ap (λ rs. map (edit_of_slot rs) plan.edits) (sym repair.calls.records) in
+      let last_part = each_last (IsPartOf history) news last parts' in
+      record {
+        answered = subst (λ (l : Limits). AreAnswered l history nothing_seen 1 (all_calls document) now.records.items now.fronts.items) begins.same_limits
+            (subst (λ (cs : List Call). AreAnswered limits history nothing_seen 1 cs now.records.items now.fronts.items) all answered);
+        made = subst (λ (cs : List Call). (worker : ℕ) → 1 ≤ worker → worker ≤ n → made_by worker history ≡ made_by worker (history_of cs)) all
+            (made_by_all history n calls news have own count);
+        repair = subst (λ (p : Option Plan). IsRepairOf document now.records.items history p (Some r)) (sym has_repair)
+            (repaired_is plan (map (edit_of_slot middle.records.items) plan.edits) now.records.items new repair.middle last r new_is repair.looks repair.repaired (edits ∙ edits_are) (each_last (OwnsAll history) news last owns) last_part.seen);
+      }
 
-    parts' : Each (IsPartOf history) all
-    parts' = recursion_from_All (IsPartOf history) all parts
+  -- what workers that have made all leave
+  pub leaves : (all : List WorkerState) (now : Records) (repaired : Option Repaired) → MadeAll tables limits document start none all now repaired
+      → All (λ w. IsAmong w.own (places_of w.number w.seen)) all → All (IsPartOf history) all → Leaves document history now.records.items now.fronts.items repaired
+  leaves all now repaired made among parts = by document.repair refl repaired made.repair begins.valid.valid_repair
+    where
+      next : document.workers + 1 ≡ suc document.workers
+      next = omega arith
 
-    by : (p : Option Plan) → document.repair ≡ p → (r : Option Repaired) → MadeRepairIf tables limits p made.administrator made.news made.middle all now r
-        → IfSome p (IsValidPlan document.catalog document.workers document.calls) → Leaves document history now.records.items now.fronts.items r
-    by None is r repair plans =
-        let whole : all ≡ made.news ++ new_worker (suc document.workers) ∷ [] = repair.0 ∙ ap (λ (w : WorkerState). made.news ++ w ∷ []) ends.1 in
-        let calls' : MadeCalls limits 1 document.calls (new_workers document.workers) made.news none now = subst (λ (rs : Records). MadeCalls limits 1 document.calls (new_workers document.workers) made.news none rs) (sym repair.1) calls in
-        subst (λ (x : Option Repaired). Leaves document history now.records.items now.fronts.items x) (sym repair.2)
-        (leaves_alone limits document history none now made.news valid same_limits no_records no_fronts calls' is
-        (subst (λ (ws : List WorkerState). Each (λ w. IsAmong w.own (places_of w.number w.seen)) ws) whole among') (subst (λ (ws : List WorkerState). Each (IsPartOf history) ws) whole parts'))
-    by (Some plan) is None repair plans = absurd repair
-    by (Some plan) is (Some r) repair plans =
-        leaves_repaired tables limits document plan history none made.middle now made.administrator made.news all r valid plans same_tables same_limits ends.1 no_records no_fronts calls is repair among' parts'
+      ends : (made.olds ≡ new_workers document.workers) × (made.administrator ≡ new_worker (suc document.workers))
+      ends = snoc_same made.olds (new_workers document.workers) made.administrator (new_worker (suc document.workers))
+          (sym made.start_is ∙ begins.new ∙ ap new_workers next)
+
+      calls : MadeCalls limits 1 document.calls (new_workers document.workers) made.news none made.middle
+      calls = subst (λ (ws : List WorkerState). MadeCalls limits 1 document.calls ws made.news none made.middle) ends.0 made.calls
+
+      among' : Each (λ w. IsAmong w.own (places_of w.number w.seen)) all
+      among' = recursion_from_All (λ (w : WorkerState). IsAmong w.own (places_of w.number w.seen)) all among
+
+      parts' : Each (IsPartOf history) all
+      parts' = recursion_from_All (IsPartOf history) all parts
+
+      by : (p : Option Plan) → document.repair ≡ p → (r : Option Repaired) → MadeRepairIf tables limits p made.administrator made.news made.middle all now r
+          → IfSome p (IsValidPlan document.catalog document.workers document.calls) → Leaves document history now.records.items now.fronts.items r
+      by None is r repair plans =
+          let whole : all ≡ made.news ++ new_worker (suc document.workers) ∷ [] = repair.0 ∙ ap (λ (w : WorkerState). made.news ++ w ∷ []) ends.1 in
+          let calls' : MadeCalls limits 1 document.calls (new_workers document.workers) made.news none now = subst (λ (rs : Records). MadeCalls limits 1 document.calls (new_workers document.workers) made.news none rs) (sym repair.1) calls in
+          subst (λ (x : Option Repaired). Leaves document history now.records.items now.fronts.items x) (sym repair.2)
+          (leaves_alone now made.news calls' is
+          (subst (λ (ws : List WorkerState). Each (λ w. IsAmong w.own (places_of w.number w.seen)) ws) whole among') (subst (λ (ws : List WorkerState). Each (IsPartOf history) ws) whole parts'))
+      by (Some plan) is None repair plans = absurd repair
+      by (Some plan) is (Some r) repair plans =
+          leaves_repaired plan made.middle now made.administrator made.news all r plans ends.1 calls is repair among' parts'
+
+-- the database that a run leaves
+pub record LeavesDatabase (document : Document) (db : Database) : Type 0 where
+  pub catalog : db.catalog ≡ document.catalog
+  pub limits : db.limits ≡ usual_limits
+  pub everyone : All (IsOfWorker (administrator document)) db.history
 
 -- the report of what a run leaves
-pub whole_report : (document : Document) (db : Database) (records : List Record) (fronts : List ℕ) (repaired : Option Repaired) (parts : ℕ) (limits : Limits) (tables : Tables) (result : Result Report RunFault)
-    → Leaves document db.history records fronts repaired → db.catalog ≡ tables → document.catalog ≡ tables → db.limits ≡ limits → usual_limits ≡ limits
-    → document.workers + 1 ≡ parts → All (IsOfWorker parts) db.history
+pub whole_report : (document : Document) (db : Database) (records : List Record) (fronts : List ℕ) (repaired : Option Repaired) (result : Result Report RunFault)
+    → Leaves document db.history records fronts repaired → LeavesDatabase document db
     → IfOk result (λ r. r.records.items ≡ records) → IfOk result (λ r. r.fronts.items ≡ fronts) → IfOk result (λ r. r.repaired ≡ repaired) → IfOk result (λ r. r.db ≡ db)
     → IfOk result (λ r. r.changes.items ≡ changes_of db.catalog (state_of db) records)
     → IfOk result (IsReportOf document)
-whole_report document db records fronts repaired parts limits tables (Err fault) left catalog same_tables db_limits same_limits same_parts everyone records_is fronts_is repaired_is db_is changes_is = tt
-whole_report document db records fronts repaired parts limits tables (Ok r) left catalog same_tables db_limits same_limits same_parts everyone records_is fronts_is repaired_is db_is changes_is =
+whole_report document db records fronts repaired (Err fault) left closed records_is fronts_is repaired_is db_is changes_is = tt
+whole_report document db records fronts repaired (Ok r) left closed records_is fronts_is repaired_is db_is changes_is =
     let in_db : Leaves document r.db.history records fronts repaired = subst (λ (d : Database). Leaves document d.history records fronts repaired) (sym db_is) left in
     let in_records : Leaves document r.db.history r.records.items fronts repaired = subst (λ (rs : List Record). Leaves document r.db.history rs fronts repaired) (sym records_is) in_db in
     let in_fronts : Leaves document r.db.history r.records.items r.fronts.items repaired = subst (λ (fs : List ℕ). Leaves document r.db.history r.records.items fs repaired) (sym fronts_is) in_records in
     let whole : Leaves document r.db.history r.records.items r.fronts.items r.repaired = subst (λ (x : Option Repaired). Leaves document r.db.history r.records.items r.fronts.items x) (sym repaired_is) in_fronts in
-    let last : parts ≡ administrator document = sym same_parts in
-    let of_all : All (IsOfWorker (administrator document)) db.history = subst (λ (k : ℕ). All (IsOfWorker k) db.history) last everyone in
     record {
-      catalog = ap (λ (d : Database). d.catalog) db_is ∙ catalog ∙ sym same_tables;
-      limits = ap (λ (d : Database). d.limits) db_is ∙ db_limits ∙ sym same_limits;
+      catalog = ap (λ (d : Database). d.catalog) db_is ∙ closed.catalog;
+      limits = ap (λ (d : Database). d.limits) db_is ∙ closed.limits;
       answered = whole.answered;
       made = whole.made;
       repair = whole.repair;
-      everyone = subst (λ (d : Database). All (IsOfWorker (administrator document)) d.history) (sym db_is) of_all;
+      everyone = subst (λ (d : Database). All (IsOfWorker (administrator document)) d.history) (sym db_is) closed.everyone;
       changes = changes_is ∙ ap (λ (d : Database). changes_of d.catalog (state_of d) records) (sym db_is) ∙ ap (λ (rs : List Record). changes_of r.db.catalog (state_of r.db) rs) (sym records_is);
     }
 
@@ -356,25 +363,25 @@ whole_report document db records fronts repaired parts limits tables (Ok r) left
 pub valid_plan_of : (d : Document) (plan : Plan) → IsValidDocument d → d.repair ≡ Some plan → IsValidPlan d.catalog d.workers d.calls plan
 valid_plan_of d plan valid is = subst (λ (p : Option Plan). IfSome p (IsValidPlan d.catalog d.workers d.calls)) is valid.valid_repair
 
-few_first : (q : Option (List Answered)) → length (first_of q) ≤ 1
+few_first : (q : Option (List AnsweredCall)) → length (first_of q) ≤ 1
 few_first None = omega arith
 few_first (Some []) = omega arith
 few_first (Some (a ∷ answers)) = omega arith
 
-few_merged : (calls : List Call) (queues : List (List Answered)) → length (merged calls queues) ≤ length calls
+few_merged : (calls : List Call) (queues : List (List AnsweredCall)) → length (merged_answers calls queues) ≤ length calls
 few_merged [] queues = omega arith
 few_merged (c ∷ calls) queues =
     let first = few_first (slice_get queues (c.worker - 1)) in
     let rest = few_merged calls (without_first queues c.worker) in
-    omega (arith, first, rest, length-append (first_of (slice_get queues (c.worker - 1))) (merged calls (without_first queues c.worker)))
+    omega (arith, first, rest, length-append (first_of (slice_get queues (c.worker - 1))) (merged_answers calls (without_first queues c.worker)))
 
 -- no more records than calls are pushed
 pub few_records : (limits : Limits) (number : ℕ) (calls : List Call) (olds news : List WorkerState) (before now : Records) → before.records.items ≡ [] → MadeCalls limits number calls olds news before now
     → length now.records.items ≤ length calls
 few_records limits number calls olds news before now none made =
-    let answers = merged calls made.queues in
-    let pushed : now.records.items ≡ map (λ a. a.told) answers = made.records ∙ ap (λ rs. rs ++ map (λ a. a.told) answers) none in
-    let count : length now.records.items ≡ length answers = ap length pushed ∙ length-map answers (λ a. a.told) in
+    let answers = merged_answers calls made.queues in
+    let pushed : now.records.items ≡ map (λ a. a.answer) answers = made.records ∙ ap (λ rs. rs ++ map (λ a. a.answer) answers) none in
+    let count : length now.records.items ≡ length answers = ap length pushed ∙ length-map answers (λ a. a.answer) in
     omega (arith, count, few_merged calls made.queues)
 
 -- as many workers are left as made calls
@@ -385,17 +392,3 @@ as_many limits number calls olds news before now made = length-work limits numbe
 pub if_ok_then : {A E : Type 0} (P Q : A → Type 0) (r : Result A E) → ((x : A) → P x → Q x) → IfOk r P → IfOk r Q
 if_ok_then P Q (Ok x) k h = k x h
 if_ok_then P Q (Err e) k h = tt
-
--- all was made that a document asks for
-pub all_made : (tables : Tables) (limits : Limits) (document : Document) (calls : List Call) (plans : Option Plan) (start olds news all : List WorkerState) (administrator : WorkerState) (none middle now : Records) (repaired : Option Repaired)
-    → start ≡ olds ++ administrator ∷ [] → calls ≡ document.calls → document.repair ≡ plans → MadeCalls limits 1 calls olds news none middle
-    → MadeRepairIf tables limits plans administrator news middle all now repaired → MadeAll tables limits document start none all now repaired
-all_made tables limits document calls plans start olds news all administrator none middle now repaired start_is same_calls plans_are made repair = record {
-  olds = olds;
-  administrator = administrator;
-  start_is = start_is;
-  news = news;
-  middle = middle;
-  calls = subst (λ (cs : List Call). MadeCalls limits 1 cs olds news none middle) same_calls made;
-  repair = subst (λ (p : Option Plan). MadeRepairIf tables limits p administrator news middle all now repaired) (sym plans_are) repair;
-}

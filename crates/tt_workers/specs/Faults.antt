@@ -1,7 +1,7 @@
 -- The faults of a run in threads.
 use Rattle.std.specs.Prelude.{◌≡◌, List, [], ◌∷◌, Option, None, Some, Result, Ok, Err}
-use Rattle.tt_store.specs.declared.closed.CloseFault.{CloseFault}
-use Rattle.tt_store.specs.declared.closed.CloseFault.TheVariants as unclosed
+use Rattle.tt_store.specs.declared.closing.CloseFault.{CloseFault}
+use Rattle.tt_store.specs.declared.closing.CloseFault.TheVariants as unclosed
 use Rattle.tt_workload.specs.declared.run_fault.RunFault.{RunFault}
 use Rattle.tt_workload.specs.declared.run_fault.RunFault.TheVariants as faults
 
@@ -13,7 +13,7 @@ IsStoreFault faults.Read = ⊥
 IsStoreFault (faults.Document fault) = ⊥
 IsStoreFault faults.Write = ⊥
 
--- the fault where a store isn't closed: want of memory is told as such
+-- the fault where a store isn't closed; where memory ran out, it is `Memory`
 abbrev pub IsFaultOfClose : {L G R : Type 0} → CloseFault L G R → RunFault → Type 0
 IsFaultOfClose (unclosed.Memory store workers) fault = fault ≡ faults.Memory
 IsFaultOfClose (unclosed.Missing store workers) fault = IsStoreFault fault

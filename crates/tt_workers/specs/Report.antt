@@ -7,9 +7,9 @@ use Rattle.tt_db.specs.declared.limits.Limits.{Limits}
 use Rattle.tt_db.specs.Limits.{usual_limits}
 use Rattle.tt_db.specs.State.{after, outcome_of}
 use Rattle.tt_db.specs.Database.{state_of}
-use Rattle.tt_repair.specs.declared.record.Record.{Record}
+use Rattle.tt_records.specs.declared.record.Record.{Record}
 use Rattle.tt_repair.specs.declared.repaired.Repaired.{Repaired}
-use Rattle.tt_repair.specs.Changes.{changes_of}
+use Rattle.tt_records.specs.Changes.{changes_of}
 use Rattle.tt_repair.specs.Repairing.{begun_steps, entry_by}
 use Rattle.tt_store.specs.History.{entries_by}
 use Rattle.tt_store.specs.Closing.{IsOfWorker}
@@ -20,19 +20,19 @@ use Rattle.tt_workload.specs.Records.{text_of_records, text_of_changes}
 use Rattle.tt_workload.specs.History.{entries_of, history_of, edit_of_slot, administrator}
 use Rattle.tt_workload.specs.Report.{repair_text, closed_lines_if, last_lines}
 use Rattle.tt_workers.specs.declared.report.Report.{Report}
-use Rattle.tt_workers.specs.Calls.{made_by, behind, record_at}
+use Rattle.tt_workers.specs.Calls.{made_by, seen_after, record_at}
 
--- for each worker how much it has seen, once one of them has seen this much
+-- for each worker how much it has seen, after one of them has seen this much
 abbrev pub with_seen : (ℕ → ℕ) → ℕ → ℕ → ℕ → ℕ
 with_seen seen worker length other = if other == worker then length else seen other
 
 -- a call is answered rightly at the front of this length: that isn't shorter than what its worker had seen, and with the entry of an
--- action, which stands behind it, it is within the history
-pub record IsAnswered (limits : Limits) (history : List Entry) (seen : ℕ → ℕ) (number : ℕ) (call : Call) (told : Record) (front : ℕ) : Type 0 where
+-- action, which follows it, it is within the history
+pub record IsAnswered (limits : Limits) (history : List Entry) (seen : ℕ → ℕ) (number : ℕ) (call : Call) (answer : Record) (front : ℕ) : Type 0 where
   pub later : seen call.worker ≤ front
-  pub within : behind call.ask front ≤ length history
-  pub entry : take (behind call.ask front) history ≡ take front history ++ entries_of call
-  pub right : told ≡ record_at limits history number call front
+  pub within : seen_after call.ask front ≤ length history
+  pub entry : take (seen_after call.ask front) history ≡ take front history ++ entries_of call
+  pub right : answer ≡ record_at limits history number call front
 
 -- there is one record for each of these calls, numbered from this number on, and one length of a front: each is answered rightly there,
 -- in the order of each worker's calls at a front that is never shorter than before, and longer after an action
@@ -40,7 +40,7 @@ abbrev pub AreAnswered : Limits → List Entry → (ℕ → ℕ) → ℕ → Lis
 AreAnswered limits history seen number [] [] [] = Unit {0}
 AreAnswered limits history seen number (c ∷ calls) (r ∷ records) (front ∷ fronts) =
     IsAnswered limits history seen number c r front
-    × AreAnswered limits history (with_seen seen c.worker (behind c.ask front)) (number + 1) calls records fronts
+    × AreAnswered limits history (with_seen seen c.worker (seen_after c.ask front)) (number + 1) calls records fronts
 AreAnswered limits history seen number calls records fronts = ⊥
 
 -- the calls that are made while a repair is under way
@@ -52,7 +52,7 @@ meanwhile_of (Some plan) = plan.meanwhile
 abbrev pub all_calls : Document → List Call
 all_calls document = document.calls ++ meanwhile_of document.repair
 
--- nobody has seen anything
+-- no worker has seen an entry
 abbrev pub nothing_seen : ℕ → ℕ
 nothing_seen worker = 0
 
@@ -61,21 +61,21 @@ nothing_seen worker = 0
 pub record IsRepaired (document : Document) (plan : Plan) (records : List Record) (history : List Entry) (r : Repaired) : Type 0 where
   pub steps : ℕ
   pub before : List Entry
-  pub behind : List Entry
+  pub rest : List Entry
   pub entries : made_by (administrator document) history
       ≡ entries_by (administrator document) (begun_steps (map (edit_of_slot records) plan.edits) steps ++ Switch ∷ [])
-  pub switch : history ≡ before ++ entry_by (administrator document) Switch ∷ behind
+  pub switch : history ≡ before ++ entry_by (administrator document) Switch ∷ rest
   pub place : r.place ≡ length before + 1
   pub outcome : outcome_of document.catalog (after usual_limits before) Switch ≡ Switched r.generation r.slots r.rerun
 
--- the repair of a document was made, if it has one; and if not, the administrator made nothing
+-- the repair of a document was made, if it has one; otherwise the administrator made nothing
 abbrev pub IsRepairOf : Document → List Record → List Entry → Option Plan → Option Repaired → Type 0
 IsRepairOf document records history None None = made_by (administrator document) history ≡ []
 IsRepairOf document records history (Some plan) (Some r) = IsRepaired document plan records history r
 IsRepairOf document records history None (Some r) = ⊥
 IsRepairOf document records history (Some plan) None = ⊥
 
--- a report is one of a document: each call has its record, right at its front of the one history. In the history are, for each worker, the
+-- a report is right for a document: each call has its record, right at its front of the one history. In the history are, for each worker, the
 -- entries of its actions, each once and in the order of its calls, those of the repair, all the administrator's, and no more
 pub record IsReportOf (document : Document) (report : Report) : Type 0 where
   pub catalog : report.db.catalog ≡ document.catalog

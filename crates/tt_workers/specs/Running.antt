@@ -9,19 +9,19 @@ use Rattle.tt_repair.specs.declared.repaired.Repaired.{Repaired}
 use Rattle.tt_repair.specs.Repairing.{HasRepaired}
 use Rattle.tt_store.specs.Workers.{WorkerState, Looks}
 use Rattle.tt_workload.specs.History.{edit_of_slot}
-use Rattle.tt_workers.specs.declared.answered.Answered.{Answered}
+use Rattle.tt_workers.specs.declared.answered_call.AnsweredCall.{AnsweredCall}
 use Rattle.tt_workers.specs.declared.merging.Records.{Records}
 use Rattle.tt_workers.specs.Calls.{AllWork}
-use Rattle.tt_workers.specs.Merging.{merged}
+use Rattle.tt_workers.specs.Merging.{merged_answers}
 
--- workers have made their calls among these, and their records were pushed in the order of the calls
+-- each of the workers has made its calls among these, and the records were pushed in the order of the calls
 pub record MadeCalls (limits : Limits) (number : ℕ) (calls : List Call) (olds news : List WorkerState) (before now : Records) : Type 0 where
-  pub queues : List (List Answered)
+  pub queues : List (List AnsweredCall)
   pub work : AllWork limits number calls olds news queues
-  pub records : now.records.items ≡ before.records.items ++ map (λ a. a.told) (merged calls queues)
-  pub fronts : now.fronts.items ≡ before.fronts.items ++ map (λ a. a.front) (merged calls queues)
+  pub records : now.records.items ≡ before.records.items ++ map (λ a. a.answer) (merged_answers calls queues)
+  pub fronts : now.fronts.items ≡ before.fronts.items ++ map (λ a. a.front) (merged_answers calls queues)
 
--- the administrator has made the repair of a plan, with the slots of these records, beside the calls that the workers have made meanwhile
+-- the administrator has made the repair of a plan, with the slots of these records, and the workers the calls of `meanwhile`
 pub record MadeRepair (tables : Tables) (limits : Limits) (plan : Plan) (administrator : WorkerState) (olds : List WorkerState) (before : Records) (all : List WorkerState) (now : Records) (r : Repaired) : Type 0 where
   pub middle : WorkerState
   pub last : WorkerState

@@ -1,4 +1,4 @@
-//! The repair of a document, beside the calls that are made meanwhile.
+//! The repair of a document, beside calls of workers.
 ghost use Rattle.std.specs.Prelude.{◌≡◌, ◌+◌, ◌<◌, ◌^◌, length, map, IfOk, IfErr};
 ghost use Rattle.tt_repair.specs.Repairing.{HasRepaired};
 ghost use Rattle.tt_workload.specs.Options.{AreWithin};
@@ -7,8 +7,9 @@ ghost use Rattle.tt_workers.specs.Faults.{IsStoreFault};
 ghost use Rattle.tt_workers.specs.Calls.{AllWork};
 
 use crate::faults::fault_of_call;
-use crate::phase::phase;
-use crate::work::Run;
+use crate::run_context::RunContext;
+use crate::threads::work_in_threads;
+use crate::work::WorkerRun;
 use std::alloc::Global;
 use std::sync::Wait;
 use std::thread::{Threads, join};
@@ -19,51 +20,62 @@ use tt_store::{Gate, Naming, Store, Worker};
 use tt_values::Items;
 use tt_workload::{Options, RunFault};
 
-/// What the administrator's thread leaves: the worker, and the repair.
+/// What the administrator has to do: a repair with these edits.
 #[derive(Drop)]
-pub(crate) struct Repairing<L: Naming> {
+pub(crate) struct RepairTask<L: Naming> {
+    pub(crate) administrator: Worker<L>,
+    pub(crate) edits: Items<Edit>,
+}
+
+/// The run of the administrator: the worker, and the repair that it has made.
+#[derive(Drop)]
+pub(crate) struct AdministratorRun<L: Naming> {
     pub(crate) worker: Worker<L>,
     pub(crate) repaired: Repaired,
 }
 
-/// Makes a repair, while the workers make their calls among these in threads of their own. All
-/// threads are joined.
+/// Makes a repair in a thread, beside the workers, each of which makes its calls among these in a
+/// thread of its own. All threads are joined.
 pub(crate) fn repair_beside<
     L: Naming + Send + Sync,
     G: Gate + Copy + Drop + Send + Sync,
     R: Threads + Wait + Sync,
 >(
-    rt: &R,
-    alloc: Global,
-    store: &Store<L, G, &R>,
-    gate: G,
-    options: Options,
-    administrator: Worker<L>,
-    edits: Items<Edit>,
+    context: &RunContext<'_, '_, L, G, R>,
+    task: RepairTask<L>,
     workers: Vec<Worker<L>>,
     meanwhile: &[Call],
     first: u64,
-) -> Result<(Repairing<L>, Vec<Run<L>>), RunFault>
-    requires options { AreWithin options }
+) -> Result<(AdministratorRun<L>, Vec<WorkerRun<L>>), RunFault>
+    requires options { AreWithin context.now.options }
     requires accepted { AreAccepted L.tables meanwhile.now }
     requires few { first + length meanwhile.now < 2 ^ 64 }
-    ensures repaired { IfOk result (λ r. HasRepaired L.tables L.limits edits
-        administrator r.0.worker r.0.repaired) }
+    ensures repaired { IfOk result (λ r. HasRepaired L.tables L.limits task.edits
+        task.administrator r.0.worker r.0.repaired) }
     ensures worked { IfOk result (λ r. AllWork L.limits first meanwhile.now workers.items
         (map (λ run. run.worker) r.1.items) (map (λ run. run.answers.items) r.1.items)) }
     ensures fault { IfErr result IsStoreFault }
 {
-    let (runs, repairing) = join(
+    let rt = context.rt;
+    let alloc = context.alloc;
+    let store = context.store;
+    let gate = context.gate;
+    let options = context.options;
+    let RepairTask {
+        administrator,
+        edits,
+    } = task;
+    let (runs, administrator_run) = join(
         rt,
-        || -> Result<Vec<Run<L>>, RunFault>
+        || -> Result<Vec<WorkerRun<L>>, RunFault>
             requires accepted { AreAccepted L.tables meanwhile.now }
             requires few { first + length meanwhile.now < 2 ^ 64 }
-        { phase(rt, alloc, store, gate, workers, meanwhile, first) },
+        { work_in_threads(rt, alloc, store, gate, workers, meanwhile, first) },
         || administer(rt, alloc, store, options, administrator, edits),
     );
     let runs = runs?;
-    let repairing = repairing?;
-    Ok((repairing, runs))
+    let administrator_run = administrator_run?;
+    Ok((administrator_run, runs))
 }
 
 /// Lets the administrator make the repair.
@@ -74,7 +86,7 @@ fn administer<L: Naming, G: Gate + Drop, R: Wait + Drop>(
     options: Options,
     administrator: Worker<L>,
     edits: Items<Edit>,
-) -> Result<Repairing<L>, RunFault>
+) -> Result<AdministratorRun<L>, RunFault>
     requires options { AreWithin options }
     ensures repaired { IfOk result (λ r. HasRepaired L.tables L.limits edits
         administrator r.worker r.repaired) }
@@ -82,7 +94,7 @@ fn administer<L: Naming, G: Gate + Drop, R: Wait + Drop>(
 {
     let mut worker = administrator;
     match repair(rt, store, &mut worker, edits, options.batch, options.rounds) {
-        Ok(repaired) => Ok(Repairing { worker, repaired }),
+        Ok(repaired) => Ok(AdministratorRun { worker, repaired }),
         Err(fault) => Err(fault_of_call(alloc, fault.cause)),
     }
 }

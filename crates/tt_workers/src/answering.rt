@@ -2,7 +2,7 @@
 ghost use Rattle.std.specs.Prelude.{◌≡◌, ◌+◌, length, None, Some, IfOk, IfErr};
 ghost use Rattle.tt_values.specs.Check.{select_fault};
 ghost use Rattle.tt_db.specs.State.{after};
-ghost use Rattle.tt_db.specs.Database.{right_answer, right_answer_at, right_preview_of, time_of, state_of};
+ghost use Rattle.tt_db.specs.Database.{right_answer, right_answer_at, right_preview_of, now_in, state_of};
 ghost use Rattle.tt_generations.specs.TwoGenerations.{done_of};
 ghost use Rattle.tt_document.specs.Document.{ask_fault};
 ghost use Rattle.tt_store.specs.Workers.{Looks, AnswersRightly, database_at};
@@ -10,7 +10,7 @@ ghost use Rattle.tt_workload.specs.Records.{read_in, preview_in};
 ghost use Rattle.tt_workers.specs.Faults.{IsStoreFault};
 ghost use Rattle.tt_workers.specs.Calls.{IsMade, Makes, what_of_read, what_of_preview};
 
-use crate::answered::Answered;
+use crate::answered_call::AnsweredCall;
 use crate::faults::{fault_of_call, fault_of_read};
 use std::alloc::Global;
 use std::sync::Wait;
@@ -21,7 +21,7 @@ use tt_store::{Answer, Gate, Naming, Store, Worker, Written};
 use tt_values::{Items, Select, Write};
 use tt_workload::RunFault;
 
-/// What a call is answered, and the length of the front that this is right at.
+/// What a call is answered, and the length of the front at which the answer is right.
 #[derive(Drop)]
 pub(crate) struct Made {
     pub(crate) what: What,
@@ -37,15 +37,15 @@ pub(crate) fn make_call<L: Naming, G: Gate + Drop, R: Wait + Drop>(
     worker: &mut Worker<L>,
     number: u64,
     call: &Call,
-) -> Result<Answered, RunFault>
+) -> Result<AnsweredCall, RunFault>
     requires own { call.now.worker ≡ worker.old.number }
     requires accepted { ask_fault L.tables call.now.ask ≡ None }
     ensures made { IfOk result (λ a. Makes L.limits number call.now worker.old worker.new a) }
     ensures fault { IfErr result IsStoreFault }
 {
     let Made { what, front } = make(rt, alloc, store, worker, &call.ask)?;
-    Ok(Answered {
-        told: Record {
+    Ok(AnsweredCall {
+        answer: Record {
             call: number,
             worker: call.worker,
             what,
@@ -63,7 +63,8 @@ fn make<L: Naming, G: Gate + Drop, R: Wait + Drop>(
     ask: &Ask,
 ) -> Result<Made, RunFault>
     requires accepted { ask_fault L.tables ask.now ≡ None }
-    ensures made { IfOk result (λ m. IsMade L.limits ask.now worker.old worker.new m.what m.front) }
+    ensures made { IfOk result (λ m. IsMade L.limits ask.now
+        worker.old worker.new m.what m.front) }
     ensures fault { IfErr result IsStoreFault }
 {
     match ask {

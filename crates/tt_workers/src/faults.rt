@@ -59,7 +59,7 @@ pub(crate) fn fault_of_close<L: Naming, G: Gate + Drop, R: Wait + Drop>(
     }
 }
 
-/// The fault with this text, or of memory where there is none for it.
+/// The fault with this text, or `Memory` where there is no memory for it.
 fn store_fault(alloc: Global, text: Result<String, AllocError>) -> RunFault
     ensures { IsStoreFault result }
 {

@@ -3,15 +3,16 @@
 #![tactic(auto)]
 
 mod administrator;
-mod answered;
+mod answered_call;
 mod answering;
 mod closing;
 mod faults;
 mod merging;
-mod phase;
 mod report;
 mod run;
+mod run_context;
 mod text;
+mod threads;
 mod work;
 
 pub use report::Report;

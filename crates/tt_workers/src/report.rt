@@ -5,12 +5,12 @@ use tt_db::Db;
 use tt_repair::{Changed, Record, Repaired};
 use tt_values::Shared;
 
-/// What a run in threads has come to. The records stand by rising call.
+/// The result of a run in threads. The records stand by rising call.
 #[derive(Drop)]
 pub struct Report {
     /// The calls as they were answered, by number from 1 on.
     pub records: Vec<Record>,
-    /// For each record in turn, the length of the front of the history that its answer is right at.
+    /// For each record in turn, the length of the front of the history at which its answer is right.
     pub fronts: Vec<u64>,
     /// The repair, if the document has one.
     pub repaired: Option<Repaired>,

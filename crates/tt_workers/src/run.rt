@@ -2,26 +2,27 @@
 ghost use Rattle.std.specs.Prelude.{◌≡◌, ◌+◌, ◌<◌, ◌≤◌, ◌^◌, [], length, map, Some, IfOk, IfErr};
 ghost use Rattle.std.specs.Arc.{arc_value};
 ghost use Rattle.tt_db.specs.Limits.{usual_limits};
-ghost use Rattle.tt_store.specs.Published.{SaysThat};
+ghost use Rattle.tt_store.specs.Published.{RuleIsMembership};
 ghost use Rattle.tt_document.specs.Document.{IsValidDocument};
 ghost use Rattle.tt_workload.specs.Options.{AreWithin};
 ghost use Rattle.tt_workload.specs.Room.{AreAccepted};
 ghost use Rattle.tt_store.specs.Opening.{new_workers};
 ghost use Rattle.tt_store.specs.Workers.{Looks};
 ghost use Rattle.tt_store.specs.Calls.{numbers_from};
-ghost use Rattle.tt_repair.specs.Changes.{changes_of};
+ghost use Rattle.tt_records.specs.Changes.{changes_of};
 ghost use Rattle.tt_db.specs.Database.{state_of};
 ghost use Rattle.tt_workers.specs.Faults.{IsStoreFault};
 ghost use Rattle.tt_workers.specs.Merging.{AreOf};
 ghost use Rattle.tt_workers.specs.Running.{MadeCalls, MadeRepairIf, MadeAll};
 ghost use Rattle.tt_workers.specs.Report.{IsReportOf};
 
-use crate::administrator::{Repairing, repair_beside};
+use crate::administrator::{AdministratorRun, RepairTask, repair_beside};
 use crate::closing::close;
 use crate::faults::{fault_of_call, fault_of_open};
 use crate::merging::{Records, merge, split};
-use crate::phase::phase;
 use crate::report::Report;
+use crate::run_context::RunContext;
+use crate::threads::work_in_threads;
 use std::alloc::Global;
 use std::marker::Brand;
 use std::sync::{Arc, Wait};
@@ -34,10 +35,10 @@ use tt_values::{Catalog, Shared};
 use tt_workload::{Options, RunFault, edits_of_slots};
 
 /// Runs a document in threads, on a store of its own: each worker makes its calls in a thread of
-/// its own. If the document has a repair, an administrator, numbered behind the last worker, makes
-/// it once these calls are made, while the workers make those that are made meanwhile. Each call
-/// of a worker passes the gate at `Point::Answered` when it has its answer. All threads are joined,
-/// also where the store refuses a call; then there is no report.
+/// its own. If the document has a repair, an administrator, numbered after the last worker, makes
+/// it: its beginning, its steps and its switch, and nothing else. Each call of a worker passes the
+/// gate at `Point::Answered` when it has its answer. All threads are joined, also where the store
+/// refuses a call; then there is no report.
 pub fn run_workers<R: Threads + Wait + Sync, G: Gate + Copy + Drop + Send + Sync>(
     rt: &R,
     alloc: Global,
@@ -80,7 +81,7 @@ fn run_named<
     requires book { opened.front.book ≡ L.book }
     requires tables { arc_value catalog ≡ L.tables }
     requires limits { usual_limits ≡ L.limits }
-    requires tied { SaysThat L.holds L.book L.tables L.limits }
+    requires tied { RuleIsMembership L.holds L.book L.tables L.limits }
     requires name { opened.blank.name ≡ L.name }
     requires parts { opened.blank.parts ≡ L.parts }
     requires workers { opened.workers ≡ document.now.workers + 1 }
@@ -97,10 +98,15 @@ fn run_named<
 }
 
 /// Runs a document on a new store.
-fn run_on<L: Naming + Send + Sync, R: Threads + Wait + Sync, G: Gate + Copy + Drop + Send + Sync>(
-    rt: &R,
+fn run_on<
+    'r,
+    L: Naming + Send + Sync,
+    R: Threads + Wait + Sync,
+    G: Gate + Copy + Drop + Send + Sync,
+>(
+    rt: &'r R,
     alloc: Global,
-    store: Store<L, G, &R>,
+    store: Store<L, G, &'r R>,
     workers: Vec<Worker<L>>,
     document: &Document,
     options: &Options,
@@ -116,16 +122,14 @@ fn run_on<L: Naming + Send + Sync, R: Threads + Wait + Sync, G: Gate + Copy + Dr
     ensures fault { IfErr result IsStoreFault }
 {
     let mut records = Records::new(alloc);
-    let (workers, repaired) = make_all(
+    let context = RunContext {
         rt,
         alloc,
-        &store,
+        store: &store,
         gate,
-        workers,
-        document,
-        options,
-        &mut records,
-    )?;
+        options: *options,
+    };
+    let (workers, repaired) = make_all(&context, workers, document, &mut records)?;
     let db = close(rt, alloc, store, workers)?;
     report_of(alloc, records, repaired, db)
 }
@@ -133,19 +137,15 @@ fn run_on<L: Naming + Send + Sync, R: Threads + Wait + Sync, G: Gate + Copy + Dr
 /// Makes the calls of a document, and its repair if it has one. Answers the workers, the
 /// administrator last.
 fn make_all<L: Naming + Send + Sync, R: Threads + Wait + Sync, G: Gate + Copy + Drop + Send + Sync>(
-    rt: &R,
-    alloc: Global,
-    store: &Store<L, G, &R>,
-    gate: G,
+    context: &RunContext<'_, '_, L, G, R>,
     workers: Vec<Worker<L>>,
     document: &Document,
-    options: &Options,
     records: &mut Records,
 ) -> Result<(Vec<Worker<L>>, Option<Repaired>), RunFault>
     requires some { length workers.items ≡ document.now.workers + 1 }
     requires tables { document.now.catalog ≡ L.tables }
     requires valid { IsValidDocument document.now }
-    requires options { AreWithin options.now }
+    requires options { AreWithin context.now.options }
     requires none { records.old.records.items ≡ [] }
     ensures made { IfOk result (λ r. MadeAll L.tables L.limits document.now
         workers.items records.old r.0.items records.new r.1) }
@@ -156,19 +156,9 @@ fn make_all<L: Naming + Send + Sync, R: Threads + Wait + Sync, G: Gate + Copy + 
         unreachable!()
     };
     let calls = document.calls.as_slice();
-    let mut workers = make_calls(rt, alloc, store, gate, workers, calls, records)?;
+    let mut workers = make_calls(context, workers, calls, records)?;
     match &document.repair {
-        Some(plan) => make_repair(
-            rt,
-            alloc,
-            store,
-            gate,
-            administrator,
-            workers,
-            plan,
-            options,
-            records,
-        ),
+        Some(plan) => make_repair(context, administrator, workers, plan, records),
         None => {
             workers.push(administrator)?;
             Ok((workers, None))
@@ -176,16 +166,13 @@ fn make_all<L: Naming + Send + Sync, R: Threads + Wait + Sync, G: Gate + Copy + 
     }
 }
 
-/// Lets workers make the calls of a document, and pushes their records.
+/// Lets the workers make the calls of a document, and pushes the records.
 fn make_calls<
     L: Naming + Send + Sync,
     R: Threads + Wait + Sync,
     G: Gate + Copy + Drop + Send + Sync,
 >(
-    rt: &R,
-    alloc: Global,
-    store: &Store<L, G, &R>,
-    gate: G,
+    context: &RunContext<'_, '_, L, G, R>,
     workers: Vec<Worker<L>>,
     calls: &[Call],
     records: &mut Records,
@@ -197,63 +184,62 @@ fn make_calls<
         workers.items news.items records.old records.new) }
     ensures fault { IfErr result IsStoreFault }
 {
-    let runs = phase(rt, alloc, store, gate, workers, calls, 1)?;
+    let alloc = context.alloc;
+    let runs = work_in_threads(
+        context.rt,
+        alloc,
+        context.store,
+        context.gate,
+        workers,
+        calls,
+        1,
+    )?;
     let (workers, queues) = split(alloc, runs)?;
     merge(records, calls, queues)?;
     Ok(workers)
 }
 
-/// Lets the administrator make the repair of a document beside the calls that workers make
-/// meanwhile, and pushes their records. Answers the workers, the administrator last.
+/// Lets the administrator make the repair of a document beside the workers' calls of `meanwhile`,
+/// and pushes the records of these. Answers the workers, the administrator last.
 fn make_repair<
     L: Naming + Send + Sync,
     R: Threads + Wait + Sync,
     G: Gate + Copy + Drop + Send + Sync,
 >(
-    rt: &R,
-    alloc: Global,
-    store: &Store<L, G, &R>,
-    gate: G,
+    context: &RunContext<'_, '_, L, G, R>,
     administrator: Worker<L>,
     workers: Vec<Worker<L>>,
     plan: &Plan,
-    options: &Options,
     records: &mut Records,
 ) -> Result<(Vec<Worker<L>>, Option<Repaired>), RunFault>
     requires accepted { AreAccepted L.tables plan.now.meanwhile }
     requires few { length plan.now.meanwhile ≤ 100000 }
     requires few_records { length records.old.records.items ≤ 100000 }
     requires of { AreOf (length workers.items) plan.now.meanwhile }
-    requires options { AreWithin options.now }
+    requires options { AreWithin context.now.options }
     ensures made { IfOk result (λ r. MadeRepairIf L.tables L.limits (Some plan.now)
         administrator workers.items records.old r.0.items records.new r.1) }
     ensures fault { IfErr result IsStoreFault }
 {
-    let administrator = refreshed(rt, alloc, store, administrator)?;
+    let alloc = context.alloc;
+    let administrator = refresh(context.rt, alloc, context.store, administrator)?;
     let edits = edits_of_slots(alloc, &records.records, plan.edits.as_slice())?;
     let meanwhile = plan.meanwhile.as_slice();
     let first = records.records.len() as u64 + 1;
-    let (repairing, runs) = repair_beside(
-        rt,
-        alloc,
-        store,
-        gate,
-        *options,
+    let task = RepairTask {
         administrator,
         edits,
-        workers,
-        meanwhile,
-        first,
-    )?;
+    };
+    let (administrator_run, runs) = repair_beside(context, task, workers, meanwhile, first)?;
     let (mut workers, queues) = split(alloc, runs)?;
     merge(records, meanwhile, queues)?;
-    let Repairing { worker, repaired } = repairing;
+    let AdministratorRun { worker, repaired } = administrator_run;
     workers.push(worker)?;
     Ok((workers, Some(repaired)))
 }
 
-/// The administrator, once it has seen all that was published.
-fn refreshed<L: Naming, G: Gate + Drop, R: Wait + Drop>(
+/// Brings the administrator up to date: it has then seen all that was published.
+fn refresh<L: Naming, G: Gate + Drop, R: Wait + Drop>(
     rt: &impl Wait,
     alloc: Global,
     store: &Store<L, G, R>,

@@ -3,9 +3,9 @@ ghost use Rattle.std.specs.Prelude.{◌≡◌, ◌+◌, ◌<◌, ◌≤◌, ◌^
 ghost use Rattle.tt_document.specs.Document.{ask_fault};
 ghost use Rattle.tt_workload.specs.Room.{AreAccepted};
 ghost use Rattle.tt_workers.specs.Faults.{IsStoreFault};
-ghost use Rattle.tt_workers.specs.Calls.{GoesOn, Works};
+ghost use Rattle.tt_workers.specs.Calls.{MakesIfOwn, Works};
 
-use crate::answered::Answered;
+use crate::answered_call::AnsweredCall;
 use crate::answering::make_call;
 use std::alloc::Global;
 use std::collections::VecDeque;
@@ -14,11 +14,11 @@ use tt_document::Call;
 use tt_store::{Gate, Naming, Point, Store, Worker};
 use tt_workload::RunFault;
 
-/// What a worker's thread leaves: the worker, and its answers in the order of its calls.
+/// The run of one worker: the worker, and its answers in the order of its calls.
 #[derive(Drop)]
-pub(crate) struct Run<L: Naming> {
+pub(crate) struct WorkerRun<L: Naming> {
     pub(crate) worker: Worker<L>,
-    pub(crate) answers: VecDeque<Answered>,
+    pub(crate) answers: VecDeque<AnsweredCall>,
 }
 
 /// Makes those of these calls that are the worker's, in order. They are numbered from `first` on.
@@ -30,32 +30,23 @@ pub(crate) fn work<L: Naming, G: Gate + Copy + Drop, R: Wait + Drop>(
     worker: Worker<L>,
     calls: &[Call],
     first: u64,
-) -> Result<Run<L>, RunFault>
+) -> Result<WorkerRun<L>, RunFault>
     requires accepted { AreAccepted L.tables calls.now }
     requires few { first + length calls.now < 2 ^ 64 }
     ensures worked { IfOk result (λ run. Works L.limits first calls.now
         worker run.worker run.answers.items) }
     ensures fault { IfErr result IsStoreFault }
 {
-    let mut worker = worker;
-    let mut answers = VecDeque::new(alloc);
+    let answers = VecDeque::new(alloc);
+    let mut run = WorkerRun { worker, answers };
     let mut number = first;
     for call in calls {
-        match make_own(
-            rt,
-            alloc,
-            store,
-            gate,
-            &mut worker,
-            &mut answers,
-            number,
-            call,
-        ) {
+        match make_own(rt, alloc, store, gate, &mut run, number, call) {
             Ok(()) => number += 1,
             Err(fault) => return Err(fault),
         }
     }
-    Ok(Run { worker, answers })
+    Ok(run)
 }
 
 /// Makes a call if it is the worker's, keeps its answer, and passes the gate.
@@ -64,21 +55,20 @@ fn make_own<L: Naming, G: Gate + Copy + Drop, R: Wait + Drop>(
     alloc: Global,
     store: &Store<L, G, R>,
     gate: G,
-    worker: &mut Worker<L>,
-    answers: &mut VecDeque<Answered>,
+    run: &mut WorkerRun<L>,
     number: u64,
     call: &Call,
 ) -> Result<(), RunFault>
     requires accepted { ask_fault L.tables call.now.ask ≡ None }
-    ensures made { OnOk result (GoesOn L.limits number call.now worker.old worker.new
-        answers.old.items answers.new.items) }
+    ensures made { OnOk result (MakesIfOwn L.limits number call.now
+        run.old.worker run.new.worker run.old.answers.items run.new.answers.items) }
     ensures fault { IfErr result IsStoreFault }
 {
-    if call.worker != worker.number() {
+    if call.worker != run.worker.number() {
         return Ok(());
     }
-    let answered = make_call(rt, alloc, store, worker, number, call)?;
+    let answered = make_call(rt, alloc, store, &mut run.worker, number, call)?;
     gate.at(call.worker, Point::Answered);
-    answers.push_back(answered)?;
+    run.answers.push_back(answered)?;
     Ok(())
 }

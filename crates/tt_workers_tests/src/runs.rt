@@ -92,7 +92,7 @@ fn report_of<R: Threads + Wait + Abort + Sync, G: Gate + Copy + Drop + Send + Sy
     report_in_rounds(rt, alloc, document, 1, gate)
 }
 
-/// The same, with so many rounds.
+/// The same, with this number of rounds.
 fn report_in_rounds<R: Threads + Wait + Abort + Sync, G: Gate + Copy + Drop + Send + Sync>(
     rt: &R,
     alloc: Global,
@@ -122,7 +122,7 @@ fn prints(rt: &impl Abort, alloc: Global, report: &Report, text: &str) {
     }
 }
 
-/// The report's text ends so.
+/// The report's text ends with this text.
 fn ends(rt: &impl Abort, alloc: Global, report: &Report, text: &str) {
     match text_of_report(alloc, report, false) {
         Ok(lines) => assert!(rt; lines.as_slice().ends_with(text.as_bytes())),

@@ -15,7 +15,7 @@ use Rattle.tt_db.specs.declared.limits.Limits.{Limits}
 use Rattle.tt_db.specs.declared.event.Event.TheVariants as events
 use Rattle.tt_db.specs.State.{State, now_of, full_at, refusal, edits_fault, missing_slot, slot_edited_twice}
 use Rattle.tt_db.specs.Database.{Database, state_of, refusal_of}
-use Rattle.tt_repair.specs.declared.record.Record.{Record}
+use Rattle.tt_records.specs.declared.record.Record.{Record}
 use Rattle.tt_document.specs.declared.document.Call.{Call}
 use Rattle.tt_document.specs.Repair.{is_action_call}
 use Rattle.tt_document.specs.declared.document.Document.{Document}

@@ -145,7 +145,7 @@ answer-at_last tables S number q time accepted last = by (slots_in S number) ref
     by None e g = cc
     by (Some W) e g = let same : length W ≡ time = cc in rw (accepted, e, not_later (length W) time same) refl
 
--- a read that has an answer fails for want of memory alone
+-- a read that has an answer fails only where memory runs out
 pub only-memory : (right : Result Reply ReadError) (reply : Reply) (e : ReadError) → right ≡ Ok reply → Answers right (Err e) → e ≡ errors.Memory
 only-memory right reply (errors.Statement fault) is h = cc
 only-memory right reply errors.NoReading is h = cc

@@ -66,9 +66,17 @@ consumed_bytes (Some x) b bs n p e = subst (Consumes (Some x) b) e p
 pub room_left : (bs buffer : List ℕ) (room n : ℕ) → length bs < n → 0 < length buffer → room ≡ min (length buffer) (n - length bs) → 0 < length (take room buffer)
 room_left bs buffer room n more some e = omega (arith, length-take room buffer)
 
+-- a read filled that part, and its bytes were put behind those so far, of which there may be n
+pub record IsRead (bs buffer piece new : List ℕ) (room count n : ℕ) : Type 0 where
+  pub more : length bs < n
+  pub room_is : room ≡ min (length buffer) (n - length bs)
+  pub fills : length piece ≡ length (take room buffer)
+  pub within : count ≤ length piece
+  pub longer : new ≡ bs ++ take count (piece ++ drop room buffer)
+
 -- with what the read gave, the bytes are not too many, and are those that the reader lost
-pub read_more : (a b c : Option (List ℕ)) (bs buffer piece new : List ℕ) (room count n : ℕ) → length bs < n → room ≡ min (length buffer) (n - length bs) → length piece ≡ length (take room buffer) → count ≤ length piece
-    → new ≡ bs ++ take count (piece ++ drop room buffer) → Consumes a b bs → Consumes b c (take count piece) → (length new ≤ n) × Consumes a c new
-read_more a b c bs buffer piece new room count n more e same few longer p q =
-    let taken = longer ∙ ap (λ l. bs ++ l) (take-append-le count piece (drop room buffer) few) in
-    (omega (arith, ap length taken, length-append bs (take count piece), length-take count piece, length-take room buffer), further_read a b c bs (take count piece) new taken p q)
+pub read_more : (a b c : Option (List ℕ)) (bs buffer piece new : List ℕ) (room count n : ℕ) → IsRead bs buffer piece new room count n
+    → Consumes a b bs → Consumes b c (take count piece) → (length new ≤ n) × Consumes a c new
+read_more a b c bs buffer piece new room count n read p q =
+    let taken = read.longer ∙ ap (λ l. bs ++ l) (take-append-le count piece (drop room buffer) read.within) in
+    (omega (arith, read.more, read.room_is, read.fills, read.within, ap length taken, length-append bs (take count piece), length-take count piece, length-take room buffer), further_read a b c bs (take count piece) new taken p q)

@@ -13,7 +13,7 @@ use Rattle.tt_db.specs.declared.limits.Limits.{Limits}
 use Rattle.tt_repair_laws.specs.declared.edit.Edit.{Edit}
 use Rattle.tt_db.specs.State.{State, after, next_state, now_of, slots_left, full_at}
 use Rattle.tt_db.specs.Database.{Database, state_of, with_entry, refusal_of}
-use Rattle.tt_repair.specs.declared.record.Record.{Record}
+use Rattle.tt_records.specs.declared.record.Record.{Record}
 use Rattle.tt_document.specs.declared.document.Call.{Call}
 use Rattle.tt_document.specs.declared.document.Ask.{Ask}
 use Rattle.tt_document.specs.declared.document.Ask.TheVariants as asks

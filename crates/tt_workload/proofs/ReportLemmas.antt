@@ -20,7 +20,7 @@ use Rattle.std.proofs.lemmas.List.Elements.{recursion_from_All}
 use Rattle.tt_workload.specs.declared.run_fault.RunFault.{RunFault}
 use Rattle.tt_workload.specs.declared.run_fault.RunFault.TheVariants.{Memory}
 use Rattle.std.specs.Fmt.{decimal}
-use Rattle.tt_repair.specs.declared.changed.Changed.{Changed}
+use Rattle.tt_records.specs.declared.changed.Changed.{Changed}
 use Rattle.tt_workload.specs.Printing.{replies_text}
 use Rattle.tt_workload.specs.Records.{after_text, text_of_change}
 use Rattle.tt_workload.specs.Room.{AreAccepted}
@@ -71,7 +71,7 @@ AreAccepted-valid_calls tables workers (call ∷ cs) h = (h.0.is_accepted, AreAc
 pub AreAccepted-valid : (d : Document) → IsValidDocument d → AreAccepted d.catalog d.calls
 AreAccepted-valid d valid = AreAccepted-valid_calls d.catalog d.workers d.calls (recursion_from_All (IsValidCall d.catalog d.workers) d.calls valid.valid_calls)
 
--- an error that says that there is no memory
+-- a fault that says that memory ran out
 pub is_memory : {T : Type 0} (r : Result T RunFault) → IsErrAnd r (λ e. e ≡ Memory) → IfErr r (λ e. e ≡ Memory)
 is_memory (Ok x) h = tt
 is_memory (Err e) h = h

@@ -5,16 +5,16 @@ use Rattle.tt_workload.specs.declared.run_fault.RunFault.{RunFault}
 use Rattle.tt_workload.specs.declared.run_fault.RunFault.TheVariants as faults
 use Rattle.tt_workload.specs.declared.options.Options.{Options}
 use Rattle.tt_workload.specs.Report.{report_of}
-use Rattle.tt_workload.specs.Ends.{AppendsFront, ReadsDocument}
-use Rattle.tt_workload.specs.Run.{EndsEarly, WritesFront}
+use Rattle.tt_workload.specs.Ends.{AppendsPrefix, ReadsDocument}
+use Rattle.tt_workload.specs.Run.{EndsEarly, WritesPrefix}
 
--- a front part of the report was written
+-- a prefix of the report was written
 pub ends_in_writing : {T : Type 0} (r : Result T RunFault) (options : Options) (left old new : Option (List ℕ)) (text : List ℕ) (document : Document)
-    → IfErr r (λ e. e ≡ faults.Write) → AppendsFront old new text → text ≡ report_of options document
+    → IfErr r (λ e. e ≡ faults.Write) → AppendsPrefix old new text → text ≡ report_of options document
     → IfSome left (λ xs. ReadsDocument xs document)
     → IfErr r (λ e. IfSome left (λ xs. EndsEarly options e xs old new))
-ends_in_writing (Ok x) options left old new text document failed front is read = tt
-ends_in_writing (Err e) options None old new text document failed front is read = tt
-ends_in_writing (Err e) options (Some xs) old new text document failed front is read =
-    let early : WritesFront options xs old new = record { document = document; is_read = read; written = subst (AppendsFront old new) is front } in
+ends_in_writing (Ok x) options left old new text document failed prefix is read = tt
+ends_in_writing (Err e) options None old new text document failed prefix is read = tt
+ends_in_writing (Err e) options (Some xs) old new text document failed prefix is read =
+    let early : WritesPrefix options xs old new = record { document = document; is_read = read; written = subst (AppendsPrefix old new) is prefix } in
     subst (λ f. EndsEarly options f xs old new) (sym failed) early

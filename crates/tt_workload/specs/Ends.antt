@@ -45,7 +45,7 @@ pub record ConsumesAtMost (n : ℕ) (old new : Option (List ℕ)) : Type 0 where
   pub short : length bytes ≤ n
 
 -- a writer got a prefix of the text
-pub record AppendsFront (old new : Option (List ℕ)) (text : List ℕ) : Type 0 where
+pub record AppendsPrefix (old new : Option (List ℕ)) (text : List ℕ) : Type 0 where
   pub count : ℕ
   pub appended : Appends old new (take count text)
 

@@ -9,9 +9,9 @@ use Rattle.tt_db.specs.declared.event.Entry.{Entry}
 use Rattle.tt_db.specs.State.{slots_left}
 use Rattle.tt_db.specs.Limits.{usual_limits}
 use Rattle.tt_db.specs.Database.{Database, state_of, with_entry}
-use Rattle.tt_repair.specs.declared.record.Record.{Record}
-use Rattle.tt_repair.specs.declared.record.What.{What}
-use Rattle.tt_repair.specs.declared.record.What.TheVariants as whats
+use Rattle.tt_records.specs.declared.record.Record.{Record}
+use Rattle.tt_records.specs.declared.record.What.{What}
+use Rattle.tt_records.specs.declared.record.What.TheVariants as whats
 use Rattle.tt_document.specs.declared.document.Document.{Document}
 use Rattle.tt_document.specs.declared.document.Plan.{Plan}
 use Rattle.tt_document.specs.declared.document.Call.{Call}
@@ -41,7 +41,7 @@ abbrev pub records_of : ℕ → Database → List Call → List Record
 records_of number db [] = []
 records_of number db (call ∷ calls) = record_in number (state_of db) call ∷ records_of (number + 1) (with_entries db (entries_of call)) calls
 
--- the slot that an answer tells of, and 0 where it tells of none
+-- the slot that an answer names, and 0 where it names none
 abbrev pub slot_in : What → ℕ
 slot_in (whats.Write slot replies) = slot
 slot_in (whats.Read select time reply) = 0
@@ -62,10 +62,11 @@ abbrev pub edit_of_slot : List Record → Edit → Edit
 edit_of_slot records (Cancel number) = Cancel (slot_of_call records number)
 edit_of_slot records (Replace number action) = Replace (slot_of_call records number) action
 
--- an entry of the repair, by the worker of this number, and so many steps
+-- an entry of the repair, by the worker of this number
 abbrev pub repair_entry : ℕ → Event → Entry
 repair_entry worker event = record { worker = worker; event = event }
 
+-- n steps of the repair
 abbrev pub steps : ℕ → ℕ → List Entry
 steps worker count = replicate count (repair_entry worker events.Step)
 

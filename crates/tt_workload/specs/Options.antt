@@ -1,4 +1,4 @@
--- How a run repairs, and what its report tells.
+-- How a run repairs, and what its report shows.
 use Rattle.std.specs.Prelude.{◌≤◌, false}
 use Rattle.tt_workload.specs.declared.options.Options.{Options}
 

@@ -8,12 +8,12 @@ use Rattle.tt_values.specs.Effect.{answer_of}
 use Rattle.tt_values.specs.Action.{replies_of}
 use Rattle.tt_generations.specs.TwoGenerations.{is_repairing, done_of}
 use Rattle.tt_db.specs.State.{State, now_of, current_at, next_at}
-use Rattle.tt_repair.specs.declared.record.Record.{Record}
-use Rattle.tt_repair.specs.declared.record.What.{What}
-use Rattle.tt_repair.specs.declared.record.What.TheVariants as whats
-use Rattle.tt_repair.specs.declared.changed.Changed.{Changed}
-use Rattle.tt_repair.specs.declared.changed.After.{After}
-use Rattle.tt_repair.specs.declared.changed.After.TheVariants as afters
+use Rattle.tt_records.specs.declared.record.Record.{Record}
+use Rattle.tt_records.specs.declared.record.What.{What}
+use Rattle.tt_records.specs.declared.record.What.TheVariants as whats
+use Rattle.tt_records.specs.declared.changed.Changed.{Changed}
+use Rattle.tt_records.specs.declared.changed.After.{After}
+use Rattle.tt_records.specs.declared.changed.After.TheVariants as afters
 use Rattle.tt_document.specs.declared.document.Call.{Call}
 use Rattle.tt_document.specs.declared.document.Ask.{Ask}
 use Rattle.tt_document.specs.declared.document.Ask.TheVariants as asks
@@ -43,7 +43,7 @@ abbrev pub kept : Bool → List Record → List Record
 kept true records = records
 kept false records = []
 
--- the beginning of a record's line: the numbers of the call and of its worker
+-- the start of a record's line: the numbers of the call and of its worker
 abbrev pub caller_text : ℕ → ℕ → List ℕ
 caller_text number worker = codes "call " ++ (decimal number ++ (codes " worker " ++ decimal worker))
 

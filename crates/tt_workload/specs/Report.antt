@@ -11,8 +11,8 @@ use Rattle.tt_db.specs.declared.event.Event.TheVariants.{Switch}
 use Rattle.tt_db.specs.declared.outcome.Outcome.{Outcome}
 use Rattle.tt_db.specs.declared.outcome.Outcome.TheVariants.{Switched}
 use Rattle.tt_db.specs.Database.{Database, state_of, outcome_for}
-use Rattle.tt_repair.specs.declared.record.Record.{Record}
-use Rattle.tt_repair.specs.Changes.{changes_of}
+use Rattle.tt_records.specs.declared.record.Record.{Record}
+use Rattle.tt_records.specs.Changes.{changes_of}
 use Rattle.tt_document.specs.declared.document.Document.{Document}
 use Rattle.tt_document.specs.declared.document.Plan.{Plan}
 use Rattle.tt_workload.specs.declared.options.Options.{Options}
@@ -34,7 +34,7 @@ outcome_text outcome = []
 abbrev pub repair_line : Database → List ℕ
 repair_line db = outcome_text (outcome_for db Switch)
 
--- the lines of the replies that a database answers otherwise now
+-- the lines of the replies that a database answers differently now
 abbrev pub changed_lines : Database → List Record → List ℕ
 changed_lines db records = text_of_changes (changes_of db.catalog (state_of db) records)
 

@@ -18,14 +18,15 @@ abbrev pub AreAccepted : Tables → List Call → Type 0
 AreAccepted tables [] = Unit {0}
 AreAccepted tables (call ∷ calls) = (ask_fault tables call.ask ≡ None) × AreAccepted tables calls
 
--- after these calls, which took a slot each at most, no repair is under way, and each slot is one entry
+-- after n calls no repair is under way: each call took at most one slot, and each slot is one entry
 pub record IsBefore (calls : ℕ) (db : Database) : Type 0 where
   pub limits : db.limits ≡ usual_limits
   pub idle : is_repairing (state_of db).phase ≡ false
   pub slots : now_of (state_of db) ≤ calls
   pub events : (state_of db).events ≤ now_of (state_of db)
 
--- a repair is under way after so many calls: each of them took a slot at most, and each slot is one entry and at most one step, beside the beginning of the repair
+-- after n calls a repair is under way: each call took at most one slot, and each slot is one entry and at most one step, beside the
+-- beginning of the repair
 pub record IsUnderWay (calls : ℕ) (db : Database) : Type 0 where
   pub limits : db.limits ≡ usual_limits
   pub repairing : is_repairing (state_of db).phase ≡ true

@@ -7,7 +7,7 @@ use Rattle.tt_workload.specs.declared.run_fault.RunFault.TheVariants as faults
 use Rattle.tt_db.specs.Database.{Database}
 use Rattle.tt_workload.specs.declared.options.Options.{Options}
 use Rattle.tt_workload.specs.Report.{report_of, database_after}
-use Rattle.tt_workload.specs.Ends.{AppendsFront, ReadsDocument, EndsReading, HasText, IsReadingFault}
+use Rattle.tt_workload.specs.Ends.{AppendsPrefix, ReadsDocument, EndsReading, HasText, IsReadingFault}
 
 -- the report of the document that the remaining bytes of the reader spell was written, and nothing else
 pub record WritesReport (options : Options) (remaining : List ℕ) (old new : Option (List ℕ)) : Type 0 where
@@ -27,16 +27,16 @@ pub record IsLeftByDocument (batch : ℕ) (db : Database) : Type 0 where
   pub text : HasText document
   pub is_last : db ≡ database_after batch document
 
--- a front part of that report was written, and nothing else
-pub record WritesFront (options : Options) (remaining : List ℕ) (old new : Option (List ℕ)) : Type 0 where
+-- a prefix of that report was written, and nothing else
+pub record WritesPrefix (options : Options) (remaining : List ℕ) (old new : Option (List ℕ)) : Type 0 where
   pub document : Document
   pub is_read : ReadsDocument remaining document
-  pub written : AppendsFront old new (report_of options document)
+  pub written : AppendsPrefix old new (report_of options document)
 
--- after a fault: where the writer failed, a front part of the report was written, and else nothing. A fault of the document is the
+-- after a fault: where the writer failed, a prefix of the report was written, and else nothing. A fault of the document is the
 -- one that the bytes have. The store is never at fault
 abbrev pub EndsEarly : Options → RunFault → List ℕ → Option (List ℕ) → Option (List ℕ) → Type 0
-EndsEarly options faults.Write remaining old new = WritesFront options remaining old new
+EndsEarly options faults.Write remaining old new = WritesPrefix options remaining old new
 EndsEarly options faults.Read remaining old new = Keeps old new
 EndsEarly options (faults.Document fault) remaining old new = EndsReading remaining (faults.Document fault) × Keeps old new
 EndsEarly options (faults.Store text) remaining old new = ⊥

@@ -14,7 +14,7 @@ use crate::run_fault::RunFault;
 use std::alloc::{AllocError, Global};
 use tt_db::{Db, Entry, Event, Outcome, ReadError};
 use tt_document::{Ask, Call};
-use tt_repair::{Record, What};
+use tt_records::{Record, What};
 use tt_values::{Items, Select, Write};
 
 /// Carries out an event that isn't refused. Answers the next database and the outcome.

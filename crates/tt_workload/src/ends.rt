@@ -5,7 +5,7 @@ ghost use Rattle.std.specs.Io.{ReadsAtMost, WritesAtMost};
 ghost use Rattle.std.specs.Io.KnownBytes.{Keeps, Appends, Consumes, IsAtEnd};
 ghost use Rattle.tt_document.specs.Fault.{FailsWith};
 ghost use Rattle.tt_document.specs.Document.{IsValidDocument};
-ghost use Rattle.tt_workload.specs.Ends.{max_bytes_read, bytes_read, document_of_bytes, ConsumesAtMost, AppendsFront, ReadsDocument, EndsReading, HasText, IsReadingFault, IsReaderFault};
+ghost use Rattle.tt_workload.specs.Ends.{max_bytes_read, bytes_read, document_of_bytes, ConsumesAtMost, AppendsPrefix, ReadsDocument, EndsReading, HasText, IsReadingFault, IsReaderFault};
 
 use crate::run_fault::RunFault;
 use serde_json::Value;
@@ -156,12 +156,12 @@ fn use_retry(error: &Error, retries: &mut u32) -> bool
     true
 }
 
-/// Writes a text, and flushes the writer. After an error a front part of the text is written.
+/// Writes a text, and flushes the writer. After a fault a prefix of the text is written.
 /// An interrupted write is tried again, 1,000 times at most in one call. Needs no memory.
 pub fn write_text<W: Write>(writer: &mut W, text: &[u8]) -> Result<(), RunFault>
     // Of a writer whose bytes are known.
     ensures ok { OnOk result (Appends (W.contents writer.old) (W.contents writer.new) text.now) }
-    ensures front { AppendsFront (W.contents writer.old) (W.contents writer.new) text.now }
+    ensures prefix { AppendsPrefix (W.contents writer.old) (W.contents writer.new) text.now }
 
     // Of any writer.
     ensures err { IfErr result (λ e. e ≡ RunFault.Write) }

@@ -22,4 +22,4 @@ pub use run::{RunEnd, run_alone, run_to_end};
 pub use run_fault::RunFault;
 pub use tt_db::Db;
 pub use tt_document::{Ask, Call, DocFault, Document, Plan};
-pub use tt_repair::{After, Changed, Record, What};
+pub use tt_records::{After, Changed, Record, What};

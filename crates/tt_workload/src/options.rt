@@ -1,9 +1,10 @@
 ghost use Rattle.std.specs.Prelude.{◌≡◌};
 
-/// How a run repairs, and what its report tells.
+/// How a run repairs, and what its report shows.
 #[derive(Clone, Copy, Debug, PartialEq, Eq)]
 pub struct Options {
-    /// The largest number of steps of a repair that are done at once, 1 to 10,000.
+    /// The largest number of steps of a repair that are made before one call, or in one publish:
+    /// 1 to 10,000.
     pub batch: u32,
     /// The largest number of rounds of catching up before a repair is finished, 0 to 1,000.
     pub rounds: u32,

@@ -1,5 +1,5 @@
-//! Values, rows and replies as they are printed. After an error a front part of a text stands in
-//! `out`.
+//! Values, rows and replies as they are printed. Where memory runs out, `out` may end with a prefix
+//! of a text.
 ghost use Rattle.std.specs.Prelude.{◌≡◌, ◌++◌, OnOk};
 ghost use Rattle.std.specs.Fmt.{decimal, signed_decimal};
 ghost use Rattle.std.specs.List.{flat_map};

@@ -5,7 +5,7 @@ ghost use Rattle.tt_workload.specs.Records.{caller_text, answer_text, reply_at, 
 
 use crate::printing::{push_decimal, push_labelled, push_replies, push_reply};
 use std::alloc::{AllocError, Global};
-use tt_repair::{After, Changed, Record, What};
+use tt_records::{After, Changed, Record, What};
 use tt_values::Reply;
 
 /// The line of a call as it was answered, with its line feed.
@@ -46,7 +46,7 @@ pub(crate) fn push_record(out: &mut Vec<u8>, answered: &Record) -> Result<(), Al
     Ok(())
 }
 
-/// Pushes the beginning of a call's line.
+/// Pushes the start of a call's line.
 fn push_caller(out: &mut Vec<u8>, number: u64, worker: u32) -> Result<(), AllocError>
     ensures { OnOk result (out.new.items ≡ out.old.items ++ caller_text number worker) }
 {

@@ -14,8 +14,17 @@ use crate::run_fault::RunFault;
 use std::alloc::{AllocError, Global};
 use tt_db::{Db, Edit, Entry, Event, Outcome};
 use tt_document::Call;
-use tt_repair::{Record, What};
+use tt_records::{Record, What};
 use tt_values::Items;
+
+/// Who makes the repair of a document, and how.
+#[derive(Clone, Copy)]
+pub(crate) struct Administrator {
+    /// The number of this worker.
+    pub(crate) worker: u32,
+    /// The largest number of steps that are made before each call.
+    pub(crate) batch: u32,
+}
 
 /// The slot that the call of a number took, by its record: 0 where it took none.
 fn slot_of_call(records: &[Record], number: u64) -> u64
@@ -28,7 +37,7 @@ fn slot_of_call(records: &[Record], number: u64) -> u64
     }
 }
 
-/// The slot that an answer tells of: 0 where it tells of none.
+/// The slot that an answer names: 0 where it names none.
 fn slot_in(what: &What) -> u64
     ensures { result ≡ slot_in what.now }
 {
@@ -55,7 +64,7 @@ fn edit_of_slot(records: &[Record], edit: &Edit) -> Result<Edit, AllocError>
     }
 }
 
-/// The edits of calls, as edits of the slots that these records tell of.
+/// The edits of calls, as edits of the slots that these records name.
 pub fn edits_of_slots(
     alloc: Global,
     records: &[Record],
@@ -100,7 +109,7 @@ fn slots_left(db: &Db) -> u64
     }
 }
 
-/// Makes steps of the repair, which has at least so many left.
+/// Makes `count` steps of the repair, which has at least as many left.
 fn make_steps(db: Db, worker: u32, count: u64, calls: u64) -> Result<Db, RunFault>
     requires under_way { IsUnderWay calls db }
     requires few { calls ≤ 200000 }
@@ -119,16 +128,16 @@ fn make_steps(db: Db, worker: u32, count: u64, calls: u64) -> Result<Db, RunFaul
 }
 
 /// Makes a batch of steps, or as many as are left.
-fn make_batch(db: Db, worker: u32, batch: u64, calls: u64) -> Result<Db, RunFault>
+fn make_batch(db: Db, administrator: Administrator, calls: u64) -> Result<Db, RunFault>
     requires under_way { IsUnderWay calls db }
     requires few { calls ≤ 200000 }
     ensures state { IfOk result (λ last.
-        last ≡ with_batch worker batch db) }
+        last ≡ with_batch administrator.worker administrator.batch db) }
     ensures under_way { IfOk result (IsUnderWay calls) }
     ensures err { IfErr result (λ e. e ≡ RunFault.Memory) }
 {
-    let count = batch.min(slots_left(&db));
-    make_steps(db, worker, count, calls)
+    let count = u64::from(administrator.batch).min(slots_left(&db));
+    make_steps(db, administrator.worker, count, calls)
 }
 
 /// Makes the calls of a document that are made while its repair is under way, with a batch of steps
@@ -138,27 +147,28 @@ pub(crate) fn make_meanwhile(
     out: &mut Vec<u8>,
     records: &mut Vec<Record>,
     db: Db,
-    worker: u32,
-    batch: u64,
-    made: u64,
+    administrator: Administrator,
     calls: Vec<Call>,
 ) -> Result<Db, RunFault>
-    requires under_way { IsUnderWay made db }
+    requires under_way { IsUnderWay (length records.old.items) db }
     requires accepted { AreAccepted db.catalog calls.items }
-    requires few { made + length calls.items ≤ 200000 }
+    requires few { length records.old.items + length calls.items ≤ 200000 }
     ensures lines { OnOk result (out.new.items ≡ out.old.items
-        ++ text_of_records (records_meanwhile worker batch (made + 1) db calls.items)) }
+        ++ text_of_records (records_meanwhile administrator.worker administrator.batch
+        (length records.old.items + 1) db calls.items)) }
     ensures records { OnOk result (records.new.items ≡ records.old.items
-        ++ records_meanwhile worker batch (made + 1) db calls.items) }
+        ++ records_meanwhile administrator.worker administrator.batch
+        (length records.old.items + 1) db calls.items) }
     ensures state { IfOk result (λ last.
-        last ≡ with_meanwhile worker batch db calls.items) }
-    ensures under_way { IfOk result (IsUnderWay (made + length calls.items)) }
+        last ≡ with_meanwhile administrator.worker administrator.batch db calls.items) }
+    ensures under_way { IfOk result
+        (IsUnderWay (length records.old.items + length calls.items)) }
     ensures err { IfErr result (λ e. e ≡ RunFault.Memory) }
 {
     let mut db = db;
-    let mut number = made;
+    let mut number = records.len() as u64;
     for call in calls {
-        db = make_batch(db, worker, batch, number)?;
+        db = make_batch(db, administrator, number)?;
         number += 1;
         let (next, record) = make_call(alloc, out, db, number, call)?;
         db = next;

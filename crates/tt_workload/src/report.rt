@@ -3,7 +3,6 @@ ghost use Rattle.std.specs.Prelude.{◌≡◌, ◌+◌, ◌≤◌, ◌++◌, ◌
 ghost use Rattle.tt_values.specs.Check.{select_fault};
 ghost use Rattle.tt_db.specs.Limits.{usual_limits};
 ghost use Rattle.tt_db.specs.Database.{state_of, refusal_of};
-ghost use Rattle.tt_document.specs.Reading.{max_workers};
 ghost use Rattle.tt_document.specs.Document.{IsValidCall, IsValidPlan, IsValidDocument};
 ghost use Rattle.tt_workload.specs.Records.{text_of_records};
 ghost use Rattle.tt_workload.specs.History.{edit_of_slot, after_begin, after_switch, records_meanwhile, records_if};
@@ -15,12 +14,12 @@ use crate::closed::push_closed_if;
 use crate::options::Options;
 use crate::printing::{push_decimal, push_labelled, push_reply};
 use crate::record_text::push_changes;
-use crate::repair::{begin, edits_of_slots, finish, make_meanwhile};
+use crate::repair::{Administrator, begin, edits_of_slots, finish, make_meanwhile};
 use crate::run_fault::RunFault;
 use std::alloc::{AllocError, Global};
 use tt_db::{Db, Event, Limits};
 use tt_document::{Document, Plan};
-use tt_repair::{Record, changes};
+use tt_records::{Record, changes};
 use tt_values::{Items, Reply, Select};
 
 /// Pushes the line of a table.
@@ -105,7 +104,7 @@ fn push_state(alloc: Global, out: &mut Vec<u8>, db: &Db) -> Result<(), RunFault>
     Ok(())
 }
 
-/// Pushes a line for each record whose call is answered otherwise now.
+/// Pushes a line for each record whose call is answered differently now.
 fn push_changed(
     alloc: Global,
     out: &mut Vec<u8>,
@@ -128,8 +127,7 @@ fn run_repair(
     out: &mut Vec<u8>,
     records: Vec<Record>,
     db: Db,
-    workers: u32,
-    batch: u32,
+    administrator: Administrator,
     plan: Plan,
 ) -> Result<Db, RunFault>
     requires begins { refusal_of db (Event.Begin (map (edit_of_slot records.items) plan.edits))
@@ -138,35 +136,23 @@ fn run_repair(
     requires accepted { AreAccepted db.catalog plan.meanwhile }
     requires few { length records.items ≤ 100000 }
     requires few_meanwhile { length plan.meanwhile ≤ 100000 }
-    requires workers { workers ≤ max_workers }
     ensures lines { OnOk result (out.new.items ≡ out.old.items
-        ++ (text_of_records (records_meanwhile (workers + 1) batch (length records.items + 1)
-        (after_begin (workers + 1) records.items db plan) plan.meanwhile)
-        ++ repair_lines (workers + 1) batch records.items db plan)) }
-    ensures state { IfOk result (λ last.
-        last ≡ after_switch (workers + 1) batch records.items db plan) }
+        ++ (text_of_records (records_meanwhile administrator.worker administrator.batch
+        (length records.items + 1) (after_begin administrator.worker records.items db plan)
+        plan.meanwhile)
+        ++ repair_lines administrator.worker administrator.batch records.items db plan)) }
+    ensures state { IfOk result (λ last. last
+        ≡ after_switch administrator.worker administrator.batch records.items db plan) }
     ensures err { IfErr result (λ e. e ≡ RunFault.Memory) }
 {
-    let administrator = workers + 1;
-    let batch = u64::from(batch);
     let mut records = records;
-    let made = records.len() as u64;
     let Plan { edits, meanwhile } = plan;
     let calls = meanwhile.into_vec();
-    let all = made + calls.len() as u64;
+    let all = records.len() as u64 + calls.len() as u64;
     let edits = edits_of_slots(alloc, &records, edits.as_slice())?;
-    let db = begin(db, administrator, edits)?;
-    let db = make_meanwhile(
-        alloc,
-        out,
-        &mut records,
-        db,
-        administrator,
-        batch,
-        made,
-        calls,
-    )?;
-    let db = finish(out, db, administrator, all)?;
+    let db = begin(db, administrator.worker, edits)?;
+    let db = make_meanwhile(alloc, out, &mut records, db, administrator, calls)?;
+    let db = finish(out, db, administrator.worker, all)?;
     push_changed(alloc, out, &db, &records)?;
     Ok(db)
 }
@@ -197,7 +183,13 @@ fn run_document(
     let are_kept = repair.is_some();
     let db = make_calls(alloc, out, &mut records, are_kept, db, calls.into_vec())?;
     match repair {
-        Some(plan) => run_repair(alloc, out, records, db, workers, batch, plan),
+        Some(plan) => {
+            let administrator = Administrator {
+                worker: workers + 1,
+                batch,
+            };
+            run_repair(alloc, out, records, db, administrator, plan)
+        }
         None => Ok(db),
     }
 }

@@ -1,7 +1,7 @@
 //! Runs of a workload, from the document that is read to the report that is written.
 ghost use Rattle.std.specs.Prelude.{◌≡◌, ◌≢◌, IfOk, IfErr, IfSome, OnOk};
 ghost use Rattle.std.specs.Io.KnownBytes.{Appends, Keeps};
-ghost use Rattle.tt_workload.specs.Ends.{max_bytes_read, AppendsFront, ConsumesAtMost};
+ghost use Rattle.tt_workload.specs.Ends.{max_bytes_read, AppendsPrefix, ConsumesAtMost};
 ghost use Rattle.tt_workload.specs.Options.{AreWithin};
 ghost use Rattle.tt_workload.specs.Run.{LeavesDatabase, IsLeftByDocument, WritesReport, EndsEarly, IsFaultOfRun};
 
@@ -85,7 +85,7 @@ pub fn run_to_end<R: Read, W: Write>(
 fn write_report<W: Write>(writer: &mut W, report: &[u8], end: RunEnd) -> Result<RunEnd, RunFault>
     ensures ok { OnOk result (Appends (W.contents writer.old) (W.contents writer.new) report.now) }
     ensures database { IfOk result (λ left. left.db ≡ end.db) }
-    ensures front { AppendsFront (W.contents writer.old) (W.contents writer.new) report.now }
+    ensures prefix { AppendsPrefix (W.contents writer.old) (W.contents writer.new) report.now }
     ensures err { IfErr result (λ e. e ≡ RunFault.Write) }
 {
     write_text(writer, report)?;

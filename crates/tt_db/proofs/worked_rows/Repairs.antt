@@ -10,7 +10,7 @@ use Rattle.tt_values.specs.RowWrites.{row_writes}
 use Rattle.tt_values.proofs.worked_rows.Accounts.{tables, ann, bob, eve, account, of_id, of_owner, owner_to, balance_to, balance_by, insert, update, delete, select}
 use Rattle.tt_repair_laws.specs.declared.edit.Edit.{Edit}
 use Rattle.tt_repair_laws.specs.declared.edit.Edit.TheVariants.{Cancel, Replace}
-use Rattle.tt_repair_laws.specs.Due.{dirty_after, rerun_count}
+use Rattle.tt_repair_laws.specs.Due.{dirty_after, reexecuted_count}
 use Rattle.tt_generations.specs.KeptSlots.{slot_at}
 use Rattle.tt_generations.specs.TwoGenerations.{progress_of}
 use Rattle.tt_db.specs.declared.limits.Limits.{Limits}
@@ -45,7 +45,7 @@ empty_repair :
     × (outcome_of tables (after_events []) (events.Begin []) ≡ Begun)
     × (refusal tables max_limits (after_events (events.Begin [] ∷ [])) events.Switch ≡ None)
     × (outcome_of tables (after_events (events.Begin [] ∷ [])) events.Switch ≡ Switched 1 0 0)
-unfolding row_writes rerun_count
+unfolding row_writes reexecuted_count
 empty_repair = (refl, refl, refl, refl)
 
 -- an insert is cancelled, and a later one of its key is no duplicate any more
@@ -58,7 +58,7 @@ cancelled_insert_before_duplicate :
     × (right_select_at tables S all 2 ≡ Ok (Rows (account 1 bob 20 ∷ [])))
     × (slot_at S.slots 1 ≡ Some (record { action = None; replies = None }))
     × (slot_at S.slots 2 ≡ Some (record { action = Some (insert 1 bob 20 ∷ []); replies = Some (Inserted ∷ []) }))
-unfolding row_writes dirty_after rerun_count
+unfolding row_writes dirty_after reexecuted_count
 cancelled_insert_before_duplicate = (refl, refl, refl, refl)
 
 -- a row was moved to another owner, and the move is cancelled
@@ -77,7 +77,7 @@ cancelled_move :
     × (right_select_at tables S all 4 ≡ Ok (Rows (account 1 ann 17 ∷ [])))
     × (slot_at S.slots 3 ≡ Some (record { action = Some (update (balance_to 0) (of_owner eve) ∷ []); replies = Some (Updated 0 ∷ []) }))
     × (slot_at S.slots 4 ≡ Some (record { action = Some (update (balance_by 7) (of_owner ann) ∷ []); replies = Some (Updated 1 ∷ []) }))
-unfolding row_writes dirty_after rerun_count
+unfolding row_writes dirty_after reexecuted_count
 cancelled_move = (refl, refl, refl, refl)
 
 -- five slots, of which the fourth is replaced
@@ -107,7 +107,7 @@ replaced_delete :
     × (outcome_of tables (after_events (four_steps ++ step ∷ step ∷ [])) events.Switch ≡ Switched 1 6 2)
     × (right_select_at tables (after_events (four_steps ++ step ∷ step ∷ events.Switch ∷ [])) all 6
     ≡ Ok (Rows (account 1 ann 6 ∷ account 2 ann 7 ∷ account 4 bob 1 ∷ [])))
-unfolding row_writes dirty_after rerun_count
+unfolding row_writes dirty_after reexecuted_count
 replaced_delete = (refl, refl, refl, refl, refl, refl, refl)
 
 -- a write to a split row meanwhile is in the current generation alone, until the repair does its slot
@@ -126,7 +126,7 @@ write_to_split_row :
     × (right_preview tables S all ≡ Ok (Rows (account 1 ann 10 ∷ [])))
     × (outcome_of tables (after_events (update_repaired ++ step ∷ [])) events.Switch ≡ Switched 1 3 2)
     × (right_select_at tables (after_events (update_repaired ++ step ∷ events.Switch ∷ [])) all 3 ≡ Ok (Rows (account 1 ann 11 ∷ [])))
-unfolding row_writes dirty_after rerun_count
+unfolding row_writes dirty_after reexecuted_count
 write_to_split_row = (refl, refl, refl, refl)
 
 -- a further write meanwhile
@@ -136,7 +136,7 @@ moved_meanwhile = update_repaired ++ write (update (owner_to eve) (of_id 1)) ∷
 further_write :
     (outcome_of tables (after_events moved_meanwhile) events.Switch ≡ Switched 1 4 3)
     × (right_select_at tables (after_events (moved_meanwhile ++ events.Switch ∷ [])) all 4 ≡ Ok (Rows (account 1 eve 11 ∷ [])))
-unfolding row_writes dirty_after rerun_count
+unfolding row_writes dirty_after reexecuted_count
 further_write = (refl, refl)
 
 -- a repair that is given up leaves the current answers, and another one may begin
@@ -160,7 +160,7 @@ deleted_row_stays_deleted :
     × (right_select_at tables S all 1 ≡ Ok (Rows (account 1 ann 10 ∷ [])))
     × (right_select_at tables S all 2 ≡ Ok (Rows []))
     × (right_select_at tables S all 3 ≡ Ok (Rows []))
-unfolding row_writes dirty_after rerun_count
+unfolding row_writes dirty_after reexecuted_count
 deleted_row_stays_deleted = (refl, refl, refl, refl)
 
 -- edits of slots that aren't there, and of a slot twice. The former are looked for first

@@ -14,7 +14,7 @@ use tt_values::{CheckError, Reply};
 /// The accounts of the five slots once the delete is repaired.
 const REPAIRED: [Account; 2] = [(1, "ann", 6), (2, "ann", 7)];
 
-/// A new database with the table `acct` that keeps so many closed generations.
+/// A new database with the table `acct`, and with this limit of closed generations.
 fn keeping(rt: &impl Abort, alloc: Global, keep: u32) -> Db {
     let limits = Limits {
         slots: MAX_SLOTS,

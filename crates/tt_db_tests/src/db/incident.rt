@@ -1,4 +1,4 @@
-//! The incident that `docs/REPAIR.md` tells: an account was taken over, and the repair cancels that.
+//! The incident of `docs/REPAIR.md`: an account was taken over, and the repair cancels that.
 use super::repairs::{begin, is_cancelled, replied, switched};
 use super::{
     ACCT, Account, action, add, add_to_balance, answer_to, done, had, has, id_is, insert, made,

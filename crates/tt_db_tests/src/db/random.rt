@@ -1,5 +1,5 @@
 //! Events that look random.
-use super::{ACCT, add, delete, insert, set_balance, set_owner, text};
+use super::{ACCT, add, delete, insert, set_balance, set_owner};
 use std::alloc::Global;
 use std::process::Abort;
 use tt_db::{Edit, Event};
@@ -37,12 +37,11 @@ impl Random {
     }
 
     fn equal(&mut self, rt: &impl Abort, alloc: Global) -> Equal {
-        let (column, value) = match self.below(3) {
-            0 => (0, Value::Int(self.id())),
-            1 => (1, Value::Text(text(rt, alloc, self.owner()))),
-            _ => (2, Value::Int(self.balance())),
-        };
-        Equal { column, value }
+        match self.below(3) {
+            0 => Equal::int(0, self.id()),
+            1 => Equal::text(alloc, 1, self.owner()).expect(rt, "memory"),
+            _ => Equal::int(2, self.balance()),
+        }
     }
 
     /// A condition of 0 to 2 equalities.
@@ -96,7 +95,7 @@ impl Random {
         Items::new(alloc, writes).expect(rt, "memory")
     }
 
-    /// An edit of one of so many slots.
+    /// An edit of one of the first `slots` slots.
     fn edit(&mut self, rt: &impl Abort, alloc: Global, slots: u32) -> Edit {
         let number = u64::from(self.below(slots)).saturating_add(1);
         match self.below(2) {
@@ -105,7 +104,7 @@ impl Random {
         }
     }
 
-    /// Up to 3 edits of so many slots, each of another slot.
+    /// Up to 3 edits of the first `slots` slots, no two of the same slot.
     fn edits(&mut self, rt: &impl Abort, alloc: Global, slots: u32) -> Items<Edit> {
         let mut edits: Vec<Edit> = Vec::new(alloc);
         for _ in 0..self.below(4) {
@@ -117,7 +116,7 @@ impl Random {
         Items::new(alloc, edits).expect(rt, "memory")
     }
 
-    /// An event for a database with so many slots. Most are steps, so that repairs come to an end.
+    /// An event for a database with `slots` slots. Most are steps, so that repairs come to an end.
     pub(super) fn event(&mut self, rt: &impl Abort, alloc: Global, slots: u32) -> Event {
         match self.below(500) {
             0..=49 => Event::Write(self.action(rt, alloc)),

@@ -178,7 +178,7 @@ fn advance(rt: &impl Abort, alloc: Global, run: &mut Run, event: Event) {
     }
 }
 
-/// A run of so many events.
+/// A run of this number of events.
 fn ran(rt: &impl Abort, alloc: Global, seed: u64, events: u32) -> Run {
     let mut random = Random { state: seed };
     let mut run = Run {

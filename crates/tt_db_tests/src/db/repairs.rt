@@ -11,11 +11,10 @@ use tt_versions::Table;
 
 /// The begin of a repair with these edits.
 pub(super) fn begin<const N: usize>(rt: &impl Abort, alloc: Global, edits: [Edit; N]) -> Event {
-    let edits = Vec::from_array(alloc, edits).expect(rt, "memory");
-    Event::Begin(Items::new(alloc, edits).expect(rt, "memory"))
+    Event::Begin(Items::of(alloc, edits).expect(rt, "memory"))
 }
 
-/// Begins a repair, and does so many steps.
+/// Begins a repair, and does this number of steps.
 pub(super) fn begin_and_step<const N: usize>(
     rt: &impl Abort,
     alloc: Global,

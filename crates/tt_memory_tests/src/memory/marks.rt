@@ -3,13 +3,13 @@
 use std::alloc::Global;
 use std::test::*;
 
-/// In such a stretch growths are counted, and one of them may be refused.
+/// Begins and ends a stretch in which growths are counted, and one of them may be refused.
 const CALLS: usize = (1 << 62) + 1;
 
-/// In such a stretch there is no growth.
+/// Begins and ends a stretch without growths.
 const QUIET: usize = (1 << 62) + 3;
 
-/// Behind such a stretch as many blocks are in use as before.
+/// Begins and ends a stretch after which as many blocks are in use as before.
 const TALLY: usize = (1 << 62) + 5;
 
 fn asks_for(alloc: Global, bytes: usize) {

@@ -3,7 +3,7 @@ use super::marks::{Tally, mark, quiet};
 use super::same;
 use std::alloc::{AllocError, Global};
 use std::process::Abort;
-use tt_pages::{Change, PagedLog, PagedMap};
+use tt_pages::{Modify, PagedLog, PagedMap};
 
 /// The number of entries, which fill several pages.
 const MANY: u64 = 70;
@@ -105,7 +105,7 @@ struct Replace {
     by: u64,
 }
 
-impl Change<u64> for Replace {
+impl Modify<u64> for Replace {
     ghost after = { λ change _. change.by };
 
     fn apply(self, value: &mut u64) -> Result<(), AllocError> {

@@ -94,10 +94,8 @@ fn dirty_rows(rt: HostRuntime) {
 fn delete(rt: &impl Abort, alloc: Global, owner: &str) -> Write
     ensures { HasKey result }
 {
-    Write::Delete {
-        table: 0,
-        equals: items(rt, alloc, [owned_by(rt, alloc, owner)]),
-    }
+    let owned = owned_by(rt, alloc, owner);
+    Write::delete(alloc, 0, [owned]).expect(rt, "memory")
 }
 
 /// Whether a write is clear is found without memory: that of ann's rows isn't, that of dan's is.

@@ -26,8 +26,8 @@ fn refuses(rt: &impl Abort, alloc: Global, db: Db, event: Event, error: DbError)
 
 /// An event with a statement on a table that isn't there.
 fn faulty(rt: &impl Abort, alloc: Global) -> Event {
-    let equals = items(rt, alloc, []);
-    write(rt, alloc, Write::Delete { table: 1, equals })
+    let delete = Write::delete(alloc, 1, []).expect(rt, "memory");
+    write(rt, alloc, delete)
 }
 
 /// Edits that cancel these slots.
@@ -145,10 +145,7 @@ fn reads_that_are_refused(rt: HostRuntime) {
     let db = repairing(&rt, alloc, 4);
     let alone = five_slots(&rt, alloc);
     let all = everything(&rt, alloc);
-    let faulty = Select {
-        table: 1,
-        equals: items(&rt, alloc, []),
-    };
+    let faulty = Select::all(alloc, 1).expect(&rt, "memory");
     quiet(alloc);
     tells(&rt, &db);
     refuses_select(&rt, &db, &faulty);

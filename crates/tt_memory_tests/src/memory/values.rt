@@ -1,13 +1,11 @@
 //! Values, statements and the catalog, where one growth is refused, and calls of them without any.
 use super::marks::{Tally, mark, quiet};
-use super::{
-    account_columns, add_to_all, delete, everything, insert, items, owned_by, row, same, text,
-};
+use super::{account_columns, add_to_all, delete, everything, insert, items, owned_by, row, same};
 use std::alloc::{AllocError, Global};
 use std::process::Abort;
 use tt_values::{
-    Catalog, CatalogError, Change, CheckError, Equal, Items, Kind, Row, Select, Shared, TableDef,
-    Text, Value, Write, changed, check, check_action, check_select, digest, matches,
+    Catalog, CatalogError, Change, CheckError, Column, Equal, Items, Kind, Row, Select, Shared,
+    TableDef, Text, Value, Write, changed, check, check_action, check_select, digest, matches,
 };
 
 /// A text, though the first call may find no memory.
@@ -18,13 +16,13 @@ fn text_made(rt: &impl Abort, alloc: Global, words: &str) -> Text {
     mark(alloc);
     match made {
         Ok(made) => made,
-        Err(AllocError) => text(rt, alloc, words),
+        Err(AllocError) => Text::copied(alloc, words).expect(rt, "a second call"),
     }
 }
 
 /// A list of 7, though the first call may find no memory.
 fn items_made(rt: &impl Abort, alloc: Global) -> Items<u64> {
-    let list = Vec::from_array(alloc, [7]).expect(rt, "memory");
+    let list = vec![in alloc; 7].expect(rt, "memory");
     mark(alloc);
     let made = Items::new(alloc, list);
     mark(alloc);
@@ -74,6 +72,54 @@ fn values_that_are_shared(rt: HostRuntime) {
     quiet(alloc);
 }
 
+/// The columns id and owner.
+fn two_columns(alloc: Global) -> Result<TableDef, AllocError> {
+    let id = Column::int(alloc, "id")?;
+    let owner = Column::text(alloc, "owner")?.partition();
+    TableDef::of(alloc, [id, owner])
+}
+
+fn insert_of_ann(alloc: Global) -> Result<Write, AllocError> {
+    let owner = Value::text(alloc, "ann")?;
+    Write::insert(alloc, 0, [Value::Int(1), owner])
+}
+
+/// An update of ann's rows, which are eve's from then on.
+fn update_of_ann(alloc: Global) -> Result<Write, AllocError> {
+    let value = Value::text(alloc, "eve")?;
+    let of_ann = Equal::text(alloc, 1, "ann")?;
+    Write::update(alloc, 0, [Change::Set { column: 1, value }], [of_ann])
+}
+
+/// What the first call makes, or the second one if the first finds no memory.
+fn made<T: Drop>(
+    rt: &impl Abort,
+    first: Result<T, AllocError>,
+    second: Result<T, AllocError>,
+) -> T {
+    match first {
+        Ok(made) => made,
+        Err(AllocError) => second.expect(rt, "a second call"),
+    }
+}
+
+#[test]
+fn values_that_are_made_in_one_call(rt: HostRuntime) {
+    let alloc = rt.alloc();
+    let _tally = Tally::new(alloc);
+    mark(alloc);
+    let def = two_columns(alloc);
+    let insert = insert_of_ann(alloc);
+    let update = update_of_ann(alloc);
+    mark(alloc);
+    let def = made(&rt, def, two_columns(alloc));
+    let insert = made(&rt, insert, insert_of_ann(alloc));
+    let update = made(&rt, update, update_of_ann(alloc));
+    let mut catalog = Catalog::new(alloc);
+    catalog.add("acct", def).expect(&rt, "a table");
+    same(&rt, &check_action(&catalog, &[insert, update]), &Ok(()));
+}
+
 /// The row of ann with one more, though the first call may find no memory.
 fn one_more(rt: &impl Abort, alloc: Global, ann: &Row) -> Row {
     let changes = [Change::Add { column: 2, by: 1 }];
@@ -109,10 +155,8 @@ fn a_row_is_changed(rt: HostRuntime) {
 
 /// The select of all rows of an owner.
 fn everything_of(rt: &impl Abort, alloc: Global, owner: &str) -> Select {
-    Select {
-        table: 0,
-        equals: items(rt, alloc, [owned_by(rt, alloc, owner)]),
-    }
+    let owned = owned_by(rt, alloc, owner);
+    Select::matching(alloc, 0, [owned]).expect(rt, "memory")
 }
 
 /// Adds the table of accounts. Without memory the catalog stays, and the call is made again.
@@ -131,9 +175,7 @@ fn adds(rt: &impl Abort, alloc: Global, catalog: &mut Catalog) {
 
 /// Refusals of tables, which take no memory.
 fn refuses_tables(rt: &impl Abort, alloc: Global, catalog: &mut Catalog) {
-    let none = TableDef {
-        columns: items(rt, alloc, []),
-    };
+    let none = TableDef::of(alloc, []).expect(rt, "memory");
     let (first, second) = (account_columns(rt, alloc), account_columns(rt, alloc));
     quiet(alloc);
     same(rt, &catalog.add("", first), &Err(CatalogError::BadName));
@@ -194,10 +236,7 @@ fn judges_writes(rt: &impl Abort, alloc: Global, catalog: &Catalog) {
         delete(rt, alloc, "ann"),
         add_to_all(rt, alloc, 1),
     ];
-    let missing = Write::Delete {
-        table: 1,
-        equals: items(rt, alloc, []),
-    };
+    let missing = Write::delete(alloc, 1, []).expect(rt, "memory");
     quiet(alloc);
     same(rt, &check_action(catalog, &writes), &Ok(()));
     same(rt, &check(catalog, &missing), &Err(CheckError::NoTable));
@@ -211,14 +250,7 @@ fn judges_writes(rt: &impl Abort, alloc: Global, catalog: &Catalog) {
 /// Whether selects can run is found without memory.
 fn judges_selects(rt: &impl Abort, alloc: Global, catalog: &Catalog) {
     let all = everything(rt, alloc);
-    let wrong = Equal {
-        column: 1,
-        value: Value::Int(7),
-    };
-    let wrong = Select {
-        table: 0,
-        equals: items(rt, alloc, [wrong]),
-    };
+    let wrong = Select::matching(alloc, 0, [Equal::int(1, 7)]).expect(rt, "memory");
     quiet(alloc);
     same(rt, &check_select(catalog, &all), &Ok(()));
     same(

@@ -1,6 +1,6 @@
 //! Tables of versions, where one growth is refused.
 use super::marks::{Tally, mark, quiet};
-use super::{items, owned_by, row, same};
+use super::{owned_by, row, same};
 use std::alloc::{AllocError, Global};
 use std::process::Abort;
 use tt_values::{Row, Value};
@@ -171,7 +171,7 @@ fn with_two_rows(rt: &impl Abort, alloc: Global) -> Table {
     let table = searchable(rt, alloc);
     let kept = table.share().expect(rt, "memory");
     let bob = Some(row(rt, alloc, 2, "bob", 6));
-    let rows = Vec::from_array(alloc, [(1, ann(rt, alloc, 5)), (2, bob)]).expect(rt, "memory");
+    let rows = vec![in alloc; (1, ann(rt, alloc, 5)), (2, bob)].expect(rt, "memory");
     mark(alloc);
     let written = table.into_all_written(rows, 1);
     mark(alloc);
@@ -188,14 +188,14 @@ fn with_two_rows(rt: &impl Abort, alloc: Global) -> Table {
 
 /// How many rows bob has, though the first call may find no memory.
 fn count_of_bob(rt: &impl Abort, alloc: Global, table: &Table) -> usize {
-    let equals = items(rt, alloc, [owned_by(rt, alloc, "bob")]);
+    let equals = [owned_by(rt, alloc, "bob")];
     mark(alloc);
-    let rows = table.rows_matching(equals.as_slice(), 1, Side::Current);
+    let rows = table.rows_matching(&equals, 1, Side::Current);
     mark(alloc);
     match rows {
         Ok(rows) => rows.len(),
         Err(AllocError) => table
-            .rows_matching(equals.as_slice(), 1, Side::Current)
+            .rows_matching(&equals, 1, Side::Current)
             .expect(rt, "a second call")
             .len(),
     }

@@ -26,7 +26,7 @@ impl<T> Model for Page<T> {
 }
 
 impl<T: Drop> Page<T> {
-    /// A page of one item, with room for so many.
+    /// A page of one item, with room for `room` items.
     pub(super) fn of_one(alloc: Global, item: T, room: usize) -> Result<Self, AllocError>
         ensures { IfOk result (λ page. page ≡ item ∷ []) }
     {
@@ -64,7 +64,7 @@ impl<T: Drop> Page<T> {
 }
 
 impl<T: Kept + Drop> Page<T> {
-    /// A page with the items of a slice, and room for one more.
+    /// A copy of the items, with room for one more.
     pub(super) fn copy_of(alloc: Global, source: &[T]) -> Result<Self, AllocError>
         ensures { IfOk result (λ page. page ≡ source.now) }
     {

@@ -60,7 +60,7 @@ pub(super) fn front_of_tree<T: Kept + Drop>(
     }
 }
 
-/// Where the tail is full, makes it the last page of the tree. The list stays the same.
+/// If the tail is full, makes it the last page of the tree. The log's items stay the same.
 pub(super) fn make_room<T: Drop>(
     tree: &mut Option<Tree<T>>,
     tail: &mut Option<Arc<Page<T>>>,
@@ -94,8 +94,8 @@ fn add_page<T: Drop>(
     }
 }
 
-/// Puts an item at the end of the tail, in a copy where the tail is shared. A new tail gets this
-/// room.
+/// Adds an item at the end of the tail, which is copied if it is shared. A new tail has room for
+/// `room` items.
 pub(super) fn push_to_tail<T: Kept + Drop>(
     tail: &mut Option<Arc<Page<T>>>,
     alloc: Global,

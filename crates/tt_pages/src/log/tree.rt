@@ -8,7 +8,7 @@ use std::alloc::{AllocError, Global};
 use std::marker::Model;
 use std::sync::Arc;
 
-/// Pages in order, at least one item in all.
+/// A tree of pages, with at least one item.
 #[cycle(log_tree)]
 #[derive(Drop)]
 pub(super) struct Tree<T> {
@@ -108,7 +108,7 @@ impl<T: Drop> Tree<T> {
         }
     }
 
-    /// One more owner of the same nodes and pages.
+    /// A further owner of the same nodes and pages.
     pub(super) fn share(&self) -> Result<Self, AllocError>
         ensures { IfOk result (λ tree. tree ≡ self.now) }
     {
@@ -119,7 +119,7 @@ impl<T: Drop> Tree<T> {
         })
     }
 
-    /// Puts a page at the end, in new nodes where the tree is shared.
+    /// Adds a page at the end. Nodes that are shared are copied.
     #[cycle(appending)]
     pub(super) fn append(&mut self, alloc: Global, page: &Arc<Page<T>>) -> Result<(), AllocError>
         requires { 0 < length page.now.value }
@@ -170,7 +170,7 @@ impl<T: Kept + Drop> Tree<T> {
         }
     }
 
-    /// Writes the item at a position, into new nodes where the tree is shared.
+    /// Replaces the item at a position. Nodes and pages that are shared are copied.
     #[cycle(replacing)]
     pub(super) fn replace(&mut self, position: usize, item: T) -> Result<(), AllocError>
         requires { position < length self.old }
@@ -181,7 +181,7 @@ impl<T: Kept + Drop> Tree<T> {
     }
 }
 
-/// Puts a page at the end of a node of `len` items. The right branch grows while it is shorter.
+/// Adds a page at the end of a node of `len` items: to the right branch while it is the shorter.
 #[cycle(appending)]
 fn append_to_node<T: Drop>(
     node: &mut Node<T>,
@@ -282,7 +282,7 @@ fn replace_in_branches<T: Kept + Drop>(
     }
 }
 
-/// Writes the item at a position of a page, into a copy where the page is shared.
+/// Replaces the item at a position of a page, which is copied if it is shared.
 pub(super) fn replace_in_page<T: Kept + Drop>(
     page: &mut Arc<Page<T>>,
     position: usize,

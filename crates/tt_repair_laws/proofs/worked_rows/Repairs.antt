@@ -8,7 +8,7 @@ use Rattle.tt_values.proofs.worked_rows.Accounts.{tables, ann, bob, eve, account
 use Rattle.tt_repair_laws.specs.declared.edit.Edit.{Edit}
 use Rattle.tt_repair_laws.specs.declared.edit.Edit.TheVariants.{Cancel, Replace}
 use Rattle.tt_repair_laws.specs.Edits.{edited_slots}
-use Rattle.tt_repair_laws.specs.Due.{content_after, is_due, dirty_after, rerun_count}
+use Rattle.tt_repair_laws.specs.Due.{content_after, is_due, dirty_after, reexecuted_count}
 
 -- whether each of some slots is due, from slot i + 1 on
 abbrev due_from : Slots → List Edit → ℕ → ℕ → List Bool
@@ -41,10 +41,10 @@ two_inserts = slots_of two_inserts_of_a_key
 first_insert_cancelled :
     (replies two_inserts ≡ answered Inserted ∷ answered Duplicate ∷ [])
     × (due_slots two_inserts (Cancel 1 ∷ []) ≡ true ∷ true ∷ [])
-    × (rerun_count tables two_inserts (Cancel 1 ∷ []) 2 ≡ 2)
+    × (reexecuted_count tables two_inserts (Cancel 1 ∷ []) 2 ≡ 2)
     × (replies (edited_slots two_inserts (Cancel 1 ∷ [])) ≡ None ∷ answered Inserted ∷ [])
     × (accounts (edited_slots two_inserts (Cancel 1 ∷ [])) ≡ (pos 1, account 1 bob 20) ∷ [])
-unfolding row_writes dirty_after rerun_count
+unfolding row_writes dirty_after reexecuted_count
 first_insert_cancelled = (refl, refl, refl, refl, refl)
 
 -- a change of owner is cancelled: the updates of both owners' accounts are due
@@ -54,10 +54,10 @@ owner_changes = slots_of change_of_owner
 change_of_owner_cancelled :
     (replies owner_changes ≡ answered Inserted ∷ answered (Updated 1) ∷ answered (Updated 1) ∷ answered (Updated 0) ∷ [])
     × (due_slots owner_changes (Cancel 2 ∷ []) ≡ false ∷ true ∷ true ∷ true ∷ [])
-    × (rerun_count tables owner_changes (Cancel 2 ∷ []) 4 ≡ 3)
+    × (reexecuted_count tables owner_changes (Cancel 2 ∷ []) 4 ≡ 3)
     × (replies (edited_slots owner_changes (Cancel 2 ∷ [])) ≡ answered Inserted ∷ None ∷ answered (Updated 0) ∷ answered (Updated 1) ∷ [])
     × (accounts (edited_slots owner_changes (Cancel 2 ∷ [])) ≡ (pos 1, account 1 ann 17) ∷ [])
-unfolding row_writes dirty_after rerun_count
+unfolding row_writes dirty_after reexecuted_count
 change_of_owner_cancelled = (refl, refl, refl, refl, refl)
 
 -- a delete of one owner's accounts is replaced by one of another's: the update of the whole table after it is due
@@ -71,10 +71,10 @@ delete_replaced :
     (replies deletion ≡ answered Inserted ∷ answered Inserted ∷ answered Inserted ∷ answered (Deleted 2) ∷ answered (Updated 1) ∷ [])
     × (accounts deletion ≡ (pos 3, account 3 bob 8) ∷ [])
     × (due_slots deletion delete_bob ≡ false ∷ false ∷ false ∷ true ∷ true ∷ [])
-    × (rerun_count tables deletion delete_bob 5 ≡ 2)
+    × (reexecuted_count tables deletion delete_bob 5 ≡ 2)
     × (replies (edited_slots deletion delete_bob) ≡ answered Inserted ∷ answered Inserted ∷ answered Inserted ∷ answered (Deleted 1) ∷ answered (Updated 2) ∷ [])
     × (accounts (edited_slots deletion delete_bob) ≡ (pos 1, account 1 ann 6) ∷ (pos 2, account 2 ann 7) ∷ [])
-unfolding row_writes dirty_after rerun_count
+unfolding row_writes dirty_after reexecuted_count
 delete_replaced = (refl, refl, refl, refl, refl, refl)
 
 -- an insert is cancelled, and all other slots are of another owner: none of them is due
@@ -83,9 +83,9 @@ two_owners = slots_of (insert 1 ann 1 ∷ insert 2 bob 0 ∷ insert 3 bob 0 ∷ 
 
 insert_of_other_owner_cancelled :
     (due_slots two_owners (Cancel 1 ∷ []) ≡ true ∷ false ∷ false ∷ false ∷ false ∷ [])
-    × (rerun_count tables two_owners (Cancel 1 ∷ []) 5 ≡ 1)
+    × (reexecuted_count tables two_owners (Cancel 1 ∷ []) 5 ≡ 1)
     × (accounts (edited_slots two_owners (Cancel 1 ∷ [])) ≡ (pos 2, account 2 bob 2) ∷ (pos 3, account 3 bob 2) ∷ [])
-unfolding row_writes dirty_after rerun_count
+unfolding row_writes dirty_after reexecuted_count
 insert_of_other_owner_cancelled = (refl, refl, refl)
 
 -- an update is cancelled, and another of the same account is added during the repair
@@ -95,10 +95,10 @@ two_updates = slots_of (insert_and_update ++ update (balance_by 1) (of_id 1) ∷
 update_cancelled :
     (accounts two_updates ≡ (pos 1, account 1 ann 1) ∷ [])
     × (due_slots two_updates (Cancel 2 ∷ []) ≡ false ∷ true ∷ true ∷ [])
-    × (rerun_count tables two_updates (Cancel 2 ∷ []) 3 ≡ 2)
+    × (reexecuted_count tables two_updates (Cancel 2 ∷ []) 3 ≡ 2)
     × (content_after (edited_slots two_updates (Cancel 2 ∷ [])) 2 0 ≡ (pos 1, account 1 ann 10) ∷ [])
     × (accounts (edited_slots two_updates (Cancel 2 ∷ [])) ≡ (pos 1, account 1 ann 11) ∷ [])
-unfolding row_writes dirty_after rerun_count
+unfolding row_writes dirty_after reexecuted_count
 update_cancelled = (refl, refl, refl, refl, refl)
 
 -- and a further update changes its owner

@@ -2,7 +2,7 @@
 ghost use Rattle.std.specs.Prelude.{◌≡◌};
 ghost use Rattle.std.specs.Arc.{arc_value};
 ghost use Rattle.tt_db.specs.Limits.{usual_limits};
-ghost use Rattle.tt_store.specs.Published.{SaysThat};
+ghost use Rattle.tt_store.specs.Published.{RuleIsMembership};
 
 use super::{all, bank, delete_bob, one, rows, same, writes_five_slots};
 use std::alloc::Global;
@@ -26,7 +26,7 @@ fn repairs<L: Naming, T: Wait + Abort>(rt: &T, alloc: Global, opened: Opened, ca
     requires book { opened.front.book ≡ L.book }
     requires tables { arc_value catalog ≡ L.tables }
     requires limits { usual_limits ≡ L.limits }
-    requires tied { SaysThat L.holds L.book L.tables L.limits }
+    requires tied { RuleIsMembership L.holds L.book L.tables L.limits }
     requires name { opened.blank.name ≡ L.name }
     requires parts { opened.blank.parts ≡ L.parts }
 {
@@ -122,7 +122,7 @@ fn read_three(rt: &impl Abort, alloc: Global) -> Record {
     }
 }
 
-/// A call whose one reply has become another one.
+/// A call whose only reply has changed.
 fn changed(rt: &impl Abort, alloc: Global, call: u64, (before, after): (Reply, Reply)) -> Changed {
     Changed {
         call,

@@ -2,7 +2,7 @@
 ghost use Rattle.std.specs.Prelude.{◌≡◌, ◌≤◌};
 ghost use Rattle.std.specs.Arc.{arc_value};
 ghost use Rattle.tt_db.specs.Limits.{usual_limits};
-ghost use Rattle.tt_store.specs.Published.{SaysThat};
+ghost use Rattle.tt_store.specs.Published.{RuleIsMembership};
 
 use super::held::{Held, Marks};
 use super::{bank, delete_bob, done, insert, same, writes_five_slots};
@@ -78,7 +78,7 @@ fn repairs_beside_an_insert<L: Naming + Send + Sync, T: Threads + Wait + Abort +
     requires book { opened.front.book ≡ L.book }
     requires tables { arc_value catalog ≡ L.tables }
     requires limits { usual_limits ≡ L.limits }
-    requires tied { SaysThat L.holds L.book L.tables L.limits }
+    requires tied { RuleIsMembership L.holds L.book L.tables L.limits }
     requires name { opened.blank.name ≡ L.name }
     requires parts { opened.blank.parts ≡ L.parts }
 {
@@ -151,7 +151,7 @@ fn repairs_beside_an_abort<L: Naming + Send + Sync, T: Threads + Wait + Abort + 
     requires book { opened.front.book ≡ L.book }
     requires tables { arc_value catalog ≡ L.tables }
     requires limits { usual_limits ≡ L.limits }
-    requires tied { SaysThat L.holds L.book L.tables L.limits }
+    requires tied { RuleIsMembership L.holds L.book L.tables L.limits }
     requires name { opened.blank.name ≡ L.name }
     requires parts { opened.blank.parts ≡ L.parts }
 {

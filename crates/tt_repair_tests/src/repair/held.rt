@@ -5,7 +5,7 @@ use std::sync::atomic::{AtomicU64, Ordering};
 use std::thread::yield_now;
 use tt_store::{Gate, Point};
 
-/// For how many turns a thread waits for another one at most.
+/// The most turns for which a thread waits for another thread.
 const TURNS: u64 = 10_000_000;
 
 /// How many publishes worker 1 has made before its repair.

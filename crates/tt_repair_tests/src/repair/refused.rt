@@ -2,7 +2,7 @@
 ghost use Rattle.std.specs.Prelude.{◌≡◌};
 ghost use Rattle.std.specs.Arc.{arc_value};
 ghost use Rattle.tt_db.specs.Limits.{usual_limits};
-ghost use Rattle.tt_store.specs.Published.{SaysThat};
+ghost use Rattle.tt_store.specs.Published.{RuleIsMembership};
 
 use super::{bank, delete_bob, done, same, writes_five_slots};
 use std::alloc::Global;
@@ -31,7 +31,7 @@ fn begins_twice<L: Naming, T: Wait + Abort>(
     requires book { opened.front.book ≡ L.book }
     requires tables { arc_value catalog ≡ L.tables }
     requires limits { usual_limits ≡ L.limits }
-    requires tied { SaysThat L.holds L.book L.tables L.limits }
+    requires tied { RuleIsMembership L.holds L.book L.tables L.limits }
     requires name { opened.blank.name ≡ L.name }
     requires parts { opened.blank.parts ≡ L.parts }
 {

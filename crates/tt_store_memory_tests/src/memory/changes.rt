@@ -90,7 +90,7 @@ fn read(rt: &impl Abort, alloc: Global, call: u64, time: u64, reply: Reply) -> R
     }
 }
 
-/// A call whose one reply has become another one.
+/// A call whose only reply has changed.
 fn changed(rt: &impl Abort, alloc: Global, call: u64, before: Reply, after: Reply) -> Changed {
     Changed {
         call,

@@ -22,7 +22,7 @@ pub(super) fn closes<L: Naming, T: Wait + Abort>(scene: Scene<'_, L, T>) {
         second,
     } = scene;
     has_five_slots(rt, alloc, &store, &mut first);
-    let workers = Vec::from_array(alloc, [first, second]).expect(rt, "memory");
+    let workers = vec![in alloc; first, second].expect(rt, "memory");
     let closed = closed(rt, alloc, store, workers);
     same(rt, &closed.db.get().events(), &5);
     assert!(rt; has_places(&closed.places));

@@ -1,6 +1,6 @@
 //! Calls of a worker that take no memory: what it tells of itself, and which reads it refuses.
 use super::marks::quiet;
-use super::{Scenario, Scene, all, has_begun, items, plays, same};
+use super::{Scenario, Scene, all, has_begun, plays, same};
 use std::process::Abort;
 use std::sync::Wait;
 use std::test::*;
@@ -23,10 +23,7 @@ pub(super) fn tells<L: Naming, T: Wait + Abort>(scene: Scene<'_, L, T>) {
         second,
     } = scene;
     has_begun(rt, alloc, &store, &mut first);
-    let faulty = Select {
-        table: 1,
-        equals: items(rt, alloc, []),
-    };
+    let faulty = Select::all(alloc, 1).expect(rt, "memory");
     let all = all(rt, alloc);
     quiet(alloc);
     tells_entries(rt, &first, &second);

@@ -19,7 +19,7 @@ const ADMINISTRATOR: u32 = 16;
 const WRITERS: u32 = 5;
 
 /// How often each of them writes.
-const WRITES: u32 = 1_000;
+const WRITES: u32 = 300;
 
 /// How often each of the others reads.
 const READS: u32 = 10_000;
@@ -91,8 +91,7 @@ fn repairs<L: Naming, T: Wait + Abort>(
 ) {
     finishes(rt, store, worker, 1);
     for slot in 1..4u64 {
-        let edits = Vec::from_array(alloc, [Edit::Cancel(slot)]).expect(rt, "memory");
-        let edits = Items::new(alloc, edits).expect(rt, "memory");
+        let edits = Items::of(alloc, [Edit::Cancel(slot)]).expect(rt, "memory");
         store.begin(rt, worker, edits).expect(rt, "a repair");
         finishes(rt, store, worker, slot.saturating_add(1));
     }
@@ -175,8 +174,9 @@ fn is_as_told(rt: &impl Abort, alloc: Global, closed: &Db, written: &[Written]) 
     for told in written {
         has_outcome(rt, &outcomes, told);
     }
-    same(rt, &written.len(), &5000);
-    same(rt, &(db.now(), db.generation()), &(5005, 4));
+    let writes = u64::from(WRITERS) * u64::from(WRITES);
+    same(rt, &(written.len() as u64), &writes);
+    same(rt, &(db.now(), db.generation()), &(5 + writes, 4));
     let all = all(rt, alloc);
     let rows = db.select(&all).expect(rt, "a select");
     same(rt, &closed.select(&all).expect(rt, "a select"), &rows);

@@ -14,7 +14,7 @@ fn a_repair_is_given_up_after_any_step(rt: HostRuntime) {
     }
 }
 
-/// A repair is given up after so many of its five steps, and another one is begun.
+/// A repair is given up after some of its five steps, and a second repair is begun.
 pub(super) fn gives_up<L: Naming, T: Wait + Abort>(scene: Scene<'_, L, T>, steps: u32) {
     let Scene {
         rt,
@@ -30,7 +30,7 @@ pub(super) fn gives_up<L: Naming, T: Wait + Abort>(scene: Scene<'_, L, T>, steps
     begins_another(rt, alloc, &store, &mut worker, steps);
 }
 
-/// Makes so many steps, and gives the repair up.
+/// Makes this number of steps, and gives the repair up.
 fn gives_up_after<L: Naming, T: Wait + Abort>(
     rt: &T,
     store: &Store<L, NoGate, &T>,
@@ -60,7 +60,7 @@ fn has_no_next_generation<L: Naming>(rt: &impl Abort, alloc: Global, worker: &mu
     same(rt, &worker.read_in(1, &all, 0).err(), &Some(missing));
 }
 
-/// Begins a repair behind the one that was given up after so many steps.
+/// Begins a repair after the one that was given up after this number of steps.
 fn begins_another<L: Naming, T: Wait + Abort>(
     rt: &T,
     alloc: Global,

@@ -2,7 +2,7 @@
 ghost use Rattle.std.specs.Prelude.{◌≡◌};
 ghost use Rattle.std.specs.Arc.{arc_value};
 ghost use Rattle.tt_db.specs.Limits.{usual_limits};
-ghost use Rattle.tt_store.specs.Published.{SaysThat};
+ghost use Rattle.tt_store.specs.Published.{RuleIsMembership};
 
 use super::{all, bank, begins_after_five_slots, has, inserts, last_of, same};
 use std::alloc::Global;
@@ -16,10 +16,10 @@ use tt_db::{Limits, Progress};
 use tt_store::{Gate, Naming, Opened, Point, Store, Worker};
 use tt_values::Catalog;
 
-/// For how many turns a thread waits for another one at most.
+/// The most turns for which a thread waits for another thread.
 const TURNS: u64 = 10_000_000;
 
-/// For how many turns a thread that holds the lock looks whether another one gets it.
+/// For how many turns a thread that holds the lock looks whether another thread gets it.
 const LOCKED_TURNS: u64 = 10_000;
 
 /// What a call that is held and the thread beside it tell each other.
@@ -65,7 +65,7 @@ impl Marks {
         self.missed.fetch_add(1, Ordering::SeqCst);
     }
 
-    /// Waits until the call is held at the point behind so many.
+    /// Waits until the call is held at the point after this number of points.
     fn wait_until_held(&self, points: u64) {
         self.wait_until_past(&self.held, points);
     }
@@ -98,7 +98,7 @@ impl Marks {
         }
     }
 
-    /// Asserts that nobody waited in vain, that a state was built so often, and that the call
+    /// Asserts that nobody waited in vain, that `built` states were built, and that the call
     /// published once.
     fn check(&self, rt: &impl Abort, built: u64) {
         same(rt, &self.missed.load(Ordering::SeqCst), &0);
@@ -184,7 +184,7 @@ fn holds_named<L: Naming + Send + Sync, T: Threads + Wait + Abort + Sync>(
     requires book { opened.front.book ≡ L.book }
     requires tables { arc_value catalog ≡ L.tables }
     requires limits { usual_limits ≡ L.limits }
-    requires tied { SaysThat L.holds L.book L.tables L.limits }
+    requires tied { RuleIsMembership L.holds L.book L.tables L.limits }
     requires name { opened.blank.name ≡ L.name }
     requires parts { opened.blank.parts ≡ L.parts }
 {
@@ -359,8 +359,8 @@ fn writes_beside_writes<L: Naming + Send + Sync, T: Threads + Wait + Abort + Syn
     );
 }
 
-/// Inserts an account each time before a held write tries to publish, and another one while it holds
-/// the lock, which goes behind that.
+/// Inserts an account each time before a held write tries to publish, and one more while it holds
+/// the lock, which goes behind it.
 fn writes_before_each_try<L: Naming, T: Wait + Abort>(
     rt: &T,
     alloc: Global,

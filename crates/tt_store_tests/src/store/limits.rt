@@ -18,7 +18,7 @@ fn a_store_has_one_to_sixteen_workers(rt: HostRuntime) {
     }
 }
 
-/// There are so many workers, with their numbers.
+/// The store has this number of workers, numbered from 1.
 pub(super) fn has_workers<L: Naming, T: Wait + Abort>(scene: Scene<'_, L, T>, count: u32) {
     let rt = scene.rt;
     let workers = &scene.workers;

@@ -167,7 +167,7 @@ pub(super) fn fills_history<L: Naming, T: Wait + Abort>(scene: Scene<'_, L, T>) 
     inserts(rt, alloc, &store, &mut worker, (2, "bob", 20), (2, 2));
     begins(rt, alloc, &store, &mut worker);
     is_full_after_a_step(rt, &store, &mut worker);
-    let workers = Vec::from_array(alloc, [worker]).expect(rt, "memory");
+    let workers = vec![in alloc; worker].expect(rt, "memory");
     same(rt, &closed(rt, store, workers).db.get().events(), &4);
 }
 
@@ -178,8 +178,7 @@ fn begins<L: Naming, T: Wait + Abort>(
     store: &Store<L, NoGate, &T>,
     worker: &mut Worker<L>,
 ) {
-    let edits = Vec::from_array(alloc, [Edit::Cancel(1)]).expect(rt, "memory");
-    let edits = Items::new(alloc, edits).expect(rt, "memory");
+    let edits = Items::of(alloc, [Edit::Cancel(1)]).expect(rt, "memory");
     same(rt, &store.begin(rt, worker, edits), &Ok(3));
 }
 

@@ -9,7 +9,8 @@ use Rattle.tt_values.specs.declared.reply.Reply.TheVariants.{Inserted, Duplicate
 use Rattle.tt_values.specs.declared.checking.CheckError.TheVariants as errors
 use Rattle.tt_values.specs.Check.{action_fault}
 use Rattle.tt_values.specs.Content.{RowsByKey, Content, empty_content}
-use Rattle.tt_values.specs.Action.{RowId, content_after_action, replies_of, rows_of_action, effect_of_action, action_writes}
+use Rattle.tt_values.specs.declared.row_id.RowId.{RowId}
+use Rattle.tt_values.specs.Action.{content_after_action, replies_of, rows_of_action, effect_of_action, action_writes}
 use Rattle.tt_values.proofs.worked_rows.Accounts.{tables, ann, bob, eve, account, of_id, of_owner, of_balance, owner_to, balance_to, balance_by, insert, update, delete, three_accounts}
 
 -- a row of a table; the row of an account; an account under its key

@@ -25,7 +25,7 @@ pub(super) fn is_right_at(db: &Db, next: &Option<Next<'_>>, call: &Call, record:
     }
 }
 
-/// Whether the entry is a worker's and of this action, and has the outcome that the worker was told.
+/// Whether the entry is of this worker and this action, and has the outcome that the worker got.
 fn is_written(next: &Next<'_>, worker: u32, action: &Items<Write>, what: &What) -> bool {
     next.entry.worker == worker
         && is_of_action(next.entry, action)
@@ -80,7 +80,7 @@ fn is_previewed(db: &Db, select: &Select, what: &What) -> bool {
     }
 }
 
-/// Whether a repair is under way that has done so many slots.
+/// Whether a repair is under way that has done this number of slots.
 fn has_done(db: &Db, done: u64) -> bool {
     match db.repair() {
         Some(progress) => progress.done == done,

@@ -5,7 +5,7 @@ use std::sync::atomic::{AtomicU64, Ordering};
 use std::thread::yield_now;
 use tt_store::{Gate, Point};
 
-/// For how many turns a thread waits for another one at most.
+/// The most turns for which a thread waits for another thread.
 const TURNS: u64 = 10_000_000;
 
 /// What threads that are held tell each other.
@@ -33,7 +33,7 @@ impl Marks {
         self.there.fetch_add(1, Ordering::SeqCst);
     }
 
-    /// Waits until so many have come as far.
+    /// Waits until this many have come as far.
     fn wait_for(&self, count: u64) {
         for _ in 0..TURNS {
             if self.there.load(Ordering::SeqCst) >= count {
@@ -44,7 +44,7 @@ impl Marks {
         self.missed.fetch_add(1, Ordering::SeqCst);
     }
 
-    /// Asserts that nobody has waited in vain, and that so many have come as far.
+    /// Asserts that nobody has waited in vain, and that this many have come as far.
     pub(crate) fn check(&self, rt: &impl Abort, count: u64) {
         same(rt, &self.missed.load(Ordering::SeqCst), &0);
         same(rt, &self.there.load(Ordering::SeqCst), &count);

@@ -69,8 +69,8 @@ fn a_run_makes_no_more_rounds(rt: HostRuntime) {
     same(&rt, &publishes_behind_the_calls(&rt, rt.alloc(), 0), &3);
 }
 
-/// How often the administrator publishes in so many rounds where all calls are made before its
-/// first step.
+/// How often the administrator publishes in a run with this number of rounds, where all calls are
+/// made before its first step.
 fn publishes_behind_the_calls<R: Threads + Wait + Abort + Sync>(
     rt: &R,
     alloc: Global,

@@ -16,7 +16,7 @@ const CALLS_MEANWHILE: u32 = 100;
 /// How many calls the repair edits.
 const EDITS: u32 = 100;
 
-/// The text of a document, which is another one for another seed.
+/// The text of a document. It depends on the seed alone, and differs from seed to seed.
 pub(super) fn text_of_document(rt: &impl Abort, alloc: Global, seed: u64) -> String {
     let mut script = Script {
         text: String::new(alloc),

@@ -1,4 +1,4 @@
-use Rattle.std.proofs.Common.{◌≡◌, map, rules, string_bytes}
+use Rattle.std.proofs.Common.{◌≡◌, rules}
 use Rattle.tt_cli.proofs.CarryingOutLemmas.{carries_out}
 use Rattle.tt_cli.proofs.carrying_out.carry_out_words.Goals as goal
 

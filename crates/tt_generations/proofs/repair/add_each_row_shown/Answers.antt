@@ -12,6 +12,6 @@ loop-row-preserved c =
     let shown = c.around.ensures in
     record {
       catalog = added.catalog ∙ c.loop-row.invariant.catalog;
-      dirty = SameMembers-then _ _ _ (shown-step before after c.args.rows.now c.args.redone.now c.loop-row.row-index _ c.table-table.result.now _ _ _ c.args.time c.loop-row-test.true added.catalog
+      dirty = SameMembers-then _ _ _ (shown-step before after c.args.rows.now c.args.reexecuted.now c.loop-row.row-index _ c.table-table.result.now _ _ _ c.args.time c.loop-row-test.true added.catalog
           (to_z-of_z w64 _ (search rules)) c.table-table.ensures (shown.before ∙ just_before-positive c.args.time _ c.requires.room) shown.at added.dirty) c.loop-row.invariant.dirty;
     }

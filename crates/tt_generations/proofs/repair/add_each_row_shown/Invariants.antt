@@ -7,5 +7,5 @@ use Rattle.tt_generations.proofs.repair.add_each_row_shown.Given as goal
 abbrev pub invariant-loop-row : goal.invariant-loop-row
 invariant-loop-row l = record {
   catalog : l.dirty.catalog ≡ l.fn.dirty.catalog;
-  dirty : SameMembers (with_rows_shown l.dirty l.rows (drop l.row-index l.redone) l.time) (with_rows_shown l.fn.dirty l.rows l.redone l.time);
+  dirty : SameMembers (with_rows_shown l.dirty l.rows (drop l.row-index l.reexecuted) l.time) (with_rows_shown l.fn.dirty l.rows l.reexecuted l.time);
 }

@@ -1,4 +1,4 @@
--- so many publishes of steps were made
+-- as many publishes of steps were made as the loop has counted
 use Rattle.tt_repair.proofs.GrowthLemmas.{MadePublishes}
 use Rattle.tt_repair.proofs.repairing.make_steps.Given as goal
 

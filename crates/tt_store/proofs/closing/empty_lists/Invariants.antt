@@ -1,4 +1,4 @@
--- so many lists so far
+-- as many lists as were counted
 use Rattle.std.proofs.Common.{◌≡◌, ◌≤◌, [], replicate, vec_len, vec_capacity}
 use Rattle.tt_store.specs.Closing.{lists_of}
 use Rattle.tt_store.proofs.closing.empty_lists.Given as goal

@@ -13,9 +13,9 @@ invariant_of-result c =
     let key = to_z-of_z w64 c.args.key c.ranges.key in
     let others = subst (λ (k : ℤ). HasSplitKeysBut k c.args.split_keys c.args.entries) (sym key) c.requires.others in
     let listed_others = subst (λ (k : ℤ). ListsTableBut k c.args.index c.args.entries) (sym key) c.requires.listed_others in
-    let listed = subst (λ (k : ℤ). LineageHas (ListsRow c.args.index k) c.args.lineage) (sym key) c.requires.listed in
+    let listed = subst (λ (k : ℤ). LineageHas (ListsRow c.args.index k) c.args.taken.lineage) (sym key) c.requires.listed in
     let marks = subst (λ (b : Bool). MarksKey wrapped b c.args.split_keys c.mark.new.keys) c.is_split.ensures c.in_ok-mark.ensures in
     subst (λ (t : LineagesByKey). IsStored c.mark.new.keys c.args.index t) (sym c.in_ok-put_value.ensures) (record {
-      split = HasSplitKeys-put wrapped c.args.split_keys c.mark.new.keys c.args.entries c.args.lineage others marks;
-      listed = ListsTable-put wrapped c.args.index c.args.entries c.args.lineage listed_others listed;
+      split = HasSplitKeys-put wrapped c.args.split_keys c.mark.new.keys c.args.entries c.args.taken.lineage others marks;
+      listed = ListsTable-put wrapped c.args.index c.args.entries c.args.taken.lineage listed_others listed;
     })

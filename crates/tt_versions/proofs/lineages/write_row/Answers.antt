@@ -32,9 +32,9 @@ pub returns-in_ok-list_row-in-Some-clause-stored : goal.returns-in_ok-list_row-i
 returns-in_ok-list_row-in-Some-clause-stored c =
     let key = to_z w64 (of_z w64 c.args.key) in
     let found = sym c.get.ensures ∙ ap option_copied c.in-Some.is in
-    let change = with_write_on c.args.side c.args.row c.args.time in
-    let stays = subst (λ (k : ℤ). StaysSplit c.args.side (is_split c.args.entries.now) k) (sym (to_z-of_z w64 c.args.key c.ranges.key)) c.requires.split in
-    let stored = IsStored-write c.args.side key c.args._split_keys.now c.args.index.now c.list_row.new.index c.args.entries.now c.args.row c.args.time stays c.requires.stored c.in_ok-list_row-in-Some.ensures.keeps c.in_ok-list_row-in-Some.ensures.lists in
+    let change = with_write_on c.args.write.side c.args.write.row c.args.write.time in
+    let stays = subst (λ (k : ℤ). StaysSplit c.args.write.side (is_split c.args.entries.now) k) (sym (to_z-of_z w64 c.args.key c.ranges.key)) c.requires.split in
+    let stored = IsStored-write c.args.write.side key c.args._split_keys.now c.args.index.now c.list_row.new.index c.args.entries.now c.args.write.row c.args.write.time stays c.requires.stored c.in_ok-list_row-in-Some.ensures.keeps c.in_ok-list_row-in-Some.ensures.lists in
     on_ok_weaker c.change.result
     (λ changes. subst (λ (t : LineagesByKey). IsStored c.args._split_keys.now c.list_row.new.index t) (sym (changed-there c.args.entries.now c.change.new.self key change c.in-Some.lineage.now found changes)) stored)
     c.change.ensures.ok
@@ -43,10 +43,10 @@ pub returns-in_ok-write-in-None-clause-stored : goal.returns-in_ok-write-in-None
 returns-in_ok-write-in-None-clause-stored c =
     let key = to_z w64 (of_z w64 c.args.key) in
     let absent = ap (λ o. unwrap_or o unwritten) (sym c.get.ensures ∙ ap option_copied c.in-None.is) in
-    let change = with_write_on c.args.side c.args.row c.args.time in
+    let change = with_write_on c.args.write.side c.args.write.row c.args.write.time in
     let written = c.in_ok-write-in-None.ensures ∙ ap change (c.new-lineage.ensures ∙ sym absent) in
-    let stays = subst (λ (k : ℤ). StaysSplit c.args.side (is_split c.args.entries.now) k) (sym (to_z-of_z w64 c.args.key c.ranges.key)) c.requires.split in
-    let stored = IsStored-write c.args.side key c.args._split_keys.now c.args.index.now c.list_row-in-None.new.index c.args.entries.now c.args.row c.args.time stays c.requires.stored c.in_ok-list_row-in-None.ensures.keeps c.in_ok-list_row-in-None.ensures.lists in
+    let stays = subst (λ (k : ℤ). StaysSplit c.args.write.side (is_split c.args.entries.now) k) (sym (to_z-of_z w64 c.args.key c.ranges.key)) c.requires.split in
+    let stored = IsStored-write c.args.write.side key c.args._split_keys.now c.args.index.now c.list_row-in-None.new.index c.args.entries.now c.args.write.row c.args.write.time stays c.requires.stored c.in_ok-list_row-in-None.ensures.keeps c.in_ok-list_row-in-None.ensures.lists in
     on_ok_weaker c.put.result
     (λ is. subst (λ (t : LineagesByKey). IsStored c.args._split_keys.now c.list_row-in-None.new.index t) (sym (is ∙ ap (λ (l : Lineage). put int_cmp key l c.args.entries.now) written)) stored)
     c.put.ensures.ok

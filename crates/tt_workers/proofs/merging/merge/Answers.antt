@@ -38,7 +38,7 @@ loop-call-preserved c =
     let of = subst (λ left. AreOf (length c.loop-call.queues.items) left) next c.loop-call.invariant.of in
     let many = as_many_queues (λ queue. queue.items) c.loop-call.queues.items c.next_of-next.new.queues.items call.worker c.next_of-next.ensures.rest in
     record {
-      records = merged_next (λ a. a.told) c.loop-call.records.records.items c.keep.new.records.records.items _ (drop i calls) rest call lists others answer c.loop-call.invariant.records
+      records = merged_next (λ a. a.answer) c.loop-call.records.records.items c.keep.new.records.records.items _ (drop i calls) rest call lists others answer c.loop-call.invariant.records
           next c.in-Ok.ensures.records c.next_of-next.ensures.first c.next_of-next.ensures.rest;
       fronts = merged_next (λ a. a.front) c.loop-call.records.fronts.items c.keep.new.records.fronts.items _ (drop i calls) rest call lists others answer c.loop-call.invariant.fronts
           next c.in-Ok.ensures.fronts c.next_of-next.ensures.first c.next_of-next.ensures.rest;
@@ -48,7 +48,7 @@ loop-call-preserved c =
 pub returns-clause-records : goal.returns-clause-records
 returns-clause-records c =
     let none = drop_end c.loop-call.call-index c.args.calls.now c.loop-call-test.false in
-    merged_end (λ a. a.told) c.loop-call.records.records.items _ _ (map (λ queue. queue.items) c.loop-call.queues.items) c.loop-call.invariant.records none
+    merged_end (λ a. a.answer) c.loop-call.records.records.items _ _ (map (λ queue. queue.items) c.loop-call.queues.items) c.loop-call.invariant.records none
 
 pub returns-clause-fronts : goal.returns-clause-fronts
 returns-clause-fronts c =

@@ -1,14 +1,15 @@
--- The last worker is the administrator; the others make the calls, and then those that are made meanwhile.
-use Rattle.std.proofs.Common.{◌≡◌, ℕ, ◌≤◌, List, [], ◌∷◌, length, Some, None, refl, sym, ap, subst, arith, length-append}
+-- The last worker is the administrator; the others make the calls, and then those of `meanwhile`.
+use Rattle.std.proofs.Common.{◌≡◌, ℕ, ◌≤◌, List, [], ◌∷◌, length, Option, Some, None, refl, sym, ap, subst, arith, length-append}
 use Rattle.std.proofs.lemmas.List.Elements.{recursion_from_All}
 use Rattle.tt_document.specs.declared.document.Call.{Call}
+use Rattle.tt_document.specs.declared.document.Plan.{Plan}
 use Rattle.tt_document.specs.Document.{IsValidCall}
 use Rattle.tt_values.specs.Tables.{Tables}
 use Rattle.tt_workload.specs.Room.{AreAccepted}
 use Rattle.tt_workload.proofs.ReportLemmas.{AreAccepted-valid, AreAccepted-valid_calls}
 use Rattle.tt_workers.specs.Merging.{AreOf}
-use Rattle.tt_workers.specs.Running.{MadeRepairIf, MadeAll}
-use Rattle.tt_workers.proofs.RunningLemmas.{of_valid_calls, valid_plan_of, few_records, as_many, if_ok_then, all_made}
+use Rattle.tt_workers.specs.Running.{MadeCalls, MadeRepairIf, MadeAll}
+use Rattle.tt_workers.proofs.RunningLemmas.{of_valid_calls, valid_plan_of, few_records, as_many, if_ok_then}
 use Rattle.tt_workers.proofs.run.make_all.Goals as goal
 
 pub make_calls-requires-clause-accepted : goal.make_calls-requires-clause-accepted
@@ -55,15 +56,40 @@ returns-in-Some-repair-clause-made g c =
     let d = c.args.document.now in
     let tables = g.L.Naming.tables in
     let limits = g.L.Naming.limits in
+    let olds = c.pop.new.self.items in
     let news = c.in_ok-workers.workers.items in
+    let none = c.args.records.now in
     let middle = c.make_calls.new.records in
     let now = c.make_repair.new.records in
+    let calls : MadeCalls limits 1 d.calls olds news none middle =
+    subst (λ (cs : List Call). MadeCalls limits 1 cs olds news none middle) c.as_slice-calls.ensures c.in_ok-workers.ensures.made in
     if_ok_then (λ r. MadeRepairIf tables limits (Some c.in-Some-repair.plan) c.in-Some.administrator news middle r.0.items now r.1)
-    (λ r. MadeAll tables limits d c.args.workers.items c.args.records.now r.0.items now r.1) c.make_repair.result
-    (λ r repair. all_made tables limits d c.as_slice-calls.result.now (Some c.in-Some-repair.plan) c.args.workers.items c.pop.new.self.items news r.0.items c.in-Some.administrator c.args.records.now middle now r.1
-    c.in-Some.ensures.items c.as_slice-calls.ensures c.in-Some-repair.is c.in_ok-workers.ensures.made repair) c.make_repair.ensures.made
+    (λ r. MadeAll tables limits d c.args.workers.items none r.0.items now r.1) c.make_repair.result
+    (λ r repair. record {
+      olds = olds;
+      administrator = c.in-Some.administrator;
+      start_is = c.in-Some.ensures.items;
+      news = news;
+      middle = middle;
+      calls = calls;
+      repair = subst (λ (p : Option Plan). MadeRepairIf tables limits p c.in-Some.administrator news middle r.0.items now r.1) (sym c.in-Some-repair.is) repair;
+    }) c.make_repair.ensures.made
 
 pub returns-in_ok-push-in-None-clause-made : goal.returns-in_ok-push-in-None-clause-made
 returns-in_ok-push-in-None-clause-made g c =
-    all_made g.L.Naming.tables g.L.Naming.limits c.args.document.now c.as_slice-calls.result.now None c.args.workers.items c.pop.new.self.items c.in_ok-workers.workers.items c.push.new.self.items c.in-Some.administrator
-    c.args.records.now c.make_calls.new.records c.make_calls.new.records None c.in-Some.ensures.items c.as_slice-calls.ensures c.in-None.is c.in_ok-workers.ensures.made (c.in_ok-push-in-None.ensures.items, refl, refl)
+    let limits = g.L.Naming.limits in
+    let olds = c.pop.new.self.items in
+    let news = c.in_ok-workers.workers.items in
+    let all = c.push.new.self.items in
+    let none = c.args.records.now in
+    let middle = c.make_calls.new.records in
+    record {
+      olds = olds;
+      administrator = c.in-Some.administrator;
+      start_is = c.in-Some.ensures.items;
+      news = news;
+      middle = middle;
+      calls = subst (λ (cs : List Call). MadeCalls limits 1 cs olds news none middle) c.as_slice-calls.ensures c.in_ok-workers.ensures.made;
+      repair = subst (λ (p : Option Plan). MadeRepairIf g.L.Naming.tables limits p c.in-Some.administrator news middle all middle None) (sym c.in-None.is)
+          (c.in_ok-push-in-None.ensures.items, refl, refl);
+    }

@@ -19,12 +19,12 @@ loop-call-preserved g c =
     let i = c.loop-call.call-index in
     let call = c.call-item.result in
     let next : drop i calls ≡ call ∷ drop (i + 1) calls = drop_more calls i call c.loop-call-test.true ∙ (λ j. sym c.call-item.is j ∷ drop (i + 1) calls) in
-    let before = subst (λ rest. Continues g.L.Naming.limits c.args.first calls c.args.worker c.loop-call.answers.items c.loop-call.number rest c.loop-call.worker) next
+    let before = subst (λ rest. Continues g.L.Naming.limits c.args.first calls c.args.worker c.loop-call.run.answers.items c.loop-call.number rest c.loop-call.run.worker) next
     c.loop-call.invariant.continues in
     let accepted = subst (λ rest. AreAccepted g.L.Naming.tables rest) next c.loop-call.invariant.accepted in
     record {
-      continues = continues_call g.L.Naming.limits c.args.first calls c.args.worker c.loop-call.answers.items c.make_own.new.answers.items c.loop-call.number call (drop (i + 1) calls)
-          c.loop-call.worker c.make_own.new.worker before c.in-Ok.ensures.made;
+      continues = continues_call g.L.Naming.limits c.args.first calls c.args.worker c.loop-call.run.answers.items c.make_own.new.run.answers.items c.loop-call.number call (drop (i + 1) calls)
+          c.loop-call.run.worker c.make_own.new.run.worker before c.in-Ok.ensures.made;
       number = omega (arith, c.loop-call.invariant.number, ap length next);
       accepted = accepted.1;
     }
@@ -33,6 +33,6 @@ pub returns-clause-worked : goal.returns-clause-worked
 returns-clause-worked g c =
     let calls = c.args.calls.now in
     let none = drop_end c.loop-call.call-index calls c.loop-call-test.false in
-    let all = subst (λ rest. Continues g.L.Naming.limits c.args.first calls c.args.worker c.loop-call.answers.items c.loop-call.number rest c.loop-call.worker) none
+    let all = subst (λ rest. Continues g.L.Naming.limits c.args.first calls c.args.worker c.loop-call.run.answers.items c.loop-call.number rest c.loop-call.run.worker) none
     c.loop-call.invariant.continues in
-    continues_last g.L.Naming.limits c.args.first calls c.args.worker c.loop-call.answers.items c.loop-call.number c.loop-call.worker all
+    continues_last g.L.Naming.limits c.args.first calls c.args.worker c.loop-call.run.answers.items c.loop-call.number c.loop-call.run.worker all

@@ -1,4 +1,4 @@
--- A line that can't be pushed is a fault for want of memory.
+-- Where a line can't be pushed, the fault is that memory ran out.
 use Rattle.tt_workload.proofs.ReportLemmas.{is_memory}
 use Rattle.tt_workload.proofs.calls.make_call.Goals as goal
 

@@ -1,7 +1,7 @@
 -- One call more.
 use Rattle.std.proofs.Common.{rules, ◌≡◌, ◌+◌, ◌∷◌, ◌++◌, List, [], refl, sym, ap, subst, ◌∙◌}
 use Rattle.tt_db.specs.Database.{Database, state_of}
-use Rattle.tt_repair.specs.declared.record.Record.{Record}
+use Rattle.tt_records.specs.declared.record.Record.{Record}
 use Rattle.tt_document.specs.declared.document.Call.{Call}
 use Rattle.tt_workload.specs.Records.{record_in, kept, text_of_record, text_of_records}
 use Rattle.tt_workload.specs.History.{history_of, entries_of}

@@ -17,7 +17,9 @@ loop-buffer-preserved g c =
     let read = c.in_ok-count.ensures in
     let more : length before.bytes.items < max_bytes_read = omega (arith, c.len.ensures, c.loop-buffer-test.true) in
     let room : c.min-room.result ≡ min (length before.buffer) (max_bytes_read - length before.bytes.items) = omega (arith, c.len-in-loop-buffer.ensures, c.min-room.ensures) in
-    let after = read_more _ _ _ before.bytes.items before.buffer c.read_once.new.buffer _ _ _ max_bytes_read more room c.read_once.auto.buffer read.bound.0 c.in_ok-extend_from_slice.ensures.items before.invariant.consumed read.consumed in
+    let after = read_more _ _ _ before.bytes.items before.buffer c.read_once.new.buffer _ _ _ max_bytes_read
+    (record { more = more; room_is = room; fills = c.read_once.auto.buffer; within = read.bound.0; longer = c.in_ok-extend_from_slice.ensures.items })
+    before.invariant.consumed read.consumed in
     record { short = after.0; consumed = after.1 }
 
 pub returns-in_err-count-clause-limit : goal.returns-in_err-count-clause-limit
@@ -30,7 +32,9 @@ returns-in_err-extend_from_slice-clause-limit g c =
     let read = c.in_ok-count.ensures in
     let more : length before.bytes.items < max_bytes_read = omega (arith, c.len.ensures, c.loop-buffer-test.true) in
     let room : c.min-room.result ≡ min (length before.buffer) (max_bytes_read - length before.bytes.items) = omega (arith, c.len-in-loop-buffer.ensures, c.min-room.ensures) in
-    let after = read_more _ _ _ before.bytes.items before.buffer c.read_once.new.buffer _ _ _ max_bytes_read more room c.read_once.auto.buffer read.bound.0 refl before.invariant.consumed read.consumed in
+    let after = read_more _ _ _ before.bytes.items before.buffer c.read_once.new.buffer _ _ _ max_bytes_read
+    (record { more = more; room_is = room; fills = c.read_once.auto.buffer; within = read.bound.0; longer = refl })
+    before.invariant.consumed read.consumed in
     ConsumesAtMost-all max_bytes_read _ _ _ after.0 after.1
 
 pub returns-then-count-eq0-clause-ok : goal.returns-then-count-eq0-clause-ok
@@ -39,7 +43,9 @@ returns-then-count-eq0-clause-ok g c =
     let read = c.in_ok-count.ensures in
     let more : length before.bytes.items < max_bytes_read = omega (arith, c.len.ensures, c.loop-buffer-test.true) in
     let room : c.min-room.result ≡ min (length before.buffer) (max_bytes_read - length before.bytes.items) = omega (arith, c.len-in-loop-buffer.ensures, c.min-room.ensures) in
-    let after = read_more _ _ _ before.bytes.items before.buffer c.read_once.new.buffer _ _ _ max_bytes_read more room c.read_once.auto.buffer read.bound.0 c.in_ok-extend_from_slice.ensures.items before.invariant.consumed read.consumed in
+    let after = read_more _ _ _ before.bytes.items before.buffer c.read_once.new.buffer _ _ _ max_bytes_read
+    (record { more = more; room_is = room; fills = c.read_once.auto.buffer; within = read.bound.0; longer = c.in_ok-extend_from_slice.ensures.items })
+    before.invariant.consumed read.consumed in
     let some : 0 < length before.buffer = omega (arith, before.auto.buffer, ap length c.as_mut_slice-buffer.ensures.value, c.in_ok-zeros.ensures.len) in
     whole_read _ _ _ max_bytes_read after.0 after.1 (read.end c.if-count-eq0.true (room_left before.bytes.items before.buffer _ max_bytes_read more some room))
 
@@ -49,7 +55,9 @@ returns-then-count-eq0-clause-consumed g c =
     let read = c.in_ok-count.ensures in
     let more : length before.bytes.items < max_bytes_read = omega (arith, c.len.ensures, c.loop-buffer-test.true) in
     let room : c.min-room.result ≡ min (length before.buffer) (max_bytes_read - length before.bytes.items) = omega (arith, c.len-in-loop-buffer.ensures, c.min-room.ensures) in
-    let after = read_more _ _ _ before.bytes.items before.buffer c.read_once.new.buffer _ _ _ max_bytes_read more room c.read_once.auto.buffer read.bound.0 c.in_ok-extend_from_slice.ensures.items before.invariant.consumed read.consumed in
+    let after = read_more _ _ _ before.bytes.items before.buffer c.read_once.new.buffer _ _ _ max_bytes_read
+    (record { more = more; room_is = room; fills = c.read_once.auto.buffer; within = read.bound.0; longer = c.in_ok-extend_from_slice.ensures.items })
+    before.invariant.consumed read.consumed in
     after.1
 
 pub returns-then-count-eq0-clause-limit : goal.returns-then-count-eq0-clause-limit
@@ -58,7 +66,9 @@ returns-then-count-eq0-clause-limit g c =
     let read = c.in_ok-count.ensures in
     let more : length before.bytes.items < max_bytes_read = omega (arith, c.len.ensures, c.loop-buffer-test.true) in
     let room : c.min-room.result ≡ min (length before.buffer) (max_bytes_read - length before.bytes.items) = omega (arith, c.len-in-loop-buffer.ensures, c.min-room.ensures) in
-    let after = read_more _ _ _ before.bytes.items before.buffer c.read_once.new.buffer _ _ _ max_bytes_read more room c.read_once.auto.buffer read.bound.0 c.in_ok-extend_from_slice.ensures.items before.invariant.consumed read.consumed in
+    let after = read_more _ _ _ before.bytes.items before.buffer c.read_once.new.buffer _ _ _ max_bytes_read
+    (record { more = more; room_is = room; fills = c.read_once.auto.buffer; within = read.bound.0; longer = c.in_ok-extend_from_slice.ensures.items })
+    before.invariant.consumed read.consumed in
     ConsumesAtMost-all max_bytes_read _ _ _ after.0 after.1
 
 pub returns-clause-ok : goal.returns-clause-ok

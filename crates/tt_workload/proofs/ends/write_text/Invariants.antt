@@ -1,4 +1,4 @@
--- What is written is a front part of the text, and each turn writes some more.
+-- What is written is a prefix of the text, and each turn writes some more.
 use Rattle.std.proofs.Common.{◌-◌, ◌≤◌, length, take}
 use Rattle.std.specs.Io.KnownBytes.{Appends}
 use Rattle.tt_workload.proofs.ends.write_text.Given as goal

@@ -8,13 +8,16 @@ use Rattle.tt_workload.proofs.repair.make_meanwhile.Given as goal
 abbrev pub invariant-loop-call : goal.invariant-loop-call
 invariant-loop-call l =
     let rest = l.call-iterator.rest.items in
-    let left = records_meanwhile l.fn.worker l.fn.batch (l.number + 1) l.db rest in
-    let all = records_meanwhile l.fn.worker l.fn.batch (l.fn.made + 1) l.fn.db l.fn.calls.items in
+    let worker = l.fn.administrator.worker in
+    let batch = l.fn.administrator.batch in
+    let made = length l.fn.records.items in
+    let left = records_meanwhile worker batch (l.number + 1) l.db rest in
+    let all = records_meanwhile worker batch (made + 1) l.fn.db l.fn.calls.items in
     record {
       lines : l.out.items ++ text_of_records left ≡ l.fn.out.items ++ text_of_records all;
       records : l.records.items ++ left ≡ l.fn.records.items ++ all;
-      state : with_meanwhile l.fn.worker l.fn.batch l.db rest ≡ with_meanwhile l.fn.worker l.fn.batch l.fn.db l.fn.calls.items;
+      state : with_meanwhile worker batch l.db rest ≡ with_meanwhile worker batch l.fn.db l.fn.calls.items;
       under_way : IsUnderWay l.number l.db;
       accepted : AreAccepted l.db.catalog rest;
-      number : l.number + length rest ≡ l.fn.made + length l.fn.calls.items;
+      number : l.number + length rest ≡ made + length l.fn.calls.items;
     }

@@ -8,7 +8,7 @@ use Rattle.tt_db.specs.declared.event.Event.TheVariants as events
 use Rattle.tt_db.specs.declared.limits.Limits.{Limits}
 use Rattle.tt_db.specs.Limits.{usual_limits}
 use Rattle.tt_db.specs.Database.{Database, refusal_of}
-use Rattle.tt_repair.specs.declared.record.Record.{Record}
+use Rattle.tt_records.specs.declared.record.Record.{Record}
 use Rattle.tt_document.specs.declared.document.Document.{Document}
 use Rattle.tt_document.specs.declared.document.Call.{Call}
 use Rattle.tt_document.specs.declared.document.Plan.{Plan}

@@ -2,7 +2,7 @@
 use Rattle.std.proofs.Common.{◌≡◌, sym, ap, subst, ◌∙◌}
 use Rattle.tt_values.specs.Effect.{answer_of}
 use Rattle.tt_generations.specs.TwoGenerations.{done_of}
-use Rattle.tt_db.specs.State.{after, next_in, next_at}
+use Rattle.tt_db.specs.State.{after, next_content_at, next_at}
 use Rattle.tt_db.specs.Database.{Database, preview_for}
 use Rattle.tt_db.specs.RightAnswers.{RowsHaveRisingKeys}
 use Rattle.tt_db.proofs.CurrentLemmas.{next_content-is}
@@ -15,7 +15,7 @@ right c =
     let is = c.self.invariant in
     let q = c.args.select.now in
     c.in_ok-reply.ensures ∙ ap (answer_of q) (next_content-is G.phase G.slots)
-    ∙ (λ i. answer_of q (next_in (is.phase i) (is.slots i) (done_of (is.phase i))))
+    ∙ (λ i. answer_of q (next_content_at (is.phase i) (is.slots i) (done_of (is.phase i))))
 
 pub returns-clause-right : goal.returns-clause-right
 returns-clause-right c = subst (λ (db : Database). c.in_ok-reply.reply ≡ preview_for db c.args.select.now) c.self.view_is (right c)

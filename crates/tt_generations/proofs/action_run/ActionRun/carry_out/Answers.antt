@@ -3,7 +3,7 @@ use Rattle.std.proofs.Common.{◌+◌, ◌++◌, subst, ap, ◌∙◌, arith, le
 use Rattle.tt_values.specs.Limits.{max_writes}
 use Rattle.tt_versions.specs.declared.side.Side.TheVariants.{Current}
 use Rattle.tt_versions.specs.Sides.{current_of, LineagesByKey}
-use Rattle.tt_generations.specs.Effect.{IsEffect, row_keys}
+use Rattle.tt_generations.specs.Effect.{IsEffect, rows_of_effect}
 use Rattle.tt_generations.specs.ActionRun.{most_rows}
 use Rattle.tt_generations.proofs.ActionStepsLemmas.{CarriesOut-write}
 use Rattle.tt_generations.proofs.FewRowsLemmas.{length-effect, AddsOneRowAtMost-write}
@@ -23,7 +23,7 @@ returns c =
     record {
       current = CarriesOut-write c.args.time c.table-table.result c.args.write.now c.args.self.now _ pairs c.reply_to.result c.table-table.ensures is written.current
           (λ rows same. c.reply_to.ensures rows (c.deref.ensures.value ∙ same)) c.in_ok-push.ensures.items
-          (c.in_ok-add_keys.ensures ∙ ap (λ es. c.args.self.now.keys.items ++ row_keys c.table-table.result es) c.deref-2.ensures.value);
+          (c.in_ok-add_rows.ensures ∙ ap (λ es. c.args.self.now.rows_written.items ++ rows_of_effect c.table-table.result es) c.deref-2.ensures.value);
       few = AddsOneRowAtMost-write c.args.time c.table-table.result c.args.write.now c.args.self.now.rows _ pairs c.table-table.ensures is written.written;
       split = written.split;
     }

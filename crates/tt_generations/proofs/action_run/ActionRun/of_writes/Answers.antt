@@ -17,7 +17,7 @@ loop-write-init c =
     let run = c.in_ok-run.run' in
     record {
       done = λ after all. subst (λ (r : TablesByPosition). CarriesOutAction c.args.time c.args.writes.now r after) new.rows
-          (CarriesOutAction-start c.args.time c.args.writes.now run after new.replies new.keys all);
+          (CarriesOutAction-start c.args.time c.args.writes.now run after new.replies new.rows_written all);
       few = subst (λ (r : TablesByPosition). HasFewRows r Current c.args.time (most_rows + 0)) (sym new.rows)
           (HasFewRows-more c.args.rows Current c.args.time most_rows (most_rows + 0) (omega arith) c.requires.few);
       split = subst (λ (r : TablesByPosition). KeepsSplitRows c.args.rows r) (sym new.rows) (KeepsSplitRows-none c.args.rows);

@@ -39,7 +39,7 @@ returns-clause-parts c =
     let split = subst (λ (r : TablesByPosition). KeepsSplitRows r run.rows) c.replace-rows.ensures.value c.in_ok-run.ensures.split in
     rw (c.in_ok-push.ensures.ok, c.in_ok-add_to_repair.ensures, c.into_slot.ensures.rows)
     (AreGenerations-action g.catalog g.slots g.rows g.repair c.args.action run c.in_ok-kept.kept (c.len.result + 1) c.requires.parts c.requires.accepted c.requires.room
-    (omega (arith, c.len.ensures)) (carries c) split new.action new.kept_replies new.keys)
+    (omega (arith, c.len.ensures)) (record { carries = carries c; keeps = split; is_action = new.action; replies = new.kept_replies; rows = new.rows_written }))
 
 pub returns-clause-slots : goal.returns-clause-slots
 returns-clause-slots c =

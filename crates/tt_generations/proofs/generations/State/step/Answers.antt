@@ -3,7 +3,7 @@ use Rattle.std.proofs.Common.{◌<◌, Option, length, ap, subst, sym, ◌∙◌
 use Rattle.std.specs.List.{All}
 use Rattle.std.specs.Option.{option_copied}
 use Rattle.tt_values.specs.Tables.{Tables}
-use Rattle.tt_generations.specs.declared.slot.RowKey.{RowKey}
+use Rattle.tt_values.specs.declared.row_id.RowId.{RowId}
 use Rattle.tt_generations.specs.declared.repair.Repair.{Repair}
 use Rattle.tt_generations.specs.KeptSlots.{IsAccepted, actions_of}
 use Rattle.tt_generations.specs.Repair.{next_action}
@@ -12,8 +12,8 @@ use Rattle.tt_generations.specs.Generations.{phase_of, AreGenerations}
 use Rattle.tt_generations.proofs.GenerationsLemmas.{IsAtSlot-found, AreGenerations-step}
 use Rattle.tt_generations.proofs.generations.State.step.Goals as goal
 
-pub step-requires-clause-few_rerun : goal.step-requires-clause-few_rerun
-step-requires-clause-few_rerun c =
+pub step-requires-clause-few_reexecuted : goal.step-requires-clause-few_reexecuted
+step-requires-clause-few_reexecuted c =
     let g = c.args.self.now in
     let at = IsAtSlot-found g.catalog g.slots g.rows g.repair c.in-Some.repair c.in-Some-get.kept.now c.requires.parts c.in-Some.is (sym c.get.ensures ∙ ap option_copied c.in-Some-get.is) in
     at.few
@@ -28,7 +28,7 @@ pub step-requires-clause-written : goal.step-requires-clause-written
 step-requires-clause-written c =
     let g = c.args.self.now in
     let at = IsAtSlot-found g.catalog g.slots g.rows g.repair c.in-Some.repair c.in-Some-get.kept.now c.requires.parts c.in-Some.is (sym c.get.ensures ∙ ap option_copied c.in-Some-get.is) in
-    subst (λ (tables : Tables). All (λ (row : RowKey). row.table < length tables) c.in-Some-get.kept.now.rows) (sym c.get-2.ensures) at.written
+    subst (λ (tables : Tables). All (λ (row : RowId). row.table < length tables) c.in-Some-get.kept.now.rows) (sym c.get-2.ensures) at.written
 
 pub step-requires-clause-accepted : goal.step-requires-clause-accepted
 step-requires-clause-accepted c =

@@ -4,11 +4,11 @@ use Rattle.tt_values.specs.declared.row.Row.{Row}
 use Rattle.tt_values.specs.Limits.{max_writes}
 use Rattle.tt_versions.specs.declared.side.Side.TheVariants.{Next}
 use Rattle.tt_versions.specs.Sides.{next_of, LineagesByKey}
-use Rattle.tt_generations.specs.Effect.{IsEffect, row_keys, matched_keys}
-use Rattle.tt_generations.specs.Rows.{SplitsRows, as_pairs}
+use Rattle.tt_generations.specs.Effect.{IsEffect, rows_of_effect, matched_rows}
+use Rattle.tt_generations.specs.Rows.{SplitsRows}
 use Rattle.tt_generations.specs.ActionRun.{most_rows}
 use Rattle.tt_generations.proofs.FewRowsLemmas.{length-effect}
-use Rattle.tt_generations.proofs.ReexecutionLemmas.{effect-is_split, Redoes-write}
+use Rattle.tt_generations.proofs.ReexecutionLemmas.{effect-is_split, ReexecutesWrites-write}
 use Rattle.tt_generations.proofs.reexecution.Reexecution.carry_out.Goals as goal
 
 pub reply_to-requires : goal.reply_to-requires
@@ -24,8 +24,8 @@ write_next-requires c =
     let w = c.args.write.now in
     let pairs = c.in_ok-effect.effect.items in
     let is = subst (λ (t : LineagesByKey). IsEffect pairs w (next_of t) c.args.time) c.table.ensures c.in_ok-effect.ensures in
-    let splits = subst (λ (es : List (ℤ × Option Row)). SplitsRows before between (as_pairs (matched_keys w es)) c.args.time) c.deref.ensures.value c.in_ok-split_matched.ensures.rows in
-    effect-is_split before between c.args.time (most_rows + max_writes) c.table-table.result w pairs (matched_keys w pairs) c.requires.few c.table-table.ensures is refl splits
+    let splits = subst (λ (es : List (ℤ × Option Row)). SplitsRows before between (matched_rows w es) c.args.time) c.deref.ensures.value c.in_ok-split_matched.ensures.rows in
+    effect-is_split before between c.args.time (most_rows + max_writes) c.table-table.result w pairs (matched_rows w pairs) c.requires.few c.table-table.ensures is refl splits
 
 pub returns : goal.returns
 returns c =
@@ -36,8 +36,18 @@ returns c =
     let pairs = c.in_ok-effect.effect.items in
     let split = c.in_ok-split_matched.ensures in
     let is = subst (λ (t : LineagesByKey). IsEffect pairs w (next_of t) c.args.time) c.table.ensures c.in_ok-effect.ensures in
-    let splits = subst (λ (es : List (ℤ × Option Row)). SplitsRows before.rows between.rows (as_pairs (matched_keys w es)) c.args.time) c.deref.ensures.value split.rows in
-    Redoes-write c.args.time table w before _ between.rows pairs (matched_keys w pairs) c.reply_to.result c.table-table.ensures is refl splits c.in_ok-write_next.ensures
-    (λ rows same. c.reply_to.ensures rows (c.deref-2.ensures.value ∙ same)) (c.in_ok-push.ensures.items ∙ ap (λ rs. rs ++ c.reply_to.result ∷ []) split.replies)
-    (c.in_ok-add_keys.ensures ∙ (λ i. split.keys i ++ row_keys table (c.deref-3.ensures.value i)))
-    (split.redone ∙ ap (λ es. before.redone.items ++ matched_keys w es) c.deref.ensures.value)
+    let splits = subst (λ (es : List (ℤ × Option Row)). SplitsRows before.rows between.rows (matched_rows w es) c.args.time) c.deref.ensures.value split.rows in
+    ReexecutesWrites-write c.args.time w before _ (record {
+      table = table;
+      between = between.rows;
+      pairs = pairs;
+      reply = c.reply_to.result;
+      on = c.table-table.ensures;
+      found = is;
+      splits = splits;
+      writes = c.in_ok-write_next.ensures;
+      answers = λ rows same. c.reply_to.ensures rows (c.deref-2.ensures.value ∙ same);
+      replies = c.in_ok-push.ensures.items ∙ ap (λ rs. rs ++ c.reply_to.result ∷ []) split.replies;
+      written = c.in_ok-add_rows.ensures ∙ (λ i. split.rows_written i ++ rows_of_effect table (c.deref-3.ensures.value i));
+      reexecuted = split.reexecuted ∙ ap (λ es. before.reexecuted.items ++ matched_rows w es) c.deref.ensures.value;
+    })

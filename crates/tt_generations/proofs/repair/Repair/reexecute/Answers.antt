@@ -5,9 +5,9 @@ use Rattle.tt_values.specs.declared.statement.Write.{Write}
 use Rattle.tt_values.specs.Tables.{Tables}
 use Rattle.tt_values.specs.Check.{HasKey}
 use Rattle.tt_parts.specs.Dirty.{SameMembers}
-use Rattle.tt_generations.specs.declared.slot.RowKey.{RowKey}
+use Rattle.tt_values.specs.declared.row_id.RowId.{RowId}
 use Rattle.tt_generations.specs.declared.repair.Repair.{Repair}
-use Rattle.tt_generations.specs.Rows.{TablesByPosition, as_pairs}
+use Rattle.tt_generations.specs.Rows.{TablesByPosition}
 use Rattle.tt_generations.specs.Replies.{replies_if}
 use Rattle.tt_generations.specs.Reexecution.{Reexecutes, ShowsFewBefore}
 use Rattle.tt_generations.specs.Repair.{next_action, writes_of, with_rows_shown, ReexecutesSlot}
@@ -28,23 +28,23 @@ of_slot-requires-clause-short c =
 pub of_slot-requires-clause-few : goal.of_slot-requires-clause-few
 of_slot-requires-clause-few c =
     let time = c.args.self.now.done + 1 in
-    subst (λ (rs : List RowKey). ShowsFewBefore c.replace-taken.result time (as_pairs rs)) (sym c.as_slice-written.ensures)
-    (subst (λ (r : TablesByPosition). ShowsFewBefore r time (as_pairs c.args.kept.now.rows)) (sym c.replace-taken.ensures.value) c.requires.few)
+    subst (λ (rs : List RowId). ShowsFewBefore c.replace-taken.result time rs) (sym c.as_slice-written.ensures)
+    (subst (λ (r : TablesByPosition). ShowsFewBefore r time c.args.kept.now.rows) (sym c.replace-taken.ensures.value) c.requires.few)
 
 pub add_rows_shown-requires-clause-tables : goal.add_rows_shown-requires-clause-tables
 add_rows_shown-requires-clause-tables c =
     let before = c.args.self.now in
     let run = c.in_ok-run.run' in
     let time = before.done + 1 in
-    let written = as_pairs c.args.kept.now.rows in
+    let written = c.args.kept.now.rows in
     let writes = c.writes_of.ensures ∙ ap writes_of c.in_ok-action.ensures in
     let reexecutes : Reexecutes time written (writes_of (next_action before c.args.kept.now)) c.args.rows.now run =
     subst (λ (ws : List Write). Reexecutes time written ws c.args.rows.now run) writes
     (subst (λ (r : TablesByPosition). Reexecutes time written c.writes_of.result.now r run) c.replace-taken.ensures.value
-    (subst (λ (rs : List RowKey). Reexecutes time (as_pairs rs) c.writes_of.result.now c.replace-taken.result run) c.as_slice-written.ensures c.in_ok-run.ensures)) in
+    (subst (λ (rs : List RowId). Reexecutes time rs c.writes_of.result.now c.replace-taken.result run) c.as_slice-written.ensures c.in_ok-run.ensures)) in
     let all = tables-of_run c.args.catalog.now before c.args.kept.now c.args.rows.now run c.requires.written c.requires.accepted c.requires.few reexecutes in
-    let there = subst (λ (tables : Tables). All (λ r. r.table < length tables) run.redone.items) (sym c.requires.catalog) all in
-    subst (λ (rs : List RowKey). All (λ r. r.table < length before.dirty.catalog) rs) (sym c.deref.ensures.value) there
+    let there = subst (λ (tables : Tables). All (λ r. r.table < length tables) run.reexecuted.items) (sym c.requires.catalog) all in
+    subst (λ (rs : List RowId). All (λ r. r.table < length before.dirty.catalog) rs) (sym c.deref.ensures.value) there
 
 pub returns-clause-done : goal.returns-clause-done
 returns-clause-done c =
@@ -53,7 +53,7 @@ returns-clause-done c =
       edits = ap (λ (r : Repair). r.edits) put;
       replacements = ap (λ (r : Repair). r.replacements) put;
       done = ap (λ (r : Repair). r.done) put;
-      rerun = ap (λ (r : Repair). r.rerun) put;
+      reexecuted = ap (λ (r : Repair). r.reexecuted) put;
       catalog = ap (λ (r : Repair). r.dirty.catalog) put ∙ c.in_ok-add_rows_shown.ensures.catalog;
     }
 
@@ -64,17 +64,17 @@ returns-clause-rows c =
     let kept = c.args.kept.now in
     let run = c.in_ok-run.run' in
     let time = before.done + 1 in
-    let written = as_pairs c.args.kept.now.rows in
+    let written = c.args.kept.now.rows in
     let writes = c.writes_of.ensures ∙ ap writes_of c.in_ok-action.ensures in
     let reexecutes : Reexecutes time written (writes_of (next_action before c.args.kept.now)) c.args.rows.now run =
     subst (λ (ws : List Write). Reexecutes time written ws c.args.rows.now run) writes
     (subst (λ (r : TablesByPosition). Reexecutes time written c.writes_of.result.now r run) c.replace-taken.ensures.value
-    (subst (λ (rs : List RowKey). Reexecutes time (as_pairs rs) c.writes_of.result.now c.replace-taken.result run) c.as_slice-written.ensures c.in_ok-run.ensures)) in
+    (subst (λ (rs : List RowId). Reexecutes time rs c.writes_of.result.now c.replace-taken.result run) c.as_slice-written.ensures c.in_ok-run.ensures)) in
     let action = c.in_ok-action.ensures in
     let new = c.in_ok-slot.ensures in
     let put = c.in_ok-put_slot.ensures in
     let replies = new.replies ∙ ap (λ a. replies_if a run.replies.items) action in
-    let shown = subst (λ (rs : List RowKey). SameMembers c.add_rows_shown.new.dirty.dirty (with_rows_shown before.dirty run.rows rs (before.done + 1))) c.deref.ensures.value c.in_ok-add_rows_shown.ensures.dirty in
-    let dirty = subst (λ (r : Repair). SameMembers r.dirty.dirty (with_rows_shown before.dirty run.rows run.redone.items (before.done + 1))) (sym put) shown in
+    let shown = subst (λ (rs : List RowId). SameMembers c.add_rows_shown.new.dirty.dirty (with_rows_shown before.dirty run.rows rs (before.done + 1))) c.deref.ensures.value c.in_ok-add_rows_shown.ensures.dirty in
+    let dirty = subst (λ (r : Repair). SameMembers r.dirty.dirty (with_rows_shown before.dirty run.rows run.reexecuted.items (before.done + 1))) (sym put) shown in
     subst (λ (left : TablesByPosition). ReexecutesSlot before kept c.args.rows.now after left) (sym c.into_slot.ensures.rows)
-    (ReexecutesSlot-done before after kept c.in_ok-slot.slot c.args.rows.now run reexecutes (new.action ∙ action) replies new.keys (ap (λ (r : Repair). r.slots) put) dirty)
+    (ReexecutesSlot-done before after kept c.in_ok-slot.slot c.args.rows.now run reexecutes (new.action ∙ action) replies new.rows_written (ap (λ (r : Repair). r.slots) put) dirty)

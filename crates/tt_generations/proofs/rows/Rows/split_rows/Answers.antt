@@ -1,18 +1,18 @@
 -- One more row is split, and at the end none is left.
 use Rattle.std.proofs.Common.{List, subst, sym}
 use Rattle.std.proofs.lemmas.List.{drop_all}
-use Rattle.tt_generations.specs.declared.slot.RowKey.{RowKey}
-use Rattle.tt_generations.specs.Rows.{SplitsRows, as_pairs}
+use Rattle.tt_values.specs.declared.row_id.RowId.{RowId}
+use Rattle.tt_generations.specs.Rows.{SplitsRows}
 use Rattle.tt_generations.proofs.SplitRowsLemmas.{SplitsRows-none, SplitsRows-next}
 use Rattle.tt_generations.proofs.rows.Rows.split_rows.Goals as goal
 
-pub loop-key-preserved : goal.loop-key-preserved
-loop-key-preserved c after rest =
-    c.loop-key.invariant after
-    (SplitsRows-next c.args.keys.now c.loop-key.key-index _ c.loop-key.self c.split_row.new.self after c.args.time c.loop-key-test.true c.in_ok-split_row.ensures rest)
+pub loop-row-preserved : goal.loop-row-preserved
+loop-row-preserved c after rest =
+    c.loop-row.invariant after
+    (SplitsRows-next c.args.rows.now c.loop-row.row-index _ c.loop-row.self c.split_row.new.self after c.args.time c.loop-row-test.true c.in_ok-split_row.ensures rest)
 
 pub returns : goal.returns
 returns c =
-    let nothing = drop_all c.loop-key.key-index c.args.keys.now c.loop-key-test.false in
-    c.loop-key.invariant c.loop-key.self
-    (subst (λ (ks : List RowKey). SplitsRows c.loop-key.self c.loop-key.self (as_pairs ks) c.args.time) (sym nothing) (SplitsRows-none c.loop-key.self c.args.time))
+    let nothing = drop_all c.loop-row.row-index c.args.rows.now c.loop-row-test.false in
+    c.loop-row.invariant c.loop-row.self
+    (subst (λ (ks : List RowId). SplitsRows c.loop-row.self c.loop-row.self ks c.args.time) (sym nothing) (SplitsRows-none c.loop-row.self c.args.time))

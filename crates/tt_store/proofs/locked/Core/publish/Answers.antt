@@ -1,6 +1,6 @@
 -- Without events nothing is published.
 use Rattle.std.proofs.Common.{Option, subst}
-use Rattle.tt_store.specs.declared.draft.Draft.{Draft}
+use Rattle.tt_store.specs.declared.call.Draft.{Draft}
 use Rattle.tt_store.specs.Drafts.{IsDraft}
 use Rattle.tt_store.proofs.DraftLemmas.{publishes_nothing}
 use Rattle.tt_store.proofs.locked.Core.publish.Goals as goal

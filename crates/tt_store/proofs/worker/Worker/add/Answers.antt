@@ -23,7 +23,7 @@ invariant_of-self-2 g c =
       c.self.invariant.1,
       record {
         of = record {
-          same_book = ap (λ (s : Published). s.book) c.new.ensures ∙ c.grow.ensures.book ∙ ap (λ (b : Beginning). b.book) c.again-front.ensures ∙ c.front.ensures.book ∙ kept.of.same_book;
+          same_book = ap (λ (s : Published). s.book) c.new.ensures ∙ c.grow.ensures.book ∙ ap (λ (b : Beginning). b.book) c.share-front.ensures ∙ c.front.ensures.book ∙ kept.of.same_book;
           same_tables = ap (λ (s : Published). s.db.catalog) c.new.ensures ∙ c.requires.tables;
           same_limits = ap (λ (s : Published). s.db.limits) c.new.ensures ∙ c.requires.limits;
         };

@@ -10,7 +10,7 @@ pub returns : goal.returns
 returns g c begins =
     let worker = c.self.inside in
     let front = worker.seen.db.history in
-    let history = c.args.shown.now.db.history in
+    let history = c.args.snapshot.now.db.history in
     let seen : IsPrefix front history =
     prefix_where_true c.front.result.now.entries c.front-2.result.now.entries front history c.begins.result c.front.ensures.entries c.front-2.ensures.entries begins c.begins.ensures in
     subst (IsBehind history) c.self.view_is (record { seen = seen; among = among_longer worker.own.items worker.number front history seen c.self.invariant.2.among })

@@ -1,0 +1,131 @@
+//! Reading of arrays, item by item from the front.
+ghost use Rattle.std.specs.Prelude.{Result, map};
+ghost use Rattle.serde_json.specs.Data.{Data};
+ghost use Rattle.serde_json.specs.View.{view};
+ghost use Rattle.tt_document.specs.declared.fault.DocFault.{DocFault};
+ghost use Rattle.tt_document.specs.Fault.{Gives, with_path, item_path};
+ghost use Rattle.tt_document.specs.Arrays.{fold_items, with_item, each, array_of};
+
+use crate::decoder::{Decoder, array};
+use crate::fault::DocFault;
+use crate::owned_items::OwnedItems;
+use serde_json::Value;
+use std::alloc::Global;
+use tt_values::Items;
+
+/// A state that is built from the items of an array, one item after another.
+pub(crate) trait Fold {
+    type State;
+
+    /// The state after an item, or the item's first fault.
+    ghost after: { Self → Self.State → Data → Result Self.State DocFault };
+
+    fn step(&self, alloc: Global, state: Self::State, item: &Value) -> Result<Self::State, DocFault>
+        ensures { Gives result (after self.now state (view item.now)) };
+}
+
+/// The state after all items, from the front.
+pub(crate) fn fold_items<T: Fold>(
+    alloc: Global,
+    fold: &T,
+    start: T::State,
+    items: &[Value],
+) -> Result<T::State, DocFault>
+    ensures { Gives result (fold_items (T.after fold.now) 0 start (map view items.now)) }
+{
+    let mut state = start;
+    for (index, item) in items.iter().enumerate() {
+        state = step_item(alloc, fold, state, index, item)?;
+    }
+    Ok(state)
+}
+
+fn step_item<T: Fold>(
+    alloc: Global,
+    fold: &T,
+    state: T::State,
+    index: usize,
+    item: &Value,
+) -> Result<T::State, DocFault>
+    ensures { Gives result (with_path (item_path index) (T.after fold.now state (view item.now))) }
+{
+    match fold.step(alloc, state, item) {
+        Ok(next) => Ok(next),
+        Err(fault) => Err(fault.in_item(alloc, index)),
+    }
+}
+
+/// Collects the meanings of the items in a list.
+#[derive(Drop)]
+struct Collector<'a, D> {
+    decoder: &'a D,
+}
+
+impl<D: Decoder> Fold for Collector<'_, D>
+where
+    D::Output: Drop,
+{
+    type State = OwnedItems<D::Output>;
+
+    ghost after = { λ c. with_item (D.meaning c.decoder.now) };
+
+    fn step(
+        &self,
+        alloc: Global,
+        state: OwnedItems<D::Output>,
+        item: &Value,
+    ) -> Result<OwnedItems<D::Output>, DocFault> {
+        let meaning = self.decoder.decode(alloc, item)?;
+        let items = state.with_item(meaning)?;
+        Ok(items)
+    }
+}
+
+/// An array of what a decoder decodes.
+#[derive(Drop)]
+pub(crate) struct ArrayDecoder<D> {
+    pub(crate) decoder: D,
+}
+
+impl<D: Decoder> Decoder for ArrayDecoder<D>
+where
+    D::Output: Drop,
+{
+    type Output = Items<D::Output>;
+
+    ghost meaning = { λ a. array_of (D.meaning a.decoder) };
+
+    fn decode(&self, alloc: Global, value: &Value) -> Result<Items<D::Output>, DocFault> {
+        let items = array(alloc, value)?;
+        decode_items(alloc, &self.decoder, items)
+    }
+}
+
+/// The meaning of each item of an array, in order.
+pub(crate) fn decode_items<D: Decoder>(
+    alloc: Global,
+    decoder: &D,
+    items: &[Value],
+) -> Result<Items<D::Output>, DocFault>
+where
+    D::Output: Drop,
+    ensures { Gives result (each (D.meaning decoder.now) 0 (map view items.now)) }
+{
+    let list = decode_owned(alloc, decoder, items)?;
+    let items = list.into_items(alloc)?;
+    Ok(items)
+}
+
+/// As [`decode_items`], in a list with one owner.
+pub(crate) fn decode_owned<D: Decoder>(
+    alloc: Global,
+    decoder: &D,
+    items: &[Value],
+) -> Result<OwnedItems<D::Output>, DocFault>
+where
+    D::Output: Drop,
+    ensures { Gives result (each (D.meaning decoder.now) 0 (map view items.now)) }
+{
+    let start = OwnedItems::with_room(alloc, items.len())?;
+    fold_items(alloc, &Collector { decoder }, start, items)
+}

@@ -1,0 +1,136 @@
+// A page of a map: a list of entries in ascending key order.
+ghost use Rattle.std.specs.Prelude.{◌≡◌, ◌++◌, IsTrue, IsSome, Some, IfOk, IfErr, OnOk, OnErr};
+ghost use Rattle.std.specs.Option.{option_copied};
+ghost use Rattle.std.specs.Ordering.{int_cmp};
+ghost use Rattle.std.specs.FinMap.Entries.{find, put, is_sorted};
+ghost use Rattle.tt_pages.specs.MapEntries.{rank_of, entries_without, keys_of, ChangesAt, IsPlaceOf, IsGapFor};
+
+use crate::kept::Kept;
+use crate::modify::Modify;
+use std::alloc::{AllocError, Global};
+use std::mem;
+
+// The largest number of entries in a page.
+pub(super) const MAX_ENTRIES: usize = 16;
+
+// Two neighboring pages that have no more entries than this together are joined.
+pub(super) const FEW_ENTRIES: usize = 8;
+
+pub(super) type Page<V> = Vec<(i64, V)>;
+
+// The number of entries before the key's place, which are those with smaller keys.
+pub(super) fn rank_in<V>(page: &[(i64, V)], key: &i64) -> usize
+    ensures { result ≡ rank_of key.now page.now }
+{
+    let mut rank = 0;
+    while rank < page.len() && key.cmp(&page[rank].0).is_gt() {
+        rank += 1;
+    }
+    rank
+}
+
+// The place of the key, or as an error the place at which to insert it.
+fn place_in<V>(page: &[(i64, V)], key: &i64) -> Result<usize, usize>
+    requires { IsTrue (is_sorted int_cmp page.now) }
+    ensures present { IfOk result (IsPlaceOf key.now page.now) }
+    ensures absent { IfErr result (IsGapFor key.now page.now) }
+{
+    let rank = rank_in(page, key);
+    if rank < page.len() && key.cmp(&page[rank].0).is_eq() {
+        Ok(rank)
+    } else {
+        Err(rank)
+    }
+}
+
+pub(super) fn get_in<'a, V>(page: &'a [(i64, V)], key: &i64) -> Option<&'a V>
+    requires { IsTrue (is_sorted int_cmp page.now) }
+    ensures { option_copied result ≡ find int_cmp key.now page.now }
+{
+    match place_in(page, key) {
+        Ok(at) => Some(&page[at].1),
+        Err(_) => None,
+    }
+}
+
+// Sets the value at the key, and inserts an entry if there is none.
+pub(super) fn put_in<V: Drop>(page: &mut Page<V>, key: &i64, value: V) -> Result<(), AllocError>
+    requires { IsTrue (is_sorted int_cmp page.old.items) }
+    ensures ok { OnOk result (page.new.items ≡ put int_cmp key.now value page.old.items) }
+    ensures err { OnErr result (page.new.items ≡ page.old.items) }
+{
+    match place_in(page, key) {
+        Ok(at) => {
+            page[at].1 = value;
+            Ok(())
+        }
+        Err(at) => Ok(page.insert(at, entry_of(key, value))?),
+    }
+}
+
+fn entry_of<V>(key: &i64, value: V) -> (i64, V)
+    ensures { result ≡ (key.now, value) }
+{
+    let key = *key;
+    (key, value)
+}
+
+// Exchanges the value at a key of the page.
+pub(super) fn swap_in<V>(page: &mut Page<V>, key: &i64, value: &mut V)
+    requires sorted { IsTrue (is_sorted int_cmp page.old.items) }
+    requires present { IsSome (find int_cmp key.now page.old.items) }
+    ensures page { page.new.items ≡ put int_cmp key.now value.old page.old.items }
+    ensures value { find int_cmp key.now page.old.items ≡ Some value.new }
+{
+    let at = rank_in(page, key);
+    mem::swap(&mut page[at].1, value);
+}
+
+// Changes the value at a key of the page. After an error nothing is promised about the value.
+pub(super) fn change_in<V, M: Modify<V>>(
+    page: &mut Page<V>,
+    key: &i64,
+    change: M,
+) -> Result<(), AllocError>
+    requires sorted { IsTrue (is_sorted int_cmp page.old.items) }
+    requires present { IsSome (find int_cmp key.now page.old.items) }
+    ensures keys { keys_of page.new.items ≡ keys_of page.old.items }
+    ensures ok { OnOk result
+        (ChangesAt key.now (M.after change) page.old.items page.new.items) }
+{
+    let at = rank_in(page, key);
+    change.apply(&mut page[at].1)
+}
+
+pub(super) fn remove_in<V: Drop>(page: &mut Page<V>, key: &i64)
+    requires { IsTrue (is_sorted int_cmp page.old.items) }
+    ensures { page.new.items ≡ entries_without key.now page.old.items }
+{
+    if let Ok(at) = place_in(page, key) {
+        drop(page.remove(at));
+    }
+}
+
+// A copy of the entries, in a page with room for `MAX_ENTRIES`.
+pub(super) fn copy_of<V: Kept + Drop>(
+    alloc: Global,
+    entries: &[(i64, V)],
+) -> Result<Page<V>, AllocError>
+    ensures { IfOk result (λ page. page.items ≡ entries.now) }
+{
+    let mut page = Vec::with_capacity(alloc, MAX_ENTRIES)?;
+    add_copies(&mut page, entries)?;
+    Ok(page)
+}
+
+pub(super) fn add_copies<V: Kept + Drop>(
+    page: &mut Page<V>,
+    entries: &[(i64, V)],
+) -> Result<(), AllocError>
+    ensures { OnOk result (page.new.items ≡ page.old.items ++ entries.now) }
+{
+    for (key, value) in entries {
+        page.push((*key, value.kept()?))?;
+    }
+    Ok(())
+}

@@ -1,0 +1,2 @@
+pub mod ChangesLemmas
+pub mod SameLemmas

@@ -1,0 +1,162 @@
+//! The changed replies of calls.
+ghost use Rattle.std.specs.Prelude.{◌≡◌, ◌≢◌, ◌∷◌, [], None, option_map, option_and_then, IfOk, OnOk};
+ghost use Rattle.tt_values.specs.Check.{select_fault};
+ghost use Rattle.tt_generations.specs.KeptSlots.{slot_at};
+ghost use Rattle.tt_db.specs.Database.{state_of};
+ghost use Rattle.tt_records.specs.Changes.{after_of_slot, answer_now, change_to, change_of, changes_of};
+
+use crate::changed::{After, Changed};
+use crate::record::{Record, What};
+use crate::same::{are_same, is_same_reply};
+use std::alloc::{AllocError, Global};
+use tt_db::{Db, ReadError, Slot};
+use tt_values::{Items, Reply, Select};
+
+/// The calls of these records whose answers have changed, in the order of the records: a write by
+/// the replies that its slot has now, a read by the rows that its select finds now at its time.
+/// Refused reads and previews are never listed, nor is a record of a slot or a time that isn't
+/// there.
+pub fn changes(alloc: Global, db: &Db, records: &[Record]) -> Result<Vec<Changed>, AllocError>
+    ensures { IfOk result (λ list.
+        list.items ≡ changes_of db.now.catalog (state_of db.now) records.now) }
+{
+    let mut changes = Vec::new(alloc);
+    for record in records {
+        if let Some(change) = change_of(alloc, db, record)? {
+            changes.push(change)?;
+        }
+    }
+    Ok(changes)
+}
+
+/// The change of one record, if its call is answered differently now.
+fn change_of(alloc: Global, db: &Db, earlier: &Record) -> Result<Option<Changed>, AllocError>
+    ensures { IfOk result (λ c. c ≡ change_of db.now.catalog (state_of db.now) earlier.now) }
+{
+    match &earlier.what {
+        What::Write { slot, replies } => change_of_write(db, earlier.call, *slot, replies),
+        What::Read {
+            select,
+            time,
+            reply,
+        } => change_of_read(alloc, db, earlier.call, select, *time, reply),
+        What::Preview { .. } => Ok(None),
+        What::Later { .. } => Ok(None),
+        What::NotRepairing => Ok(None),
+    }
+}
+
+/// The change of a write, if its slot is there and has other replies now, or none.
+fn change_of_write(
+    db: &Db,
+    call: u64,
+    slot: u64,
+    before: &Items<Reply>,
+) -> Result<Option<Changed>, AllocError>
+    ensures { IfOk result (λ c. c ≡ option_and_then (change_to call before.now)
+        (option_map after_of_slot (slot_at (state_of db.now).slots slot))) }
+{
+    match db.slot(slot) {
+        Some(slot) => change_of_slot(call, before, slot),
+        None => Ok(None),
+    }
+}
+
+fn change_of_slot(
+    call: u64,
+    before: &Items<Reply>,
+    slot: &Slot,
+) -> Result<Option<Changed>, AllocError>
+    ensures { IfOk result (λ c. c ≡ change_to call before.now (after_of_slot slot.now)) }
+{
+    match &slot.replies {
+        Some(replies) => change_to_replies(call, before, replies),
+        None => {
+            let before = before.clone()?;
+            Ok(Some(Changed {
+                call,
+                before,
+                after: After::Cancelled,
+            }))
+        }
+    }
+}
+
+/// A change to other replies, unless they are the same.
+fn change_to_replies(
+    call: u64,
+    before: &Items<Reply>,
+    after: &Items<Reply>,
+) -> Result<Option<Changed>, AllocError>
+    ensures { IfOk result (λ c. c ≡ change_to call before.now (After.Replies after.now)) }
+{
+    if are_same(before.as_slice(), after.as_slice()) {
+        return Ok(None);
+    }
+    let before = before.clone()?;
+    let after = after.clone()?;
+    Ok(Some(Changed {
+        call,
+        before,
+        after: After::Replies(after),
+    }))
+}
+
+/// The change of a read, if its select finds other rows now at its time. A select that has a fault,
+/// or a time later than now, has no answer.
+fn change_of_read(
+    alloc: Global,
+    db: &Db,
+    call: u64,
+    select: &Select,
+    time: u64,
+    before: &Reply,
+) -> Result<Option<Changed>, AllocError>
+    ensures { IfOk result (λ c. c ≡ option_and_then (change_to call (before.now ∷ []))
+        (answer_now (state_of db.now) select.now time (select_fault db.now.catalog select.now))) }
+{
+    match db.select_at(select, time) {
+        Ok(after) => change_to_reply(alloc, call, before, after),
+        Err(error) => no_answer(error),
+    }
+}
+
+/// A change to another reply, unless it is the same.
+fn change_to_reply(
+    alloc: Global,
+    call: u64,
+    before: &Reply,
+    after: Reply,
+) -> Result<Option<Changed>, AllocError>
+    ensures { IfOk result (λ c. c
+        ≡ change_to call (before.now ∷ []) (After.Replies (after ∷ []))) }
+{
+    if is_same_reply(before, &after) {
+        return Ok(None);
+    }
+    let before = list_of_one(alloc, before.clone()?)?;
+    let after = list_of_one(alloc, after)?;
+    Ok(Some(Changed {
+        call,
+        before,
+        after: After::Replies(after),
+    }))
+}
+
+/// No change without an answer, or no memory for one.
+fn no_answer(error: ReadError) -> Result<Option<Changed>, AllocError>
+    ensures nothing { IfOk result (λ c. c ≡ None) }
+    ensures memory { OnOk result (error ≢ ReadError.Memory) }
+{
+    match error {
+        ReadError::Memory => Err(AllocError),
+        _ => Ok(None),
+    }
+}
+
+fn list_of_one(alloc: Global, reply: Reply) -> Result<Items<Reply>, AllocError>
+    ensures { IfOk result (λ list. list ≡ reply ∷ []) }
+{
+    let list = Vec::from_array(alloc, [reply])?;
+    Items::new(alloc, list)
+}

@@ -1,5 +1,0 @@
-use Rattle.tt_repair_laws.proofs.LawProofs.{due_slots_are_rerun}
-use Rattle.tt_repair_laws.proofs.laws.due_slots_are_rerun.Goals as goal
-
-pub returns : goal.returns
-returns c = due_slots_are_rerun
