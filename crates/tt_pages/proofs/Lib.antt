@@ -1,3 +1,8 @@
+pub mod LogBalance
 pub mod LogRules
+pub mod MapBranchLemmas
 pub mod MapEntriesLemmas
-pub mod MapTreeLemmas
+pub mod MapHalvesLemmas
+pub mod MapJoinLemmas
+pub mod MapReplacingLemmas
+pub mod MapWalkLemmas

@@ -4,22 +4,23 @@ use Rattle.std.specs.Prelude.{pos, ◌&&◌}
 use Rattle.std.specs.declared.cmp.Ordering.{Ordering}
 use Rattle.std.specs.Ordering.{int_cmp, int_eq, is_lt, is_eq, is_gt, ordering_reverse}
 use denote.Ref.{Bor}
-use Rattle.std.specs.Option.{is_some, option_copied, unwrap_or}
+use Rattle.std.specs.Option.{is_some, is_none, option_copied, unwrap_or}
 use Rattle.std.specs.Cmp.{int_cmp_total}
 use Rattle.std.specs.List.{insert, remove}
 use Rattle.std.specs.FinMap.Entries.{by_order, find, put, is_sorted, below_all, is_sorted-put, is_sorted-where_key}
 use Rattle.std.proofs.lemmas.Bool.{false≢true, and_parts, and_from}
 use Rattle.std.proofs.lemmas.List.{length-map, length-set, map-append}
+use Rattle.std.proofs.lemmas.List.Edits.{length-insert, length-remove}
 use Rattle.std.proofs.lemmas.List.Elements.{filter-append}
 use Rattle.tt_pages.specs.MapEntries.{rank_of, first_key, entries_without, keys_of, ChangesAt, IsPlaceOf, IsGapFor}
 
 -- ---- the order of keys
 
 -- the other way round
-turned : (x y : ℤ) (o : Ordering) → int_cmp x y ≡ o → int_cmp y x ≡ ordering_reverse o
+pub turned : (x y : ℤ) (o : Ordering) → int_cmp x y ≡ o → int_cmp y x ≡ ordering_reverse o
 turned x y o e = int_cmp_total.antisymm y x ∙ ap ordering_reverse e
 
-lt_less : (o : Ordering) → is_lt o ≡ true → o ≡ Less
+pub lt_less : (o : Ordering) → is_lt o ≡ true → o ≡ Less
 lt_less Less h = refl
 lt_less Equal h = absurd (false≢true h)
 lt_less Greater h = absurd (false≢true h)
@@ -44,10 +45,10 @@ some_none : {A : Type 0} (o : Option A) → IsSome o → o ≡ None → ⊥
 some_none o some none = false≢true (sym (ap is_some none) ∙ some)
 
 module _ {V : Type 0} where
-  sorted_tail : (e : ℤ × V) (es : List (ℤ × V)) → IsTrue (is_sorted int_cmp (e ∷ es)) → IsTrue (is_sorted int_cmp es)
+  pub sorted_tail : (e : ℤ × V) (es : List (ℤ × V)) → IsTrue (is_sorted int_cmp (e ∷ es)) → IsTrue (is_sorted int_cmp es)
   sorted_tail e es h = (and_parts (below_all int_cmp e.0 es) (is_sorted int_cmp es) h).1
 
-  below_tail : (e : ℤ × V) (es : List (ℤ × V)) → IsTrue (is_sorted int_cmp (e ∷ es)) → IsTrue (below_all int_cmp e.0 es)
+  pub below_tail : (e : ℤ × V) (es : List (ℤ × V)) → IsTrue (is_sorted int_cmp (e ∷ es)) → IsTrue (below_all int_cmp e.0 es)
   below_tail e es h = (and_parts (below_all int_cmp e.0 es) (is_sorted int_cmp es) h).0
 
   -- a key below one that is below all is below all
@@ -246,12 +247,17 @@ module _ {V : Type 0} where
   below-first k [] (e ∷ r) filled h = lt_less _ (and_parts (is_lt (int_cmp k e.0)) (below_all int_cmp k r) h).0
   below-first k (e ∷ l) r filled h = below-first k l r filled (and_parts (is_lt (int_cmp k e.0)) (below_all int_cmp k (l ++ r)) h).1
 
-  below-all_first : (k : ℤ) (r : List (ℤ × V)) → 0 < length r → IsTrue (is_sorted int_cmp r) → IsTrue (is_lt (int_cmp k (first_key r))) → IsTrue (below_all int_cmp k r)
+  -- the first of two lists in a row begins below the second
+  pub first_key-below : (l r : List (ℤ × V)) → 0 < length l → 0 < length r → IsTrue (is_sorted int_cmp (l ++ r)) → int_cmp (first_key l) (first_key r) ≡ Less
+  first_key-below [] r left right sorted = absurd (omega arith)
+  first_key-below (e ∷ l) r left right sorted = below-first e.0 l r right (below_tail e (l ++ r) sorted)
+
+  pub below-all_first : (k : ℤ) (r : List (ℤ × V)) → 0 < length r → IsTrue (is_sorted int_cmp r) → IsTrue (is_lt (int_cmp k (first_key r))) → IsTrue (below_all int_cmp k r)
   below-all_first k [] filled sorted lt = absurd (omega arith)
   below-all_first k (e ∷ r) filled sorted lt = and_from (is_lt (int_cmp k e.0)) (below_all int_cmp k r) lt (below_all-less k e.0 r (lt_less _ lt) (below_tail e r sorted))
 
   -- the key is above each of a list's keys
-  abbrev IsAbove : ℤ → List (ℤ × V) → Type 0
+  abbrev pub IsAbove : ℤ → List (ℤ × V) → Type 0
   IsAbove key [] = Unit {0}
   IsAbove key (e ∷ es) = (int_cmp key e.0 ≡ Greater) × IsAbove key es
 
@@ -289,7 +295,7 @@ module _ {V : Type 0} where
       without-left = filter-append (λ (e : ℤ × V). not (int_eq e.0 key)) l r ∙ ap (λ es. entries_without key l ++ es) (without-absent key r absent_right)
 
     module _ (right : is_lt (int_cmp key (first_key r)) ≡ false) where
-      is_above_left : IsAbove key l
+      pub is_above_left : IsAbove key l
       is_above_left = by l sorted
         where
           by : (l : List (ℤ × V)) → IsTrue (is_sorted int_cmp (l ++ r)) → IsAbove key l
@@ -341,11 +347,27 @@ module _ {V : Type 0} where
     | Greater ↦ omega (arith, length-put_le key v es)
   ]
 
+  pub length-put_ge : (key : ℤ) (v : V) (es : List (ℤ × V)) → length es ≤ length (put int_cmp key v es)
+  length-put_ge key v [] = omega arith
+  length-put_ge key v (e ∷ es) = elim (int_cmp key e.0) as (λ o. suc (length es) ≤ length (by_order o ((key, v) ∷ e ∷ es) ((e.0, v) ∷ es) (e ∷ put int_cmp key v es))) [
+    | Less ↦ omega arith
+    | Equal ↦ omega arith
+    | Greater ↦ omega (arith, length-put_ge key v es)
+  ]
+
   -- a key that is there keeps its one entry
   pub length-put_present : (key : ℤ) (v : V) (es : List (ℤ × V)) → IsTrue (is_sorted int_cmp es) → IsSome (find int_cmp key es) → length (put int_cmp key v es) ≡ length es
   length-put_present key v [] sorted some = absurd (false≢true some)
   length-put_present key v (e ∷ es) sorted some =
       ap length (put-at_rank key (e ∷ es) v e sorted some) ∙ length-set (e ∷ es) (rank_of key (e ∷ es)) ((get_or (e ∷ es) (rank_of key (e ∷ es)) e).0, v)
+
+  -- a new key gets one entry
+  pub length-put_absent : (key : ℤ) (v : V) (es : List (ℤ × V)) → find int_cmp key es ≡ None → length (put int_cmp key v es) ≡ length es + 1
+  length-put_absent key v es absent = ap length (put-in_gap key es v absent) ∙ length-insert es (rank_of key es) (key, v) (rank_of-le key es)
+
+  pub length-without_present : (key : ℤ) (es : List (ℤ × V)) → IsTrue (is_sorted int_cmp es) → IsSome (find int_cmp key es) → length (entries_without key es) + 1 ≡ length es
+  length-without_present key es sorted some =
+      ap (λ fs. length fs + 1) (without-at_rank key es sorted some) ∙ length-remove es (rank_of key es) (rank_of-within key es some)
 
   pub length-put_filled : (key : ℤ) (v : V) (es : List (ℤ × V)) → 0 < length (put int_cmp key v es)
   length-put_filled key v [] = omega arith
@@ -455,3 +477,15 @@ none_copied (Some x) answer same h = absurd (false≢true (sym h))
 pub some_copied : {V : Type 0} (o : Option (Bor V)) (answer : Option V) → option_copied o ≡ answer → is_some o ≡ true → IsSome answer
 some_copied None answer same h = absurd (false≢true h)
 some_copied (Some x) answer same h = ap is_some (sym same)
+
+pub none_of : {V : Type 0} (answer : Option V) → is_none answer ≡ true → answer ≡ None
+none_of None is = refl
+none_of (Some x) is = absurd (false≢true is)
+
+pub some_of : {V : Type 0} (answer : Option V) → is_none answer ≡ false → IsSome answer
+some_of None is = absurd (false≢true (sym is))
+some_of (Some x) is = refl
+
+pub absent_of : {V : Type 0} (answer : Option V) → is_some answer ≡ false → answer ≡ None
+absent_of None is = refl
+absent_of (Some x) is = absurd (false≢true (sym is))

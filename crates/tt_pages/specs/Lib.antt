@@ -1,6 +1,10 @@
+pub mod LogDepth
 pub mod LogParts
 pub mod LogSlice
 pub mod LogTree
+pub mod MapBranches
 pub mod MapEntries
+pub mod MapFalls
 pub mod MapTree
-pub mod MapWidening
+pub mod MapValues
+pub mod MapWalk

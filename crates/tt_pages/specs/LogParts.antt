@@ -9,7 +9,7 @@ module _ {T : Type 0} where
   -- the items of the pages before the last one
   abbrev pub tree_items : Option (Tree T) → List T
   tree_items None = []
-  tree_items (Some tree) = tree
+  tree_items (Some tree) = tree.0
 
   -- the items of the last page
   abbrev pub tail_items : Option (Arc (Page T) Global) → List T

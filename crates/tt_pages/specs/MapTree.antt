@@ -1,114 +1,71 @@
--- The entries that a map's tree and its parts hold.
-use Rattle.std.specs.Prelude.{◌≡◌, ◌+◌, ◌^◌, ◌<◌, ◌≤◌, ℕ, ℤ, List, ◌++◌, drop, length, IsTrue, if◌then◌else◌, ⊤, Option, None, Some, IfNone, IfSome, []}
-use Rattle.std.specs.Ordering.{int_cmp, is_lt}
-use Rattle.std.specs.FinMap.Entries.{put, is_sorted}
-use Rattle.std.specs.Arc.{arc_value}
+-- The entries that a map's tree and its parts hold, and how even the tree is.
+use Rattle.std.specs.Prelude.{◌≡◌, ◌^◌, ◌<◌, ◌≤◌, ℕ, suc, ℤ, List, [], ◌∷◌, ◌++◌, length, All, IsTrue, Option, None, Some}
+use Rattle.std.specs.Ordering.{int_cmp}
+use Rattle.std.specs.FinMap.Entries.{is_sorted}
 use Rattle.std.specs.declared.sync.Arc.{Arc}
-use Rattle.tt_pages.specs.declared.map.tree.Tree.{Tree}
 use Rattle.tt_pages.specs.declared.map.tree.Node.{Node}
 use Rattle.tt_pages.specs.declared.map.tree.Node.TheVariants.{Leaf, Fork}
-use Rattle.tt_pages.specs.declared.map.tree.Half.{Half}
-use Rattle.tt_pages.specs.declared.map.tree.Half.TheVariants.{One, Two}
-use Rattle.std.specs.declared.alloc.Global.{Global}
-use Rattle.tt_pages.specs.MapEntries.{first_key, entries_without, ChangesAt}
+use Rattle.tt_pages.specs.MapEntries.{first_key}
+use Rattle.tt_pages.specs.MapValues.{TreeValue, BranchValue}
 
--- the entries of the trees of a half
-abbrev pub half_entries : {V : Type 0} → Half V → List (ℤ × V)
-half_entries (One tree) = tree.value
-half_entries (Two left separator right) = left.value ++ right.value
+-- the most entries of a page, and the most branches of a fork
+abbrev pub max_width : ℕ
+max_width = 16
 
--- the entries of a node, in ascending key order
-abbrev pub entries_of : {V : Type 0} → Node V → List (ℤ × V)
-entries_of (Leaf page) = page.items
-entries_of (Fork left separator right) = half_entries left ++ half_entries right
+-- the fewest entries or branches of a node below a fork
+abbrev pub min_width : ℕ
+min_width = 4
 
--- a page has entries, in ascending key order
-pub record IsPage {V : Type 0} (page : List (ℤ × V)) : Type 0 where
-  pub filled : 0 < length page
-  pub sorted : IsTrue (is_sorted int_cmp page)
+module _ {V : Type 0} where
+  -- the entries of the branches of a fork, in order
+  abbrev pub branch_entries : List (BranchValue V) → List (ℤ × V)
+  branch_entries [] = []
+  branch_entries (b ∷ bs) = b.tree.entries ++ branch_entries bs
 
--- both lists have entries, all of them are in ascending key order, and the right list begins with this key
-pub record IsFork {V : Type 0} (left : List (ℤ × V)) (key : ℤ) (right : List (ℤ × V)) : Type 0 where
-  pub left_filled : 0 < length left
-  pub right_filled : 0 < length right
-  pub begins : key ≡ first_key right
-  pub sorted : IsTrue (is_sorted int_cmp (left ++ right))
+  -- how many forks stand above each page of the first branch
+  abbrev pub branch_depth : List (BranchValue V) → ℕ
+  branch_depth [] = 0
+  branch_depth (b ∷ bs) = b.tree.depth
 
--- the trees of a half are in order
-abbrev pub IsHalf : {V : Type 0} → Half V → Type 0
-IsHalf (One tree) = ⊤
-IsHalf (Two left separator right) = IsFork left.value separator.key right.value
+  -- the tree that is this page
+  abbrev pub page_value : List (ℤ × V) → TreeValue V
+  page_value page = record { entries = page; depth = 0; width = length page }
 
--- a half of these entries
-pub record IsHalfOf {V : Type 0} (entries : List (ℤ × V)) (half : Half V) : Type 0 where
-  pub is_half : IsHalf half
-  pub same : half_entries half ≡ entries
+  -- the tree that is a fork of these branches
+  abbrev pub fork_value : List (BranchValue V) → TreeValue V
+  fork_value branches = record { entries = branch_entries branches; depth = suc (branch_depth branches); width = length branches }
 
--- both halves are in order, and the right one follows the left one
-pub record AreHalves {V : Type 0} (left : Half V) (key : ℤ) (right : Half V) : Type 0 where
-  pub left_half : IsHalf left
-  pub right_half : IsHalf right
-  pub fork : IsFork (half_entries left) key (half_entries right)
+  -- the tree that is this node
+  abbrev pub node_value : Node V → TreeValue V
+  node_value (Leaf page) = page_value page.items
+  node_value (Fork branches) = fork_value branches.items
 
--- a page of entries, or a fork of two halves in order
-abbrev pub IsNode : {V : Type 0} → Node V → Type 0
-IsNode (Leaf page) = IsPage page.items
-IsNode (Fork left separator right) = AreHalves left separator.key right
+  -- a page has 1 to 16 entries, in ascending key order
+  pub record IsPage (page : List (ℤ × V)) : Type 0 where
+    pub filled : 0 < length page
+    pub fits : length page ≤ max_width
+    pub sorted : IsTrue (is_sorted int_cmp page)
 
--- a node of these entries
-pub record IsNodeOf {V : Type 0} (entries : List (ℤ × V)) (node : Node V) : Type 0 where
-  pub is_node : IsNode node
-  pub same : entries_of node ≡ entries
+  -- the tree is of this depth and wide enough to stand below a fork, and this is its first key
+  pub record IsBranch (below : ℕ) (branch : BranchValue V) : Type 0 where
+    pub first : branch.first ≡ first_key branch.tree.entries
+    pub depth : branch.tree.depth ≡ below
+    pub wide : min_width ≤ branch.tree.width
+    pub full : min_width ^ suc below ≤ length branch.tree.entries
 
--- the new node has this entry at its key, and the old node's entries at the others
-abbrev pub PutsEntry : {V : Type 0} → ℤ → V → Node V → Node V → Type 0
-PutsEntry key value old new = entries_of new ≡ put int_cmp key value (entries_of old)
+  -- a fork has 1 to 16 branches, all of this depth, with entries in ascending key order
+  pub record AreBranches (below : ℕ) (branches : List (BranchValue V)) : Type 0 where
+    pub filled : 0 < length branches
+    pub fits : length branches ≤ max_width
+    pub each : All (IsBranch below) branches
+    pub sorted : IsTrue (is_sorted int_cmp (branch_entries branches))
 
--- the new node has what the change makes of the value at the key, and the old node's entries at the others
-abbrev pub ChangesEntry : {V : Type 0} → ℤ → (V → V) → Node V → Node V → Type 0
-ChangesEntry key change old new = ChangesAt key change (entries_of old) (entries_of new)
+  -- a page of entries, or a fork whose branches are all of one depth
+  abbrev pub IsNode : Node V → Type 0
+  IsNode (Leaf page) = IsPage page.items
+  IsNode (Fork branches) = AreBranches (branch_depth branches.items) branches.items
 
--- the new node has the old node's entries at the other keys
-abbrev pub RemovesKey : {V : Type 0} → ℤ → Node V → Node V → Type 0
-RemovesKey key old new = entries_of new ≡ entries_without key (entries_of old)
-
--- the half that a key belongs to has more than one entry
-abbrev pub HasMoreBeside : {V : Type 0} → ℤ → Node V → Type 0
-HasMoreBeside key (Leaf page) = ⊤
-HasMoreBeside key (Fork left separator right) = 1 < length (if is_lt (int_cmp key separator.key) then half_entries left else half_entries right)
-
--- the tree that a key belongs to has more than one entry, if the half has two trees
-abbrev pub HasMoreInTree : {V : Type 0} → ℤ → Half V → Type 0
-HasMoreInTree key (One tree) = ⊤
-HasMoreInTree key (Two left separator right) = 1 < length (if is_lt (int_cmp key separator.key) then left.value else right.value)
-
--- the node without the key, if the key's half has no other entry
-pub record IsHalfWithout {V : Type 0} (key : ℤ) (node : Node V) (half : Option (Node V)) : Type 0 where
-  pub lone : IfSome half (IsNodeOf (entries_without key (entries_of node)))
-  pub beside : IfNone half (HasMoreBeside key node)
-
--- the tree that remains of a half without the key, if the key's tree has no other entry
-pub record IsTreeWithout {V : Type 0} (key : ℤ) (half : Half V) (tree : Option (Arc (Tree V) Global)) : Type 0 where
-  pub lone : IfSome tree (λ tree. arc_value tree ≡ entries_without key (half_entries half))
-  pub beside : IfNone tree (HasMoreInTree key half)
-
--- the other tree, if there is at most one entry here
-pub record IsOtherTreeOfLone {V : Type 0} (entries other : List (ℤ × V)) (tree : Option (Arc (Tree V) Global)) : Type 0 where
-  pub lone : IfSome tree (λ tree. (length entries ≤ 1) × (arc_value tree ≡ other))
-  pub beside : IfNone tree (1 < length entries)
-
--- a node of the other entries, if there is at most one entry here
-pub record IsOtherOfLone {V : Type 0} (entries other : List (ℤ × V)) (node : Option (Node V)) : Type 0 where
-  pub lone : IfSome node (λ node. (length entries ≤ 1) × IsNodeOf other node)
-  pub beside : IfNone node (1 < length entries)
-
--- the entries of a map with this tree; none if it has no tree
-abbrev pub entries_of_root : {V A : Type 0} → Option (Arc (Tree V) A) → List (ℤ × V)
-entries_of_root None = []
-entries_of_root (Some tree) = arc_value tree
-
--- the entries from this place on begin with this page, which is empty only at the end
-pub record IsPageOrEnd {V : Type 0} (place : ℕ) (entries page : List (ℤ × V)) : Type 0 where
-  pub fits : place + length page < 2 ^ 64
-  pub rest : drop place entries ≡ page ++ drop (place + length page) entries
-  pub end : page ≡ [] → drop place entries ≡ []
+  -- the entries of a map with this tree; none if it has no tree
+  abbrev pub entries_of_root : {A : Type 0} → Option (Arc (TreeValue V) A) → List (ℤ × V)
+  entries_of_root None = []
+  entries_of_root (Some tree) = tree.value.entries

@@ -3,9 +3,9 @@ use denote.RattleType.{RattleType}
 use denote.Param.Send.{IsSend, IsSync, view_send, recorded_send, recorded_sync, struct_send, struct_sync, sendable}
 use denote.Struct.Declared as structs
 use Rattle.std.proofs.Crossing.{crosses, Arc-send, Arc-sync}
-use Rattle.tt_pages.proofs.map.tree.Tree.TheLaws.TheKnot as map_tree
+use Rattle.tt_pages.proofs.map.tree.Branch.TheLaws.TheKnot as map_tree
 use Rattle.tt_pages.proofs.log.tree.Tree.TheLaws.TheKnot as log_tree
-use Rattle.tt_pages.specs.contracts.map.tree.Tree.TheKnot as map_knot
+use Rattle.tt_pages.specs.contracts.map.tree.Branch.TheKnot as map_knot
 use Rattle.tt_pages.specs.contracts.log.tree.Tree.TheKnot as log_knot
 use Rattle.tt_pages.specs.contracts.map.PagedMap as map
 use Rattle.tt_pages.specs.contracts.log.PagedLog as log
@@ -100,13 +100,13 @@ ruleset tables = (
 module _ (V : RattleType) (s : IsSend V) (y : IsSync V) where
   map_tree_send : IsSend (map_knot.hole-Tree V)
   map_tree_send =
-      map_tree.both_send-Tree V (search (crosses, sendable) depth 20) Arc-send (search (crosses, sendable) depth 20) (search (crosses, sendable) depth 20)
-      (search (crosses, sendable) depth 20) Arc-sync (search (crosses, sendable) depth 20) (search (crosses, sendable) depth 20)
+      map_tree.both_send-Tree V (search (crosses, sendable) depth 20) Arc-send (search (crosses, sendable) depth 20) (λ h s y. search (crosses, sendable) depth 20)
+      (search (crosses, sendable) depth 20) Arc-sync (search (crosses, sendable) depth 20) (λ h s y. search (crosses, sendable) depth 20)
 
   map_tree_sync : IsSync (map_knot.hole-Tree V)
   map_tree_sync =
-      map_tree.both_sync-Tree V (search (crosses, sendable) depth 20) Arc-send (search (crosses, sendable) depth 20) (search (crosses, sendable) depth 20)
-      (search (crosses, sendable) depth 20) Arc-sync (search (crosses, sendable) depth 20) (search (crosses, sendable) depth 20)
+      map_tree.both_sync-Tree V (search (crosses, sendable) depth 20) Arc-send (search (crosses, sendable) depth 20) (λ h s y. search (crosses, sendable) depth 20)
+      (search (crosses, sendable) depth 20) Arc-sync (search (crosses, sendable) depth 20) (λ h s y. search (crosses, sendable) depth 20)
 
   pub map_send : IsSend (map.the_row V)
   map_send = let a = map_tree_send in let b = map_tree_sync in search (crosses, sendable) depth 20

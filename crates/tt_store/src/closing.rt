@@ -1,5 +1,5 @@
 //! The end of a store.
-ghost use Rattle.std.specs.Prelude.{◌≡◌, ◌+◌, ◌<◌, ◌≤◌, [], length, replicate, vec_len, All, IfOk, IfErr, IsTrue, MatchBool};
+ghost use Rattle.std.specs.Prelude.{◌≡◌, ◌+◌, ◌<◌, [], length, replicate, vec_len, All, IfOk, IfErr, IsTrue, MatchBool};
 ghost use Rattle.tt_store.specs.Closing.{EachOnce, IsBehind, IsNumbered, IsUnclosed, lists_of, with_places, places_made, bearers};
 ghost use Rattle.tt_store.specs.Closed.{Closes, HandsBack};
 

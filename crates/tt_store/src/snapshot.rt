@@ -1,6 +1,5 @@
 //! What a store publishes to readers, and the names that tie it to its workers.
 ghost use Rattle.std.specs.Prelude.{◌≡◌, length, IfOk, ◌≢◌, ◌<◌, IfErr};
-ghost use mathlib.Core.List.{IsPrefix};
 ghost use Rattle.tt_store.specs.Published.{Published, IsOf, RuleIsMembership};
 
 use crate::errors::OpenError;
@@ -109,7 +108,6 @@ impl Absorb<Snapshot> for Snapshot {
 /// Which store it is: the book of its history, its tables and its limits. The call that opens a
 /// store picks them.
 pub trait Naming: Ledger + Protocol<Snapshot, ()> {
-    ghost use Rattle.std.specs.Prelude.{ℕ};
     ghost use Rattle.logbook.specs.Pages.{Book};
     ghost use Rattle.tt_values.specs.Tables.{Tables};
     ghost use Rattle.tt_db.specs.declared.limits.Limits.{Limits};

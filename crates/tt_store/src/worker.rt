@@ -1,7 +1,6 @@
 ghost use Rattle.std.specs.Prelude.{◌≡◌, ◌+◌, ◌-◌, [], length, Ok, IfOk, IfErr, IfSome, OnErr, IsTrue, IsFalse, ◌≤◌, ◌++◌, vec_len, vec_capacity};
 ghost use Rattle.std.specs.Option.{option_copied};
 ghost use mathlib.Core.List.{IsPrefix};
-ghost use Rattle.tt_values.specs.Check.{select_fault};
 ghost use Rattle.tt_generations.specs.TwoGenerations.{done_of};
 ghost use Rattle.tt_db.specs.Database.{state_of, now_in, nth_item, repair_of, right_answer, right_answer_at, right_answer_in, right_preview_of};
 ghost use Rattle.tt_db.specs.State.{after, IsLegal};

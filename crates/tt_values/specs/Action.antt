@@ -34,7 +34,7 @@ replies_of (w ∷ ws) X = reply_of w X ∷ replies_of ws (content_after_write w 
 abbrev pub rows_of_write : Write → Content → List RowId
 rows_of_write w X = map (λ e. record { table = table_of w; key = e.0 }) (effect w X)
 
--- the rows that the writes of an action write, in their turn
+-- the rows that the writes of an action write, in order
 abbrev pub rows_of_action : List Write → Content → List RowId
 rows_of_action [] X = []
 rows_of_action (w ∷ ws) X = rows_of_write w X ++ rows_of_action ws (content_after_write w X)
@@ -47,7 +47,7 @@ is_among r rs = list_any (λ s. (r.table == s.table) && int_eq r.key s.key) rs
 abbrev pub row_id_cmp : RowId → RowId → Ordering
 row_id_cmp a b = ordering_then (nat_cmp a.table b.table) (int_cmp a.key b.key)
 
--- a list of rows in that order, with one more row in its place. One that is there stays once
+-- a list of rows in that order, with one more row in its place; the same list if it is there
 abbrev pub with_row_once : List (RowId × ⊤) → RowId → List (RowId × ⊤)
 with_row_once es r = sorted.put row_id_cmp r tt es
 

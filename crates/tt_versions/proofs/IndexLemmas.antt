@@ -1,6 +1,8 @@
 -- What an index lists, as it grows, and what a search of it finds.
-use Rattle.std.proofs.Common.{◌≡◌, ℕ, zero, suc, ◌+◌, ℤ, Bool, true, false, cond, List, [], ◌∷◌, ◌++◌, filter, fold, slice_get, take, Option, None, Some, IsTrue, IfSome, is_some, nat_le, nat_lt, refl, sym, ap, subst, ◌∙◌, arith}
+use Rattle.std.proofs.Common.{◌≡◌, ℕ, zero, suc, ◌+◌, ◌<◌, ◌≤◌, ◌==◌, ◌⊎◌, ℤ, Bool, true, false, cond, List, [], ◌∷◌, ◌++◌, length, filter, fold, slice_get, slice_index_or, take, drop, Option, None, Some, IsTrue, IfSome, IfNone, is_some, nat_le, nat_lt, refl, sym, ap, subst, ◌∙◌, arith, inl, inr}
 use Rattle.std.proofs.lemmas.Bool.Decides.{Decides-int_eq}
+use Rattle.std.proofs.lemmas.Grind.{common_steps}
+use Rattle.std.proofs.lemmas.Option.{slice_get-get_or}
 use Rattle.std.specs.Borrow.{Bor}
 use Rattle.std.proofs.lemmas.Slice.Eq.{bytes_eq-Decides}
 use Rattle.std.specs.Option.{unwrap_or, option_copied}
@@ -23,7 +25,7 @@ use Rattle.tt_versions.specs.Versions.{started_by, started_before, visible_row, 
 use Rattle.tt_versions.specs.Lineage.{unwritten, chain_on, with_write_on, split_back}
 use Rattle.tt_versions.specs.Sides.{LineagesByKey, lineage_at, side_of, is_split, StaysSplit, unsplit_if, UnsplitsKeys}
 use Rattle.tt_values.specs.Digest.{digest_of}
-use Rattle.tt_versions.specs.Index.{KeySet, has_key, keys_under, KeepsKeys, ColumnLists, ColumnsList, IndexState, ListsRow, KeepsRows, IsStored, CoversEqual, CoversMatches, IsKeyOfMatches, ChainHas, LineageHas, ListsTable, ListsTableBut, HaveKeysIn, HaveKey}
+use Rattle.tt_versions.specs.Index.{KeySet, has_key, keys_under, KeepsKeys, ColumnLists, ColumnsList, IndexState, ListsRow, KeepsRows, IsStored, CoversEqual, CoversMatches, keys_equated, IsAtMost, IsSmallest, SayNoSet, IsKeyOfMatches, ChainHas, LineageHas, ListsTable, ListsTableBut, HaveKeysIn, HaveKey}
 use Rattle.tt_versions.proofs.EntriesLemmas.{first, second}
 use Rattle.tt_versions.proofs.SidesLemmas.{same_key, lineage_at-put, is_split-write_on}
 
@@ -167,6 +169,93 @@ CoversEqual-column index n c equal there at key row listed h =
 
 pub CoversMatches-equal : (index : IndexState) (keys : KeySet) (equals : List Equal) (n : ℕ) (equal : Equal) → slice_get equals n ≡ Some equal → CoversEqual index keys equal → CoversMatches index keys equals
 CoversMatches-equal index keys equals n equal there covers key row listed h = covers key row listed (holds-at equals n equal row there h)
+
+-- ---- the sets that equalities say
+
+-- the set that an equality says, by the columns from one on
+pub keys_equated-here : (cs : List IndexedColumn) (n : ℕ) (c : IndexedColumn) (equal : Equal) → slice_get cs n ≡ Some c → (c.position == equal.column) ≡ true
+    → keys_equated (drop n cs) equal ≡ Some (keys_under (digest_of equal.value) c.sets)
+keys_equated-here [] n c equal there is = cc
+keys_equated-here (d ∷ cs) zero c equal there is =
+    let same : d ≡ c = cc in
+    ap (λ (x : IndexedColumn). cond (x.position == equal.column) (Some (keys_under (digest_of equal.value) x.sets)) (keys_equated cs equal)) same
+    ∙ ap (λ b. cond b (Some (keys_under (digest_of equal.value) c.sets)) (keys_equated cs equal)) is
+keys_equated-here (d ∷ cs) (suc n) c equal there is = keys_equated-here cs n c equal there is
+
+keys_equated-skip_suc : (cs : List IndexedColumn) (n : ℕ) (c : IndexedColumn) (equal : Equal) → slice_get cs n ≡ Some c → (c.position == equal.column) ≡ false
+    → keys_equated (drop (suc n) cs) equal ≡ keys_equated (drop n cs) equal
+keys_equated-skip_suc [] n c equal there is = cc
+keys_equated-skip_suc (d ∷ cs) zero c equal there is =
+    let same : d ≡ c = cc in
+    sym (ap (λ (x : IndexedColumn). cond (x.position == equal.column) (Some (keys_under (digest_of equal.value) x.sets)) (keys_equated cs equal)) same
+    ∙ ap (λ b. cond b (Some (keys_under (digest_of equal.value) c.sets)) (keys_equated cs equal)) is)
+keys_equated-skip_suc (d ∷ cs) (suc n) c equal there is = keys_equated-skip_suc cs n c equal there is
+
+-- a column with another position says no set
+pub keys_equated-skip : (cs : List IndexedColumn) (n : ℕ) (c : IndexedColumn) (equal : Equal) → slice_get cs n ≡ Some c → (c.position == equal.column) ≡ false
+    → keys_equated (drop (n + 1) cs) equal ≡ keys_equated (drop n cs) equal
+keys_equated-skip cs n c equal there is =
+    let next : suc n ≡ n + 1 = omega arith in
+    ap (λ m. keys_equated (drop m cs) equal) (sym next) ∙ keys_equated-skip_suc cs n c equal there is
+
+pub IfSome-copied : {X : Type 0} (o : Option (Bor X)) (P : X → Type 0) → IfSome o (λ x. P x.now) → IfSome (option_copied o) P
+IfSome-copied None P h = tt
+IfSome-copied (Some x) P h = h
+
+pub IfSome-uncopied : {X : Type 0} (o : Option (Bor X)) (P : X → Type 0) → IfSome (option_copied o) P → IfSome o (λ x. P x.now)
+IfSome-uncopied None P h = tt
+IfSome-uncopied (Some x) P h = h
+
+IsAtMost-trans : (a b c : Option KeySet) → IsAtMost a b → IsAtMost b c → IsAtMost a c
+IsAtMost-trans a b None h g = tt
+IsAtMost-trans a None (Some z) h g = absurd g
+IsAtMost-trans None (Some y) (Some z) h g = absurd h
+IsAtMost-trans (Some x) (Some y) (Some z) h g = omega (arith, h, g)
+
+-- no equality of those before a position says a smaller set
+abbrev pub IsLeastBefore : ℕ → Option KeySet → List IndexedColumn → List Equal → Type 0
+IsLeastBefore n least cs equals = (k : ℕ) (e : Equal) → slice_get equals k ≡ Some e → k < n → IsAtMost least (keys_equated cs e)
+
+pub IsLeastBefore-start : (least : Option KeySet) (cs : List IndexedColumn) (equals : List Equal) → IsLeastBefore 0 least cs equals
+IsLeastBefore-start least cs equals k e at below = absurd (omega (arith, below))
+
+-- one more equality
+pub IsLeastBefore-more : (cs : List IndexedColumn) (equals : List Equal) (n : ℕ) (q : Equal) (before after said : Option KeySet) → slice_get equals n ≡ Some q → said ≡ keys_equated cs q
+    → IsAtMost after before → IsAtMost after said → IsLeastBefore n before cs equals → IsLeastBefore (n + 1) after cs equals
+IsLeastBefore-more cs equals n q before after said there says less this h k e at below = by (nat_lt k n) refl
+  where
+    by : (b : Bool) → nat_lt k n ≡ b → IsAtMost after (keys_equated cs e)
+    by true y = let lower : k < n = grind (arith, common_steps) in IsAtMost-trans after before (keys_equated cs e) less (h k e at lower)
+    by false y =
+        let same : k ≡ n = grind (arith, common_steps) in
+        let here : slice_get equals n ≡ Some e = subst (λ m. slice_get equals m ≡ Some e) same at in
+        let one : q ≡ e = cc in
+        subst (λ s. IsAtMost after s) (says ∙ ap (keys_equated cs) one) this
+
+at_most : (keys : KeySet) (said : Option KeySet) → IsAtMost (Some keys) said → IfSome said (λ set. length keys ≤ length set)
+at_most keys None h = tt
+at_most keys (Some set) h = h
+
+nothing : (said : Option KeySet) → IsAtMost None said → said ≡ None
+nothing None h = refl
+nothing (Some set) h = absurd h
+
+pub IsSmallest-all : (index : IndexState) (equals : List Equal) (n : ℕ) (o : Option (Bor KeySet)) → length equals ≤ n → IsLeastBefore n (option_copied o) index.columns equals → IfSome o (λ keys. IsSmallest index keys.now equals)
+IsSmallest-all index equals n None all h = tt
+IsSmallest-all index equals n (Some x) all h = λ k d below.
+    let lower : k < n = omega (arith, below, all) in
+    at_most x.now (keys_equated index.columns (slice_index_or equals k d)) (h k (slice_index_or equals k d) (slice_get-get_or equals k d below) lower)
+
+pub SayNoSet-all : (index : IndexState) (equals : List Equal) (n : ℕ) (o : Option (Bor KeySet)) → length equals ≤ n → IsLeastBefore n (option_copied o) index.columns equals → IfNone o (SayNoSet index equals)
+SayNoSet-all index equals n (Some x) all h = tt
+SayNoSet-all index equals n None all h = λ k d below.
+    let lower : k < n = omega (arith, below, all) in
+    nothing (keys_equated index.columns (slice_index_or equals k d)) (h k (slice_index_or equals k d) (slice_get-get_or equals k d below) lower)
+
+-- what holds of both holds of the one that is picked
+pub IfSome-either : {X : Type 0} (picked one other : Option X) (P : X → Type 0) → (picked ≡ one) ⊎ (picked ≡ other) → IfSome one P → IfSome other P → IfSome picked P
+IfSome-either picked one other P (inl is) h g = subst (λ o. IfSome o P) (sym is) h
+IfSome-either picked one other P (inr is) h g = subst (λ o. IfSome o P) (sym is) g
 
 -- an equality on the first column says the first value
 first_value : (vs : List Value) (n : ℤ) → IsTrue (is_value (values.Int n) (slice_get vs 0)) → first_int vs ≡ Some n

@@ -1,5 +1,5 @@
 -- Keys of rows, listed by the values that the rows ever had in some columns. The lists may have too many keys, never too few.
-use Rattle.std.specs.Prelude.{◌≡◌, ℕ, ℤ, List, [], ◌∷◌, Bool, slice_get, IsTrue, IfSome, Some, is_some, false}
+use Rattle.std.specs.Prelude.{◌≡◌, ℕ, ◌≤◌, ◌==◌, ℤ, List, [], ◌∷◌, length, All, Bool, if◌then◌else◌, slice_get, IsTrue, IfSome, Option, None, Some, is_some, false}
 use Rattle.std.specs.Option.{unwrap_or}
 use Rattle.std.specs.Ordering.{int_cmp, int_eq}
 use Rattle.std.specs.FinMap.Entries as sorted
@@ -60,6 +60,25 @@ CoversEqual index keys equal = (key : ℤ) (row : Row) → ListsRow index key ro
 -- each row of the index that matches has its key in the set
 abbrev pub CoversMatches : IndexState → KeySet → List Equal → Type 0
 CoversMatches index keys equals = (key : ℤ) (row : Row) → ListsRow index key row → IsTrue (matches equals row) → IsTrue (has_key keys key)
+
+-- the set that an equality says: the keys under the digest of its value in the first column with its position, none if no column has it
+abbrev pub keys_equated : List IndexedColumn → Equal → Option KeySet
+keys_equated [] equal = None
+keys_equated (c ∷ cs) equal = if c.position == equal.column then Some (keys_under (digest_of equal.value) c.sets) else keys_equated cs equal
+
+-- the first set has at most as many keys as the second, and is there where the second is
+abbrev pub IsAtMost : Option KeySet → Option KeySet → Type 0
+IsAtMost keys None = Unit {0}
+IsAtMost None (Some set) = ⊥
+IsAtMost (Some keys) (Some set) = length keys ≤ length set
+
+-- no equality says a set with fewer keys
+abbrev pub IsSmallest : IndexState → KeySet → List Equal → Type 0
+IsSmallest index keys equals = All (λ equal. IfSome (keys_equated index.columns equal) (λ set. length keys ≤ length set)) equals
+
+-- no equality says a set
+abbrev pub SayNoSet : IndexState → List Equal → Type 0
+SayNoSet index equals = All (λ equal. keys_equated index.columns equal ≡ None) equals
 
 -- each row of the index that matches has this key
 abbrev pub IsKeyOfMatches : IndexState → ℤ → List Equal → Type 0

@@ -1,7 +1,8 @@
-ghost use Rattle.std.specs.Prelude.{◌≡◌, ℤ, IsTrue, IfOk, IfSome, Some, slice_get};
+ghost use Rattle.std.specs.Prelude.{◌≡◌, ℤ, ◌⊎◌, IsTrue, IfOk, IfSome, IfNone, Some, slice_get};
+ghost use Rattle.std.specs.Option.{option_copied};
 ghost use Rattle.tt_values.specs.Row.{first_int};
 ghost use Rattle.tt_values.specs.Matches.{holds};
-ghost use Rattle.tt_versions.specs.Index.{ColumnsList, ListsRow, KeepsRows, CoversEqual, CoversMatches, IsKeyOfMatches};
+ghost use Rattle.tt_versions.specs.Index.{ColumnsList, ListsRow, KeepsRows, CoversEqual, CoversMatches, keys_equated, IsAtMost, IsSmallest, SayNoSet, IsKeyOfMatches};
 
 use crate::indexed_column::{IndexedColumn, KeySet};
 use std::alloc::{AllocError, Global};
@@ -126,16 +127,13 @@ impl Index {
     /// The smallest set that has the key of each matching row, if an equality is on a column of
     /// the index.
     pub(crate) fn keys_for(&self, equals: &[Equal]) -> Option<&KeySet>
-        ensures { IfSome result (λ keys. CoversMatches self.now keys.now equals.now) }
+        ensures covers { IfSome result (λ keys. CoversMatches self.now keys.now equals.now) }
+        ensures smallest { IfSome result (λ keys. IsSmallest self.now keys.now equals.now) }
+        ensures none { IfNone result (SayNoSet self.now equals.now) }
     {
         let mut smallest: Option<&KeySet> = None;
         for equal in equals {
-            if let Some(keys) = self.keys_equated(equal) {
-                match smallest {
-                    Some(least) if least.len() <= keys.len() => {}
-                    _ => smallest = Some(keys),
-                }
-            }
+            smallest = smaller(smallest, self.keys_equated(equal));
         }
         smallest
     }
@@ -143,7 +141,8 @@ impl Index {
     /// The set that has the key of each row for which the equality holds, if it is on a column of
     /// the index.
     fn keys_equated(&self, equal: &Equal) -> Option<&KeySet>
-        ensures { IfSome result (λ keys. CoversEqual self.now keys.now equal.now) }
+        ensures covers { IfSome result (λ keys. CoversEqual self.now keys.now equal.now) }
+        ensures same { option_copied result ≡ keys_equated self.now.columns equal.now }
     {
         for column in &self.columns {
             if column.position == equal.column {
@@ -151,6 +150,26 @@ impl Index {
             }
         }
         None
+    }
+}
+
+/// The smaller of two sets, or the only one. The first where both have as many keys.
+fn smaller<'a>(first: Option<&'a KeySet>, second: Option<&'a KeySet>) -> Option<&'a KeySet>
+    ensures either { (option_copied result ≡ option_copied first.entry)
+        ⊎ (option_copied result ≡ option_copied second.entry) }
+    ensures first { IsAtMost (option_copied result) (option_copied first.entry) }
+    ensures second { IsAtMost (option_copied result) (option_copied second.entry) }
+{
+    let Some(keys) = first else {
+        return second;
+    };
+    let Some(others) = second else {
+        return first;
+    };
+    if keys.len() <= others.len() {
+        Some(keys)
+    } else {
+        Some(others)
     }
 }
 

@@ -5,7 +5,7 @@ use std::process::Abort;
 use tt_pages::{Modify, PagedMap};
 
 /// That the map has the entries of the other, in its order.
-fn expect_entries(rt: &impl Abort, map: &PagedMap<u64>, reference: &BTreeMap<i64, u64>) {
+pub(super) fn expect_entries(rt: &impl Abort, map: &PagedMap<u64>, reference: &BTreeMap<i64, u64>) {
     same(rt, &map.len(), &reference.len());
     let mut entries = map.iter();
     for (key, value) in reference {
@@ -92,7 +92,7 @@ fn least_and_largest_keys_are_first_and_last(rt: HostRuntime) {
 }
 
 /// The next of a row of numbers without an order.
-fn next_number(number: u64) -> u64 {
+pub(super) fn next_number(number: u64) -> u64 {
     number
         .wrapping_mul(6364136223846793005)
         .wrapping_add(1442695040888963407)

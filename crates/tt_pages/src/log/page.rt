@@ -1,4 +1,5 @@
-ghost use Rattle.std.specs.Prelude.{◌≡◌, ◌<◌, [], ◌∷◌, ◌++◌, length, slice_set, IfOk, OnOk, OnErr};
+ghost use Rattle.std.specs.Prelude.{◌≡◌, ◌<◌, ◌≤◌, [], ◌∷◌, ◌++◌, length, slice_set, IfOk, OnOk, OnErr};
+ghost use Rattle.tt_pages.specs.LogDepth.{page_size};
 ghost use Rattle.tt_pages.specs.LogSlice.{IsSlice};
 
 use crate::kept::Kept;
@@ -15,14 +16,17 @@ pub(super) struct Page<T> {
 }
 
 impl<T> Model for Page<T> {
-    ghost use Rattle.std.specs.Prelude.{List};
+    ghost use Rattle.std.specs.Prelude.{List, ◌≤◌, length};
     ghost use Rattle.std.specs.Coded.{coded_list};
+    ghost use Rattle.tt_pages.specs.LogDepth.{page_size};
 
     ghost Value = { List T };
 
     ghost coded = { coded_list T.code };
 
     ghost view = { λ page. page.items.items };
+
+    ghost invariant = { λ page. length page.items.items ≤ page_size };
 }
 
 impl<T: Drop> Page<T> {
@@ -36,18 +40,21 @@ impl<T: Drop> Page<T> {
     }
 
     pub(super) fn len(&self) -> usize
-        ensures { result ≡ length self.now }
+        ensures len { result ≡ length self.now }
+        ensures within { result ≤ page_size }
     {
         self.items.len()
     }
 
     pub(super) fn as_slice(&self) -> &[T]
-        ensures { result.now ≡ self.now }
+        ensures items { result.now ≡ self.now }
+        ensures within { length result.now ≤ page_size }
     {
         self.items.as_slice()
     }
 
     pub(super) fn push(&mut self, item: T) -> Result<(), AllocError>
+        requires { length self.old < page_size }
         ensures ok { OnOk result (self.new ≡ self.old ++ item ∷ []) }
         ensures err { OnErr result (self.new ≡ self.old) }
     {
@@ -66,6 +73,7 @@ impl<T: Drop> Page<T> {
 impl<T: Kept + Drop> Page<T> {
     /// A copy of the items, with room for one more.
     pub(super) fn copy_of(alloc: Global, source: &[T]) -> Result<Self, AllocError>
+        requires { length source.now ≤ page_size }
         ensures { IfOk result (λ page. page ≡ source.now) }
     {
         let mut items = Vec::with_capacity(alloc, source.len().saturating_add(1))?;

@@ -1,4 +1,5 @@
-ghost use Rattle.std.specs.Prelude.{◌≡◌, ◌<◌, ◌≤◌, [], ◌∷◌, ◌++◌, length, take, slice_get, slice_set, Some, IfOk, OnOk, OnErr};
+ghost use Rattle.std.specs.Prelude.{◌≡◌, ◌<◌, ◌≤◌, [], ◌∷◌, ◌++◌, length, take, slice_set, Some, IfOk, OnOk, OnErr};
+ghost use Rattle.tt_pages.specs.LogDepth.{page_size};
 ghost use Rattle.tt_pages.specs.LogParts.{log_items, tree_items, tail_items};
 
 use super::page::{PAGE_SIZE, Page};
@@ -17,7 +18,8 @@ pub(super) fn len_of_tree<T: Drop>(tree: &Option<Tree<T>>) -> usize
 }
 
 pub(super) fn slice_of_tail<T: Drop>(tail: &Option<Arc<Page<T>>>) -> &[T]
-    ensures { result.now ≡ tail_items tail.now }
+    ensures items { result.now ≡ tail_items tail.now }
+    ensures within { length result.now ≤ page_size }
 {
     match tail {
         Some(page) => page.as_slice(),
@@ -66,7 +68,8 @@ pub(super) fn make_room<T: Drop>(
     tail: &mut Option<Arc<Page<T>>>,
     alloc: Global,
 ) -> Result<(), AllocError>
-    ensures { log_items tree.new tail.new ≡ log_items tree.old tail.old }
+    ensures same { log_items tree.new tail.new ≡ log_items tree.old tail.old }
+    ensures room { OnOk result (length (tail_items tail.new) < page_size) }
 {
     match tail {
         Some(page) if page.len() >= PAGE_SIZE => add_page(tree, alloc, page)?,
@@ -102,6 +105,7 @@ pub(super) fn push_to_tail<T: Kept + Drop>(
     room: usize,
     item: T,
 ) -> Result<(), AllocError>
+    requires { length (tail_items tail.old) < page_size }
     ensures ok { OnOk result (tail_items tail.new ≡ tail_items tail.old ++ item ∷ []) }
     ensures err { OnErr result (tail_items tail.new ≡ tail_items tail.old) }
 {
@@ -115,6 +119,7 @@ pub(super) fn push_to_tail<T: Kept + Drop>(
 }
 
 fn push_to_page<T: Kept + Drop>(page: &mut Arc<Page<T>>, item: T) -> Result<(), AllocError>
+    requires { length page.old.value < page_size }
     ensures ok { OnOk result (page.new.value ≡ page.old.value ++ item ∷ []) }
     ensures err { OnErr result (page.new.value ≡ page.old.value) }
 {

@@ -1,5 +1,6 @@
-ghost use Rattle.std.specs.Prelude.{◌≡◌, ◌<◌, ◌≤◌, ◌++◌, length, take, slice_get, slice_set, Some, IfOk, OnOk, OnErr};
-ghost use Rattle.tt_pages.specs.LogTree.{node_items, branch_items, IsFilled};
+ghost use Rattle.std.specs.Prelude.{◌≡◌, suc, ◌<◌, ◌≤◌, max, ◌++◌, length, take, slice_get, slice_set, Some, IfOk, OnOk, OnErr};
+ghost use Rattle.tt_pages.specs.LogDepth.{least};
+ghost use Rattle.tt_pages.specs.LogTree.{node_items, node_depth, branch_items, IsFilled};
 ghost use Rattle.tt_pages.specs.LogSlice.{IsSlice};
 
 use super::page::{Page, items_from};
@@ -24,21 +25,22 @@ enum Node<T> {
 }
 
 impl<T> Model for Tree<T> {
-    ghost use Rattle.std.specs.Prelude.{◌≡◌, List, length};
-    ghost use Rattle.std.specs.Coded.{coded_list};
+    ghost use Rattle.std.specs.Prelude.{◌≡◌, List, ℕ, length};
+    ghost use Rattle.std.specs.Coded.{coded_list, coded×, coded_ℕ};
 
-    ghost Value = { List T };
+    // The items, and the depth: the number of forks on the longest path to a page.
+    ghost Value = { List T × ℕ };
 
-    ghost coded = { coded_list T.code };
+    ghost coded = { coded× (coded_list T.code) coded_ℕ };
 
-    ghost use Rattle.tt_pages.specs.LogTree.{node_items, IsFilled};
+    ghost use Rattle.tt_pages.specs.LogTree.{node_items, node_depth, IsFilled};
 
-    ghost view = { λ tree. node_items tree.node };
+    ghost view = { λ tree. (node_items tree.node, node_depth tree.node) };
 
     ghost invariant = { λ tree.
         (tree.len ≡ length (node_items tree.node)) × IsFilled tree.node };
 
-    ghost size = { length };
+    ghost size = { λ value. length value.0 };
 
     ghost use Rattle.std.proofs.Common.{arith, length-append};
 
@@ -48,7 +50,7 @@ impl<T> Model for Tree<T> {
 impl<T: Drop> Tree<T> {
     pub(super) fn leaf(page: Arc<Page<T>>) -> Self
         requires { 0 < length page.value }
-        ensures { result ≡ page.value }
+        ensures { result ≡ (page.value, 0) }
     {
         Tree {
             len: page.len(),
@@ -57,23 +59,28 @@ impl<T: Drop> Tree<T> {
     }
 
     fn fork(alloc: Global, left: Self, right: Self) -> Result<Self, AllocError>
-        ensures { IfOk result (λ tree. tree ≡ left ++ right) }
+        requires left { least (suc left.1) ≤ length left.0 }
+        requires right { least right.1 ≤ length left.0 }
+        ensures { IfOk result (λ tree. tree ≡ (left.0 ++ right.0, suc (max left.1 right.1))) }
     {
         let len = left.len().checked_add(right.len()).ok_or(AllocError)?;
         let node = Node::Fork(Arc::new(alloc, (left, right))?);
         Ok(Tree { len, node })
     }
 
+    #[tactic(auto, using(crate::proofs::LogBalance::node_has_least))]
     pub(super) fn len(&self) -> usize
-        ensures len { result ≡ length self.now }
+        ensures len { result ≡ length self.now.0 }
         ensures filled { 0 < result }
+        ensures balanced { least self.now.1 ≤ result }
+        ensures shallow { self.now.1 < 128 }
     {
         self.len
     }
 
     pub(super) fn get(&self, position: usize) -> &T
-        requires { position < length self.now }
-        ensures { slice_get self.now position ≡ Some result.now }
+        requires { position < length self.now.0 }
+        ensures { slice_get self.now.0 position ≡ Some result.now }
     {
         match &self.node {
             Node::Leaf(page) => &page.as_slice()[position],
@@ -92,8 +99,8 @@ impl<T: Drop> Tree<T> {
     /// The items from a position to the end of its page.
     #[tactic(auto, using(crate::proofs::LogRules::slice_left))]
     pub(super) fn page_from(&self, position: usize) -> &[T]
-        requires { position < length self.now }
-        ensures { IsSlice self.now position result.now }
+        requires { position < length self.now.0 }
+        ensures { IsSlice self.now.0 position result.now }
     {
         match &self.node {
             Node::Leaf(page) => items_from(page.as_slice(), position),
@@ -123,7 +130,8 @@ impl<T: Drop> Tree<T> {
     #[cycle(appending)]
     pub(super) fn append(&mut self, alloc: Global, page: &Arc<Page<T>>) -> Result<(), AllocError>
         requires { 0 < length page.now.value }
-        ensures ok { OnOk result (self.new ≡ self.old ++ page.now.value) }
+        ensures ok { OnOk result (self.new.0 ≡ self.old.0 ++ page.now.value) }
+        ensures depth { OnOk result (least self.new.1 ≤ length self.old.0) }
         ensures err { OnErr result (self.new ≡ self.old) }
     {
         let len = self.len.checked_add(page.len()).ok_or(AllocError)?;
@@ -145,11 +153,12 @@ impl<T: Drop> Clone for Tree<T> {
 
 impl<T: Kept + Drop> Tree<T> {
     /// The first `count` items. Copies at most one page.
-    #[tactic(auto, using(crate::proofs::LogRules::take_in_right))]
+    #[tactic(auto, using(crate::proofs::LogRules::take_in_right, crate::proofs::LogBalance::least_monotone))]
     pub(super) fn front(&self, alloc: Global, count: usize) -> Result<Self, AllocError>
         requires some { 0 < count }
-        requires in_range { count ≤ length self.now }
-        ensures { IfOk result (λ tree. tree ≡ take count self.now) }
+        requires in_range { count ≤ length self.now.0 }
+        ensures items { IfOk result (λ tree. tree.0 ≡ take count self.now.0) }
+        ensures depth { IfOk result (λ tree. tree.1 ≤ self.now.1) }
     {
         if count == self.len {
             return self.share();
@@ -173,8 +182,9 @@ impl<T: Kept + Drop> Tree<T> {
     /// Replaces the item at a position. Nodes and pages that are shared are copied.
     #[cycle(replacing)]
     pub(super) fn replace(&mut self, position: usize, item: T) -> Result<(), AllocError>
-        requires { position < length self.old }
-        ensures ok { OnOk result (self.new ≡ slice_set self.old position item) }
+        requires { position < length self.old.0 }
+        ensures ok { OnOk result (self.new.0 ≡ slice_set self.old.0 position item) }
+        ensures depth { self.new.1 ≡ self.old.1 }
         ensures err { OnErr result (self.new ≡ self.old) }
     {
         replace_in_node(&mut self.node, position, item)
@@ -193,11 +203,13 @@ fn append_to_node<T: Drop>(
     requires filled { IsFilled node.old }
     requires len { len ≡ length (node_items node.old) }
     ensures ok { OnOk result (node_items node.new ≡ node_items node.old ++ page.now.value) }
+    ensures depth { OnOk result (least (node_depth node.new) ≤ len) }
     ensures err { OnErr result (node_items node.new ≡ node_items node.old) }
+    ensures err_depth { OnErr result (node_depth node.new ≡ node_depth node.old) }
     ensures filled { IsFilled node.new }
 {
     match node {
-        Node::Fork(branches) if branches.1.len < branches.0.len => append_to_right(
+        Node::Fork(branches) if branches.1.len() < branches.0.len() => append_to_right(
             branches, alloc, page,
         ),
         _ => add_fork(node, alloc, len, page),
@@ -212,7 +224,8 @@ fn append_to_right<T: Drop>(
 ) -> Result<(), AllocError>
     requires page { 0 < length page.now.value }
     ensures left { branches.new.value.0 ≡ branches.old.value.0 }
-    ensures ok { OnOk result (branches.new.value.1 ≡ branches.old.value.1 ++ page.now.value) }
+    ensures ok { OnOk result (branches.new.value.1.0 ≡ branches.old.value.1.0 ++ page.now.value) }
+    ensures depth { OnOk result (least branches.new.value.1.1 ≤ length branches.old.value.1.0) }
     ensures err { OnErr result (branches.new.value.1 ≡ branches.old.value.1) }
 {
     Arc::make_mut(branches)?.1.append(alloc, page)
@@ -228,8 +241,11 @@ fn add_fork<T: Drop>(
     requires page { 0 < length page.now.value }
     requires filled { IsFilled node.old }
     requires len { len ≡ length (node_items node.old) }
+    requires full { least (suc (node_depth node.old)) ≤ len }
     ensures ok { OnOk result (node_items node.new ≡ node_items node.old ++ page.now.value) }
+    ensures depth { OnOk result (least (node_depth node.new) ≤ len) }
     ensures err { OnErr result (node_items node.new ≡ node_items node.old) }
+    ensures err_depth { OnErr result (node_depth node.new ≡ node_depth node.old) }
     ensures filled { IsFilled node.new }
 {
     let left = Tree {
@@ -252,6 +268,7 @@ fn replace_in_node<T: Kept + Drop>(
     ensures ok { OnOk result
         (node_items node.new ≡ slice_set (node_items node.old) position item) }
     ensures err { OnErr result (node_items node.new ≡ node_items node.old) }
+    ensures depth { node_depth node.new ≡ node_depth node.old }
     ensures filled { IsFilled node.new }
 {
     match node {
@@ -271,8 +288,10 @@ fn replace_in_branches<T: Kept + Drop>(
     ensures ok { OnOk result (
         branch_items branches.new ≡ slice_set (branch_items branches.old) position item) }
     ensures err { OnErr result (branch_items branches.new ≡ branch_items branches.old) }
-    ensures left { length branches.new.value.0 ≡ length branches.old.value.0 }
-    ensures right { length branches.new.value.1 ≡ length branches.old.value.1 }
+    ensures left { length branches.new.value.0.0 ≡ length branches.old.value.0.0 }
+    ensures right { length branches.new.value.1.0 ≡ length branches.old.value.1.0 }
+    ensures left_depth { branches.new.value.0.1 ≡ branches.old.value.0.1 }
+    ensures right_depth { branches.new.value.1.1 ≡ branches.old.value.1.1 }
 {
     let (left, right) = Arc::make_mut(branches)?;
     if position < left.len {
@@ -299,6 +318,7 @@ pub(super) fn replace_in_page<T: Kept + Drop>(
 fn share_node<T: Drop>(node: &Node<T>) -> Result<Node<T>, AllocError>
     requires { IsFilled node.now }
     ensures items { IfOk result (λ shared. node_items shared ≡ node_items node.now) }
+    ensures depth { IfOk result (λ shared. node_depth shared ≡ node_depth node.now) }
     ensures filled { IfOk result IsFilled }
 {
     Ok(match node {

@@ -1,9 +1,13 @@
-ghost use Rattle.std.specs.Prelude.{◌≡◌, length};
+ghost use Rattle.std.specs.Prelude.{◌≡◌, ◌∷◌, length, IsTrue};
 ghost use Rattle.std.specs.Iterator.{at_most};
 ghost use Rattle.std.specs.Map.Iter.{TakesFirst, deref_pair};
-ghost use Rattle.tt_pages.specs.MapTree.{entries_of_root, IsPageOrEnd};
+ghost use Rattle.std.specs.Ordering.{int_cmp};
+ghost use Rattle.std.specs.FinMap.Entries.{is_sorted};
+ghost use Rattle.tt_pages.specs.MapTree.{entries_of_root};
+ghost use Rattle.tt_pages.specs.MapWalk.{unread};
 
 use super::tree::Tree;
+use super::walking::{first_page, page_after};
 use std::iter::FusedIterator;
 use std::marker::Model;
 use std::sync::Arc;
@@ -13,32 +17,36 @@ use std::sync::Arc;
 #[derive(Drop)]
 pub struct MapIter<'a, V> {
     root: &'a Option<Arc<Tree<V>>>,
-    // The rest of the current page, and the place of the next page's first entry.
+    // The rest of the current page. It is empty only at the end.
     page: &'a [(i64, V)],
-    next: usize,
 }
 
 impl<'a, V> Model for MapIter<'a, V> {
-    ghost use Rattle.std.specs.Prelude.{List, ℤ, ◌++◌, drop};
+    ghost use Rattle.std.specs.Prelude.{List, ℤ, IsTrue};
     ghost use Rattle.std.specs.Coded.{coded_list, coded×, coded_ℤ};
+    ghost use Rattle.std.specs.Ordering.{int_cmp};
+    ghost use Rattle.std.specs.FinMap.Entries.{is_sorted};
 
     ghost Value = { List (ℤ × V) };
 
     ghost coded = { coded_list (coded× coded_ℤ V.code) };
 
     ghost use Rattle.tt_pages.specs.MapTree.{entries_of_root};
+    ghost use Rattle.tt_pages.specs.MapWalk.{unread};
 
-    ghost view = { λ i. i.page.now ++ drop i.next (entries_of_root i.root.now) };
+    ghost view = { λ i. unread i.page.now (entries_of_root i.root.now) };
+
+    ghost invariant = { λ i. IsTrue (is_sorted int_cmp (entries_of_root i.root.now)) };
 }
 
 impl<'a, V> MapIter<'a, V> {
     pub(super) fn new(root: &'a Option<Arc<Tree<V>>>) -> Self
+        requires { IsTrue (is_sorted int_cmp (entries_of_root root.now)) }
         ensures { result ≡ entries_of_root root.now }
     {
         MapIter {
             root,
-            page: &[],
-            next: 0,
+            page: first_page(root),
         }
     }
 }
@@ -51,14 +59,9 @@ impl<'a, V> Iterator for MapIter<'a, V> {
     ghost remaining = { λ s. at_most (length s) };
 
     fn next(&mut self) -> Option<(&'a i64, &'a V)> {
-        if self.page.is_empty() {
-            let page = page_or_end(self.root, self.next);
-            self.next += page.len();
-            self.page = page;
-        }
         match self.page.split_first() {
             Some((entry, rest)) => {
-                self.page = rest;
+                self.page = rest_or_next(self.root, entry, rest);
                 Some((&entry.0, &entry.1))
             }
             None => None,
@@ -68,18 +71,19 @@ impl<'a, V> Iterator for MapIter<'a, V> {
 
 impl<'a, V> FusedIterator for MapIter<'a, V> {}
 
-// The entries from a place to the end of its page; none at the end of the map.
-fn page_or_end<'a, V>(root: &'a Option<Arc<Tree<V>>>, place: usize) -> &'a [(i64, V)]
-    ensures { IsPageOrEnd place (entries_of_root root.now) result.now }
+// What to read after this entry: the rest of its page or, if that is empty, the next page.
+fn rest_or_next<'a, V>(
+    root: &'a Option<Arc<Tree<V>>>,
+    entry: &(i64, V),
+    rest: &'a [(i64, V)],
+) -> &'a [(i64, V)]
+    requires { IsTrue (is_sorted int_cmp (entries_of_root root.now)) }
+    ensures { unread (entry.now ∷ rest.now) (entries_of_root root.now)
+        ≡ entry.now ∷ unread result.now (entries_of_root root.now) }
 {
-    match root {
-        Some(tree) => {
-            if place < tree.len() {
-                tree.page_at(place)
-            } else {
-                &[]
-            }
-        }
-        None => &[],
+    if rest.is_empty() {
+        page_after(root, &entry.0)
+    } else {
+        rest
     }
 }

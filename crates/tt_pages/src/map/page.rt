@@ -1,5 +1,6 @@
 // A page of a map: a list of entries in ascending key order.
 ghost use Rattle.std.specs.Prelude.{◌≡◌, ◌++◌, IsTrue, IsSome, Some, IfOk, IfErr, OnOk, OnErr};
+ghost use Rattle.std.specs.Option.{is_none};
 ghost use Rattle.std.specs.Option.{option_copied};
 ghost use Rattle.std.specs.Ordering.{int_cmp};
 ghost use Rattle.std.specs.FinMap.Entries.{find, put, is_sorted};
@@ -10,11 +11,11 @@ use crate::modify::Modify;
 use std::alloc::{AllocError, Global};
 use std::mem;
 
-// The largest number of entries in a page.
-pub(super) const MAX_ENTRIES: usize = 16;
+// The most entries of a page, and the most branches of a fork.
+pub(super) const MAX_WIDTH: usize = 16;
 
-// Two neighboring pages that have no more entries than this together are joined.
-pub(super) const FEW_ENTRIES: usize = 8;
+// The fewest entries or branches of a node below a fork.
+pub(super) const MIN_WIDTH: usize = 4;
 
 pub(super) type Page<V> = Vec<(i64, V)>;
 
@@ -53,18 +54,23 @@ pub(super) fn get_in<'a, V>(page: &'a [(i64, V)], key: &i64) -> Option<&'a V>
     }
 }
 
-// Sets the value at the key, and inserts an entry if there is none.
-pub(super) fn put_in<V: Drop>(page: &mut Page<V>, key: &i64, value: V) -> Result<(), AllocError>
+// Sets the value at the key, and inserts an entry if there is none. Answers whether the key is new.
+pub(super) fn put_in<V: Drop>(page: &mut Page<V>, key: &i64, value: V) -> Result<bool, AllocError>
     requires { IsTrue (is_sorted int_cmp page.old.items) }
     ensures ok { OnOk result (page.new.items ≡ put int_cmp key.now value page.old.items) }
+    ensures is_new { IfOk result (λ is_new.
+        is_new ≡ is_none (find int_cmp key.now page.old.items)) }
     ensures err { OnErr result (page.new.items ≡ page.old.items) }
 {
     match place_in(page, key) {
         Ok(at) => {
             page[at].1 = value;
-            Ok(())
+            Ok(false)
         }
-        Err(at) => Ok(page.insert(at, entry_of(key, value))?),
+        Err(at) => {
+            page.insert(at, entry_of(key, value))?;
+            Ok(true)
+        }
     }
 }
 
@@ -111,14 +117,14 @@ pub(super) fn remove_in<V: Drop>(page: &mut Page<V>, key: &i64)
     }
 }
 
-// A copy of the entries, in a page with room for `MAX_ENTRIES`.
+// A copy of the entries, in a page with room for `MAX_WIDTH`.
 pub(super) fn copy_of<V: Kept + Drop>(
     alloc: Global,
     entries: &[(i64, V)],
 ) -> Result<Page<V>, AllocError>
     ensures { IfOk result (λ page. page.items ≡ entries.now) }
 {
-    let mut page = Vec::with_capacity(alloc, MAX_ENTRIES)?;
+    let mut page = Vec::with_capacity(alloc, MAX_WIDTH)?;
     add_copies(&mut page, entries)?;
     Ok(page)
 }

@@ -1,90 +1,114 @@
-// How a full page is split, and how small pages are joined.
-ghost use Rattle.std.specs.Prelude.{◌≡◌, ◌<◌, ◌++◌, length, IfSome, IfOk};
-ghost use Rattle.tt_pages.specs.MapTree.{entries_of, IsNode, IsNodeOf};
+// How a full node is split in two.
+ghost use Rattle.std.specs.Prelude.{◌≡◌, ◌+◌, ◌<◌, ◌≤◌, length, All, IfOk, IsTrue};
+ghost use Rattle.std.specs.Ordering.{int_cmp};
+ghost use Rattle.std.specs.FinMap.Entries.{is_sorted};
+ghost use Rattle.tt_pages.specs.MapTree.{IsPage, IsBranch, AreBranches, branch_depth, branch_entries, page_value, fork_value, max_width};
+ghost use Rattle.tt_pages.specs.MapBranches.{AreHalves, AreParts, IsCut};
 
-use super::page::{FEW_ENTRIES, MAX_ENTRIES, Page, add_copies, copy_of, get_in, rank_in};
-use super::tree::{Half, Node, Separator, Tree, leaf};
+use super::branches::{branch_for, share_branches};
+use super::page::{MAX_WIDTH, MIN_WIDTH, copy_of, rank_in};
+use super::tree::{Branch, Node, Tree};
 use crate::kept::Kept;
 use std::alloc::{AllocError, Global};
 
-impl<V: Kept + Drop> Node<V> {
-    // Splits a page in two if it is full and lacks the key. Answers whether it did.
-    pub(super) fn split_full_page(&mut self, alloc: Global, key: &i64) -> Result<bool, AllocError>
-        requires { IsNode self.old }
-        ensures { IsNodeOf (entries_of self.old) self.new }
-    {
-        match self.two_pages(alloc, key)? {
-            Some(node) => {
-                *self = node;
-                Ok(true)
-            }
-            None => Ok(false),
-        }
-    }
+// The two branches that a full tree is split into.
+#[derive(Drop)]
+pub(super) struct Halves<V> {
+    pub(super) low: Branch<V>,
+    pub(super) high: Branch<V>,
+}
 
-    fn two_pages(&self, alloc: Global, key: &i64) -> Result<Option<Node<V>>, AllocError>
-        requires { IsNode self.now }
-        ensures { IfOk result (λ node. IfSome node (IsNodeOf (entries_of self.now))) }
+impl<V: Kept + Drop> Tree<V> {
+    // Two branches with the entries of this full tree, and room where the key belongs.
+    pub(super) fn halves(&self, alloc: Global, key: &i64) -> Result<Halves<V>, AllocError>
+        requires { max_width ≤ self.now.width }
+        ensures halves { IfOk result (AreHalves self.now) }
+        ensures sorted { IfOk result (λ _. IsTrue (is_sorted int_cmp self.now.entries)) }
     {
-        let Node::Leaf(page) = self else {
-            return Ok(None);
-        };
-        if page.len() < MAX_ENTRIES || get_in(page, key).is_some() {
-            return Ok(None);
+        match &self.node {
+            Node::Leaf(page) => halves_of_page(alloc, page, key),
+            Node::Fork(branches) => halves_of_fork(alloc, branches, key),
         }
-        let at = split_place(page.len(), rank_in(page, key));
-        let separator = Separator { key: page[at].0 };
-        let left = leaf(alloc, copy_of(alloc, &page[..at])?)?;
-        let right = leaf(alloc, copy_of(alloc, &page[at..])?)?;
-        Ok(Some(Node::Fork(Half::One(left), separator, Half::One(right))))
-    }
-
-    // Joins two pages that have few entries together. If memory runs out, the node stays as it
-    // is.
-    pub(super) fn join_small_pages(&mut self, alloc: Global)
-        requires { IsNode self.old }
-        ensures { IsNodeOf (entries_of self.old) self.new }
-    {
-        if let Some(node) = self.one_page(alloc) {
-            *self = node;
-        }
-    }
-
-    fn one_page(&self, alloc: Global) -> Option<Node<V>>
-        requires { IsNode self.now }
-        ensures { IfSome result (IsNodeOf (entries_of self.now)) }
-    {
-        let Node::Fork(Half::One(left), _, Half::One(right)) = self else {
-            return None;
-        };
-        if left.len() > FEW_ENTRIES || right.len() > FEW_ENTRIES - left.len() {
-            return None;
-        }
-        let page = joined_page(alloc, left, right)?;
-        Some(Node::Leaf(page))
     }
 }
 
-// Where a page is split for a key of this rank. For a key after all others it is split before its
-// last entry, so that keys inserted in ascending order leave pages that are nearly full.
+fn halves_of_page<V: Kept + Drop>(
+    alloc: Global,
+    page: &[(i64, V)],
+    key: &i64,
+) -> Result<Halves<V>, AllocError>
+    requires page { IsPage page.now }
+    requires full { max_width ≤ length page.now }
+    ensures { IfOk result (AreHalves (page_value page.now)) }
+{
+    cut_page(alloc, page, split_place(page.len(), rank_in(page, key)))
+}
+
+fn halves_of_fork<V: Kept + Drop>(
+    alloc: Global,
+    branches: &[Branch<V>],
+    key: &i64,
+) -> Result<Halves<V>, AllocError>
+    requires fork { AreBranches (branch_depth branches.now) branches.now }
+    requires full { max_width ≤ length branches.now }
+    ensures { IfOk result (AreHalves (fork_value branches.now)) }
+{
+    cut_fork(
+        alloc,
+        branches,
+        split_place(branches.len(), branch_for(branches, key)),
+    )
+}
+
+// Two pages with these entries, the first one with `at` of them.
+pub(super) fn cut_page<V: Kept + Drop>(
+    alloc: Global,
+    entries: &[(i64, V)],
+    at: usize,
+) -> Result<Halves<V>, AllocError>
+    requires cut { IsCut (length entries.now) at }
+    requires sorted { IsTrue (is_sorted int_cmp entries.now) }
+    ensures { IfOk result (AreParts (page_value entries.now) at) }
+{
+    let low = copy_of(alloc, &entries[..at])?;
+    let high = copy_of(alloc, &entries[at..])?;
+    Ok(Halves {
+        low: Branch::of(alloc, Node::Leaf(low))?,
+        high: Branch::of(alloc, Node::Leaf(high))?,
+    })
+}
+
+// Two forks of these branches, the first one with `at` of them.
+pub(super) fn cut_fork<V: Drop>(
+    alloc: Global,
+    branches: &[Branch<V>],
+    at: usize,
+) -> Result<Halves<V>, AllocError>
+    requires cut { IsCut (length branches.now) at }
+    requires each { All (IsBranch (branch_depth branches.now)) branches.now }
+    requires sorted { IsTrue (is_sorted int_cmp (branch_entries branches.now)) }
+    ensures { IfOk result (AreParts (fork_value branches.now) at) }
+{
+    let low = share_branches(alloc, &branches[..at])?;
+    let high = share_branches(alloc, &branches[at..])?;
+    Ok(Halves {
+        low: Branch::of(alloc, Node::Fork(low))?,
+        high: Branch::of(alloc, Node::Fork(high))?,
+    })
+}
+
+// Where a full node is split for a key of this rank: near its end, if the key goes to the end, so
+// that keys inserted in ascending order leave nodes that are nearly full, and near its beginning,
+// if it goes there.
 fn split_place(len: usize, rank: usize) -> usize
-    requires { 1 < len }
-    ensures { (0 < result) × (result < len) }
+    requires { len ≡ max_width }
+    ensures { IsCut len result }
 {
-    if rank == len { len - 1 } else { len / 2 }
-}
-
-// The entries of two trees in one page, if each tree is a page.
-fn joined_page<V: Kept + Drop>(alloc: Global, left: &Tree<V>, right: &Tree<V>) -> Option<Page<V>>
-    ensures { IfSome result (λ page. page.items ≡ left.now ++ right.now) }
-{
-    let Node::Leaf(before) = left.node() else {
-        return None;
-    };
-    let Node::Leaf(after) = right.node() else {
-        return None;
-    };
-    let mut page = copy_of(alloc, before).ok()?;
-    add_copies(&mut page, after).ok()?;
-    Some(page)
+    if rank >= len - 1 {
+        len - MIN_WIDTH
+    } else if rank == 0 {
+        MIN_WIDTH
+    } else {
+        len / 2
+    }
 }

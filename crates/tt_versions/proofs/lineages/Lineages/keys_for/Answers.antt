@@ -11,4 +11,4 @@ returns c =
     let equals = c.args.equals.now in
     IfSome-map c.keys_for.result (λ keys. CoversMatches m.index keys.now equals) (λ keys. HaveKeysIn c.args.self.now keys.now equals)
     (λ keys covers. subst (λ (t : LineagesByKey). HaveKeysIn t keys.now equals) c.self.view_is (HaveKeysIn-covers m.index keys.now equals m.entries c.self.invariant.listed covers))
-    c.keys_for.ensures
+    c.keys_for.ensures.covers

@@ -1,0 +1,71 @@
+-- What a change of the value at a key leaves as it was: the keys, and with them the shape of a fork.
+use Rattle.std.proofs.Common.{◌≡◌, ℕ, zero, suc, ◌<◌, ℤ, List, [], ◌∷◌, ◌++◌, length, get_or, set, IsTrue, IsSome, refl, sym, ap, ◌∙◌, subst, arith, int_cmp}
+use Rattle.std.specs.FinMap.Entries.{find, put, is_sorted}
+use Rattle.std.proofs.lemmas.Bool.{false≢true}
+use Rattle.std.proofs.lemmas.List.{get_or_default}
+use Rattle.tt_pages.specs.MapEntries.{rank_of, keys_of, ChangesAt}
+use Rattle.tt_pages.specs.MapValues.{BranchValue}
+use Rattle.tt_pages.specs.MapTree.{branch_entries, IsPage, IsBranch, AreBranches}
+use Rattle.tt_pages.specs.MapBranches.{IsBranchFor}
+use Rattle.tt_pages.proofs.MapEntriesLemmas.{rank_of-within, put-at_rank, keys-place, keys-append, is_sorted-left, is_sorted-right, length-keys, sorted-keys, first_key-keys}
+use Rattle.tt_pages.proofs.MapBranchLemmas.{put-at_key, find-branch, set-branch, branch-at, branch-grown, branches-set}
+
+module _ {V : Type 0} where
+  -- another value at a key that is there leaves the keys
+  pub keys-put : (key : ℤ) (v : V) (es : List (ℤ × V)) → IsTrue (is_sorted int_cmp es) → IsSome (find int_cmp key es) → keys_of (put int_cmp key v es) ≡ keys_of es
+  keys-put key v [] sorted some = absurd (false≢true some)
+  keys-put key v (e ∷ es) sorted some =
+      let at = rank_of key (e ∷ es) in
+      ap keys_of (put-at_rank key (e ∷ es) v e sorted some) ∙ keys-place (e ∷ es) (get_or (e ∷ es) at e) v at (get_or_default (e ∷ es) at e (get_or (e ∷ es) at e) (rank_of-within key (e ∷ es) some))
+
+  pub keys-put_to : (key : ℤ) (v : V) (es new : List (ℤ × V)) → new ≡ put int_cmp key v es → IsTrue (is_sorted int_cmp es) → IsSome (find int_cmp key es) → keys_of new ≡ keys_of es
+  keys-put_to key v es new is sorted some = ap keys_of is ∙ keys-put key v es sorted some
+
+  -- a page or a branch whose keys stay is still one
+  pub page-kept : (page es : List (ℤ × V)) → keys_of es ≡ keys_of page → IsPage page → IsPage es
+  page-kept page es same is = record {
+    filled = omega (arith, length-keys es page same, is.filled);
+    fits = omega (arith, length-keys es page same, is.fits);
+    sorted = sorted-keys es page same is.sorted;
+  }
+
+  pub branch-kept : (d : ℕ) (b x : BranchValue V) → IsBranch d b → x.first ≡ b.first → x.tree.depth ≡ b.tree.depth → x.tree.width ≡ b.tree.width → keys_of x.tree.entries ≡ keys_of b.tree.entries → IsBranch d x
+  branch-kept d b x is first depth width same =
+      branch-grown d b x is (first ∙ is.first ∙ sym (first_key-keys x.tree.entries b.tree.entries same)) depth (omega (arith, width)) (omega (arith, length-keys x.tree.entries b.tree.entries same))
+
+  -- a branch whose keys stay leaves the keys of the fork
+  pub keys-set_branch : (bs : List (BranchValue V)) (at : ℕ) (b x : BranchValue V) → b ≡ get_or bs at b → keys_of x.tree.entries ≡ keys_of b.tree.entries → keys_of (branch_entries (set bs at x)) ≡ keys_of (branch_entries bs)
+  keys-set_branch [] at b x here same = refl
+  keys-set_branch (c ∷ bs) zero b x here same =
+      keys-append x.tree.entries (branch_entries bs)
+      ∙ ap (λ ks. ks ++ keys_of (branch_entries bs)) (same ∙ ap (λ (y : BranchValue V). keys_of y.tree.entries) here)
+      ∙ sym (keys-append c.tree.entries (branch_entries bs))
+  keys-set_branch (c ∷ bs) (suc at) b x here same =
+      keys-append c.tree.entries (branch_entries (set bs at x))
+      ∙ ap (λ ks. keys_of c.tree.entries ++ ks) (keys-set_branch bs at b x here same)
+      ∙ sym (keys-append c.tree.entries (branch_entries bs))
+
+  -- each branch is in ascending key order
+  pub branch-sorted : (d : ℕ) (bs : List (BranchValue V)) (at : ℕ) (b : BranchValue V) → AreBranches d bs → at < length bs → b ≡ get_or bs at b → IsTrue (is_sorted int_cmp b.tree.entries)
+  branch-sorted d bs at b are within here = by bs at are.sorted within here
+    where
+      by : (bs : List (BranchValue V)) (at : ℕ) → IsTrue (is_sorted int_cmp (branch_entries bs)) → at < length bs → b ≡ get_or bs at b → IsTrue (is_sorted int_cmp b.tree.entries)
+      by [] at sorted within here = absurd (omega (arith, within))
+      by (c ∷ bs) zero sorted within here = subst (λ (y : BranchValue V). IsTrue (is_sorted int_cmp y.tree.entries)) (sym here) (is_sorted-left c.tree.entries (branch_entries bs) sorted)
+      by (c ∷ bs) (suc at) sorted within here = by bs at (is_sorted-right c.tree.entries (branch_entries bs) sorted) (omega (arith, within)) here
+
+  module _ (d : ℕ) (bs : List (BranchValue V)) (at : ℕ) (b x : BranchValue V) (are : AreBranches d bs) (here : b ≡ get_or bs at b) where
+    pub branches-kept : at < length bs → x.first ≡ b.first → x.tree.depth ≡ b.tree.depth → x.tree.width ≡ b.tree.width → keys_of x.tree.entries ≡ keys_of b.tree.entries → AreBranches d (set bs at x)
+    branches-kept within first depth width same =
+        branches-set d bs at x are (branch-kept d b x (branch-at d bs at b are within here) first depth width same)
+        (sorted-keys (branch_entries (set bs at x)) (branch_entries bs) (keys-set_branch bs at b x here same) are.sorted)
+
+    -- a change of the value at the key in its branch is that change of all entries
+    pub ChangesAt-branch : (key : ℤ) (f : V → V) → IsBranchFor key bs at → ChangesAt key f b.tree.entries x.tree.entries → ChangesAt key f (branch_entries bs) (branch_entries (set bs at x))
+    ChangesAt-branch key f is_for changes v found =
+        set-branch key d (put int_cmp key (f v)) (put-at_key key (f v)) bs at b x are.each are.sorted is_for here
+        (changes v (find-branch key d bs at b are.each are.sorted is_for here ∙ found))
+
+  -- what is there at a key of a fork is there in the key's branch
+  pub present-branch : (key : ℤ) (d : ℕ) (bs : List (BranchValue V)) (at : ℕ) (b : BranchValue V) → AreBranches d bs → IsBranchFor key bs at → b ≡ get_or bs at b → IsSome (find int_cmp key (branch_entries bs)) → IsSome (find int_cmp key b.tree.entries)
+  present-branch key d bs at b are is_for here some = subst (λ o. IsSome o) (sym (find-branch key d bs at b are.each are.sorted is_for here)) some

@@ -1,0 +1,44 @@
+// The branches of a fork.
+ghost use Rattle.std.specs.Prelude.{◌≡◌, ◌<◌, ◌++◌, length, IfOk, OnOk};
+ghost use Rattle.tt_pages.specs.MapBranches.{IsBranchFor};
+
+use super::page::MAX_WIDTH;
+use super::tree::Branch;
+use std::alloc::{AllocError, Global};
+
+// The place of the branch that the key belongs to.
+pub(super) fn branch_for<V>(branches: &[Branch<V>], key: &i64) -> usize
+    requires { 0 < length branches.now }
+    ensures within { result < length branches.now }
+    ensures is_for { IsBranchFor key.now branches.now result }
+{
+    let mut at = 0;
+    while at + 1 < branches.len() && !branches[at + 1].is_above(key) {
+        at += 1;
+    }
+    at
+}
+
+// Further owners of the same trees.
+pub(super) fn share_branches<V: Drop>(
+    alloc: Global,
+    branches: &[Branch<V>],
+) -> Result<Vec<Branch<V>>, AllocError>
+    ensures { IfOk result (λ copy. copy.items ≡ branches.now) }
+{
+    let mut copy = Vec::with_capacity(alloc, MAX_WIDTH)?;
+    add_shared(&mut copy, branches)?;
+    Ok(copy)
+}
+
+pub(super) fn add_shared<V: Drop>(
+    to: &mut Vec<Branch<V>>,
+    branches: &[Branch<V>],
+) -> Result<(), AllocError>
+    ensures { OnOk result (to.new.items ≡ to.old.items ++ branches.now) }
+{
+    for branch in branches {
+        to.push(branch.share()?)?;
+    }
+    Ok(())
+}
