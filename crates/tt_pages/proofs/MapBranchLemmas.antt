@@ -1,6 +1,7 @@
 -- What a change of one branch does to the entries of a fork.
-use Rattle.std.proofs.Common.{◌≡◌, ℕ, zero, suc, ◌+◌, ◌*◌, ◌^◌, ◌<◌, ◌≤◌, false, ℤ, List, [], ◌∷◌, ◌++◌, length, get_or, set, take, drop, take-append-drop, All, IsTrue, Result, Ok, Err, OnOk, OnErr, refl, sym, ap, ◌∙◌, subst, arith, length-append, length-set, append-nil, append_assoc, pow-suc, inl, inr, suc-mul, mul-le-mul_right, int_cmp}
-use Rattle.std.specs.List.{AllWithin, HoldsAt}
+use Rattle.std.proofs.Common.{◌≡◌, ℕ, zero, suc, ◌+◌, ◌*◌, ◌^◌, ◌<◌, ◌≤◌, false, ℤ, List, [], ◌∷◌, ◌++◌, length, get_or, set, take, drop, take-append-drop, All, IsTrue, Result, Ok, Err, OnOk, OnErr, refl, sym, ap, ◌∙◌, subst, arith, length-append, length-set, append-nil, append_assoc, pow-suc, inl, inr, Bool, true, true≢false, Less, suc-mul, mul-le-mul_right, int_cmp}
+use Rattle.std.specs.List.{HoldsAt}
+use Rattle.std.specs.Cmp.{int_cmp_total}
 use Rattle.std.specs.Ordering.{is_lt}
 use Rattle.std.specs.FinMap.Entries.{find, put, is_sorted}
 use Rattle.std.proofs.lemmas.List.Elements.{All-head, All-tail, All-set, All-get_or}
@@ -12,7 +13,7 @@ use Rattle.tt_pages.specs.declared.map.tree.Node.{Node}
 use Rattle.tt_pages.specs.declared.map.tree.Node.TheVariants.{Leaf, Fork}
 use Rattle.tt_pages.specs.MapTree.{branch_entries, branch_depth, IsPage, IsBranch, AreBranches, IsNode, node_value, min_width, max_width}
 use Rattle.tt_pages.specs.MapBranches.{IsBelow, IsWithin, IsBranchFor}
-use Rattle.tt_pages.proofs.MapEntriesLemmas.{is_sorted-right, first_key-append, length-put_filled, length-put_le, sorted-put, length-without_ge, length-without_le, sorted-without, find-left, find-right, put-left, put-right, without-left, without-right}
+use Rattle.tt_pages.proofs.MapEntriesLemmas.{is_sorted-right, first_key-append, first_key-below, lt_less, length-put_filled, length-put_le, sorted-put, length-without_ge, length-without_le, sorted-without, find-left, find-right, put-left, put-right, without-left, without-right}
 
 -- a power of the least width isn't 0
 pub one-le_pow : (d : ℕ) → 1 ≤ min_width ^ d
@@ -39,13 +40,47 @@ module _ {V : Type 0} where
 
   -- ---- the branch that a key belongs to
 
-  pub is_branch_for : (key : ℤ) (bs : List (BranchValue V)) (at : ℕ) → at < length bs → AllWithin (λ (b : BranchValue V). is_lt (int_cmp key b.first) ≡ false) bs 1 (at + 1) → ((n : ℕ) → n ≡ at + 1 → n < length bs → HoldsAt (λ (b : BranchValue V). IsTrue (is_lt (int_cmp key b.first))) bs n) → IsBranchFor key bs at
-  is_branch_for key [] at within passed next = absurd (omega (arith, within))
-  is_branch_for key (b ∷ []) zero within passed next = tt
-  is_branch_for key (b ∷ c ∷ bs) zero within passed next = next 1 (omega arith) (omega arith) b
-  is_branch_for key (b ∷ []) (suc at) within passed next = absurd (omega (arith, within))
-  is_branch_for key (b ∷ c ∷ bs) (suc at) within passed next =
-      (passed 1 b (omega arith) (omega arith), is_branch_for key (c ∷ bs) at (omega (arith, within)) (λ k e from to. passed (suc k) e (omega (arith, from)) (omega (arith, to))) (λ n is lt e. next (suc n) (omega (arith, is)) (omega (arith, lt)) e))
+  -- a key below a branch is below those after it
+  pub below-next : (key : ℤ) (d : ℕ) (e : BranchValue V) (bs : List (BranchValue V)) → All (IsBranch d) (e ∷ bs) → IsTrue (is_sorted int_cmp (branch_entries (e ∷ bs))) → IsTrue (is_lt (int_cmp key e.first)) → IsBelow key bs
+  below-next key d e [] each sorted below = tt
+  below-next key d e (f ∷ bs) each sorted below =
+      let is = All-head (IsBranch d) e (f ∷ bs) each in
+      let rest = All-tail (IsBranch d) e (f ∷ bs) each in
+      let rises = first_key-below e.tree.entries (branch_entries (f ∷ bs)) (branch-filled is) (entries-filled d f bs rest) sorted in
+      let next : int_cmp e.first f.first ≡ Less = ap (λ k. int_cmp k f.first) is.first ∙ ap (int_cmp (first_key e.tree.entries)) (head-first d f bs rest) ∙ rises in
+      ap is_lt (int_cmp_total.trans key e.first f.first (lt_less _ below) next)
+
+  -- a key that isn't below a branch isn't below the first of the branches before it
+  within-back : (key : ℤ) (d : ℕ) (bs : List (BranchValue V)) (n : ℕ) (e : BranchValue V) → n < length bs → All (IsBranch d) bs → IsTrue (is_sorted int_cmp (branch_entries bs)) → is_lt (int_cmp key (get_or bs n e).first) ≡ false → IsWithin key bs
+  within-back key d [] n e within each sorted not_below = absurd (omega (arith, within))
+  within-back key d (b ∷ bs) zero e within each sorted not_below = not_below
+  within-back key d (b ∷ []) (suc n) e within each sorted not_below = absurd (omega (arith, within))
+  within-back key d (b ∷ c ∷ bs) (suc n) e within each sorted not_below =
+      let rest = All-tail (IsBranch d) b (c ∷ bs) each in
+      let order = is_sorted-right b.tree.entries (branch_entries (c ∷ bs)) sorted in
+      let next = within-back key d (c ∷ bs) n e (omega (arith, within)) rest order not_below in
+      by (is_lt (int_cmp key b.first)) refl next (below-next key d b (c ∷ bs) each sorted)
+    where
+      by : (o : Bool) → is_lt (int_cmp key b.first) ≡ o → is_lt (int_cmp key c.first) ≡ false → (IsTrue (is_lt (int_cmp key b.first)) → IsTrue (is_lt (int_cmp key c.first))) → is_lt (int_cmp key b.first) ≡ false
+      by true is next below = absurd (true≢false (sym (below is) ∙ next))
+      by false is next below = is
+
+  pub is_branch_for : (key : ℤ) (d : ℕ) (bs : List (BranchValue V)) (at : ℕ) (e : BranchValue V) → at < length bs → All (IsBranch d) bs → IsTrue (is_sorted int_cmp (branch_entries bs)) → (0 < at → is_lt (int_cmp key (get_or bs at e).first) ≡ false) → ((n : ℕ) → n ≡ at + 1 → n < length bs → HoldsAt (λ (b : BranchValue V). IsTrue (is_lt (int_cmp key b.first))) bs n) → IsBranchFor key bs at
+  is_branch_for key d [] at e within each sorted here next = absurd (omega (arith, within))
+  is_branch_for key d (b ∷ []) zero e within each sorted here next = tt
+  is_branch_for key d (b ∷ c ∷ bs) zero e within each sorted here next = next 1 (omega arith) (omega arith) b
+  is_branch_for key d (b ∷ []) (suc at) e within each sorted here next = absurd (omega (arith, within))
+  is_branch_for key d (b ∷ c ∷ bs) (suc at) e within each sorted here next =
+      let rest = All-tail (IsBranch d) b (c ∷ bs) each in
+      let order = is_sorted-right b.tree.entries (branch_entries (c ∷ bs)) sorted in
+      let not_below = here (omega arith) in
+      (within-back key d (c ∷ bs) at e (omega (arith, within)) rest order not_below, is_branch_for key d (c ∷ bs) at e (omega (arith, within)) rest order (λ _. not_below) (λ n is lt x. next (suc n) (omega (arith, is)) (omega (arith, lt)) x))
+
+  -- the first branch, where the next one starts above the key
+  pub is_first_for : (key : ℤ) (d : ℕ) (bs : List (BranchValue V)) (at : ℕ) → at < length bs → All (IsBranch d) bs → IsTrue (is_sorted int_cmp (branch_entries bs)) → at ≡ 0 → ((n : ℕ) → n ≡ at + 1 → n < length bs → HoldsAt (λ (b : BranchValue V). IsTrue (is_lt (int_cmp key b.first))) bs n) → IsBranchFor key bs at
+  is_first_for key d [] at within each sorted first next = absurd (omega (arith, within))
+  is_first_for key d (b ∷ bs) at within each sorted first next =
+      is_branch_for key d (b ∷ bs) at b within each sorted (λ some. absurd (omega (arith, some, first))) next
 
   -- a change of entries that concerns one key: in two lists in a row it changes the one that the key belongs to
   pub record IsAtKey (key : ℤ) (F : List (ℤ × V) → List (ℤ × V)) : Type 0 where
@@ -210,23 +245,11 @@ module _ {V : Type 0} where
         full = subst (λ n. min_width ^ suc n ≤ length x.tree.entries) (depth ∙ is.depth) (full wide_still);
       }
 
-  pub node-sorted : (node : Node V) → IsNode node → IsTrue (is_sorted int_cmp (node_value node).entries)
-  node-sorted (Leaf page) is = is.sorted
-  node-sorted (Fork branches) is = is.sorted
-
   -- ---- a deep tree has many entries
 
   pub first-less : (d : ℕ) (bs : List (BranchValue V)) (b : BranchValue V) → AreBranches d bs → b ≡ get_or bs 0 b → length b.tree.entries ≤ length (branch_entries bs)
   first-less d [] b are here = absurd (omega (arith, are.filled))
   first-less d (c ∷ bs) b are here = omega (arith, ap (λ (x : BranchValue V). length x.tree.entries) here, length-append c.tree.entries (branch_entries bs))
-
-  pub node-deep : (node : Node V) → IsNode node → min_width ^ (node_value node).depth ≤ length (node_value node).entries
-  node-deep (Leaf page) is = is.filled
-  node-deep (Fork branches) is = fork-deep (branch_depth branches.items) branches.items is
-    where
-      fork-deep : (d : ℕ) (bs : List (BranchValue V)) → AreBranches d bs → min_width ^ suc d ≤ length (branch_entries bs)
-      fork-deep d [] are = absurd (omega (arith, are.filled))
-      fork-deep d (c ∷ bs) are = omega (arith, (All-head (IsBranch d) c bs are.each).full, length-append c.tree.entries (branch_entries bs))
 
 power-rises : (i j : ℕ) → i ≤ j → min_width ^ i ≤ min_width ^ j
 power-rises i zero le = let e : i ≡ zero = omega (arith, le) in rw e (omega arith)

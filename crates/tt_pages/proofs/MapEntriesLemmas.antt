@@ -326,17 +326,6 @@ module _ {V : Type 0} where
       pub without-right : entries_without key (l ++ r) ≡ l ++ entries_without key r
       without-right = filter-append (λ (e : ℤ × V). not (int_eq e.0 key)) l r ∙ ap (λ es. es ++ entries_without key r) (without-absent key l absent_left)
 
-      pub first_key-put : (v : V) → first_key (put int_cmp key v r) ≡ first_key r
-      first_key-put v = by r filled right
-        where
-          by : (r : List (ℤ × V)) → 0 < length r → is_lt (int_cmp key (first_key r)) ≡ false → first_key (put int_cmp key v r) ≡ first_key r
-          by [] filled right = absurd (omega arith)
-          by (e ∷ r) filled right = elim (int_cmp key e.0) as (λ o. is_lt o ≡ false → first_key (by_order o ((key, v) ∷ e ∷ r) ((e.0, v) ∷ r) (e ∷ put int_cmp key v r)) ≡ e.0) [
-            | Less ↦ λ h. absurd (false≢true (sym h))
-            | Equal ↦ λ _. refl
-            | Greater ↦ λ _. refl
-          ] right
-
   -- ---- how many entries are left
 
   pub length-put_le : (key : ℤ) (v : V) (es : List (ℤ × V)) → length (put int_cmp key v es) ≤ length es + 1

@@ -67,16 +67,6 @@ module _ {V : Type 0} where
               ∙ ap (λ es. branch_entries es ++ branch_entries rs) low_is ∙ ap (λ es. branch_entries (take at bs) ++ branch_entries es) high_is ∙ branch_entries-split bs at;
         }
 
-  -- the parts of a full tree are its halves
-  pub halves-parts : (tree : TreeValue V) (at : ℕ) (halves : Halves V) → tree.width ≡ max_width → IsCut tree.width at → AreParts tree at halves → AreHalves tree halves
-  halves-parts tree at halves full cut parts = record {
-    low_branch = parts.low_branch;
-    high_branch = parts.high_branch;
-    low_room = omega (arith, full, cut.high, parts.low_width);
-    high_room = omega (arith, full, cut.low, parts.high_width);
-    same = parts.same;
-  }
-
   -- ---- a branch gives way to its halves
 
   -- the branches with the halves in place of the branch there

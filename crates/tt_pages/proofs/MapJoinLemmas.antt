@@ -12,7 +12,7 @@ use Rattle.tt_pages.specs.MapValues.{TreeValue, BranchValue}
 use Rattle.tt_pages.specs.MapTree.{branch_entries, branch_depth, fork_value, IsBranch, AreBranches, min_width, max_width}
 use Rattle.tt_pages.specs.MapBranches.{IsBelow, IsWithin, IsBranchFor, IsJoin, AreEven, AreParts}
 use Rattle.tt_pages.proofs.MapEntriesLemmas.{first_key-append, is_sorted-left, is_sorted-right, first_key-below, lt_less}
-use Rattle.tt_pages.proofs.MapBranchLemmas.{depth-is, branch-filled, entries-filled, head-first, branch_entries-append}
+use Rattle.tt_pages.proofs.MapBranchLemmas.{depth-is, branch-filled, entries-filled, head-first, branch_entries-append, below-next}
 
 module _ {V : Type 0} where
   module _ (d : ℕ) (ls rs : List (BranchValue V)) (low : AreBranches d ls) (high : AreBranches d rs) (sorted : IsTrue (is_sorted int_cmp (branch_entries ls ++ branch_entries rs))) where
@@ -68,16 +68,6 @@ module _ {V : Type 0} where
   neighbors-sorted (c ∷ e ∷ bs) zero within sorted = λ _ _.
       is_sorted-left (c.tree.entries ++ e.tree.entries) (branch_entries bs) (subst (λ es. IsTrue (is_sorted int_cmp es)) (sym (append_assoc c.tree.entries e.tree.entries (branch_entries bs))) sorted)
   neighbors-sorted (c ∷ e ∷ bs) (suc left) within sorted = neighbors-sorted (e ∷ bs) left (omega (arith, within)) (is_sorted-right c.tree.entries (branch_entries (e ∷ bs)) sorted)
-
-  -- a key below a branch is below those after it
-  below-next : (key : ℤ) (d : ℕ) (e : BranchValue V) (bs : List (BranchValue V)) → All (IsBranch d) (e ∷ bs) → IsTrue (is_sorted int_cmp (branch_entries (e ∷ bs))) → IsTrue (is_lt (int_cmp key e.first)) → IsBelow key bs
-  below-next key d e [] each sorted below = tt
-  below-next key d e (f ∷ bs) each sorted below =
-      let is = All-head (IsBranch d) e (f ∷ bs) each in
-      let rest = All-tail (IsBranch d) e (f ∷ bs) each in
-      let rises = first_key-below e.tree.entries (branch_entries (f ∷ bs)) (branch-filled is) (entries-filled d f bs rest) sorted in
-      let next : int_cmp e.first f.first ≡ Less = ap (λ k. int_cmp k f.first) is.first ∙ ap (int_cmp (first_key e.tree.entries)) (head-first d f bs rest) ∙ rises in
-      ap is_lt (int_cmp_total.trans key e.first f.first (lt_less _ below) next)
 
   -- the key belongs to the branch at this place or to the next one
   abbrev pub IsForBoth : ℤ → List (BranchValue V) → ℕ → Type 0

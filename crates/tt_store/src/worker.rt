@@ -330,8 +330,8 @@ impl<L: Naming> Worker<L> {
         requires tables { db.catalog ≡ L.tables }
         requires limits { db.limits ≡ L.limits }
         requires made { IsMadeBy self.old db.history }
-        ensures added { IfOk result (λ done. IsTrue done → AddsCounted self.old self.new db.history
-            ledger.old.total ledger.new.total) }
+        ensures added { IfOk result (λ done. IsTrue done
+            → AddsCounted self.old self.new db.history ledger.old.total ledger.new.total) }
         ensures not_added { IfOk result (λ done. IsFalse done → AddsNothing self.old self.new
             ledger.old.total ledger.new.total) }
         ensures err { OnErr result (AddsNothing self.old self.new

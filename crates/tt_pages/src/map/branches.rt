@@ -1,20 +1,22 @@
 // The branches of a fork.
 ghost use Rattle.std.specs.Prelude.{◌≡◌, ◌<◌, ◌++◌, length, IfOk, OnOk};
+ghost use Rattle.tt_pages.specs.MapTree.{AreBranches, branch_depth};
 ghost use Rattle.tt_pages.specs.MapBranches.{IsBranchFor};
 
 use super::page::MAX_WIDTH;
 use super::tree::Branch;
 use std::alloc::{AllocError, Global};
 
-// The place of the branch that the key belongs to.
+// The place of the branch that the key belongs to. The search begins at the end, where keys that
+// are inserted in ascending order belong.
 pub(super) fn branch_for<V>(branches: &[Branch<V>], key: &i64) -> usize
-    requires { 0 < length branches.now }
+    requires { AreBranches (branch_depth branches.now) branches.now }
     ensures within { result < length branches.now }
     ensures is_for { IsBranchFor key.now branches.now result }
 {
-    let mut at = 0;
-    while at + 1 < branches.len() && !branches[at + 1].is_above(key) {
-        at += 1;
+    let mut at = branches.len() - 1;
+    while at > 0 && branches[at].is_above(key) {
+        at -= 1;
     }
     at
 }

@@ -5,8 +5,7 @@ ghost use Rattle.std.specs.Arc.{arc_value};
 ghost use Rattle.std.specs.Ordering.{int_cmp};
 ghost use Rattle.std.specs.FinMap.Entries.{find, put};
 ghost use Rattle.tt_pages.specs.MapEntries.{keys_of, ChangesAt};
-ghost use Rattle.tt_pages.specs.MapTree.{node_value, branch_entries, branch_depth};
-ghost use Rattle.tt_pages.specs.MapTree.{IsNode, AreBranches};
+ghost use Rattle.tt_pages.specs.MapTree.{node_value, branch_entries, branch_depth, IsNode, AreBranches};
 
 use super::branches::branch_for;
 use super::page::{change_in, swap_in};
@@ -91,7 +90,8 @@ impl<V: Kept + Drop> Branch<V> {
         ensures width { self.new.tree.width ≡ self.old.tree.width }
         ensures tree { OnOk result
             (self.new.tree.entries ≡ put int_cmp key.now value.old self.old.tree.entries) }
-        ensures value { OnOk result (find int_cmp key.now self.old.tree.entries ≡ Some value.new) }
+        ensures value { OnOk result
+            (find int_cmp key.now self.old.tree.entries ≡ Some value.new) }
         ensures err { OnErr result (self.new.tree.entries ≡ self.old.tree.entries) }
         ensures err_value { OnErr result (value.new ≡ value.old) }
     {
@@ -152,7 +152,8 @@ impl<V: Kept + Drop> Tree<V> {
         requires present { IsSome (find int_cmp key.now (arc_value this.old).entries) }
         ensures depth { (arc_value this.new).depth ≡ (arc_value this.old).depth }
         ensures width { (arc_value this.new).width ≡ (arc_value this.old).width }
-        ensures keys { keys_of (arc_value this.new).entries ≡ keys_of (arc_value this.old).entries }
+        ensures keys { keys_of (arc_value this.new).entries
+            ≡ keys_of (arc_value this.old).entries }
         ensures ok { OnOk result (ChangesAt key.now (M.after change)
             (arc_value this.old).entries (arc_value this.new).entries) }
     {

@@ -1,11 +1,11 @@
-use Rattle.std.proofs.Common.{◌≡◌, ◌+◌, ◌<◌, ◌-◌, length, false}
-use Rattle.std.specs.List.{AllWithin}
+use Rattle.std.proofs.Common.{◌+◌, ◌<◌, ◌≡◌, ℕ, length, IsTrue}
+use Rattle.std.specs.List.{HoldsAt}
 use Rattle.std.specs.Ordering.{int_cmp, is_lt}
 use Rattle.tt_pages.proofs.map.branches.branch_for.Given as goal
 
--- the branches passed, but for the first one, don't start above the key
+-- the next branch, if there is one, starts above the key
 abbrev pub invariant-loop-at : goal.invariant-loop-at
-invariant-loop-at g l = (l.at < length l.branches) × AllWithin (λ b. is_lt (int_cmp l.key b.first) ≡ false) l.branches 1 (l.at + 1)
+invariant-loop-at g l = (l.at < length l.branches) × ((n : ℕ) → n ≡ l.at + 1 → n < length l.branches → HoldsAt (λ b. IsTrue (is_lt (int_cmp l.key b.first))) l.branches n)
 
 abbrev pub decreases-loop-at : goal.decreases-loop-at
-decreases-loop-at g l = length l.branches - l.at
+decreases-loop-at g l = l.at
