@@ -32,7 +32,7 @@ fn key_after(key: i64, order: Order) -> i64 {
     }
 }
 
-/// A map of so many keys in this order, each with its place in it.
+/// A map of `count` keys in this order, each with its place in it.
 fn map_of(rt: &impl Abort, alloc: Global, order: Order, count: u64) -> PagedMap<u64> {
     let mut map = PagedMap::new(alloc);
     let mut key = 0;
@@ -52,7 +52,7 @@ fn expect_keys(rt: &impl Abort, map: &PagedMap<u64>, order: Order, count: u64) {
     }
 }
 
-/// That the map has so many entries, in ascending key order.
+/// That the map has `count` entries, in ascending key order.
 fn expect_ascending(rt: &impl Abort, map: &PagedMap<u64>, count: u64) {
     let mut seen: u64 = 0;
     let mut last = None;
@@ -104,7 +104,7 @@ fn puts_and_removals_at_one_end_leave_a_map_flat(rt: HostRuntime) {
     }
 }
 
-/// Puts or removes a key below 2048, in the map and in the other alike. Of 8 numbers, so many
+/// Puts or removes a key below 2048, in the map and in the other alike. Of 8 numbers, `removals`
 /// remove one.
 fn change_both(
     rt: &impl Abort,
