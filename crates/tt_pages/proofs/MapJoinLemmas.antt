@@ -1,7 +1,6 @@
 -- Two neighbors become one branch, or two that are even.
-use Rattle.std.proofs.Common.{◌≡◌, ℕ, zero, suc, ◌+◌, ◌<◌, ◌≤◌, ◌⊎◌, inl, inr, false, ℤ, List, [], ◌∷◌, ◌++◌, length, get_or, set, remove, All, IsTrue, sym, ap, ◌∙◌, subst, arith, length-append, length-set, append_assoc, add-one, int_cmp, Less}
+use Rattle.std.proofs.Common.{◌≡◌, ℕ, zero, suc, ◌+◌, ◌<◌, ◌≤◌, ◌⊎◌, inl, inr, false, ℤ, List, [], ◌∷◌, ◌++◌, length, get_or, set, remove, All, IsTrue, sym, ap, ◌∙◌, subst, arith, length-append, length-set, append_assoc, add-one, int_cmp}
 use Rattle.std.specs.Ordering.{is_lt}
-use Rattle.std.specs.Cmp.{int_cmp_total}
 use Rattle.std.specs.List.{HoldsAt}
 use Rattle.std.specs.FinMap.Entries.{is_sorted}
 use Rattle.std.proofs.lemmas.List.Edits.{length-remove}
@@ -11,8 +10,8 @@ use Rattle.tt_pages.specs.MapEntries.{first_key}
 use Rattle.tt_pages.specs.MapValues.{TreeValue, BranchValue}
 use Rattle.tt_pages.specs.MapTree.{branch_entries, branch_depth, fork_value, IsBranch, AreBranches, min_width, max_width}
 use Rattle.tt_pages.specs.MapBranches.{IsBelow, IsWithin, IsBranchFor, IsJoin, AreEven, AreParts}
-use Rattle.tt_pages.proofs.MapEntriesLemmas.{first_key-append, is_sorted-left, is_sorted-right, first_key-below, lt_less}
-use Rattle.tt_pages.proofs.MapBranchLemmas.{depth-is, branch-filled, entries-filled, head-first, branch_entries-append, below-next}
+use Rattle.tt_pages.proofs.MapEntriesLemmas.{first_key-append, is_sorted-left, is_sorted-right}
+use Rattle.tt_pages.proofs.MapBranchLemmas.{depth-is, branch-filled, branch_entries-append, below-next}
 
 module _ {V : Type 0} where
   module _ (d : ℕ) (ls rs : List (BranchValue V)) (low : AreBranches d ls) (high : AreBranches d rs) (sorted : IsTrue (is_sorted int_cmp (branch_entries ls ++ branch_entries rs))) where

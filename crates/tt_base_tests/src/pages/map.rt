@@ -89,6 +89,9 @@ fn least_and_largest_keys_are_first_and_last(rt: HostRuntime) {
         same(&rt, &entries.next(), &Some(entry));
     }
     assert!(rt; entries.next().is_none());
+    let mut entries = map.iter_after(0);
+    same(&rt, &entries.next(), &Some((&i64::MAX, &3)));
+    assert!(rt; entries.next().is_none() && map.iter_after(i64::MAX).next().is_none());
 }
 
 /// The next of a row of numbers without an order.

@@ -4,7 +4,7 @@ ghost use Rattle.std.specs.Map.Iter.{TakesFirst, deref_pair};
 ghost use Rattle.std.specs.Ordering.{int_cmp};
 ghost use Rattle.std.specs.FinMap.Entries.{is_sorted};
 ghost use Rattle.tt_pages.specs.MapTree.{entries_of_root};
-ghost use Rattle.tt_pages.specs.MapWalk.{unread};
+ghost use Rattle.tt_pages.specs.MapWalk.{entries_after, unread};
 
 use super::tree::Tree;
 use super::walking::{first_page, page_after};
@@ -47,6 +47,17 @@ impl<'a, V> MapIter<'a, V> {
         MapIter {
             root,
             page: first_page(root),
+        }
+    }
+
+    // The entries with keys above this one.
+    pub(super) fn after(root: &'a Option<Arc<Tree<V>>>, key: &i64) -> Self
+        requires { IsTrue (is_sorted int_cmp (entries_of_root root.now)) }
+        ensures { result ≡ entries_after key.now (entries_of_root root.now) }
+    {
+        MapIter {
+            root,
+            page: page_after(root, key),
         }
     }
 }

@@ -1,4 +1,4 @@
-use Rattle.std.proofs.Common.{rules, arith, ◌≡◌, ◌<◌, get_or, sym, ap, ◌∙◌, false}
+use Rattle.std.proofs.Common.{arith, ◌≡◌, sym, ap, ◌∙◌, false}
 use Rattle.std.specs.Ordering.{int_cmp, is_lt}
 use Rattle.tt_pages.specs.MapTree.{branch_depth}
 use Rattle.tt_pages.proofs.MapBranchLemmas.{is_branch_for, is_first_for}
