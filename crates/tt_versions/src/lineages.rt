@@ -16,7 +16,6 @@ use crate::side::Side;
 use crate::taking::{put_value, take_value};
 use std::alloc::{AllocError, Global};
 use std::marker::Model;
-use std::mem;
 use tt_pages::{MapIter, PagedMap};
 use tt_values::{Equal, Row};
 
@@ -124,7 +123,7 @@ impl Lineages {
         } = self;
         let (mut lineage, is_there) = take_lineage(alloc, &mut entries, key)?;
         let write = RowWrite { side, row, time };
-        list_row(alloc, &mut index, &lineage, key, &write)?;
+        list_row(&mut index, &lineage, key, &write)?;
         lineage.write(write)?;
         let taken = TakenLineage { lineage, is_there };
         with_lineage(alloc, entries, split_keys, index, key, taken)
@@ -247,12 +246,12 @@ fn write_row(
 {
     match entries.get(key) {
         Some(lineage) => {
-            list_row(alloc, index, lineage, key, &write)?;
+            list_row(index, lineage, key, &write)?;
             entries.change(key, write)
         }
         None => {
             let mut lineage = Lineage::new(alloc);
-            list_row(alloc, index, &lineage, key, &write)?;
+            list_row(index, &lineage, key, &write)?;
             lineage.write(write)?;
             entries.put(key, lineage)
         }
@@ -275,9 +274,9 @@ fn take_lineage(
     Ok((lineage, is_there))
 }
 
-/// Lists the row of a write in the index, if there is one. The lineage is the one that is to get it.
+/// Lists the row of a write in the index, if there is one. The lineage is the one that is to get
+/// it.
 fn list_row(
-    alloc: Global,
     index: &mut Index,
     lineage: &Lineage,
     key: i64,
@@ -293,9 +292,7 @@ fn list_row(
     if is_listed(index, lineage, write.side, row, write.time) {
         return Ok(());
     }
-    let old = mem::replace(index, Index::new(alloc, Vec::new(alloc)));
-    *index = old.with_row(key, row)?;
-    Ok(())
+    index.add_row(key, row)
 }
 
 /// Whether an index that lists the versions of a row lists the new one too, since the one before it
