@@ -1,5 +1,5 @@
 -- The set under the digest gets the key.
-use Rattle.std.proofs.Common.{ℤ, [], None, Some, IsTrue, w64, is_some, sym, ap, subst, ◌∙◌, ◌≡◌, true}
+use Rattle.std.proofs.Common.{ℤ, [], IsTrue, w64, is_some, sym, ap, subst, ◌∙◌, ◌≡◌, true}
 use mir.Val.{to_z, of_z}
 use Rattle.std.proofs.lemmas.Int.{to_z-of_z}
 use Rattle.std.proofs.lemmas.Result.{on_ok_weaker}
@@ -7,7 +7,7 @@ use Rattle.std.specs.Ordering.{int_cmp}
 use Rattle.std.specs.FinMap.Entries.{put}
 use Rattle.std.specs.Option.{option_copied, unwrap_or}
 use Rattle.tt_versions.specs.Index.{KeySet, has_key, keys_under}
-use Rattle.tt_versions.proofs.IndexLemmas.{is_some-copied, GetsKey, gets-key}
+use Rattle.tt_versions.proofs.IndexLemmas.{is_some-copied, gets-key}
 use Rattle.tt_versions.proofs.indexed_column.add_key.Goals as goal
 
 pub returns-then-is_some-clause-lists : goal.returns-then-is_some-clause-lists
@@ -36,9 +36,9 @@ returns-else-is_some-clause-lists c =
     let there = sym c.get.ensures ∙ ap option_copied c.in-Some.is in
     on_ok_weaker c.change.result
     (λ changes.
-        let gets = gets-key digest key tt c.args.sets.now c.change.new.self c.in-Some.keys.now (ap (λ o. unwrap_or o []) there) (changes c.in-Some.keys.now there) in
-        subst (λ (k : ℤ). IsTrue (has_key (keys_under c.args.digest c.change.new.self) k)) (to_z-of_z w64 c.args.key c.ranges.key)
-        (subst (λ (d : ℤ). IsTrue (has_key (keys_under d c.change.new.self) key)) (to_z-of_z w64 c.args.digest c.ranges.digest) gets.lists))
+    let gets = gets-key digest key tt c.args.sets.now c.change.new.self c.in-Some.keys.now (ap (λ o. unwrap_or o []) there) (changes c.in-Some.keys.now there) in
+    subst (λ (k : ℤ). IsTrue (has_key (keys_under c.args.digest c.change.new.self) k)) (to_z-of_z w64 c.args.key c.ranges.key)
+    (subst (λ (d : ℤ). IsTrue (has_key (keys_under d c.change.new.self) key)) (to_z-of_z w64 c.args.digest c.ranges.digest) gets.lists))
     c.change.ensures.ok
 
 pub returns-in_ok-put-in-None-clause-keeps : goal.returns-in_ok-put-in-None-clause-keeps
@@ -57,7 +57,7 @@ returns-in_ok-put-in-None-clause-lists c =
     let none = ap (λ o. unwrap_or o []) (sym c.get.ensures ∙ ap option_copied c.in-None.is) in
     on_ok_weaker c.put-in-None.result
     (λ is.
-        let gets = gets-key digest key tt c.args.sets.now c.put-in-None.new.self c.new-keys.result (none ∙ sym c.new-keys.ensures) (is ∙ ap (λ (ks : KeySet). put int_cmp digest ks c.args.sets.now) c.in_ok-put-in-None.ensures.ok) in
-        subst (λ (k : ℤ). IsTrue (has_key (keys_under c.args.digest c.put-in-None.new.self) k)) (to_z-of_z w64 c.args.key c.ranges.key)
-        (subst (λ (d : ℤ). IsTrue (has_key (keys_under d c.put-in-None.new.self) key)) (to_z-of_z w64 c.args.digest c.ranges.digest) gets.lists))
+    let gets = gets-key digest key tt c.args.sets.now c.put-in-None.new.self c.new-keys.result (none ∙ sym c.new-keys.ensures) (is ∙ ap (λ (ks : KeySet). put int_cmp digest ks c.args.sets.now) c.in_ok-put-in-None.ensures.ok) in
+    subst (λ (k : ℤ). IsTrue (has_key (keys_under c.args.digest c.put-in-None.new.self) k)) (to_z-of_z w64 c.args.key c.ranges.key)
+    (subst (λ (d : ℤ). IsTrue (has_key (keys_under d c.put-in-None.new.self) key)) (to_z-of_z w64 c.args.digest c.ranges.digest) gets.lists))
     c.put-in-None.ensures.ok
