@@ -14,6 +14,7 @@ ghost use Rattle.tt_generations.specs.TwoGenerations.{no_slots, with_action, wit
 ghost use Rattle.tt_generations.specs.Generations.{phase_of, AreGenerations};
 
 use crate::action_run::ActionRun;
+use crate::boxed_repair::BoxedRepair;
 use crate::effect::copies_of;
 use crate::progress::Progress;
 use crate::repair::Repair;
@@ -46,7 +47,7 @@ struct State {
     catalog: Shared<Catalog>,
     slots: PagedLog<KeptSlot>,
     rows: Rows,
-    repair: Option<Repair>,
+    repair: Option<BoxedRepair>,
 }
 
 // Written out, so that each place that lets one go calls one function.
@@ -245,7 +246,7 @@ impl Generations {
     {
         let Generations { mut state } = self;
         let repair = Repair::new(state.alloc, &state.catalog, edits, &state.slots)?;
-        state.repair = Some(repair);
+        state.repair = Some(BoxedRepair::new(state.alloc, repair)?);
         Ok(Generations { state })
     }
 
@@ -291,7 +292,7 @@ impl State {
         let catalog = self.catalog.clone()?;
         let slots = self.slots.share()?;
         let rows = self.rows.share()?;
-        let repair = shared_repair(&self.repair)?;
+        let repair = shared_repair(self.alloc, &self.repair)?;
         Ok(State {
             alloc: self.alloc,
             catalog,
@@ -375,12 +376,15 @@ impl State {
 }
 
 /// A further owner of a repair, if there is one.
-fn shared_repair(repair: &Option<Repair>) -> Result<Option<Repair>, AllocError>
+fn shared_repair(
+    alloc: Global,
+    repair: &Option<BoxedRepair>,
+) -> Result<Option<BoxedRepair>, AllocError>
     ensures { IfOk result (λ r. r ≡ repair.now) }
 {
     match repair {
         Some(repair) => {
-            let repair = repair.share()?;
+            let repair = repair.share(alloc)?;
             Ok(Some(repair))
         }
         None => Ok(None),
@@ -388,7 +392,7 @@ fn shared_repair(repair: &Option<Repair>) -> Result<Option<Repair>, AllocError>
 }
 
 /// Adds a slot to the repair, if there is one.
-fn add_to_repair(repair: &mut Option<Repair>, kept: &KeptSlot) -> Result<(), AllocError>
+fn add_to_repair(repair: &mut Option<BoxedRepair>, kept: &KeptSlot) -> Result<(), AllocError>
     ensures { OnOk result (repair.new ≡ repair_with_slot kept.now repair.old) }
 {
     match repair {
@@ -398,11 +402,11 @@ fn add_to_repair(repair: &mut Option<Repair>, kept: &KeptSlot) -> Result<(), All
 }
 
 /// The slots of the next generation, or those of the current one where there is no repair.
-fn next_slots(repair: Option<Repair>, slots: PagedLog<KeptSlot>) -> PagedLog<KeptSlot>
+fn next_slots(repair: Option<BoxedRepair>, slots: PagedLog<KeptSlot>) -> PagedLog<KeptSlot>
     ensures { result ≡ next_slots repair slots }
 {
     match repair {
-        Some(repair) => repair.into_slots(),
+        Some(repair) => repair.into_inner().into_slots(),
         None => slots,
     }
 }

@@ -4,6 +4,7 @@
 
 mod action_run;
 mod affected;
+mod boxed_repair;
 mod edits;
 mod effect;
 mod generations;

@@ -1,5 +1,5 @@
 -- What an index lists, as it grows, and what a search of it finds.
-use Rattle.std.proofs.Common.{◌≡◌, ℕ, zero, suc, ◌+◌, ◌<◌, ◌≤◌, ◌==◌, ◌⊎◌, ℤ, Bool, true, false, cond, List, [], ◌∷◌, ◌++◌, length, filter, fold, slice_get, slice_index_or, take, drop, Option, None, Some, IsTrue, IfSome, IfNone, is_some, nat_le, nat_lt, refl, sym, ap, subst, ◌∙◌, arith, inl, inr}
+use Rattle.std.proofs.Common.{◌≡◌, ℕ, zero, suc, ◌+◌, ◌<◌, ◌≤◌, ◌==◌, ◌⊎◌, ℤ, Bool, true, false, cond, List, [], ◌∷◌, ◌++◌, length, filter, fold, slice_get, slice_set, slice_index_or, take, drop, Option, None, Some, IsTrue, IfSome, IfNone, is_some, nat_le, nat_lt, refl, sym, ap, subst, ◌∙◌, arith, inl, inr}
 use Rattle.std.proofs.lemmas.Bool.Decides.{Decides-int_eq}
 use Rattle.std.proofs.lemmas.Grind.{common_steps}
 use Rattle.std.proofs.lemmas.Option.{slice_get-get_or}
@@ -50,7 +50,7 @@ keys_under-put sets digest keys d = ap (λ o. unwrap_or o []) (sorted.find-put i
     by false = refl
 
 -- the set under one digest gets a key
-pub KeepsKeys-put : (sets : List (ℤ × KeySet)) (digest key : ℤ) (u : Unit {0}) → KeepsKeys sets (sorted.put int_cmp digest (sorted.put int_cmp key u (keys_under digest sets)) sets)
+KeepsKeys-put : (sets : List (ℤ × KeySet)) (digest key : ℤ) (u : Unit {0}) → KeepsKeys sets (sorted.put int_cmp digest (sorted.put int_cmp key u (keys_under digest sets)) sets)
 KeepsKeys-put sets digest key u d q h =
     ap (λ ks. has_key ks q) (keys_under-put sets digest (sorted.put int_cmp key u (keys_under digest sets)) d) ∙ by (int_eq d digest) refl
   where
@@ -58,7 +58,7 @@ KeepsKeys-put sets digest key u d q h =
     by true is = has_key-put (keys_under digest sets) key u q (subst (λ e. IsTrue (has_key (keys_under e sets) q)) (same_key d digest is) h)
     by false is = h
 
-pub has_key-under_put : (sets : List (ℤ × KeySet)) (digest key : ℤ) (u : Unit {0}) → IsTrue (has_key (keys_under digest (sorted.put int_cmp digest (sorted.put int_cmp key u (keys_under digest sets)) sets)) key)
+has_key-under_put : (sets : List (ℤ × KeySet)) (digest key : ℤ) (u : Unit {0}) → IsTrue (has_key (keys_under digest (sorted.put int_cmp digest (sorted.put int_cmp key u (keys_under digest sets)) sets)) key)
 has_key-under_put sets digest key u =
     ap (λ ks. has_key ks key) (keys_under-put sets digest (sorted.put int_cmp key u (keys_under digest sets)) digest
     ∙ ap (λ b. cond b (sorted.put int_cmp key u (keys_under digest sets)) (keys_under digest sets)) ((Decides-int_eq digest digest).1 refl))
@@ -68,12 +68,18 @@ pub is_some-copied : {X : Type 0} (o : Option (Bor X)) → is_some o ≡ is_some
 is_some-copied None = refl
 is_some-copied (Some x) = refl
 
--- the sets once one was taken out, changed and put back
-pub sets-changed : (digest key : ℤ) (u : Unit {0}) (sets left after : List (ℤ × KeySet)) (keys more empty : KeySet) → empty ≡ [] → keys ≡ unwrap_or (sorted.find int_cmp digest sets) empty
-    → more ≡ sorted.put int_cmp key u keys → ((ks : KeySet) → sorted.put int_cmp digest ks left ≡ sorted.put int_cmp digest ks sets) → after ≡ sorted.put int_cmp digest more left
-    → after ≡ sorted.put int_cmp digest (sorted.put int_cmp key u (keys_under digest sets)) sets
-sets-changed digest key u sets left after keys more empty none taken grown others is =
-    is ∙ others more ∙ ap (λ ks. sorted.put int_cmp digest ks sets) (grown ∙ ap (sorted.put int_cmp key u) (taken ∙ ap (unwrap_or (sorted.find int_cmp digest sets)) none))
+-- sets of which one got a key have it, and all keys that they had
+pub record GetsKey (digest key : ℤ) (before after : List (ℤ × KeySet)) : Type 0 where
+  pub keeps : KeepsKeys before after
+  pub lists : IsTrue (has_key (keys_under digest after) key)
+
+pub gets-key : (digest key : ℤ) (u : Unit {0}) (before after : List (ℤ × KeySet)) (keys : KeySet) → keys_under digest before ≡ keys → after ≡ sorted.put int_cmp digest (sorted.put int_cmp key u keys) before → GetsKey digest key before after
+gets-key digest key u before after keys had is =
+    let put = is ∙ ap (λ ks. sorted.put int_cmp digest (sorted.put int_cmp key u ks) before) (sym had) in
+    record {
+      keeps = subst (λ sets. KeepsKeys before sets) (sym put) (KeepsKeys-put before digest key u);
+      lists = subst (λ sets. IsTrue (has_key (keys_under digest sets) key)) (sym put) (has_key-under_put before digest key u);
+    }
 
 -- ---- columns
 
@@ -81,22 +87,27 @@ pub IfSome-map : {X : Type 0} (o : Option X) (P Q : X → Type 0) → ((x : X) �
 IfSome-map None P Q f h = tt
 IfSome-map (Some x) P Q f h = f x h
 
-pub ColumnLists-keeps : (c d : IndexedColumn) (key : ℤ) (row : Row) → d.position ≡ c.position → KeepsKeys c.sets d.sets → ColumnLists c key row → ColumnLists d key row
+ColumnLists-keeps : (c d : IndexedColumn) (key : ℤ) (row : Row) → d.position ≡ c.position → KeepsKeys c.sets d.sets → ColumnLists c key row → ColumnLists d key row
 ColumnLists-keeps c d key row same keeps h =
     subst (λ p. IfSome (slice_get row.values p) (λ v. IsTrue (has_key (keys_under (digest_of v) d.sets) key))) (sym same)
     (IfSome-map (slice_get row.values c.position) (λ v. IsTrue (has_key (keys_under (digest_of v) c.sets) key)) (λ v. IsTrue (has_key (keys_under (digest_of v) d.sets) key)) (λ v. keeps (digest_of v) key) h)
 
-pub ColumnsList-front : (cs ds : List IndexedColumn) (key : ℤ) (row : Row) → ColumnsList (cs ++ ds) key row → ColumnsList cs key row
-ColumnsList-front [] ds key row h = tt
-ColumnsList-front (c ∷ cs) ds key row h = (h.0, ColumnsList-front cs ds key row h.1)
+-- one column lists more rows
+pub ColumnsList-set : (cs : List IndexedColumn) (n : ℕ) (c d : IndexedColumn) (key : ℤ) (row : Row) → slice_get cs n ≡ Some c → d.position ≡ c.position → KeepsKeys c.sets d.sets → ColumnsList cs key row → ColumnsList (slice_set cs n d) key row
+ColumnsList-set [] n c d key row there same keeps h = tt
+ColumnsList-set (b ∷ cs) zero c d key row there same keeps h = let is : b ≡ c = cc in (ColumnLists-keeps c d key row same keeps (subst (λ x. ColumnLists x key row) is h.0), h.1)
+ColumnsList-set (b ∷ cs) (suc n) c d key row there same keeps h = (h.0, ColumnsList-set cs n c d key row there same keeps h.1)
 
-pub ColumnsList-last : (cs : List IndexedColumn) (c : IndexedColumn) (key : ℤ) (row : Row) → ColumnsList (cs ++ c ∷ []) key row → ColumnLists c key row
-ColumnsList-last [] c key row h = h.0
-ColumnsList-last (d ∷ cs) c key row h = ColumnsList-last cs c key row h.1
+ColumnsList-set_suc : (cs : List IndexedColumn) (n : ℕ) (c d : IndexedColumn) (key : ℤ) (row : Row) → slice_get cs n ≡ Some c → ColumnsList (take n cs) key row → ColumnLists d key row → ColumnsList (take (suc n) (slice_set cs n d)) key row
+ColumnsList-set_suc [] n c d key row there h last = cc
+ColumnsList-set_suc (b ∷ cs) zero c d key row there h last = (last, tt)
+ColumnsList-set_suc (b ∷ cs) (suc n) c d key row there h last = (h.0, ColumnsList-set_suc cs n c d key row there h.1 last)
 
-pub ColumnsList-push : (cs : List IndexedColumn) (c : IndexedColumn) (key : ℤ) (row : Row) → ColumnsList cs key row → ColumnLists c key row → ColumnsList (cs ++ c ∷ []) key row
-ColumnsList-push [] c key row h last = (last, tt)
-ColumnsList-push (d ∷ cs) c key row h last = (h.0, ColumnsList-push cs c key row h.1 last)
+-- the columns up to one that lists the row now
+pub ColumnsList-set_take : (cs : List IndexedColumn) (n : ℕ) (c d : IndexedColumn) (key : ℤ) (row : Row) → slice_get cs n ≡ Some c → ColumnsList (take n cs) key row → ColumnLists d key row → ColumnsList (take (n + 1) (slice_set cs n d)) key row
+ColumnsList-set_take cs n c d key row there h last =
+    let next : suc n ≡ n + 1 = omega arith in
+    subst (λ m. ColumnsList (take m (slice_set cs n d)) key row) next (ColumnsList-set_suc cs n c d key row there h last)
 
 pub ColumnsList-at : (cs : List IndexedColumn) (n : ℕ) (c : IndexedColumn) (key : ℤ) (row : Row) → slice_get cs n ≡ Some c → ColumnsList cs key row → ColumnLists c key row
 ColumnsList-at [] n c key row there h = cc

@@ -1,4 +1,4 @@
-ghost use Rattle.std.specs.Prelude.{◌≡◌, ℤ, ◌⊎◌, IsTrue, IfOk, IfSome, IfNone, Some, slice_get};
+ghost use Rattle.std.specs.Prelude.{◌≡◌, ℤ, ◌⊎◌, IsTrue, IfOk, OnOk, IfSome, IfNone, Some, slice_get};
 ghost use Rattle.std.specs.Option.{option_copied};
 ghost use Rattle.tt_values.specs.Row.{first_int};
 ghost use Rattle.tt_values.specs.Matches.{holds};
@@ -62,22 +62,14 @@ impl Index {
         })
     }
 
-    /// The index, once it lists the row too.
-    pub(crate) fn with_row(self, key: i64, row: &Row) -> Result<Index, AllocError>
-        ensures keeps { IfOk result (KeepsRows self) }
-        ensures lists { IfOk result (λ i. ListsRow i key row.now) }
+    /// Lists the row too. Without memory nothing is promised of the index.
+    pub(crate) fn add_row(&mut self, key: i64, row: &Row) -> Result<(), AllocError>
+        ensures keeps { OnOk result (KeepsRows self.old self.new) }
+        ensures lists { OnOk result (ListsRow self.new key row.now) }
     {
-        if self.has_row(key, row) {
-            return Ok(self);
-        }
-        self.with_new_row(key, row)
-    }
-
-    /// Whether it lists the row already.
-    fn has_row(&self, key: i64, row: &Row) -> bool
-        ensures { IsTrue result → ListsRow self.now key row.now }
-    {
-        columns_have_row(&self.columns, key, row) && (!self.is_keyed || begins_with(row, key))
+        add_to_columns(self.alloc, &mut self.columns, key, row)?;
+        self.is_keyed = self.is_keyed && begins_with(row, key);
+        Ok(())
     }
 
     /// Whether both rows have the same values in the columns of the index, and the same first value
@@ -87,26 +79,6 @@ impl Index {
             → ListsRow self.now key new.now) }
     {
         (!self.is_keyed || same_value(0, old, new)) && same_values(&self.columns, old, new)
-    }
-
-    fn with_new_row(self, key: i64, row: &Row) -> Result<Index, AllocError>
-        ensures keeps { IfOk result (KeepsRows self) }
-        ensures lists { IfOk result (λ i. ListsRow i key row.now) }
-    {
-        let Index {
-            alloc,
-            columns,
-            is_keyed,
-            empty,
-        } = self;
-        let columns = columns_with_row(alloc, columns, key, row)?;
-        let is_keyed = is_keyed && begins_with(row, key);
-        Ok(Index {
-            alloc,
-            columns,
-            is_keyed,
-            empty,
-        })
     }
 
     /// The one key that matching rows can have, if the equalities say one.
@@ -173,18 +145,6 @@ fn smaller<'a>(first: Option<&'a KeySet>, second: Option<&'a KeySet>) -> Option<
     }
 }
 
-/// Whether each column lists the row.
-fn columns_have_row(columns: &[IndexedColumn], key: i64, row: &Row) -> bool
-    ensures { IsTrue result → ColumnsList columns.now key row.now }
-{
-    for column in columns {
-        if !column.has_row(key, row) {
-            return false;
-        }
-    }
-    true
-}
-
 /// Whether both rows have the same values in these columns.
 fn same_values(columns: &[IndexedColumn], old: &Row, new: &Row) -> bool
     ensures { IsTrue result → ((key : ℤ) → ColumnsList columns.now key old.now
@@ -213,23 +173,21 @@ fn same_value(position: u16, old: &Row, new: &Row) -> bool
     old.is_same(new)
 }
 
-/// The columns, once each lists the row too.
-fn columns_with_row(
+/// Each column lists the row too.
+fn add_to_columns(
     alloc: Global,
-    columns: Vec<IndexedColumn>,
+    columns: &mut Vec<IndexedColumn>,
     key: i64,
     row: &Row,
-) -> Result<Vec<IndexedColumn>, AllocError>
-    ensures keeps { IfOk result (λ cs. (q : ℤ) (r : Row)
-        → ColumnsList columns.items q r → ColumnsList cs.items q r) }
-    ensures lists { IfOk result (λ cs. ColumnsList cs.items key row.now) }
+) -> Result<(), AllocError>
+    ensures keeps { OnOk result ((q : ℤ) (r : Row)
+        → ColumnsList columns.old.items q r → ColumnsList columns.new.items q r) }
+    ensures lists { OnOk result (ColumnsList columns.new.items key row.now) }
 {
-    let mut next = Vec::with_capacity(alloc, columns.len())?;
-    for column in columns {
-        let listed = column.with_row(alloc, key, row)?;
-        next.push(listed)?;
+    for column in columns.iter_mut() {
+        column.add_row(alloc, key, row)?;
     }
-    Ok(next)
+    Ok(())
 }
 
 /// Whether the first value of a row is this key.

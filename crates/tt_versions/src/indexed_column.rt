@@ -3,9 +3,8 @@ ghost use Rattle.std.specs.Ordering.{int_cmp};
 ghost use Rattle.std.specs.FinMap.Entries.{put};
 ghost use Rattle.tt_versions.specs.Index.{has_key, keys_under, KeepsKeys, ColumnLists};
 
-use crate::taking::{put_value, take_value};
 use std::alloc::{AllocError, Global};
-use tt_pages::PagedMap;
+use tt_pages::{Modify, PagedMap};
 use tt_values::{Row, digest};
 
 /// A set of keys.
@@ -40,32 +39,16 @@ impl IndexedColumn {
         })
     }
 
-    /// Whether it lists the row.
-    pub(crate) fn has_row(&self, key: i64, row: &Row) -> bool
-        ensures { IsTrue result → ColumnLists self.now key row.now }
+    /// Lists the row too. Without memory nothing is promised of the column.
+    pub(crate) fn add_row(&mut self, alloc: Global, key: i64, row: &Row) -> Result<(), AllocError>
+        ensures position { self.new.position ≡ self.old.position }
+        ensures keeps { OnOk result (KeepsKeys self.old.sets self.new.sets) }
+        ensures lists { OnOk result (ColumnLists self.new key row.now) }
     {
         match row.values.get(usize::from(self.position)) {
-            Some(value) => has_key_under(&self.sets, digest(value), key),
-            None => true,
+            Some(value) => add_key(alloc, &mut self.sets, digest(value), key),
+            None => Ok(()),
         }
-    }
-
-    /// The column, once it lists the row too.
-    pub(crate) fn with_row(
-        self,
-        alloc: Global,
-        key: i64,
-        row: &Row,
-    ) -> Result<IndexedColumn, AllocError>
-        ensures position { IfOk result (λ c. c.position ≡ self.position) }
-        ensures keeps { IfOk result (λ c. KeepsKeys self.sets c.sets) }
-        ensures lists { IfOk result (λ c. ColumnLists c key row.now) }
-    {
-        let IndexedColumn { position, mut sets } = self;
-        if let Some(value) = row.values.get(usize::from(position)) {
-            add_key(alloc, &mut sets, digest(value), key)?;
-        }
-        Ok(IndexedColumn { position, sets })
     }
 
     /// The keys under a digest, or the empty set.
@@ -80,7 +63,21 @@ impl IndexedColumn {
     }
 }
 
-/// Puts a key into the set under a digest.
+/// A set of keys gets one more.
+#[derive(Drop)]
+struct KeyPut {
+    key: i64,
+}
+
+impl Modify<KeySet> for KeyPut {
+    ghost after = { λ change. put int_cmp change.key tt };
+
+    fn apply(self, keys: &mut KeySet) -> Result<(), AllocError> {
+        keys.put(self.key, ())
+    }
+}
+
+/// Puts a key into the set under a digest, where it isn't there yet.
 fn add_key(
     alloc: Global,
     sets: &mut PagedMap<KeySet>,
@@ -90,20 +87,17 @@ fn add_key(
     ensures keeps { OnOk result (KeepsKeys sets.old sets.new) }
     ensures lists { OnOk result (IsTrue (has_key (keys_under digest sets.new) key)) }
 {
-    if has_key_under(sets, digest, key) {
-        return Ok(());
-    }
-    let (mut keys, is_there) = take_value(sets, digest, PagedMap::new(alloc))?;
-    keys.put(key, ())?;
-    put_value(sets, digest, keys, is_there)?;
-    Ok(())
-}
-
-fn has_key_under(sets: &PagedMap<KeySet>, digest: i64, key: i64) -> bool
-    ensures { result ≡ has_key (keys_under digest sets.now) key }
-{
     match sets.get(digest) {
-        Some(keys) => keys.get(key).is_some(),
-        None => false,
+        Some(keys) => {
+            if keys.get(key).is_some() {
+                return Ok(());
+            }
+            sets.change(digest, KeyPut { key })
+        }
+        None => {
+            let mut keys = PagedMap::new(alloc);
+            keys.put(key, ())?;
+            sets.put(digest, keys)
+        }
     }
 }

@@ -13,6 +13,7 @@ mod pace;
 mod persistent;
 mod row_write;
 mod side;
+mod split_back;
 mod table;
 mod taking;
 mod version;

@@ -113,17 +113,15 @@ impl Lineage {
         Ok(())
     }
 
-    /// The row gets a next side of its own, rolled back to before the time.
-    pub(crate) fn split_back(self, time: u64) -> Result<Lineage, AllocError>
-        ensures { IfOk result (λ l. l ≡ split_back time self) }
+    /// The row gets a next side of its own, rolled back to before the time. Without memory the
+    /// lineage may be any.
+    pub(crate) fn split_back(&mut self, time: u64) -> Result<(), AllocError>
+        ensures { OnOk result (self.new ≡ split_back time self.old) }
     {
         let mut next = self.next_chain().share()?;
         next.drop_writes_from(time)?;
-        let next = NextChain::new(self.current.allocator(), next)?;
-        Ok(Lineage {
-            current: self.current,
-            next: Some(next),
-        })
+        self.next = Some(NextChain::new(self.current.allocator(), next)?);
+        Ok(())
     }
 
     /// Both sides share the chain that this one shows.

@@ -4,7 +4,7 @@ ghost use Rattle.std.specs.Option.{option_copied};
 ghost use Rattle.std.specs.Ordering.{int_cmp};
 ghost use Rattle.std.specs.FinMap.Entries.{find, put, is_sorted};
 ghost use Rattle.tt_versions.specs.declared.lineage.Lineage.{Lineage};
-ghost use Rattle.tt_versions.specs.Lineage.{with_write_on};
+ghost use Rattle.tt_versions.specs.Lineage.{with_write_on, split_back};
 ghost use Rattle.tt_versions.specs.Index.{IsStored, ListsRow, KeepsRows, LineageHas, ListsTableBut, HaveKey, HaveKeysIn};
 ghost use Rattle.tt_versions.specs.Sides.{lineage_at, is_split, with_writes, StaysSplit, HasSplitKeysBut, MarksKey, UnsplitsKeys, UnsplitsRow};
 
@@ -13,10 +13,10 @@ use crate::indexed_column::{IndexedColumn, KeySet};
 use crate::lineage::Lineage;
 use crate::row_write::RowWrite;
 use crate::side::Side;
+use crate::split_back::SplitBack;
 use crate::taking::{put_value, take_value};
 use std::alloc::{AllocError, Global};
 use std::marker::Model;
-use std::mem;
 use tt_pages::{MapIter, PagedMap};
 use tt_values::{Equal, Row};
 
@@ -42,7 +42,6 @@ impl Model for Lineages {
 }
 
 impl Lineages {
-    ghost use Rattle.tt_versions.specs.Lineage.{split_back};
     ghost use Rattle.tt_versions.specs.Sides.{UnsplitsRows};
 
     /// No lineages, which are to be found by their keys and by their values in these columns.
@@ -124,7 +123,7 @@ impl Lineages {
         } = self;
         let (mut lineage, is_there) = take_lineage(alloc, &mut entries, key)?;
         let write = RowWrite { side, row, time };
-        list_row(alloc, &mut index, &lineage, key, &write)?;
+        list_row(&mut index, &lineage, key, &write)?;
         lineage.write(write)?;
         let taken = TakenLineage { lineage, is_there };
         with_lineage(alloc, entries, split_keys, index, key, taken)
@@ -172,13 +171,17 @@ impl Lineages {
         let Lineages {
             alloc,
             mut entries,
-            split_keys,
+            mut split_keys,
             index,
         } = self;
-        let (lineage, is_there) = take_lineage(alloc, &mut entries, key)?;
-        let lineage = lineage.split_back(time)?;
-        let taken = TakenLineage { lineage, is_there };
-        with_lineage(alloc, entries, split_keys, index, key, taken)
+        mark(&mut split_keys, key, true)?;
+        split_entry(alloc, &mut entries, key, time)?;
+        Ok(Lineages {
+            alloc,
+            entries,
+            split_keys,
+            index,
+        })
     }
 
     /// Each lineage is unsplit: both sides show what this one shows.
@@ -247,12 +250,12 @@ fn write_row(
 {
     match entries.get(key) {
         Some(lineage) => {
-            list_row(alloc, index, lineage, key, &write)?;
+            list_row(index, lineage, key, &write)?;
             entries.change(key, write)
         }
         None => {
             let mut lineage = Lineage::new(alloc);
-            list_row(alloc, index, &lineage, key, &write)?;
+            list_row(index, &lineage, key, &write)?;
             lineage.write(write)?;
             entries.put(key, lineage)
         }
@@ -275,9 +278,9 @@ fn take_lineage(
     Ok((lineage, is_there))
 }
 
-/// Lists the row of a write in the index, if there is one. The lineage is the one that is to get it.
+/// Lists the row of a write in the index, if there is one. The lineage is the one that is to get
+/// it.
 fn list_row(
-    alloc: Global,
     index: &mut Index,
     lineage: &Lineage,
     key: i64,
@@ -293,9 +296,7 @@ fn list_row(
     if is_listed(index, lineage, write.side, row, write.time) {
         return Ok(());
     }
-    let old = mem::replace(index, Index::new(alloc, Vec::new(alloc)));
-    *index = old.with_row(key, row)?;
-    Ok(())
+    index.add_row(key, row)
 }
 
 /// Whether an index that lists the versions of a row lists the new one too, since the one before it
@@ -356,6 +357,26 @@ fn mark(keys: &mut KeySet, key: i64, is_member: bool) -> Result<(), AllocError>
         keys.remove(key)?;
     }
     Ok(())
+}
+
+/// The lineage at the key is split, and its next side is rolled back to before the time.
+fn split_entry(
+    alloc: Global,
+    entries: &mut PagedMap<Lineage>,
+    key: i64,
+    time: u64,
+) -> Result<(), AllocError>
+    ensures { OnOk result (entries.new
+        ≡ put int_cmp key (split_back time (lineage_at entries.old key)) entries.old) }
+{
+    match entries.get(key) {
+        Some(_) => entries.change(key, SplitBack { time }),
+        None => {
+            let mut lineage = Lineage::new(alloc);
+            lineage.split_back(time)?;
+            entries.put(key, lineage)
+        }
+    }
 }
 
 /// Both sides of the rows with these keys show what this one shows.

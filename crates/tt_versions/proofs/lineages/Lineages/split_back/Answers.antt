@@ -1,21 +1,21 @@
-use Rattle.std.proofs.Common.{w64, sym, ap, subst, ◌∙◌}
+-- The key is listed as split, and the index lists the row still.
+use Rattle.std.proofs.Common.{w64, refl, sym, subst}
 use mir.Val.{to_z, of_z}
-use Rattle.tt_versions.specs.declared.lineage.Lineage.{Lineage}
 use Rattle.tt_versions.specs.Lineage.{split_back}
-use Rattle.tt_versions.specs.Sides.{lineage_at}
-use Rattle.tt_versions.specs.Index.{ListsRow, LineageHas}
-use Rattle.tt_versions.proofs.UnsplitLemmas.{HasSplitKeysBut-taken}
-use Rattle.tt_versions.proofs.IndexLemmas.{ListsTableBut-taken, LineageHas-split_back}
+use Rattle.tt_versions.specs.Sides.{LineagesByKey, lineage_at}
+use Rattle.tt_versions.specs.Index.{ListsRow, IsStored}
+use Rattle.tt_versions.proofs.UnsplitLemmas.{HasSplitKeys-put}
+use Rattle.tt_versions.proofs.IndexLemmas.{ListsTableBut-taken, ListsTable-put, LineageHas-split_back}
 use Rattle.tt_versions.proofs.lineages.Lineages.split_back.Goals as goal
 
-pub with_lineage-requires : goal.with_lineage-requires
-with_lineage-requires c =
+pub invariant_of-result : goal.invariant_of-result
+invariant_of-result c =
     let before = c.self.inside in
+    let stored = c.self.invariant in
     let key = to_z w64 (of_z w64 c.args.key) in
-    record {
-      there = c.in_ok-lineage.ensures.there;
-      others = HasSplitKeysBut-taken key before.split_keys before.entries c.take_lineage.new.entries c.self.invariant.split c.in_ok-lineage.ensures.others;
-      listed_others = ListsTableBut-taken key before.index before.index before.entries c.take_lineage.new.entries c.self.invariant.listed (λ k row h. h) c.in_ok-lineage.ensures.others;
-      listed = subst (λ (l : Lineage). LineageHas (ListsRow before.index key) l) (sym (c.in_ok-lineage-2.ensures ∙ ap (split_back c.args.time) c.in_ok-lineage.ensures.lineage))
-          (LineageHas-split_back (ListsRow before.index key) c.args.time (lineage_at before.entries key) (c.self.invariant.listed key));
-    }
+    let lineage = split_back c.args.time (lineage_at before.entries key) in
+    subst (λ (t : LineagesByKey). IsStored c.mark.new.keys before.index t) (sym c.in_ok-split_entry.ensures) (record {
+      split = HasSplitKeys-put key before.split_keys c.mark.new.keys before.entries lineage (λ q _. stored.split q) c.in_ok-mark.ensures;
+      listed = ListsTable-put key before.index before.entries lineage (ListsTableBut-taken key before.index before.index before.entries before.entries stored.listed (λ k row h. h) (λ l. refl))
+          (LineageHas-split_back (ListsRow before.index key) c.args.time (lineage_at before.entries key) (stored.listed key));
+    })
