@@ -1,3 +1,4 @@
+pub mod Items
 pub mod Limits
 pub mod Faults
 pub mod Value

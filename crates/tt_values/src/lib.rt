@@ -12,6 +12,7 @@ mod digests;
 mod items;
 pub mod laws;
 mod matching;
+mod measured;
 mod naming;
 mod reply;
 mod row;
