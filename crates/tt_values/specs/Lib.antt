@@ -1,4 +1,5 @@
 pub mod Items
+pub mod Text
 pub mod Limits
 pub mod Faults
 pub mod Value
