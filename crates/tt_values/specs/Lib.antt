@@ -1,4 +1,5 @@
 pub mod Items
+pub mod Few
 pub mod Text
 pub mod Limits
 pub mod Faults
