@@ -116,7 +116,7 @@ impl<T: Drop> Items<T> {
 impl<T: Debug + Drop> Debug for Items<T> {
     fn fmt<W: fmt::Write>(&self, f: &mut Formatter<W>) -> fmt::Result {
         let items = self.as_slice();
-        Debug::fmt(&items, f)
+        f.debug_struct("Items").field("items", &items).finish()
     }
 }
 

@@ -137,7 +137,7 @@ impl Text {
 impl Debug for Text {
     fn fmt<W: fmt::Write>(&self, f: &mut Formatter<W>) -> fmt::Result {
         let text = self.as_str();
-        Debug::fmt(&text, f)
+        f.debug_struct("Text").field("text", &text).finish()
     }
 }
 
