@@ -126,15 +126,15 @@ CurrentAgrees-lists tables vs time table agree = record { sorted = rows_rise vs 
 -- tables that get the effect of a write, its reply, and the rows that it writes
 pub CarriesOut-write : (time table : ℕ) (w : Write) (before after : ActionRun) (pairs : List (ℤ × Option Row)) (reply : Reply)
     → table ≡ table_of w → IsEffect pairs w (current_of (versions_at before.rows table)) time → AddsEffect before.rows after.rows time table pairs
-    → ((rows : RowsByKey) → pairs ≡ effect_on w rows → reply ≡ reply_on w rows) → after.replies.items ≡ before.replies.items ++ reply ∷ []
-    → after.rows_written.items ≡ before.rows_written.items ++ rows_of_effect table pairs → CarriesOut time (w ∷ []) before after
+    → ((rows : RowsByKey) → pairs ≡ effect_on w rows → reply ≡ reply_on w rows) → after.replies ≡ before.replies ++ reply ∷ []
+    → after.rows_written ≡ before.rows_written ++ rows_of_effect table pairs → CarriesOut time (w ∷ []) before after
 CarriesOut-write time table w before after pairs reply on is adds answers replies written vs agree =
     let X = content_at vs time in
     let same : pairs ≡ effect w X = is (X (table_of w)) (subst (λ n. ListsRows (X (table_of w)) (current_of (versions_at before.rows n)) time) (sym on) (CurrentAgrees-lists before.rows vs time (table_of w) agree)) in
     record {
       rows = subst (CurrentAgrees after.rows) ((λ i. vs ++ as_row_writes time (on i) (same i)) ∙ ap (λ l. vs ++ l) (sym (append-nil (as_row_writes time (table_of w) (effect w X))))) (adds vs agree);
-      replies = replies ∙ ap (λ r. before.replies.items ++ r ∷ []) (answers (X (table_of w)) same);
-      rows_written = written ∙ (λ i. before.rows_written.items ++ rows_of_effect (on i) (same i)) ∙ ap (λ l. before.rows_written.items ++ l) (sym (append-nil (rows_of_write w X)));
+      replies = replies ∙ ap (λ r. before.replies ++ r ∷ []) (answers (X (table_of w)) same);
+      rows_written = written ∙ (λ i. before.rows_written ++ rows_of_effect (on i) (same i)) ∙ ap (λ l. before.rows_written ++ l) (sym (append-nil (rows_of_write w X)));
     }
 
 pub CarriesOut-next : (time : ℕ) (w : Write) (ws : List Write) (before between after : ActionRun)
@@ -150,21 +150,21 @@ CarriesOut-next time w ws before between after first rest vs agree =
     let written = as_row_writes time (table_of w) (effect w X) in
     record {
       rows = subst (CurrentAgrees after.rows) ((λ i. further ++ step_writes time ws (next i)) ∙ append_assoc vs (written ++ []) left ∙ ap (λ l. vs ++ (l ++ left)) (append-nil written)) more.rows;
-      replies = more.replies ∙ (λ i. one.replies i ++ replies_of ws (next i)) ∙ append_assoc before.replies.items _ _;
-      rows_written = more.rows_written ∙ (λ i. one.rows_written i ++ rows_of_action ws (next i)) ∙ append_assoc before.rows_written.items _ _
-          ∙ ap (λ l. before.rows_written.items ++ (l ++ later)) (append-nil (rows_of_write w X));
+      replies = more.replies ∙ (λ i. one.replies i ++ replies_of ws (next i)) ∙ append_assoc before.replies _ _;
+      rows_written = more.rows_written ∙ (λ i. one.rows_written i ++ rows_of_action ws (next i)) ∙ append_assoc before.rows_written _ _
+          ∙ ap (λ l. before.rows_written ++ (l ++ later)) (append-nil (rows_of_write w X));
     }
 
 -- without writes nothing is carried out
 pub CarriesOut-none : (time : ℕ) (run : ActionRun) → CarriesOut time [] run run
 CarriesOut-none time run vs agree = record {
   rows = subst (CurrentAgrees run.rows) (sym (append-nil vs)) agree;
-  replies = sym (append-nil run.replies.items);
-  rows_written = sym (append-nil run.rows_written.items);
+  replies = sym (append-nil run.replies);
+  rows_written = sym (append-nil run.rows_written);
 }
 
 -- an action begins with no replies and no rows that it wrote
-pub CarriesOutAction-start : (time : ℕ) (ws : List Write) (before after : ActionRun) → before.replies.items ≡ [] → before.rows_written.items ≡ []
+pub CarriesOutAction-start : (time : ℕ) (ws : List Write) (before after : ActionRun) → before.replies ≡ [] → before.rows_written ≡ []
     → CarriesOut time ws before after → CarriesOutAction time ws before.rows after
 CarriesOutAction-start time ws before after replies written all vs agree =
     let done = all vs agree in

@@ -82,8 +82,8 @@ shows-side t G table Next current next = next
 -- what an action that is carried out at the next time leaves, answers and writes
 pub record IsNextSlot (W : Slots) (action : List Write) (run : ActionRun) : Type 0 where
   pub rows : CurrentAgrees run.rows (row_writes (W ++ Some action ∷ []) (length (W ++ Some action ∷ [])))
-  pub replies : run.replies.items ≡ replies_of action (last_content W)
-  pub rows_written : run.rows_written.items ≡ rows_of_action action (last_content W)
+  pub replies : run.replies ≡ replies_of action (last_content W)
+  pub rows_written : run.rows_written ≡ rows_of_action action (last_content W)
 
 pub IsNextSlot-run : (W : Slots) (action : List Write) (before : TablesByPosition) (run : ActionRun) (time : ℕ) → CurrentAgrees before (row_writes W (length W)) → time ≡ length W + 1
     → CarriesOutAction time action before run → IsNextSlot W action run
@@ -117,8 +117,8 @@ pub record IsSlotOfRun (time : ℕ) (action : List Write) (before : TablesByPosi
   pub carries : CarriesOutAction time action before run
   pub keeps : KeepsSplitRows before run.rows
   pub is_action : k.slot.action ≡ Some action
-  pub replies : k.slot.replies ≡ Some run.replies.items
-  pub rows : k.rows ≡ run.rows_written.items
+  pub replies : k.slot.replies ≡ Some run.replies
+  pub rows : k.rows ≡ run.rows_written
 
 pub AreGenerations-action : (tables : Tables) (kept : List KeptSlot) (before : TablesByPosition) (repair : Option Repair) (action : List Write) (run : ActionRun) (k : KeptSlot) (time : ℕ)
     → AreGenerations tables kept before repair → action_fault tables action ≡ None → length kept < max_slots → time ≡ length kept + 1 → IsSlotOfRun time action before run k

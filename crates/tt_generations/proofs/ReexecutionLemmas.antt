@@ -206,8 +206,8 @@ pub record CarriesOutWrite (time : ℕ) (w : Write) (run after : Reexecution) : 
   pub splits : SplitsRows run.rows between (matched_rows w pairs) time
   pub writes : WritesNext between after.rows time table pairs
   pub answers : (rows : RowsByKey) → pairs ≡ effect_on w rows → reply ≡ reply_on w rows
-  pub replies : after.replies.items ≡ run.replies.items ++ reply ∷ []
-  pub written : after.rows_written.items ≡ run.rows_written.items ++ rows_of_effect table pairs
+  pub replies : after.replies ≡ run.replies ++ reply ∷ []
+  pub written : after.rows_written ≡ run.rows_written ++ rows_of_effect table pairs
   pub reexecuted : after.reexecuted.items ≡ run.reexecuted.items ++ matched_rows w pairs
 
 pub ReexecutesWrites-write : (time : ℕ) (w : Write) (run after : Reexecution) → CarriesOutWrite time w run after → ReexecutesWrites time (w ∷ []) run after
@@ -234,8 +234,8 @@ ReexecutesWrites-write time w run after one before Y written X under =
             with_rows_at-unwritten (table_of w) (effect w X) X t key (unwritten t key none) ∙ under.others t key (in_neither first further t key none).0;
       };
       reexecuted = all ∙ ap (λ rs. first ++ rs) (sym (append-nil further));
-      replies = one.replies ∙ ap (λ r. run.replies.items ++ r ∷ []) (one.answers (X (table_of w)) same);
-      rows_written = one.written ∙ (λ i. run.rows_written.items ++ rows_of_effect (one.on i) (same i)) ∙ ap (λ l. run.rows_written.items ++ l) (sym (append-nil (rows_of_write w X)));
+      replies = one.replies ∙ ap (λ r. run.replies ++ r ∷ []) (one.answers (X (table_of w)) same);
+      rows_written = one.written ∙ (λ i. run.rows_written ++ rows_of_effect (one.on i) (same i)) ∙ ap (λ l. run.rows_written ++ l) (sym (append-nil (rows_of_write w X)));
     }
 
 -- one write, and then further ones
@@ -249,9 +249,9 @@ ReexecutesWrites-next time w ws run between after first rest before Y written X 
       under_way = more.under_way;
       reexecuted = more.reexecuted ∙ ap (λ rs. rs ++ action_rows_matched ws next) one.reexecuted ∙ append_assoc run.reexecuted.items _ _
           ∙ ap (λ rs. run.reexecuted.items ++ (rs ++ action_rows_matched ws next)) (append-nil (rows_matched w X));
-      replies = more.replies ∙ ap (λ rs. rs ++ replies_of ws next) one.replies ∙ append_assoc run.replies.items _ _;
-      rows_written = more.rows_written ∙ ap (λ rs. rs ++ later) one.rows_written ∙ append_assoc run.rows_written.items _ _
-          ∙ ap (λ rs. run.rows_written.items ++ (rs ++ later)) (append-nil (rows_of_write w X));
+      replies = more.replies ∙ ap (λ rs. rs ++ replies_of ws next) one.replies ∙ append_assoc run.replies _ _;
+      rows_written = more.rows_written ∙ ap (λ rs. rs ++ later) one.rows_written ∙ append_assoc run.rows_written _ _
+          ∙ ap (λ rs. run.rows_written ++ (rs ++ later)) (append-nil (rows_of_write w X));
     }
 
 -- without writes nothing is carried out
@@ -259,8 +259,8 @@ pub ReexecutesWrites-none : (time : ℕ) (run : Reexecution) → ReexecutesWrite
 ReexecutesWrites-none time run before Y written X under = record {
   under_way = under;
   reexecuted = sym (append-nil run.reexecuted.items);
-  replies = sym (append-nil run.replies.items);
-  rows_written = sym (append-nil run.rows_written.items);
+  replies = sym (append-nil run.replies);
+  rows_written = sym (append-nil run.rows_written);
 }
 
 -- a slot begins with the rows that it wrote
@@ -276,7 +276,7 @@ IsUnderWay-start time written before run X reexecuted splits start = record {
 }
 
 pub Reexecutes-start : (time : ℕ) (written : List RowId) (ws : List Write) (before : TablesByPosition) (run after : Reexecution) → run.reexecuted.items ≡ written → SplitsRows before run.rows written time
-    → run.replies.items ≡ [] → run.rows_written.items ≡ [] → ReexecutesWrites time ws run after → Reexecutes time written ws before after
+    → run.replies ≡ [] → run.rows_written ≡ [] → ReexecutesWrites time ws run after → Reexecutes time written ws before after
 Reexecutes-start time written ws before run after reexecuted splits replies written_first all X start =
     let done = all before X written X (IsUnderWay-start time written before run X reexecuted splits start) in
     let rows = done.reexecuted ∙ ap (λ rs. rs ++ action_rows_matched ws X) reexecuted in

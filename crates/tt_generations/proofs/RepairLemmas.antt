@@ -281,7 +281,7 @@ shown-step before after versions rows n none table key first last time room cata
 -- ---- the next slot is re-executed
 
 pub ReexecutesSlot-done : (r after : Repair) (kept new : KeptSlot) (before : TablesByPosition) (run : Reexecution) → Reexecutes (r.done + 1) kept.rows (writes_of (next_action r kept)) before run
-    → new.slot.action ≡ next_action r kept → new.slot.replies ≡ replies_if (next_action r kept) run.replies.items → new.rows ≡ run.rows_written.items → after.slots ≡ slice_set r.slots r.done new
+    → new.slot.action ≡ next_action r kept → new.slot.replies ≡ replies_if (next_action r kept) run.replies → new.rows ≡ run.rows_written → after.slots ≡ slice_set r.slots r.done new
     → SameMembers after.dirty.dirty (with_rows_shown r.dirty run.rows run.reexecuted.items (r.done + 1)) → ReexecutesSlot r kept before after run.rows
 ReexecutesSlot-done r after kept new before run reexecutes action replies rows slots dirty X start =
     let next = next_action r kept in

@@ -18,8 +18,8 @@ step_writes time (w ∷ ws) X = as_row_writes time (table_of w) (effect w X) ++ 
 -- what writes leave, and what they answer, after they are carried out at a time on tables that have the rows of these row writes
 pub record HasCarriedOut (time : ℕ) (ws : List Write) (before after : ActionRun) (vs : List RowWrite) : Type 0 where
   pub rows : CurrentAgrees after.rows (vs ++ step_writes time ws (content_at vs time))
-  pub replies : after.replies.items ≡ before.replies.items ++ replies_of ws (content_at vs time)
-  pub rows_written : after.rows_written.items ≡ before.rows_written.items ++ rows_of_action ws (content_at vs time)
+  pub replies : after.replies ≡ before.replies ++ replies_of ws (content_at vs time)
+  pub rows_written : after.rows_written ≡ before.rows_written ++ rows_of_action ws (content_at vs time)
 
 -- writes are carried out at a time, for all row writes whose rows the tables before have
 abbrev pub CarriesOut : ℕ → List Write → ActionRun → ActionRun → Type 0
@@ -28,8 +28,8 @@ CarriesOut time ws before after = (vs : List RowWrite) → CurrentAgrees before.
 -- what writes leave, and what they answer, for a run that begins with these tables, before the first write
 pub record StartsAction (time : ℕ) (ws : List Write) (before : TablesByPosition) (after : ActionRun) (vs : List RowWrite) : Type 0 where
   pub rows : CurrentAgrees after.rows (vs ++ step_writes time ws (content_at vs time))
-  pub replies : after.replies.items ≡ replies_of ws (content_at vs time)
-  pub rows_written : after.rows_written.items ≡ rows_of_action ws (content_at vs time)
+  pub replies : after.replies ≡ replies_of ws (content_at vs time)
+  pub rows_written : after.rows_written ≡ rows_of_action ws (content_at vs time)
 
 -- an action is carried out at a time, for all row writes whose rows the tables before have
 abbrev pub CarriesOutAction : ℕ → List Write → TablesByPosition → ActionRun → Type 0

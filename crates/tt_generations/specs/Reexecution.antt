@@ -38,15 +38,15 @@ pub record IsUnderWay (before : TablesByPosition) (time : ℕ) (Y : Content) (wr
 pub record HasReexecutedWrites (before : TablesByPosition) (time : ℕ) (Y : Content) (written : List RowId) (ws : List Write) (run after : Reexecution) (X : Content) : Type 0 where
   pub under_way : IsUnderWay before time Y written after (content_after_action ws X)
   pub reexecuted : after.reexecuted.items ≡ run.reexecuted.items ++ action_rows_matched ws X
-  pub replies : after.replies.items ≡ run.replies.items ++ replies_of ws X
-  pub rows_written : after.rows_written.items ≡ run.rows_written.items ++ rows_of_action ws X
+  pub replies : after.replies ≡ run.replies ++ replies_of ws X
+  pub rows_written : after.rows_written ≡ run.rows_written ++ rows_of_action ws X
 
 -- further rows are split for a slot under re-execution
 pub record SplitsForRun (run after : Reexecution) (further : List RowId) (time : ℕ) : Type 0 where
   pub rows : SplitsRows run.rows after.rows further time
   pub reexecuted : after.reexecuted.items ≡ run.reexecuted.items ++ further
-  pub replies : after.replies.items ≡ run.replies.items
-  pub rows_written : after.rows_written.items ≡ run.rows_written.items
+  pub replies : after.replies ≡ run.replies
+  pub rows_written : after.rows_written ≡ run.rows_written
 
 -- further writes are carried out, on whatever content the slot began
 abbrev pub ReexecutesWrites : ℕ → List Write → Reexecution → Reexecution → Type 0
@@ -56,8 +56,8 @@ ReexecutesWrites time ws run after = (before : TablesByPosition) (Y : Content) (
 pub record HasReexecuted (time : ℕ) (written : List RowId) (ws : List Write) (before : TablesByPosition) (after : Reexecution) (X : Content) : Type 0 where
   pub rows : AreReexecuted before after.rows (written ++ action_rows_matched ws X) time (content_after_action ws X)
   pub reexecuted : after.reexecuted.items ≡ written ++ action_rows_matched ws X
-  pub replies : after.replies.items ≡ replies_of ws X
-  pub rows_written : after.rows_written.items ≡ rows_of_action ws X
+  pub replies : after.replies ≡ replies_of ws X
+  pub rows_written : after.rows_written ≡ rows_of_action ws X
 
 abbrev pub Reexecutes : ℕ → List RowId → List Write → TablesByPosition → Reexecution → Type 0
 Reexecutes time written ws before after = (X : Content) → ShowsContentBefore before time X written → HasReexecuted time written ws before after X

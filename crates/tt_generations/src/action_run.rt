@@ -10,7 +10,7 @@ use crate::effect::{add_rows, effect_of, reply_to};
 use crate::rows::Rows;
 use crate::slot::KeptSlot;
 use std::alloc::{AllocError, Global};
-use tt_values::{Catalog, Items, Reply, RowId, Write};
+use tt_values::{Catalog, Few, Items, Reply, RowId, Write};
 use tt_versions::Side;
 
 /// An action under way: the rows that its writes so far leave, their replies, and the rows that
@@ -18,8 +18,8 @@ use tt_versions::Side;
 #[derive(Drop)]
 pub(crate) struct ActionRun {
     pub(crate) rows: Rows,
-    pub(crate) replies: Vec<Reply>,
-    pub(crate) rows_written: Vec<RowId>,
+    pub(crate) replies: Few<Reply>,
+    pub(crate) rows_written: Few<RowId>,
 }
 
 impl ActionRun {
@@ -47,14 +47,15 @@ impl ActionRun {
     /// An action, before the first of its writes.
     fn new(alloc: Global, rows: Rows, writes: usize) -> Result<ActionRun, AllocError>
         ensures rows { IfOk result (λ run. run.rows ≡ rows) }
-        ensures replies { IfOk result (λ run. run.replies.items ≡ []) }
-        ensures rows_written { IfOk result (λ run. run.rows_written.items ≡ []) }
+        ensures replies { IfOk result (λ run. run.replies ≡ []) }
+        ensures rows_written { IfOk result (λ run. run.rows_written ≡ []) }
     {
-        let replies = Vec::with_capacity(alloc, writes)?;
+        let mut replies = Few::new(alloc);
+        replies.reserve(writes)?;
         Ok(ActionRun {
             rows,
             replies,
-            rows_written: Vec::new(alloc),
+            rows_written: Few::new(alloc),
         })
     }
 
@@ -84,19 +85,18 @@ impl ActionRun {
     /// are put back.
     pub(crate) fn into_slot(
         self,
-        alloc: Global,
         action: Items<Write>,
         rows: &mut Rows,
     ) -> Result<(KeptSlot, Items<Reply>), AllocError>
         ensures rows { rows.new ≡ self.rows }
         ensures action { IfOk result (λ r. r.0.slot.action ≡ Some action) }
-        ensures kept_replies { IfOk result (λ r. r.0.slot.replies ≡ Some self.replies.items) }
-        ensures rows_written { IfOk result (λ r. r.0.rows ≡ self.rows_written.items) }
-        ensures replies { IfOk result (λ r. r.1 ≡ self.replies.items) }
+        ensures kept_replies { IfOk result (λ r. r.0.slot.replies ≡ Some self.replies) }
+        ensures rows_written { IfOk result (λ r. r.0.rows ≡ self.rows_written) }
+        ensures replies { IfOk result (λ r. r.1 ≡ self.replies) }
     {
         *rows = self.rows;
-        let replies = Items::new(alloc, self.replies)?;
-        let kept = KeptSlot::new(alloc, Some(action), &replies, self.rows_written)?;
+        let replies = self.replies.into_items()?;
+        let kept = KeptSlot::new(Some(action), &replies, self.rows_written)?;
         Ok((kept, replies))
     }
 }

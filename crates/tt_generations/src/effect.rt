@@ -8,7 +8,7 @@ ghost use Rattle.tt_versions.specs.Sides.{side_of, rows_behind};
 ghost use Rattle.tt_generations.specs.Effect.{IsEffect, insert_effect, update_effect, delete_effect, rows_of_effect, matched_rows};
 
 use std::alloc::{AllocError, Global};
-use tt_values::{Change, Reply, Row, RowId, Write, changed};
+use tt_values::{Change, Few, Reply, Row, RowId, Write, changed};
 use tt_versions::{Side, Table};
 
 /// The effect of a write on a side of its table at a time: keys with the rows that they get, or
@@ -95,14 +95,14 @@ fn effect_of_delete(
 
 /// Adds the rows that an effect on a table writes.
 pub(crate) fn add_rows(
-    rows: &mut Vec<RowId>,
+    rows: &mut Few<RowId>,
     table: u16,
     effect: &[(i64, Option<Row>)],
 ) -> Result<(), AllocError>
-    ensures { OnOk result (rows.new.items ≡ rows.old.items ++ rows_of_effect table effect.now) }
+    ensures { OnOk result (rows.new ≡ rows.old ++ rows_of_effect table effect.now) }
 {
     // An action seldom has further writes, so no more room is taken than this one needs.
-    rows.reserve_exact(effect.len())?;
+    rows.reserve(effect.len())?;
     for (key, _) in effect {
         rows.push(RowId { table, key: *key })?;
     }
@@ -114,11 +114,11 @@ pub(crate) fn matched_rows(
     alloc: Global,
     write: &Write,
     effect: &[(i64, Option<Row>)],
-) -> Result<Vec<RowId>, AllocError>
+) -> Result<Few<RowId>, AllocError>
     requires { HasKey write.now }
-    ensures { IfOk result (λ rows. rows.items ≡ matched_rows write.now effect.now) }
+    ensures { IfOk result (λ rows. rows ≡ matched_rows write.now effect.now) }
 {
-    let mut rows = Vec::new(alloc);
+    let mut rows = Few::new(alloc);
     match write {
         Write::Insert { table, row } => rows.push(RowId {
             table: *table,

@@ -344,7 +344,7 @@ impl State {
         let rows = mem::replace(&mut self.rows, Rows::new(self.alloc));
         let catalog = self.catalog.get();
         let run = ActionRun::of_writes(self.alloc, catalog, rows, action.as_slice(), time)?;
-        let (kept, replies) = run.into_slot(self.alloc, action, &mut self.rows)?;
+        let (kept, replies) = run.into_slot(action, &mut self.rows)?;
         add_to_repair(&mut self.repair, &kept)?;
         self.slots.push(kept)?;
         Ok(replies)

@@ -13,7 +13,7 @@ use crate::effect::{add_rows, effect_of, matched_rows, reply_to};
 use crate::rows::Rows;
 use crate::slot::KeptSlot;
 use std::alloc::{AllocError, Global};
-use tt_values::{Catalog, Items, Reply, Row, RowId, Write};
+use tt_values::{Catalog, Few, Items, Reply, Row, RowId, Write};
 use tt_versions::Side;
 
 /// A slot under re-execution: the rows that it leaves so far, the replies to its writes, the rows
@@ -21,8 +21,8 @@ use tt_versions::Side;
 #[derive(Drop)]
 pub(crate) struct Reexecution {
     pub(crate) rows: Rows,
-    pub(crate) replies: Vec<Reply>,
-    pub(crate) rows_written: Vec<RowId>,
+    pub(crate) replies: Few<Reply>,
+    pub(crate) rows_written: Few<RowId>,
     pub(crate) reexecuted: Vec<RowId>,
 }
 
@@ -53,15 +53,16 @@ impl Reexecution {
     /// A slot, before its rows are rolled back.
     fn new(alloc: Global, rows: Rows, writes: usize) -> Result<Reexecution, AllocError>
         ensures rows { IfOk result (λ run. run.rows ≡ rows) }
-        ensures replies { IfOk result (λ run. run.replies.items ≡ []) }
-        ensures rows_written { IfOk result (λ run. run.rows_written.items ≡ []) }
+        ensures replies { IfOk result (λ run. run.replies ≡ []) }
+        ensures rows_written { IfOk result (λ run. run.rows_written ≡ []) }
         ensures reexecuted { IfOk result (λ run. run.reexecuted.items ≡ []) }
     {
-        let replies = Vec::with_capacity(alloc, writes)?;
+        let mut replies = Few::new(alloc);
+        replies.reserve(writes)?;
         Ok(Reexecution {
             rows,
             replies,
-            rows_written: Vec::new(alloc),
+            rows_written: Few::new(alloc),
             reexecuted: Vec::new(alloc),
         })
     }
@@ -101,7 +102,7 @@ impl Reexecution {
             (SplitsForRun self.old self.new (matched_rows write.now effect.now) time) }
     {
         let matched = matched_rows(alloc, write, effect)?;
-        self.split_rows(catalog, &matched, time)?;
+        self.split_rows(catalog, matched.as_slice(), time)?;
         Ok(())
     }
 
@@ -117,19 +118,18 @@ impl Reexecution {
     /// The slot, now with this action, once all its writes are carried out. The rows are put back.
     pub(crate) fn into_slot(
         self,
-        alloc: Global,
         action: Option<Items<Write>>,
         rows: &mut Rows,
     ) -> Result<KeptSlot, AllocError>
         ensures rows { rows.new ≡ self.rows }
         ensures action { IfOk result (λ kept. kept.slot.action ≡ action) }
         ensures replies { IfOk result
-            (λ kept. kept.slot.replies ≡ replies_if action self.replies.items) }
-        ensures rows_written { IfOk result (λ kept. kept.rows ≡ self.rows_written.items) }
+            (λ kept. kept.slot.replies ≡ replies_if action self.replies) }
+        ensures rows_written { IfOk result (λ kept. kept.rows ≡ self.rows_written) }
     {
         *rows = self.rows;
-        let replies = Items::new(alloc, self.replies)?;
-        let kept = KeptSlot::new(alloc, action, &replies, self.rows_written)?;
+        let replies = self.replies.into_items()?;
+        let kept = KeptSlot::new(action, &replies, self.rows_written)?;
         Ok(kept)
     }
 }

@@ -222,7 +222,7 @@ impl Repair {
         let taken = mem::replace(rows, Rows::new(alloc));
         let run = Reexecution::of_slot(alloc, catalog, taken, written, writes_of(&action), time)?;
         add_rows_shown(&mut self.dirty, &run.rows, &run.reexecuted, time)?;
-        let slot = run.into_slot(alloc, action, rows)?;
+        let slot = run.into_slot(action, rows)?;
         self.put_slot(slot)?;
         Ok(())
     }

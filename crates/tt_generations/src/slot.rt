@@ -1,9 +1,9 @@
 ghost use Rattle.std.specs.Prelude.{◌≡◌, IfOk};
 ghost use Rattle.tt_generations.specs.Replies.{replies_if};
 
-use std::alloc::{AllocError, Global};
+use std::alloc::AllocError;
 use tt_pages::Kept;
-use tt_values::{Items, Reply, RowId, Write};
+use tt_values::{Few, Items, Reply, RowId, Write};
 
 /// A slot: an action, and a reply to each of its writes. Both are None where the slot was
 /// cancelled.
@@ -43,21 +43,20 @@ impl KeptSlot {
     /// A slot of this action, with the replies to its writes and the rows that they wrote. A
     /// cancelled slot has no replies.
     pub(crate) fn new(
-        alloc: Global,
         action: Option<Items<Write>>,
         replies: &Items<Reply>,
-        rows: Vec<RowId>,
+        rows: Few<RowId>,
     ) -> Result<KeptSlot, AllocError>
         ensures action { IfOk result (λ kept. kept.slot.action ≡ action) }
         ensures replies { IfOk result
             (λ kept. kept.slot.replies ≡ replies_if action replies.now) }
-        ensures rows { IfOk result (λ kept. kept.rows ≡ rows.items) }
+        ensures rows { IfOk result (λ kept. kept.rows ≡ rows) }
     {
         let replies = match &action {
             Some(_) => Some(replies.clone()?),
             None => None,
         };
-        let rows = Items::new(alloc, rows)?;
+        let rows = rows.into_items()?;
         Ok(KeptSlot {
             slot: Slot { action, replies },
             rows,

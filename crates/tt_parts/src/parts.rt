@@ -4,7 +4,7 @@ ghost use Rattle.tt_parts.specs.Partitions.{is_partition_column, part_at, parts_
 
 use crate::partition::Partition;
 use std::alloc::{AllocError, Global};
-use tt_values::{Column, Items, Row, TableDef, Value};
+use tt_values::{Column, Few, Items, Row, TableDef, Value};
 
 /// The partitions that a row of the table lies in: one for each partition column, in the order of
 /// the columns. The first column, which holds the key, is a partition column.
@@ -18,25 +18,25 @@ pub fn parts_of(
     ensures { IfOk result (λ parts. parts ≡ parts_of table def.now.columns row.now) }
 {
     let columns = def.columns.as_slice();
-    let mut parts = Vec::new(alloc);
+    let mut parts = Few::new(alloc);
     for i in 0..columns.len() {
         push_part(&mut parts, table, i as u16, &columns[i], row.values.get(i))?;
     }
-    let parts = Items::new(alloc, parts)?;
+    let parts = parts.into_items()?;
     Ok(parts)
 }
 
 /// Pushes the partition of the value in a column, if there is a value and the column is a partition
 /// column.
 fn push_part(
-    parts: &mut Vec<Partition>,
+    parts: &mut Few<Partition>,
     table: u16,
     position: u16,
     column: &Column,
     value: Option<&Value>,
 ) -> Result<(), AllocError>
-    ensures { OnOk result (parts.new.items ≡
-        parts.old.items ++ part_at table position column.now (option_copied value.entry)) }
+    ensures { OnOk result (parts.new ≡
+        parts.old ++ part_at table position column.now (option_copied value.entry)) }
 {
     let Some(value) = value else {
         return Ok(());

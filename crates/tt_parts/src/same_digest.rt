@@ -5,7 +5,7 @@ ghost use Rattle.tt_values.specs.Value.{is_same};
 use std::alloc::{AllocError, Global};
 use std::marker::Model;
 use tt_pages::Kept;
-use tt_values::{Items, Value};
+use tt_values::{Few, Items, Value};
 
 /// Values with one digest, mostly a single one. Owners share them.
 #[derive(Debug, Drop)]
@@ -26,24 +26,21 @@ impl SameDigest {
     pub(crate) fn of(alloc: Global, value: &Value) -> Result<SameDigest, AllocError>
         ensures { IfOk result (λ values. values ≡ value.now ∷ []) }
     {
-        let values = vec![in alloc; value.copy()?]?;
-        Ok(SameDigest {
-            values: Items::new(alloc, values)?,
-        })
+        let values = Items::of(alloc, [value.copy()?])?;
+        Ok(SameDigest { values })
     }
 
     /// These values and one more.
     pub(crate) fn with(&self, alloc: Global, value: &Value) -> Result<SameDigest, AllocError>
         ensures { IfOk result (λ values. values ≡ self.now ++ value.now ∷ []) }
     {
-        let mut values = Vec::new(alloc);
+        let mut values = Few::new(alloc);
         for other in self.values.as_slice() {
             values.push(other.copy()?)?;
         }
         values.push(value.copy()?)?;
-        Ok(SameDigest {
-            values: Items::new(alloc, values)?,
-        })
+        let values = values.into_items()?;
+        Ok(SameDigest { values })
     }
 
     pub(crate) fn has(&self, value: &Value) -> bool

@@ -6,7 +6,7 @@ ghost use Rattle.tt_parts.specs.Soundness.{CoversMatches};
 use crate::partition::{Partition, Reads};
 use crate::parts::is_partition_column;
 use std::alloc::{AllocError, Global};
-use tt_values::{Column, Equal, Items, TableDef, Value, Write};
+use tt_values::{Column, Equal, Few, TableDef, Value, Write};
 
 /// What a write on the table reads: the partitions of its equalities on partition columns, for an
 /// insert the partition of its key, or else the whole table. On a table that has a first column,
@@ -18,7 +18,7 @@ pub fn reads_of(alloc: Global, def: &TableDef, write: &Write) -> Result<Reads, A
     ensures sound { IfOk result (λ reads. CoversMatches def.now.columns write.now reads) }
 {
     let partitions = partitions_read(alloc, def, write)?;
-    let reads = reads_or_all(alloc, write.table(), partitions)?;
+    let reads = reads_or_all(write.table(), partitions)?;
     Ok(reads)
 }
 
@@ -27,9 +27,9 @@ fn partitions_read(
     alloc: Global,
     def: &TableDef,
     write: &Write,
-) -> Result<Vec<Partition>, AllocError>
+) -> Result<Few<Partition>, AllocError>
     requires { HasKey write.now }
-    ensures { IfOk result (λ ps. ps.items ≡ partitions_read def.now.columns write.now) }
+    ensures { IfOk result (λ ps. ps ≡ partitions_read def.now.columns write.now) }
 {
     match write {
         Write::Insert { table, row } => {
@@ -38,7 +38,9 @@ fn partitions_read(
                 column: 0,
                 value: Value::Int(row.key()),
             };
-            Ok(vec![in alloc; key]?)
+            let mut partitions = Few::new(alloc);
+            partitions.push(key)?;
+            Ok(partitions)
         }
         Write::Update { table, equals, .. } | Write::Delete { table, equals } => {
             equated_partitions(alloc, *table, def, equals.as_slice())
@@ -46,13 +48,13 @@ fn partitions_read(
     }
 }
 
-fn reads_or_all(alloc: Global, table: u16, partitions: Vec<Partition>) -> Result<Reads, AllocError>
-    ensures { IfOk result (λ reads. reads ≡ reads_or_all table partitions.items) }
+fn reads_or_all(table: u16, partitions: Few<Partition>) -> Result<Reads, AllocError>
+    ensures { IfOk result (λ reads. reads ≡ reads_or_all table partitions) }
 {
-    if partitions.is_empty() {
+    if partitions.as_slice().is_empty() {
         Ok(Reads::All { table })
     } else {
-        let partitions = Items::new(alloc, partitions)?;
+        let partitions = partitions.into_items()?;
         Ok(Reads::Equated(partitions))
     }
 }
@@ -63,12 +65,12 @@ fn equated_partitions(
     table: u16,
     def: &TableDef,
     equals: &[Equal],
-) -> Result<Vec<Partition>, AllocError>
+) -> Result<Few<Partition>, AllocError>
     ensures { IfOk result
-        (λ ps. ps.items ≡ equated_partitions table def.now.columns equals.now) }
+        (λ ps. ps ≡ equated_partitions table def.now.columns equals.now) }
 {
     let columns = def.columns.as_slice();
-    let mut partitions = Vec::new(alloc);
+    let mut partitions = Few::new(alloc);
     for equal in equals {
         if is_partition_position(columns, equal.column) {
             partitions.push(Partition {

@@ -157,6 +157,5 @@ fn no_answer(error: ReadError) -> Result<Option<Changed>, AllocError>
 fn list_of_one(alloc: Global, reply: Reply) -> Result<Items<Reply>, AllocError>
     ensures { IfOk result (λ list. list ≡ reply ∷ []) }
 {
-    let list = Vec::from_array(alloc, [reply])?;
-    Items::new(alloc, list)
+    Items::of(alloc, [reply])
 }

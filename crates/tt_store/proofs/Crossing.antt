@@ -12,6 +12,7 @@ use Rattle.tt_pages.specs.contracts.log.PagedLog as log
 use Rattle.logbook.proofs.tokens.Seen.TheSendSync.{the_send as seen_send, the_sync as seen_sync}
 use Rattle.tt_values.specs.contracts.text.Text as text_type
 use Rattle.tt_values.specs.contracts.items.Items as items_type
+use Rattle.tt_values.specs.declared.measured.Measured as measured
 use Rattle.tt_values.specs.contracts.shared.Shared as shared_type
 use Rattle.tt_values.specs.contracts.value.Value as value_type
 use Rattle.tt_values.specs.contracts.row.Row as row_type
@@ -137,11 +138,11 @@ text_send = search (crosses, sendable) depth 60 fits 50000
 pub text_sync : IsSync text_type.the_row
 text_sync = search (crosses, sendable) depth 60 fits 50000
 
-module _ (T : RattleType) (s : IsSend T) (y : IsSync T) where
-  pub items_send : IsSend (items_type.the_row T)
+module _ (T : RattleType) (size : measured.Ghosts T.Denot) (s : IsSend T) (y : IsSync T) where
+  pub items_send : IsSend (items_type.the_row T size)
   items_send = search (crosses, sendable) depth 60 fits 50000
 
-  pub items_sync : IsSync (items_type.the_row T)
+  pub items_sync : IsSync (items_type.the_row T size)
   items_sync = search (crosses, sendable) depth 60 fits 50000
 
 module _ (T : RattleType) (s : IsSend T) (y : IsSync T) where

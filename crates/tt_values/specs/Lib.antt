@@ -1,3 +1,6 @@
+pub mod Items
+pub mod Few
+pub mod Text
 pub mod Limits
 pub mod Faults
 pub mod Value

@@ -1,5 +1,5 @@
 ghost use Rattle.std.specs.Prelude.{◌≡◌, ◌==◌, IfOk};
-ghost use Rattle.tt_values.specs.Change.{column_of, value_plus, value_after, changed_value, changed};
+ghost use Rattle.tt_values.specs.Change.{column_of, value_plus, value_after, changed_value, changed_values, changed};
 
 use crate::items::Items;
 use crate::row::Row;
@@ -12,13 +12,44 @@ use std::alloc::{AllocError, Global};
 pub fn changed(alloc: Global, row: &Row, changes: &[Change]) -> Result<Row, AllocError>
     ensures { IfOk result (λ r. r ≡ changed row.now changes.now) }
 {
-    let values = row.values.as_slice();
+    let values = match row.values.as_slice() {
+        [key] => Items::of(alloc, [changed_value(changes, 0, key)?])?,
+        [key, second] => {
+            let key = changed_value(changes, 0, key)?;
+            let second = changed_value(changes, 1, second)?;
+            Items::of(alloc, [key, second])?
+        }
+        [key, second, third] => {
+            let key = changed_value(changes, 0, key)?;
+            let second = changed_value(changes, 1, second)?;
+            let third = changed_value(changes, 2, third)?;
+            Items::of(alloc, [key, second, third])?
+        }
+        [key, second, third, fourth] => {
+            let key = changed_value(changes, 0, key)?;
+            let second = changed_value(changes, 1, second)?;
+            let third = changed_value(changes, 2, third)?;
+            let fourth = changed_value(changes, 3, fourth)?;
+            Items::of(alloc, [key, second, third, fourth])?
+        }
+        values => Items::new(alloc, changed_values(alloc, values, changes)?)?,
+    };
+    Ok(Row { values })
+}
+
+/// The values of a row, after the changes.
+fn changed_values(
+    alloc: Global,
+    values: &[Value],
+    changes: &[Change],
+) -> Result<Vec<Value>, AllocError>
+    ensures { IfOk result (λ r. r.items ≡ changed_values changes.now 0 values.now) }
+{
     let mut new_values = Vec::with_capacity(alloc, values.len())?;
     for i in 0..values.len() {
         new_values.push(changed_value(changes, i, &values[i])?)?;
     }
-    let values = Items::new(alloc, new_values)?;
-    Ok(Row { values })
+    Ok(new_values)
 }
 
 /// The value of a column after its change, or the old one if it has none.

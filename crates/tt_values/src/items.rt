@@ -1,26 +1,55 @@
-ghost use Rattle.std.specs.Prelude.{◌≡◌, ◌==◌, length, slice_get, IfOk};
+ghost use Rattle.std.specs.Array.Iter.{IntoIterFitsInMemory};
+ghost use Rattle.tt_values.specs.Items.{arrays_view};
+ghost use Rattle.std.specs.Prelude.{◌≡◌, ◌==◌, ◌<◌, ◌≤◌, ◌^◌, length, slice_get, IfOk, IsTrue};
 ghost use Rattle.std.specs.Option.{option_copied};
 
+use crate::measured::{Measured, bytes_of};
 use std::alloc::{AllocError, Global};
+use std::array::IntoIter;
+use std::fmt;
+use std::fmt::{Debug, Formatter};
 use std::marker::Model;
 use std::sync::Arc;
 
-/// An immutable list. Its owners share it: `clone` copies no items. Contracts see its items.
-#[derive(Debug, Drop)]
-pub struct Items<T> {
-    items: Arc<Vec<T>>,
+/// An item of at least this size lies in a `Vec`, and so does an array of that size.
+const LARGE_BYTES: usize = 0x1_0000_0000;
+
+/// No items in no memory, up to four in one block, or any number in two.
+#[derive(Drop)]
+enum Arrays<T> {
+    None,
+    One(Arc<[T; 1]>),
+    Two(Arc<[T; 2]>),
+    Three(Arc<[T; 3]>),
+    Four(Arc<[T; 4]>),
+    Many(Arc<Vec<T>>),
 }
 
-impl<T> Model for Items<T> {
+/// An immutable list. Its owners share it: `clone` copies no items. Contracts see its items.
+pub struct Items<T: Measured> {
+    arrays: Arrays<T>,
+}
+
+impl<T: Measured> Model for Items<T> {
     ghost use Rattle.std.specs.Prelude.{List};
     ghost use Rattle.std.specs.Coded.{coded_list};
-    ghost use Rattle.std.specs.Arc.{arc_value};
+    ghost use Rattle.tt_values.specs.Items.{arrays_view, ArraysFit};
 
     ghost Value = { List T };
 
     ghost coded = { coded_list T.code };
 
-    ghost view = { λ s. (arc_value s.items).items };
+    ghost view = { λ s. arrays_view s.arrays };
+
+    ghost invariant = { λ s. ArraysFit T.bytes s.arrays };
+}
+
+// Written by hand, so that every place that drops a list calls one function.
+impl<T: Drop> Drop for Items<T> {
+    fn drop(self) {
+        T::measured();
+        let Items { arrays: _ } = self;
+    }
 }
 
 impl<T: Drop> Items<T> {
@@ -28,8 +57,14 @@ impl<T: Drop> Items<T> {
     pub fn new(alloc: Global, items: Vec<T>) -> Result<Self, AllocError>
         ensures { IfOk result (λ list. list ≡ items.items) }
     {
-        let items = Arc::new(alloc, items)?;
-        Ok(Items { items })
+        if is_small::<T>() {
+            few_of_vec(alloc, items)
+        } else {
+            let items = Arc::new(alloc, items)?;
+            Ok(Items {
+                arrays: Arrays::Many(items),
+            })
+        }
     }
 
     /// A list of the items of an array, in order: `Items::of(alloc, [write])?` is an action of one
@@ -37,32 +72,51 @@ impl<T: Drop> Items<T> {
     pub fn of<const N: usize>(alloc: Global, items: [T; N]) -> Result<Self, AllocError>
         ensures { IfOk result (λ list. list ≡ items) }
     {
-        Items::new(alloc, Vec::from_array(alloc, items)?)
+        if N <= 4 && is_small::<T>() && is_small::<IntoIter<T, N>>() {
+            few(alloc, items)
+        } else {
+            Items::new(alloc, Vec::from_array(alloc, items)?)
+        }
     }
 
     pub fn len(&self) -> usize
         ensures { result ≡ length self.now }
     {
-        self.items.len()
+        self.as_slice().len()
     }
 
     pub fn is_empty(&self) -> bool
         ensures { result ≡ (length self.now == 0) }
     {
-        self.items.is_empty()
+        self.as_slice().is_empty()
     }
 
     pub fn as_slice(&self) -> &[T]
         ensures { result.now ≡ self.now }
     {
-        self.items.as_slice()
+        T::measured();
+        match &self.arrays {
+            Arrays::None => &[],
+            Arrays::One(items) => &items[..],
+            Arrays::Two(items) => &items[..],
+            Arrays::Three(items) => &items[..],
+            Arrays::Four(items) => &items[..],
+            Arrays::Many(items) => items.as_slice(),
+        }
     }
 
     /// The item at a position, counted from 0.
     pub fn get(&self, position: usize) -> Option<&T>
         ensures { option_copied result ≡ slice_get self.now position }
     {
-        item_at(self.items.as_slice(), position)
+        item_at(self.as_slice(), position)
+    }
+}
+
+impl<T: Debug + Drop> Debug for Items<T> {
+    fn fmt<W: fmt::Write>(&self, f: &mut Formatter<W>) -> fmt::Result {
+        let items = self.as_slice();
+        f.debug_struct("Items").field("items", &items).finish()
     }
 }
 
@@ -85,9 +139,87 @@ impl<T: Drop> Clone for Items<T> {
     ghost is_clone = { λ source copy. copy ≡ source };
 
     fn clone(&self) -> Result<Self, AllocError> {
-        let items = Arc::try_clone(&self.items)?;
-        Ok(Items { items })
+        let arrays = match &self.arrays {
+            Arrays::None => Arrays::None,
+            Arrays::One(items) => Arrays::One(Arc::try_clone(items)?),
+            Arrays::Two(items) => Arrays::Two(Arc::try_clone(items)?),
+            Arrays::Three(items) => Arrays::Three(Arc::try_clone(items)?),
+            Arrays::Four(items) => Arrays::Four(Arc::try_clone(items)?),
+            Arrays::Many(items) => Arrays::Many(Arc::try_clone(items)?),
+        };
+        Ok(Items { arrays })
     }
+}
+
+/// A list of up to four items that aren't large, in one block.
+fn few<T: Measured + Drop, const N: usize>(
+    alloc: Global,
+    items: [T; N],
+) -> Result<Items<T>, AllocError>
+    requires few { N ≤ 4 }
+    requires small { T.bytes < 2 ^ 32 }
+    requires small_iter { IntoIterFitsInMemory T.row N.row }
+    ensures { IfOk result (λ list. list ≡ items) }
+{
+    let arrays = arrays_of(alloc, items)?;
+    Ok(Items { arrays })
+}
+
+fn arrays_of<T: Drop, const N: usize>(alloc: Global, items: [T; N]) -> Result<Arrays<T>, AllocError>
+    requires few { N ≤ 4 }
+    requires small { IntoIterFitsInMemory T.row N.row }
+    ensures { IfOk result (λ arrays. arrays_view arrays ≡ items) }
+{
+    let mut items = items.into_iter();
+    let Some(first) = items.next() else {
+        return Ok(Arrays::None);
+    };
+    let Some(second) = items.next() else {
+        return Ok(Arrays::One(Arc::new(alloc, [first])?));
+    };
+    let Some(third) = items.next() else {
+        return Ok(Arrays::Two(Arc::new(alloc, [first, second])?));
+    };
+    let Some(fourth) = items.next() else {
+        return Ok(Arrays::Three(Arc::new(alloc, [first, second, third])?));
+    };
+    Ok(Arrays::Four(Arc::new(alloc, [first, second, third, fourth])?))
+}
+
+/// A list of items that aren't large: up to four in one block.
+fn few_of_vec<T: Measured + Drop>(alloc: Global, items: Vec<T>) -> Result<Items<T>, AllocError>
+    requires { T.bytes < 2 ^ 32 }
+    ensures { IfOk result (λ list. list ≡ items.items) }
+{
+    T::measured();
+    let arrays = match items.len() {
+        0 => Arrays::None,
+        1 => match <[T; 1]>::try_from(items) {
+            Ok(items) => Arrays::One(Arc::new(alloc, items)?),
+            Err(items) => Arrays::Many(Arc::new(alloc, items)?),
+        },
+        2 => match <[T; 2]>::try_from(items) {
+            Ok(items) => Arrays::Two(Arc::new(alloc, items)?),
+            Err(items) => Arrays::Many(Arc::new(alloc, items)?),
+        },
+        3 => match <[T; 3]>::try_from(items) {
+            Ok(items) => Arrays::Three(Arc::new(alloc, items)?),
+            Err(items) => Arrays::Many(Arc::new(alloc, items)?),
+        },
+        4 => match <[T; 4]>::try_from(items) {
+            Ok(items) => Arrays::Four(Arc::new(alloc, items)?),
+            Err(items) => Arrays::Many(Arc::new(alloc, items)?),
+        },
+        _ => Arrays::Many(Arc::new(alloc, items)?),
+    };
+    Ok(Items { arrays })
+}
+
+fn is_small<T: Measured>() -> bool
+    ensures { IsTrue result → T.bytes < 2 ^ 32 }
+{
+    T::measured();
+    bytes_of::<T>() < LARGE_BYTES
 }
 
 /// `items.get(position)`, with its contract as an equation.

@@ -4,4 +4,4 @@ use Rattle.tt_parts.specs.Partitions.{equated_partitions}
 use Rattle.tt_parts.proofs.statement_reads.equated_partitions.Given as goal
 
 abbrev pub invariant-loop-equal : goal.invariant-loop-equal
-invariant-loop-equal l = l.partitions.items ++ equated_partitions l.table l.columns (drop l.equal-index l.equals) ≡ equated_partitions l.table l.columns l.equals
+invariant-loop-equal l = l.partitions ++ equated_partitions l.table l.columns (drop l.equal-index l.equals) ≡ equated_partitions l.table l.columns l.equals

@@ -22,8 +22,8 @@ returns c =
     let written = c.in_ok-write.ensures in
     record {
       current = CarriesOut-write c.args.time c.table-table.result c.args.write.now c.args.self.now _ pairs c.reply_to.result c.table-table.ensures is written.current
-          (λ rows same. c.reply_to.ensures rows (c.deref.ensures.value ∙ same)) c.in_ok-push.ensures.items
-          (c.in_ok-add_rows.ensures ∙ ap (λ es. c.args.self.now.rows_written.items ++ rows_of_effect c.table-table.result es) c.deref-2.ensures.value);
+          (λ rows same. c.reply_to.ensures rows (c.deref.ensures.value ∙ same)) c.in_ok-push.ensures
+          (c.in_ok-add_rows.ensures ∙ ap (λ es. c.args.self.now.rows_written ++ rows_of_effect c.table-table.result es) c.deref-2.ensures.value);
       few = AddsOneRowAtMost-write c.args.time c.table-table.result c.args.write.now c.args.self.now.rows _ pairs c.table-table.ensures is written.written;
       split = written.split;
     }

@@ -47,7 +47,7 @@ returns c =
       splits = splits;
       writes = c.in_ok-write_next.ensures;
       answers = λ rows same. c.reply_to.ensures rows (c.deref-2.ensures.value ∙ same);
-      replies = c.in_ok-push.ensures.items ∙ ap (λ rs. rs ++ c.reply_to.result ∷ []) split.replies;
+      replies = c.in_ok-push.ensures ∙ ap (λ rs. rs ++ c.reply_to.result ∷ []) split.replies;
       written = c.in_ok-add_rows.ensures ∙ (λ i. split.rows_written i ++ rows_of_effect table (c.deref-3.ensures.value i));
       reexecuted = split.reexecuted ∙ ap (λ es. before.reexecuted.items ++ matched_rows w es) c.deref.ensures.value;
     })

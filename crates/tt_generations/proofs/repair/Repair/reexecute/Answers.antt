@@ -73,7 +73,7 @@ returns-clause-rows c =
     let action = c.in_ok-action.ensures in
     let new = c.in_ok-slot.ensures in
     let put = c.in_ok-put_slot.ensures in
-    let replies = new.replies ∙ ap (λ a. replies_if a run.replies.items) action in
+    let replies = new.replies ∙ ap (λ a. replies_if a run.replies) action in
     let shown = subst (λ (rs : List RowId). SameMembers c.add_rows_shown.new.dirty.dirty (with_rows_shown before.dirty run.rows rs (before.done + 1))) c.deref.ensures.value c.in_ok-add_rows_shown.ensures.dirty in
     let dirty = subst (λ (r : Repair). SameMembers r.dirty.dirty (with_rows_shown before.dirty run.rows run.reexecuted.items (before.done + 1))) (sym put) shown in
     subst (λ (left : TablesByPosition). ReexecutesSlot before kept c.args.rows.now after left) (sym c.into_slot.ensures.rows)
