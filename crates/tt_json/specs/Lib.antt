@@ -1,0 +1,3 @@
+pub mod Tape
+pub mod Fit
+pub mod Number

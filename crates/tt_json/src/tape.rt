@@ -1,0 +1,206 @@
+//! A text on a tape, read as serde_json reads it.
+ghost use Rattle.std.specs.Prelude.{◌≡◌, ◌<◌, [], ◌∷◌, false, map, length, Some, None, Err, IfOk, OnSome, MatchOption, option_map, option_and_then, List, is_some};
+ghost use Rattle.json.specs.Tape.{node_token};
+ghost use Rattle.json.specs.Token.{Token};
+ghost use Rattle.serde_json.specs.Read.{read};
+ghost use Rattle.serde_json.specs.Find.{get, as_str, as_number, as_array, as_object, as_u64, as_i64};
+ghost use Rattle.tt_json.specs.Fit.{tokens_fit};
+ghost use Rattle.tt_json.specs.Number.{number_view};
+ghost use Rattle.tt_json.specs.Tape.{value_at, list_of, items_at, IsValue};
+
+use crate::number::{Number, number_of};
+use json::{Element, Error, Node, Scratch, Tape};
+use std::alloc::Allocator;
+use std::marker::Model;
+
+const MAX_DEPTH: usize = 127;
+
+/// Reads a text onto a tape.
+pub fn parse<'a, S: Allocator, A: Allocator>(
+    text: &'a str,
+    scratch: &'a mut Scratch<S>,
+    buffer: Vec<Node<'a>, A>,
+) -> Result<Tape<'a, A>, Error>
+    ensures value { IfOk result (λ tape. IsValue tape) }
+    ensures ok { IfOk result (λ tape. read text.now ≡ Some (value_at tape)) }
+    ensures invalid { result ≡ Err Error.Invalid → read text.now ≡ None }
+{
+    match Tape::parse(text, scratch, buffer) {
+        Ok(tape) => if fits(tape.nodes()) {
+            Ok(tape)
+        } else {
+            Err(Error::Invalid)
+        },
+        Err(error) => Err(error),
+    }
+}
+
+/// Whether serde_json takes what these nodes hold.
+fn fits(nodes: &[Node<'_>]) -> bool
+    ensures { result ≡ tokens_fit 0 (map node_token nodes.now) }
+{
+    let mut depth = 0;
+    for node in nodes {
+        let Some(after) = depth_after(depth, node) else {
+            return false;
+        };
+        depth = after;
+    }
+    true
+}
+
+/// The depth after a node, where it fits.
+#[inline(always)]
+fn depth_after(depth: usize, node: &Node<'_>) -> Option<usize>
+    ensures { MatchOption result
+        ((ts : List Token) → tokens_fit depth (node_token node.now ∷ ts) ≡ false)
+        (λ after. (ts : List Token)
+        → tokens_fit depth (node_token node.now ∷ ts) ≡ tokens_fit after ts) }
+{
+    match *node {
+        Node::Object(_) | Node::Array(_) => if depth < MAX_DEPTH {
+            Some(depth + 1)
+        } else {
+            None
+        },
+        Node::EndObject | Node::EndArray => Some(depth.saturating_sub(1)),
+        Node::Number(text) => match number_of(text) {
+            Some(_) => Some(depth),
+            None => None,
+        },
+        _ => Some(depth),
+    }
+}
+
+/// A value on a tape.
+#[derive(Drop)]
+pub struct TapeValue<'t, 'a> {
+    element: Element<'t, 'a>,
+}
+
+impl<'t, 'a> Model for TapeValue<'t, 'a> {
+    ghost use Rattle.std.specs.Prelude.{List};
+    ghost use Rattle.json.specs.Token.{Token, tokens_code};
+
+    ghost Value = { List Token };
+
+    ghost coded = { tokens_code };
+
+    ghost use Rattle.tt_json.specs.Tape.{IsValue};
+
+    ghost view = { λ a. a.element };
+
+    ghost invariant = { λ a. IsValue a.element };
+}
+
+/// The value that a tape holds.
+pub fn root<'t, 'a, A: Allocator>(tape: &'t Tape<'a, A>) -> TapeValue<'t, 'a>
+    requires { IsValue tape.now }
+    ensures { result ≡ tape.now }
+{
+    TapeValue {
+        element: tape.root(),
+    }
+}
+
+impl<'t, 'a> TapeValue<'t, 'a> {
+    pub fn get(&self, name: &str) -> Option<TapeValue<'t, 'a>>
+        ensures { option_map value_at result ≡ get name.now (value_at self.now) }
+    {
+        match self.element.get(name) {
+            Some(element) => Some(TapeValue { element }),
+            None => None,
+        }
+    }
+
+    pub fn is_object(&self) -> bool
+        ensures { result ≡ is_some (as_object (value_at self.now)) }
+    {
+        match self.element.members() {
+            Some(_) => true,
+            None => false,
+        }
+    }
+
+    pub fn as_str(&self) -> Option<&'a str>
+        ensures { option_map (λ s. s.now) result ≡ as_str (value_at self.now) }
+    {
+        self.element.as_str()
+    }
+
+    fn as_number(&self) -> Option<Number>
+        ensures { option_map number_view result ≡ as_number (value_at self.now) }
+    {
+        match self.element.as_number() {
+            Some(text) => number_of(text),
+            None => None,
+        }
+    }
+
+    pub fn as_u64(&self) -> Option<u64>
+        ensures { result ≡ option_and_then as_u64 (as_number (value_at self.now)) }
+    {
+        match self.as_number() {
+            Some(Number::Unsigned(n)) => Some(n),
+            _ => None,
+        }
+    }
+
+    pub fn as_i64(&self) -> Option<i64>
+        ensures { result ≡ option_and_then as_i64 (as_number (value_at self.now)) }
+    {
+        match self.as_number() {
+            Some(Number::Unsigned(n)) => if n <= i64::MAX as u64 {
+                Some(n as i64)
+            } else {
+                None
+            },
+            Some(Number::Negative(n)) => Some(n),
+            _ => None,
+        }
+    }
+
+    pub fn items(&self) -> Option<TapeItems<'t, 'a>>
+        ensures { option_map items_at result
+            ≡ option_map list_of (as_array (value_at self.now)) }
+    {
+        match self.element.items() {
+            Some(items) => Some(TapeItems { items }),
+            None => None,
+        }
+    }
+}
+
+/// The items of an array from one on.
+#[derive(Drop)]
+pub struct TapeItems<'t, 'a> {
+    items: json::Items<'t, 'a>,
+}
+
+impl<'t, 'a> Model for TapeItems<'t, 'a> {
+    ghost use Rattle.std.specs.Prelude.{List};
+    ghost use Rattle.json.specs.Token.{Token, tokens_code};
+
+    ghost Value = { List Token };
+
+    ghost coded = { tokens_code };
+
+    ghost use Rattle.tt_json.specs.Tape.{AreItems};
+
+    ghost view = { λ a. a.items };
+
+    ghost invariant = { λ a. AreItems a.items };
+}
+
+impl<'t, 'a> TapeItems<'t, 'a> {
+    pub fn next(&mut self) -> Option<TapeValue<'t, 'a>>
+        ensures value { MatchOption result (items_at self.old ≡ [])
+            (λ x. items_at self.old ≡ value_at x ∷ items_at self.new) }
+        ensures shorter { OnSome result (length self.new < length self.old) }
+    {
+        match self.items.next() {
+            Some(element) => Some(TapeValue { element }),
+            None => None,
+        }
+    }
+}
