@@ -43,6 +43,14 @@ as_str-data (json.string s) d e = ap sfind.as_str (Some_inj _ _ e)
 as_str-data (json.array js) d e = let m = mapped array (of_items js) d e in ap sfind.as_str (sym m.2)
 as_str-data (json.object ms) d e = let m = mapped object _ d e in ap sfind.as_str (sym m.2)
 
+pub as_bool-data : (j : json.Json) (d : Data) → of_json j ≡ Some d → jfind.as_bool j ≡ sfind.as_bool d
+as_bool-data json.null d e = ap sfind.as_bool (Some_inj _ _ e)
+as_bool-data (json.boolean b) d e = ap sfind.as_bool (Some_inj _ _ e)
+as_bool-data (json.number s) d e = let m = mapped number (number_of s) d e in ap sfind.as_bool (sym m.2)
+as_bool-data (json.string s) d e = ap sfind.as_bool (Some_inj _ _ e)
+as_bool-data (json.array js) d e = let m = mapped array (of_items js) d e in ap sfind.as_bool (sym m.2)
+as_bool-data (json.object ms) d e = let m = mapped object _ d e in ap sfind.as_bool (sym m.2)
+
 pub as_number-data : (j : json.Json) (d : Data) → of_json j ≡ Some d → option_and_then number_of (jfind.as_number j) ≡ sfind.as_number d
 as_number-data json.null d e = ap sfind.as_number (Some_inj _ _ e)
 as_number-data (json.boolean b) d e = ap sfind.as_number (Some_inj _ _ e)

@@ -18,8 +18,9 @@ use Rattle.json.proofs.Unique.Spelling.{value-json_tokens_back}
 use Rattle.serde_json.specs.Data.{Data, number, array, object, Items, no_items, item, Members, no_members, put}
 use Rattle.serde_json.specs.Find as sfind
 use Rattle.serde_json.specs.Read.{number_of, of_json, of_items, of_members, max_depth, read}
-use Rattle.tt_json.specs.Tape.{value_at, items_at, list_of, or_no_items, IsRead, IsValue, AreItems}
-use Rattle.tt_json.proofs.DataLemmas.{mapped, chained, value_at-is, as_array-data, as_str-data, as_number-data, as_object-data, found_or, get_member-data}
+use Rattle.tt_json.specs.Value.{list_of}
+use Rattle.tt_json.specs.Tape.{value_at, items_at, or_no_items, IsRead, IsValue, AreItems, AreMembers}
+use Rattle.tt_json.proofs.DataLemmas.{mapped, chained, value_at-is, as_array-data, as_str-data, as_bool-data, as_number-data, as_object-data, found_or, get_member-data}
 
 first_of : json.Items → json.Json → json.Json
 first_of json.no_items j = j
@@ -103,9 +104,11 @@ items-next old new (Some ts) (js, within, shallow, ds, is) h =
     let m = mapped (item c.0) (of_items f.1) ds c.2 in
     let deep = subst (λ x. tree.items_depth x ≤ max_depth) f.2 shallow in
     let first : tree.depth f.0 ≤ max_depth = omega (arith, deep) in
-    let rest : tree.items_depth f.1 ≤ max_depth = omega (arith, deep) in
-    ((f.0, f.3, (first, c.0, c.1)), (f.1, f.4, rest, m.0, m.1),
-      items_at-is old js ds within shallow is ∙ ap list_of m.2 ∙ ap (λ d. d ∷ list_of m.0) (sym (value_at-is ts f.0 c.0 f.3 first c.1)) ∙ ap (λ l. value_at ts ∷ l) (sym (items_at-is new f.1 m.0 f.4 rest m.1)))
+    let rest : tree.items_depth f.1 ≤ max_depth = omega (arith, deep) in (
+      (f.0, f.3, (first, c.0, c.1)),
+      (f.1, f.4, rest, m.0, m.1),
+      items_at-is old js ds within shallow is ∙ ap list_of m.2 ∙ ap (λ d. d ∷ list_of m.0) (sym (value_at-is ts f.0 c.0 f.3 first c.1)) ∙ ap (λ l. value_at ts ∷ l) (sym (items_at-is new f.1 m.0 f.4 rest m.1)),
+    )
 
 -- ---- a member of an object
 
@@ -165,10 +168,23 @@ object-value ts (Some rest) (j, begins, (shallow, d, is)) h =
     let m = mapped object (of_members a.0 no_members) d (ap of_json (sym a.1) ∙ is) in
     ap (λ x. is_some (sfind.as_object x)) (sym m.2 ∙ sym (value_at-is ts j d begins shallow is))
 
+-- the members of an object, and none of another value
+pub members-object : (ts : List Token) (r : Option (List Token)) → IsValue ts → ((j : json.Json) → BeginsWith ts j → MatchOption r (jfind.as_object j ≡ None) (λ rest. (ms : json.Members) × (j ≡ json.object ms) × InMembers rest ms))
+    → MatchOption r (sfind.as_object (value_at ts) ≡ None) (λ rest. (all : Members) × AreMembers rest no_members all × (sfind.as_object (value_at ts) ≡ Some all))
+members-object ts None (j, begins, (shallow, d, is)) h =
+    ap sfind.as_object (value_at-is ts j d begins shallow is) ∙ sym (as_object-data j d is) ∙ ap (option_and_then (λ ms. of_members ms no_members)) (h j begins)
+members-object ts (Some rest) (j, begins, (shallow, d, is)) h =
+    let a = h j begins in
+    let m = mapped object (of_members a.0 no_members) d (ap of_json (sym a.1) ∙ is) in
+    (m.0, (a.0, a.2, m.1), ap sfind.as_object (value_at-is ts j d begins shallow is ∙ m.2))
+
 -- ---- leaves
 
 pub str-value : (ts : List Token) (r : Option (List ℕ)) → IsValue ts → ((j : json.Json) → BeginsWith ts j → r ≡ jfind.as_str j) → r ≡ sfind.as_str (value_at ts)
 str-value ts r (j, begins, (shallow, d, is)) h = h j begins ∙ as_str-data j d is ∙ ap sfind.as_str (sym (value_at-is ts j d begins shallow is))
+
+pub bool-value : (ts : List Token) (r : Option Bool) → IsValue ts → ((j : json.Json) → BeginsWith ts j → r ≡ jfind.as_bool j) → r ≡ sfind.as_bool (value_at ts)
+bool-value ts r (j, begins, (shallow, d, is)) h = h j begins ∙ as_bool-data j d is ∙ ap sfind.as_bool (sym (value_at-is ts j d begins shallow is))
 
 pub number-value : (ts : List Token) (r : Option (List ℕ)) → IsValue ts → ((j : json.Json) → BeginsWith ts j → r ≡ jfind.as_number j) → option_and_then number_of r ≡ sfind.as_number (value_at ts)
 number-value ts r (j, begins, (shallow, d, is)) h = ap (option_and_then number_of) (h j begins) ∙ as_number-data j d is ∙ ap sfind.as_number (sym (value_at-is ts j d begins shallow is))

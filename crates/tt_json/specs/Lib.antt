@@ -1,3 +1,4 @@
-pub mod Tape
-pub mod Fit
+pub mod Value
 pub mod Number
+pub mod Fit
+pub mod Tape

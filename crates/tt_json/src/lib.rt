@@ -1,8 +1,12 @@
-//! JSON values on a tape, in the words of serde_json.
+//! JSON values that are read: serde_json's, and those of a text on a tape, which mean the same.
 #![tactic(auto)]
 
+mod names;
 mod number;
 mod tape;
+mod tree;
+mod value;
 
-pub use number::{Number, number_of};
 pub use tape::{TapeItems, TapeValue, parse, root};
+pub use tree::TreeItems;
+pub use value::JsonValue;

@@ -1,15 +1,22 @@
 //! A text on a tape, read as serde_json reads it.
-ghost use Rattle.std.specs.Prelude.{◌≡◌, ◌<◌, [], ◌∷◌, false, map, length, Some, None, Err, IfOk, OnSome, MatchOption, option_map, option_and_then, List, is_some};
+ghost use Rattle.std.specs.Prelude.{◌≡◌, ◌-◌, ◌^◌, ◌<◌, [], ◌∷◌, false, not, filter, map, min, length, Some, None, Err, IfOk, OnSome, MatchOption, option_map, option_and_then, List, is_some};
+ghost use Rattle.std.specs.List.{list_any};
+ghost use Rattle.std.specs.Option.{option_copied};
+ghost use Rattle.std.specs.Str.{bytes_eq};
 ghost use Rattle.json.specs.Tape.{node_token};
 ghost use Rattle.json.specs.Token.{Token};
 ghost use Rattle.serde_json.specs.Read.{read};
-ghost use Rattle.serde_json.specs.Find.{get, as_str, as_number, as_array, as_object, as_u64, as_i64};
+ghost use Rattle.serde_json.specs.Data as serde;
+ghost use Rattle.serde_json.specs.Find.{as_number};
 ghost use Rattle.tt_json.specs.Fit.{tokens_fit};
 ghost use Rattle.tt_json.specs.Number.{number_view};
-ghost use Rattle.tt_json.specs.Tape.{value_at, list_of, items_at, IsValue};
+ghost use Rattle.tt_json.specs.Value.{member_names, lesser, least};
+ghost use Rattle.tt_json.specs.Tape.{value_at, items_at, IsValue, AreMembers};
 
+use crate::names::is_known;
 use crate::number::{Number, number_of};
-use json::{Element, Error, Node, Scratch, Tape};
+use crate::value::JsonValue;
+use json::{Element, Error, Members, Node, Scratch, Tape};
 use std::alloc::Allocator;
 use std::marker::Model;
 
@@ -103,74 +110,6 @@ pub fn root<'t, 'a, A: Allocator>(tape: &'t Tape<'a, A>) -> TapeValue<'t, 'a>
     }
 }
 
-impl<'t, 'a> TapeValue<'t, 'a> {
-    pub fn get(&self, name: &str) -> Option<TapeValue<'t, 'a>>
-        ensures { option_map value_at result ≡ get name.now (value_at self.now) }
-    {
-        match self.element.get(name) {
-            Some(element) => Some(TapeValue { element }),
-            None => None,
-        }
-    }
-
-    pub fn is_object(&self) -> bool
-        ensures { result ≡ is_some (as_object (value_at self.now)) }
-    {
-        match self.element.members() {
-            Some(_) => true,
-            None => false,
-        }
-    }
-
-    pub fn as_str(&self) -> Option<&'a str>
-        ensures { option_map (λ s. s.now) result ≡ as_str (value_at self.now) }
-    {
-        self.element.as_str()
-    }
-
-    fn as_number(&self) -> Option<Number>
-        ensures { option_map number_view result ≡ as_number (value_at self.now) }
-    {
-        match self.element.as_number() {
-            Some(text) => number_of(text),
-            None => None,
-        }
-    }
-
-    pub fn as_u64(&self) -> Option<u64>
-        ensures { result ≡ option_and_then as_u64 (as_number (value_at self.now)) }
-    {
-        match self.as_number() {
-            Some(Number::Unsigned(n)) => Some(n),
-            _ => None,
-        }
-    }
-
-    pub fn as_i64(&self) -> Option<i64>
-        ensures { result ≡ option_and_then as_i64 (as_number (value_at self.now)) }
-    {
-        match self.as_number() {
-            Some(Number::Unsigned(n)) => if n <= i64::MAX as u64 {
-                Some(n as i64)
-            } else {
-                None
-            },
-            Some(Number::Negative(n)) => Some(n),
-            _ => None,
-        }
-    }
-
-    pub fn items(&self) -> Option<TapeItems<'t, 'a>>
-        ensures { option_map items_at result
-            ≡ option_map list_of (as_array (value_at self.now)) }
-    {
-        match self.element.items() {
-            Some(items) => Some(TapeItems { items }),
-            None => None,
-        }
-    }
-}
-
 /// The items of an array from one on.
 #[derive(Drop)]
 pub struct TapeItems<'t, 'a> {
@@ -192,8 +131,93 @@ impl<'t, 'a> Model for TapeItems<'t, 'a> {
     ghost invariant = { λ a. AreItems a.items };
 }
 
+impl<'t, 'a> JsonValue for TapeValue<'t, 'a> {
+    type Items = TapeItems<'t, 'a>;
+
+    ghost json = { value_at };
+
+    ghost left = { items_at };
+
+    fn get(&self, name: &str) -> Option<TapeValue<'t, 'a>> {
+        match self.element.get(name) {
+            Some(element) => Some(TapeValue { element }),
+            None => None,
+        }
+    }
+
+    fn is_object(&self) -> bool {
+        match self.element.members() {
+            Some(_) => true,
+            None => false,
+        }
+    }
+
+    fn as_str(&self) -> Option<&str> {
+        self.element.as_str()
+    }
+
+    fn as_bool(&self) -> Option<bool> {
+        self.element.as_bool()
+    }
+
+    fn as_i64(&self) -> Option<i64> {
+        match self.as_number() {
+            Some(Number::Unsigned(n)) => if n <= i64::MAX as u64 {
+                Some(n as i64)
+            } else {
+                None
+            },
+            Some(Number::Negative(n)) => Some(n),
+            _ => None,
+        }
+    }
+
+    fn as_u64(&self) -> Option<u64> {
+        match self.as_number() {
+            Some(Number::Unsigned(n)) => Some(n),
+            _ => None,
+        }
+    }
+
+    fn items(&self) -> Option<TapeItems<'t, 'a>> {
+        match self.element.items() {
+            Some(items) => Some(TapeItems { items }),
+            None => None,
+        }
+    }
+
+    fn item_count(&self) -> usize {
+        match self.items() {
+            Some(items) => count(items),
+            None => 0,
+        }
+    }
+
+    fn next_item(items: &mut TapeItems<'t, 'a>) -> Option<TapeValue<'t, 'a>> {
+        items.next()
+    }
+
+    fn least_unknown(&self, known: &[&str]) -> Option<&str> {
+        match self.element.members() {
+            Some(members) => least_unknown(members, known),
+            None => None,
+        }
+    }
+}
+
+impl<'t, 'a> TapeValue<'t, 'a> {
+    fn as_number(&self) -> Option<Number>
+        ensures { option_map number_view result ≡ as_number (value_at self.now) }
+    {
+        match self.element.as_number() {
+            Some(text) => number_of(text),
+            None => None,
+        }
+    }
+}
+
 impl<'t, 'a> TapeItems<'t, 'a> {
-    pub fn next(&mut self) -> Option<TapeValue<'t, 'a>>
+    fn next(&mut self) -> Option<TapeValue<'t, 'a>>
         ensures value { MatchOption result (items_at self.old ≡ [])
             (λ x. items_at self.old ≡ value_at x ∷ items_at self.new) }
         ensures shorter { OnSome result (length self.new < length self.old) }
@@ -202,5 +226,44 @@ impl<'t, 'a> TapeItems<'t, 'a> {
             Some(element) => Some(TapeValue { element }),
             None => None,
         }
+    }
+}
+
+/// The number of items, but at most `usize::MAX`.
+fn count(items: TapeItems<'_, '_>) -> usize
+    ensures { result ≡ min (length (items_at items.entry)) (2 ^ 64 - 1) }
+{
+    let mut items = items;
+    let mut count: usize = 0;
+    while let Some(_) = items.next() {
+        count = count.saturating_add(1);
+    }
+    count
+}
+
+/// The least name of these members that isn't one of the known ones.
+fn least_unknown<'a>(members: Members<'_, 'a>, known: &[&str]) -> Option<&'a str>
+    ensures { (ms : serde.Members) → AreMembers members.entry serde.no_members ms
+        → option_copied result
+        ≡ least (filter (λ name. not (list_any (λ k. bytes_eq name k.now) known.now))
+        (member_names ms)) }
+{
+    let mut members = members;
+    let mut least = None;
+    while let Some((name, _)) = members.next() {
+        if !is_known(known, name) {
+            least = Some(lesser(name, least));
+        }
+    }
+    least
+}
+
+/// The lesser of two names, by their bytes.
+fn lesser<'a>(name: &'a str, other: Option<&'a str>) -> &'a str
+    ensures { result.now ≡ lesser name.now (option_copied other.entry) }
+{
+    match other {
+        Some(other) => if name <= other { name } else { other },
+        None => name,
     }
 }

@@ -9,15 +9,17 @@ invariant_of-result c = (items-next _ c.next.new.self (Some c.in-Some.element) c
 
 pub invariant_of-self : goal.invariant_of-self
 invariant_of-self c =
-    elim c.match-next.branch
-    [ in-Some w ↦ (items-next _ c.next.new.self (Some w.in-Some.element) c.self.invariant w.in-Some.ensures.value).1
-    | in-None w ↦ subst AreItems (sym w.in-None.ensures.stays) c.self.invariant ]
+    elim c.match-next.branch [
+      | in-Some w ↦ (items-next _ c.next.new.self (Some w.in-Some.element) c.self.invariant w.in-Some.ensures.value).1
+      | in-None w ↦ subst AreItems (sym w.in-None.ensures.stays) c.self.invariant
+    ]
 
 pub returns-clause-value : goal.returns-clause-value
 returns-clause-value c =
     let old = ap items_at (sym c.self.view_is) in
-    elim c.match-next.branch
-    [ in-Some w ↦ subst (λ r. MatchOption r (items_at c.args.self.now ≡ []) (λ x. items_at c.args.self.now ≡ value_at x ∷ items_at c.next.new.self)) (sym w.result-is)
-        (old ∙ (items-next _ c.next.new.self (Some w.in-Some.element) c.self.invariant w.in-Some.ensures.value).2)
-    | in-None w ↦ subst (λ r. MatchOption r (items_at c.args.self.now ≡ []) (λ x. items_at c.args.self.now ≡ value_at x ∷ items_at c.next.new.self)) (sym w.result-is)
-        (old ∙ items-next _ c.next.new.self None c.self.invariant w.in-None.ensures.value) ]
+    elim c.match-next.branch [
+      | in-Some w ↦ subst (λ r. MatchOption r (items_at c.args.self.now ≡ []) (λ x. items_at c.args.self.now ≡ value_at x ∷ items_at c.next.new.self)) (sym w.result-is)
+          (old ∙ (items-next _ c.next.new.self (Some w.in-Some.element) c.self.invariant w.in-Some.ensures.value).2)
+      | in-None w ↦ subst (λ r. MatchOption r (items_at c.args.self.now ≡ []) (λ x. items_at c.args.self.now ≡ value_at x ∷ items_at c.next.new.self)) (sym w.result-is)
+          (old ∙ items-next _ c.next.new.self None c.self.invariant w.in-None.ensures.value)
+    ]

@@ -2,7 +2,7 @@ use Rattle.std.proofs.Common.{Some, None, sym, ap, ◌∙◌}
 use Rattle.serde_json.specs.Find.{get}
 use Rattle.tt_json.specs.Tape.{value_at}
 use Rattle.tt_json.proofs.ItemsLemmas.{member-get}
-use Rattle.tt_json.proofs.tape.TapeValue.get.Goals as goal
+use Rattle.tt_json.proofs.tape.TapeValueJsonValue.get.Goals as goal
 
 pub invariant_of-result : goal.invariant_of-result
 invariant_of-result c = (member-get c.args.name.now _ (Some c.in-Some.element) c.self.invariant c.in-Some.ensures).0

@@ -1,8 +1,9 @@
 use Rattle.std.proofs.Common.{Some, None, option_map, sym, ap, ◌∙◌}
 use Rattle.serde_json.specs.Find.{as_array}
-use Rattle.tt_json.specs.Tape.{value_at, list_of}
+use Rattle.tt_json.specs.Value.{list_of}
+use Rattle.tt_json.specs.Tape.{value_at}
 use Rattle.tt_json.proofs.ItemsLemmas.{items-array}
-use Rattle.tt_json.proofs.tape.TapeValue.items.Goals as goal
+use Rattle.tt_json.proofs.tape.TapeValueJsonValue.items.Goals as goal
 
 pub invariant_of-result : goal.invariant_of-result
 invariant_of-result c = (items-array _ (Some c.in-Some.items) c.self.invariant c.in-Some.ensures).0
