@@ -1,5 +1,5 @@
 -- A look-up in what was read finds what serde_json's does.
-use Rattle.std.proofs.Common.{◌≡◌, ℕ, ◌≤◌, List, [], ◌∷◌, ◌++◌, Bool, true, false, cond, Option, Some, None, option_map, option_and_then, refl, sym, ap, ◌∙◌, subst, arith, bytes_eq, true≢false}
+use Rattle.std.proofs.Common.{◌≡◌, ℕ, ◌≤◌, List, Bool, true, false, cond, Option, Some, None, option_map, option_and_then, refl, sym, ap, ◌∙◌, bytes_eq, true≢false}
 use Rattle.std.proofs.lemmas.Slice.Eq.{bytes_eq-Decides}
 use Rattle.json.specs.Token.{Token}
 use Rattle.json.specs.Json as json
@@ -9,11 +9,11 @@ use Rattle.json.specs.Find.{BeginsWith, Finds}
 use Rattle.json.proofs.Found.{not_found, Some_inj}
 use Rattle.json.proofs.Printed.Trees.{value-json_tokens}
 use Rattle.json.proofs.Unique.Spelling.{value-json_tokens_back}
-use Rattle.serde_json.specs.Data.{Data, number, array, object, Items, Members, member, put}
+use Rattle.serde_json.specs.Data.{Data, number, array, object, Members, put}
 use Rattle.serde_json.specs.Find as sfind
 use Rattle.serde_json.specs.Read.{number_of, of_json, of_items, of_members, max_depth}
 use Rattle.serde_json.proofs.Views.{get_member-put, get_member-put_other}
-use Rattle.tt_json.specs.Tape.{or_null, value_at, IsRead, IsValue}
+use Rattle.tt_json.specs.Tape.{or_null, value_at}
 
 -- any reading at a place is the reading of `value_at`
 pub value_at-is : (ts : List Token) (j : json.Json) (d : Data) → BeginsWith ts j → tree.depth j ≤ max_depth → of_json j ≡ Some d → value_at ts ≡ d

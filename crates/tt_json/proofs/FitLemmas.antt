@@ -1,20 +1,19 @@
 -- A text that fits is read by serde_json, and one that doesn't is refused.
-use Rattle.std.proofs.Common.{◌≡◌, ℕ, suc, ◌+◌, ◌-◌, ◌≤◌, ◌<◌, List, [], ◌∷◌, ◌++◌, Bool, true, false, Option, Some, None, is_some, option_map, option_and_then, refl, sym, ap, ◌∙◌, subst, arith, append_assoc, append-nil, true≢false}
+use Rattle.std.proofs.Common.{◌≡◌, ℕ, suc, ◌+◌, ◌-◌, ◌≤◌, List, [], ◌∷◌, ◌++◌, Bool, true, false, Option, Some, None, is_some, option_map, option_and_then, refl, sym, ap, ◌∙◌, arith, append_assoc, append-nil, true≢false}
 use Rattle.std.specs.Prelude.{◌&&◌, nat_lt}
 use Rattle.json.specs.Token.{Token}
 use Rattle.json.specs.Lex.{tokens}
 use Rattle.json.specs.Json as json
 use Rattle.json.specs.Tree.{json_tokens, items_tokens, members_tokens}
 use Rattle.serde_json.specs.Read.{max_depth}
-use Rattle.std.proofs.lemmas.Bool.{and_parts, and_from, lt-ltb, ltb-true, false_from_ne_true}
-use Rattle.std.specs.Prelude.{IsSome}
+use Rattle.std.proofs.lemmas.Bool.{and_parts, and_from, lt-ltb, ltb-true}
 use Rattle.json.specs.Json.{if_last, document}
 use Rattle.json.specs.Tree as tree
-use Rattle.json.proofs.Found.{one_reading, not_found, Some_inj}
+use Rattle.json.proofs.Found.{not_found, Some_inj}
 use Rattle.json.proofs.Nesting.{value-depth}
 use Rattle.json.proofs.Printed.Trees.{value-json_tokens}
 use Rattle.json.proofs.Unique.Spelling.{tokens-document, value-json_tokens_back}
-use Rattle.serde_json.specs.Data.{Data, Num, number, array, object, item, Items, Members, put}
+use Rattle.serde_json.specs.Data.{Data, number, array, object, item, Items, Members, put}
 use Rattle.serde_json.specs.Read.{number_of, of_json, of_items, of_members, read}
 use Rattle.tt_json.specs.Tape.{IsRead}
 use Rattle.tt_json.proofs.DataLemmas.{mapped, chained}

@@ -1,5 +1,5 @@
 //! A text on a tape, read as serde_json reads it.
-ghost use Rattle.std.specs.Prelude.{◌≡◌, ◌-◌, ◌^◌, ◌<◌, [], ◌∷◌, false, not, filter, map, min, length, Some, None, Err, IfOk, OnSome, MatchOption, option_map, option_and_then, List, is_some};
+ghost use Rattle.std.specs.Prelude.{◌≡◌, ◌<◌, [], ◌∷◌, false, not, filter, map, length, Some, None, Err, IfOk, OnSome, MatchOption, option_map, option_and_then, List, is_some};
 ghost use Rattle.std.specs.List.{list_any};
 ghost use Rattle.std.specs.Option.{option_copied};
 ghost use Rattle.std.specs.Str.{bytes_eq};
@@ -10,8 +10,8 @@ ghost use Rattle.serde_json.specs.Data as serde;
 ghost use Rattle.serde_json.specs.Find.{as_number};
 ghost use Rattle.tt_json.specs.Fit.{tokens_fit};
 ghost use Rattle.tt_json.specs.Number.{number_view};
-ghost use Rattle.tt_json.specs.Value.{member_names, lesser, least};
-ghost use Rattle.tt_json.specs.Tape.{value_at, items_at, IsValue, AreMembers};
+ghost use Rattle.tt_json.specs.Value.{items_in, member_names, lesser, least};
+ghost use Rattle.tt_json.specs.Tape.{value_at, items_at, IsValue, AreItems, AreMembers};
 
 use crate::names::is_known;
 use crate::number::{Number, number_of};
@@ -114,6 +114,7 @@ pub fn root<'t, 'a, A: Allocator>(tape: &'t Tape<'a, A>) -> TapeValue<'t, 'a>
 #[derive(Drop)]
 pub struct TapeItems<'t, 'a> {
     items: json::Items<'t, 'a>,
+    count: usize,
 }
 
 impl<'t, 'a> Model for TapeItems<'t, 'a> {
@@ -124,11 +125,12 @@ impl<'t, 'a> Model for TapeItems<'t, 'a> {
 
     ghost coded = { tokens_code };
 
-    ghost use Rattle.tt_json.specs.Tape.{AreItems};
+    ghost use Rattle.std.specs.Prelude.{◌≡◌, length};
+    ghost use Rattle.tt_json.specs.Tape.{AreItems, items_at};
 
     ghost view = { λ a. a.items };
 
-    ghost invariant = { λ a. AreItems a.items };
+    ghost invariant = { λ a. AreItems a.items × (a.count ≡ length (items_at a.items)) };
 }
 
 impl<'t, 'a> JsonValue for TapeValue<'t, 'a> {
@@ -181,16 +183,16 @@ impl<'t, 'a> JsonValue for TapeValue<'t, 'a> {
 
     fn items(&self) -> Option<TapeItems<'t, 'a>> {
         match self.element.items() {
-            Some(items) => Some(TapeItems { items }),
+            Some(items) => Some(TapeItems {
+                items,
+                count: self.item_count(),
+            }),
             None => None,
         }
     }
 
-    fn item_count(&self) -> usize {
-        match self.items() {
-            Some(items) => count(items),
-            None => 0,
-        }
+    fn count(items: &TapeItems<'t, 'a>) -> usize {
+        items.len()
     }
 
     fn next_item(items: &mut TapeItems<'t, 'a>) -> Option<TapeValue<'t, 'a>> {
@@ -214,29 +216,49 @@ impl<'t, 'a> TapeValue<'t, 'a> {
             None => None,
         }
     }
+
+    /// The number of items of an array. Another value has none.
+    fn item_count(&self) -> usize
+        ensures { result ≡ length (items_in (value_at self.now)) }
+    {
+        match self.element.items() {
+            Some(items) => count(items),
+            None => 0,
+        }
+    }
 }
 
 impl<'t, 'a> TapeItems<'t, 'a> {
+    fn len(&self) -> usize
+        ensures { result ≡ length (items_at self.now) }
+    {
+        self.count
+    }
+
     fn next(&mut self) -> Option<TapeValue<'t, 'a>>
         ensures value { MatchOption result (items_at self.old ≡ [])
             (λ x. items_at self.old ≡ value_at x ∷ items_at self.new) }
         ensures shorter { OnSome result (length self.new < length self.old) }
     {
         match self.items.next() {
-            Some(element) => Some(TapeValue { element }),
+            Some(element) => {
+                self.count = self.count.saturating_sub(1);
+                Some(TapeValue { element })
+            }
             None => None,
         }
     }
 }
 
-/// The number of items, but at most `usize::MAX`.
-fn count(items: TapeItems<'_, '_>) -> usize
-    ensures { result ≡ min (length (items_at items.entry)) (2 ^ 64 - 1) }
+/// The number of items from one on.
+fn count(items: json::Items<'_, '_>) -> usize
+    requires { AreItems items }
+    ensures { result ≡ length (items_at items.entry) }
 {
     let mut items = items;
     let mut count: usize = 0;
     while let Some(_) = items.next() {
-        count = count.saturating_add(1);
+        count += 1;
     }
     count
 }

@@ -1,5 +1,5 @@
 //! The values of serde_json.
-ghost use Rattle.std.specs.Prelude.{◌≡◌, ◌-◌, ◌^◌, not, map, find, length, min, string_bytes};
+ghost use Rattle.std.specs.Prelude.{◌≡◌, not, map, find, string_bytes};
 ghost use Rattle.std.specs.BTreeMap.{keys, IsOrdered};
 ghost use Rattle.std.specs.List.{list_any};
 ghost use Rattle.std.specs.Option.{option_copied};
@@ -57,11 +57,8 @@ impl<'a> JsonValue for &'a Value {
         }
     }
 
-    fn item_count(&self) -> usize {
-        match Value::as_array(*self) {
-            Some(items) => count(items.as_slice()),
-            None => 0,
-        }
+    fn count(items: &TreeItems<'a>) -> usize {
+        items.items.len()
     }
 
     fn next_item(items: &mut TreeItems<'a>) -> Option<&'a Value> {
@@ -76,12 +73,6 @@ impl<'a> JsonValue for &'a Value {
         let name = first_unknown(members, known)?;
         Some(name.as_str())
     }
-}
-
-fn count(items: &[Value]) -> usize
-    ensures { result ≡ min (length items.now) (2 ^ 64 - 1) }
-{
-    items.len()
 }
 
 fn first_unknown<'a>(members: &'a Map<String, Value>, known: &[&str]) -> Option<&'a String>

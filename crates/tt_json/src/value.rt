@@ -1,11 +1,11 @@
 //! What a JSON value can be asked for.
-ghost use Rattle.std.specs.Prelude.{◌≡◌, ◌-◌, ◌^◌, ◌∷◌, [], List, Option, MatchOption, is_some, length, min, option_map, option_and_then};
+ghost use Rattle.std.specs.Prelude.{◌≡◌, ◌∷◌, [], List, MatchOption, is_some, length, option_map, option_and_then};
 ghost use Rattle.std.specs.List.{list_any};
 ghost use Rattle.std.specs.Option.{option_copied};
 ghost use Rattle.std.specs.Str.{bytes_eq};
 ghost use Rattle.serde_json.specs.Data.{Data};
 ghost use Rattle.serde_json.specs.Find.{get, as_str, as_bool, as_number, as_array, as_object, as_i64, as_u64};
-ghost use Rattle.tt_json.specs.Value.{list_of, items_in, least_unknown};
+ghost use Rattle.tt_json.specs.Value.{list_of, least_unknown};
 
 /// A JSON value that is read.
 pub trait JsonValue: Sized + Drop {
@@ -41,9 +41,9 @@ pub trait JsonValue: Sized + Drop {
     fn items(&self) -> Option<Self::Items>
         ensures { option_map left result ≡ option_map list_of (as_array (json self.now)) };
 
-    /// The number of items of an array, but at most `usize::MAX`. Another value has none.
-    fn item_count(&self) -> usize
-        ensures { result ≡ min (length (items_in (json self.now))) (2 ^ 64 - 1) };
+    /// The number of items that are left.
+    fn count(items: &Self::Items) -> usize
+        ensures { result ≡ length (left items.now) };
 
     /// Takes the first of the items that are left.
     fn next_item(items: &mut Self::Items) -> Option<Self>
