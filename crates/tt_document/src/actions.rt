@@ -64,7 +64,11 @@ pub(crate) fn action<V: JsonValue>(
     Ok(writes)
 }
 
-fn no_members_but_do<V: JsonValue>(alloc: Global, context: Context, value: &V) -> Result<(), DocFault>
+fn no_members_but_do<V: JsonValue>(
+    alloc: Global,
+    context: Context,
+    value: &V,
+) -> Result<(), DocFault>
     ensures { Gives result (no_members_at context (codes "do" ∷ []) (V.json value.now)) }
 {
     match context {
@@ -96,13 +100,13 @@ impl Decoder for WritesDecoder<'_> {
 
     fn decode<V: JsonValue>(&self, alloc: Global, value: &V) -> Result<Items<Write>, DocFault> {
         let items = array(alloc, value)?;
-        if items.len() > MAX_WRITES {
+        if V::count(&items) > MAX_WRITES {
             return Err(DocFault::here(alloc, OUT_OF_RANGE));
         }
         let decoder = WriteDecoder {
             catalog: self.catalog,
         };
-        decode_items(alloc, &decoder, items)
+        decode_items::<_, V>(alloc, &decoder, items)
     }
 }
 

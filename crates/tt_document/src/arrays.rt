@@ -1,5 +1,5 @@
 //! Reading of arrays, item by item from the front.
-ghost use Rattle.std.specs.Prelude.{Result, map};
+ghost use Rattle.std.specs.Prelude.{Result};
 ghost use Rattle.serde_json.specs.Data.{Data};
 ghost use Rattle.tt_document.specs.declared.fault.DocFault.{DocFault};
 ghost use Rattle.tt_document.specs.Fault.{Gives, with_path, item_path};
@@ -19,7 +19,12 @@ pub(crate) trait Fold {
     /// The state after an item, or the item's first fault.
     ghost after: { Self → Self.State → Data → Result Self.State DocFault };
 
-    fn step<V: JsonValue>(&self, alloc: Global, state: Self::State, item: &V) -> Result<Self::State, DocFault>
+    fn step<V: JsonValue>(
+        &self,
+        alloc: Global,
+        state: Self::State,
+        item: &V,
+    ) -> Result<Self::State, DocFault>
         ensures { Gives result (after self.now state (V.json item.now)) };
 }
 
@@ -30,11 +35,15 @@ pub(crate) fn fold_items<T: Fold, V: JsonValue>(
     start: T::State,
     items: V::Items,
 ) -> Result<T::State, DocFault>
-    ensures { Gives result (fold_items (T.after fold.now) 0 start (map view items.now)) }
+    ensures { Gives result (fold_items (T.after fold.now) 0 start (V.left items)) }
 {
     let mut state = start;
-    for (index, item) in items.iter().enumerate() {
-        state = step_item(alloc, fold, state, index, item)?;
+    let mut items = items;
+    for index in 0..V::count(&items) {
+        let Some(item) = V::next_item(&mut items) else {
+            break;
+        };
+        state = step_item(alloc, fold, state, index, &item)?;
     }
     Ok(state)
 }
@@ -96,7 +105,7 @@ where
 
     fn decode<V: JsonValue>(&self, alloc: Global, value: &V) -> Result<Items<D::Output>, DocFault> {
         let items = array(alloc, value)?;
-        decode_items(alloc, &self.decoder, items)
+        decode_items::<_, V>(alloc, &self.decoder, items)
     }
 }
 
@@ -108,9 +117,9 @@ pub(crate) fn decode_items<D: Decoder, V: JsonValue>(
 ) -> Result<Items<D::Output>, DocFault>
 where
     D::Output: Drop,
-    ensures { Gives result (each (D.meaning decoder.now) 0 (map view items.now)) }
+    ensures { Gives result (each (D.meaning decoder.now) 0 (V.left items)) }
 {
-    let list = decode_owned(alloc, decoder, items)?;
+    let list = decode_owned::<_, V>(alloc, decoder, items)?;
     let items = list.into_items(alloc)?;
     Ok(items)
 }
@@ -123,8 +132,8 @@ pub(crate) fn decode_owned<D: Decoder, V: JsonValue>(
 ) -> Result<OwnedItems<D::Output>, DocFault>
 where
     D::Output: Drop,
-    ensures { Gives result (each (D.meaning decoder.now) 0 (map view items.now)) }
+    ensures { Gives result (each (D.meaning decoder.now) 0 (V.left items)) }
 {
-    let start = OwnedItems::with_room(alloc, items.len())?;
-    fold_items(alloc, &Collector { decoder }, start, items)
+    let start = OwnedItems::with_room(alloc, V::count(&items))?;
+    fold_items::<_, V>(alloc, &Collector { decoder }, start, items)
 }

@@ -31,7 +31,7 @@ impl Decoder for CallsDecoder<'_> {
 
     fn decode<V: JsonValue>(&self, alloc: Global, value: &V) -> Result<OwnedItems<Call>, DocFault> {
         let items = array(alloc, value)?;
-        if items.len() > MAX_CALLS {
+        if V::count(&items) > MAX_CALLS {
             return Err(DocFault::here(alloc, OUT_OF_RANGE));
         }
         let decoder = CallDecoder {
@@ -39,7 +39,7 @@ impl Decoder for CallsDecoder<'_> {
             catalog: self.catalog,
             workers: self.workers,
         };
-        decode_owned(alloc, &decoder, items)
+        decode_owned::<_, V>(alloc, &decoder, items)
     }
 }
 
@@ -70,7 +70,12 @@ impl Decoder for CallDecoder<'_> {
 
 /// What a call asks for, by the first kind that's there.
 #[tactic(auto, unfolding(crate::specs::Calls::ask))]
-fn ask<V: JsonValue>(alloc: Global, version: Version, catalog: &Catalog, value: &V) -> Result<Ask, DocFault>
+fn ask<V: JsonValue>(
+    alloc: Global,
+    version: Version,
+    catalog: &Catalog,
+    value: &V,
+) -> Result<Ask, DocFault>
     ensures { Gives result (ask version catalog.now (V.json value.now)) }
 {
     match write(alloc, catalog, Context::Call, value)? {

@@ -1,7 +1,7 @@
 //! Reading of the changes of an update.
-ghost use Rattle.std.specs.Prelude.{◌≡◌};
+ghost use Rattle.std.specs.Prelude.{◌≡◌, option_map};
 ghost use Rattle.tt_document.specs.Fault.{GivesViewed};
-ghost use Rattle.tt_document.specs.Changes.{triple, verb_named, verb, change_of, change};
+ghost use Rattle.tt_document.specs.Changes.{three, triple, verb_named, verb, change_of, change};
 
 use crate::conditions::{ColumnNameDecoder, ValueDecoder};
 use crate::decoder::{Decoder, IntDecoder, OUT_OF_RANGE, WRONG_TYPE, array, item, text};
@@ -32,27 +32,40 @@ impl Decoder for ChangeDecoder<'_> {
     #[tactic(auto, unfolding(crate::specs::Changes::change))]
     fn decode<V: JsonValue>(&self, alloc: Global, value: &V) -> Result<Change, DocFault> {
         let (first, second, third) = triple(alloc, value)?;
-        let verb = item(alloc, 0, first, &VerbDecoder)?;
+        let verb = item(alloc, 0, &first, &VerbDecoder)?;
         let column = ColumnNameDecoder {
             catalog: self.catalog,
             table: self.table,
         };
-        let column = item(alloc, 1, second, &column)?;
-        let change = item(alloc, 2, third, &OperandDecoder { verb, column })?;
+        let column = item(alloc, 1, &second, &column)?;
+        let change = item(alloc, 2, &third, &OperandDecoder { verb, column })?;
         Ok(change)
     }
 }
 
 /// The items of an array of three.
-fn triple<V: JsonValue>(alloc: Global, value: &V) -> Result<(&V, &V, &V), DocFault>
-    ensures { GivesViewed (λ t. (view t.0.now, view t.1.now, view t.2.now)) result
+fn triple<V: JsonValue>(alloc: Global, value: &V) -> Result<(V, V, V), DocFault>
+    ensures { GivesViewed (λ t. (V.json t.0, V.json t.1, V.json t.2)) result
         (triple (V.json value.now)) }
 {
-    let items = array(alloc, value)?;
-    if items.len() != 3 {
-        return Err(DocFault::here(alloc, WRONG_TYPE));
+    let mut items = array(alloc, value)?;
+    match three::<V>(&mut items) {
+        Some(triple) => Ok(triple),
+        None => Err(DocFault::here(alloc, WRONG_TYPE)),
     }
-    Ok((&items[0], &items[1], &items[2]))
+}
+
+fn three<V: JsonValue>(items: &mut V::Items) -> Option<(V, V, V)>
+    ensures { option_map (λ t. (V.json t.0, V.json t.1, V.json t.2)) result
+        ≡ three (V.left items.old) }
+{
+    let first = V::next_item(items)?;
+    let second = V::next_item(items)?;
+    let third = V::next_item(items)?;
+    match V::next_item(items) {
+        Some(_) => None,
+        None => Some((first, second, third)),
+    }
 }
 
 #[derive(Drop)]

@@ -1,7 +1,7 @@
 //! Reading of what statements name: tables, columns, values, and conditions on a table.
-ghost use Rattle.std.specs.Prelude.{◌≡◌};
+ghost use Rattle.std.specs.Prelude.{◌≡◌, option_map};
 ghost use Rattle.tt_document.specs.Fault.{GivesViewed};
-ghost use Rattle.tt_document.specs.Conditions.{value, table_named, column_with, column_named, pair, condition};
+ghost use Rattle.tt_document.specs.Conditions.{value, table_named, column_with, column_named, two, pair, condition};
 
 use crate::decoder::{Decoder, WRONG_TYPE, array, item, text};
 use crate::fault::DocFault;
@@ -80,21 +80,32 @@ impl Decoder for ConditionDecoder<'_> {
             catalog: self.catalog,
             table: self.table,
         };
-        let column = item(alloc, 0, first, &column)?;
-        let value = item(alloc, 1, second, &ValueDecoder)?;
+        let column = item(alloc, 0, &first, &column)?;
+        let value = item(alloc, 1, &second, &ValueDecoder)?;
         Ok(Equal { column, value })
     }
 }
 
 /// The items of an array of two.
-fn pair<V: JsonValue>(alloc: Global, value: &V) -> Result<(&V, &V), DocFault>
-    ensures { GivesViewed (λ p. (view p.0.now, view p.1.now)) result (pair (V.json value.now)) }
+fn pair<V: JsonValue>(alloc: Global, value: &V) -> Result<(V, V), DocFault>
+    ensures { GivesViewed (λ p. (V.json p.0, V.json p.1)) result (pair (V.json value.now)) }
 {
-    let items = array(alloc, value)?;
-    if items.len() != 2 {
-        return Err(DocFault::here(alloc, WRONG_TYPE));
+    let mut items = array(alloc, value)?;
+    match two::<V>(&mut items) {
+        Some(pair) => Ok(pair),
+        None => Err(DocFault::here(alloc, WRONG_TYPE)),
     }
-    Ok((&items[0], &items[1]))
+}
+
+fn two<V: JsonValue>(items: &mut V::Items) -> Option<(V, V)>
+    ensures { option_map (λ p. (V.json p.0, V.json p.1)) result ≡ two (V.left items.old) }
+{
+    let first = V::next_item(items)?;
+    let second = V::next_item(items)?;
+    match V::next_item(items) {
+        Some(_) => None,
+        None => Some((first, second)),
+    }
 }
 
 /// A text or an Int.

@@ -1,5 +1,5 @@
 //! Reading of JSON values.
-ghost use Rattle.std.specs.Prelude.{◌≡◌, ◌++◌, Result, map, codes};
+ghost use Rattle.std.specs.Prelude.{◌≡◌, ◌++◌, Result, codes};
 ghost use Rattle.serde_json.specs.Data.{Data};
 ghost use Rattle.tt_document.specs.declared.fault.DocFault.{DocFault};
 ghost use Rattle.tt_document.specs.Fault.{Gives, GivesViewed, IsFault, fault_here, with_path, member_path, item_path};
@@ -29,10 +29,10 @@ pub(crate) trait Decoder: Drop {
 pub(crate) fn object<V: JsonValue>(alloc: Global, value: &V) -> Result<(), DocFault>
     ensures { Gives result (object (V.json value.now)) }
 {
-    match value.as_object() {
-        Some(_) => Ok(()),
-        None => Err(DocFault::here(alloc, WRONG_TYPE)),
+    if !value.is_object() {
+        return Err(DocFault::here(alloc, WRONG_TYPE));
     }
+    Ok(())
 }
 
 /// The text that the value is.
@@ -56,11 +56,11 @@ pub(crate) fn count<V: JsonValue>(alloc: Global, value: &V) -> Result<u64, DocFa
 }
 
 /// The items of the array that the value is.
-pub(crate) fn array<V: JsonValue>(alloc: Global, value: &V) -> Result<&[Value], DocFault>
-    ensures { GivesViewed (λ items. map view items.now) result (array (V.json value.now)) }
+pub(crate) fn array<V: JsonValue>(alloc: Global, value: &V) -> Result<V::Items, DocFault>
+    ensures { GivesViewed V.left result (array (V.json value.now)) }
 {
-    match value.as_array() {
-        Some(items) => Ok(items.as_slice()),
+    match value.items() {
+        Some(items) => Ok(items),
         None => Err(DocFault::here(alloc, WRONG_TYPE)),
     }
 }
@@ -82,7 +82,7 @@ pub(crate) fn member<D: Decoder, V: JsonValue>(
     ensures { Gives result (member name.now (D.meaning decoder.now) (V.json object.now)) }
 {
     match object.get(name) {
-        Some(value) => member_value(alloc, value, name, decoder),
+        Some(value) => member_value(alloc, &value, name, decoder),
         None => Err(missing(alloc, name)),
     }
 }
@@ -98,7 +98,7 @@ pub(crate) fn optional<D: Decoder, V: JsonValue>(
 {
     match object.get(name) {
         Some(value) => {
-            let meaning = member_value(alloc, value, name, decoder)?;
+            let meaning = member_value(alloc, &value, name, decoder)?;
             Ok(Some(meaning))
         }
         None => Ok(None),

@@ -42,7 +42,7 @@ impl Document {
         ensures valid { IfOk result IsValidDocument }
         ensures fault { IfErr result (λ fault. FailsWith fault (document_of (view value.now))) }
     {
-        match from_members(alloc, value) {
+        match from_members(alloc, &value) {
             Ok(document) => Ok(document),
             Err(fault) => Err(fault.in_document(alloc)),
         }

@@ -75,7 +75,7 @@ impl Decoder for EditsDecoder<'_> {
 
     fn decode<V: JsonValue>(&self, alloc: Global, value: &V) -> Result<Items<Edit>, DocFault> {
         let items = array(alloc, value)?;
-        if items.len() > MAX_EDITS {
+        if V::count(&items) > MAX_EDITS {
             return Err(DocFault::here(alloc, OUT_OF_RANGE));
         }
         let fold = EditsFold {
@@ -83,8 +83,8 @@ impl Decoder for EditsDecoder<'_> {
             catalog: self.catalog,
             calls: self.calls,
         };
-        let start = OwnedItems::with_room(alloc, items.len())?;
-        let edits = fold_items(alloc, &fold, start, items)?;
+        let start = OwnedItems::with_room(alloc, V::count(&items))?;
+        let edits = fold_items::<_, V>(alloc, &fold, start, items)?;
         let edits = edits.into_items(alloc)?;
         Ok(edits)
     }

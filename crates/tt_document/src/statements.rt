@@ -87,7 +87,11 @@ pub(crate) fn delete<V: JsonValue>(
 
 /// The select of an object.
 #[tactic(auto, unfolding(crate::specs::Statements::select))]
-pub(crate) fn select<V: JsonValue>(alloc: Global, catalog: &Catalog, value: &V) -> Result<Ask, DocFault>
+pub(crate) fn select<V: JsonValue>(
+    alloc: Global,
+    catalog: &Catalog,
+    value: &V,
+) -> Result<Ask, DocFault>
     ensures { Gives result (select catalog.now (V.json value.now)) }
 {
     let table = member(alloc, value, "select", &TableNameDecoder { catalog })?;
@@ -100,7 +104,11 @@ pub(crate) fn select<V: JsonValue>(alloc: Global, catalog: &Catalog, value: &V) 
 
 /// The preview of an object.
 #[tactic(auto, unfolding(crate::specs::Statements::preview))]
-pub(crate) fn preview<V: JsonValue>(alloc: Global, catalog: &Catalog, value: &V) -> Result<Ask, DocFault>
+pub(crate) fn preview<V: JsonValue>(
+    alloc: Global,
+    catalog: &Catalog,
+    value: &V,
+) -> Result<Ask, DocFault>
     ensures { Gives result (preview catalog.now (V.json value.now)) }
 {
     let table = member(alloc, value, "preview", &TableNameDecoder { catalog })?;
@@ -110,7 +118,11 @@ pub(crate) fn preview<V: JsonValue>(alloc: Global, catalog: &Catalog, value: &V)
     Ok(Ask::Preview(select))
 }
 
-fn no_members_but_insert<V: JsonValue>(alloc: Global, context: Context, value: &V) -> Result<(), DocFault>
+fn no_members_but_insert<V: JsonValue>(
+    alloc: Global,
+    context: Context,
+    value: &V,
+) -> Result<(), DocFault>
     ensures { Gives result
         (no_members_at context (codes "insert" ∷ codes "row" ∷ []) (V.json value.now)) }
 {
@@ -120,7 +132,11 @@ fn no_members_but_insert<V: JsonValue>(alloc: Global, context: Context, value: &
     }
 }
 
-fn no_members_but_update<V: JsonValue>(alloc: Global, context: Context, value: &V) -> Result<(), DocFault>
+fn no_members_but_update<V: JsonValue>(
+    alloc: Global,
+    context: Context,
+    value: &V,
+) -> Result<(), DocFault>
     ensures { Gives result
         (no_members_at context (codes "change" ∷ codes "update" ∷ codes "where" ∷ [])
         (V.json value.now)) }
@@ -131,7 +147,11 @@ fn no_members_but_update<V: JsonValue>(alloc: Global, context: Context, value: &
     }
 }
 
-fn no_members_but_delete<V: JsonValue>(alloc: Global, context: Context, value: &V) -> Result<(), DocFault>
+fn no_members_but_delete<V: JsonValue>(
+    alloc: Global,
+    context: Context,
+    value: &V,
+) -> Result<(), DocFault>
     ensures { Gives result
         (no_members_at context (codes "delete" ∷ codes "where" ∷ []) (V.json value.now)) }
 {

@@ -25,7 +25,7 @@ impl Decoder for TablesDecoder {
 
     fn decode<V: JsonValue>(&self, alloc: Global, value: &V) -> Result<Catalog, DocFault> {
         let items = array(alloc, value)?;
-        fold_items(alloc, &TablesFold, Catalog::new(alloc), items)
+        fold_items::<_, V>(alloc, &TablesFold, Catalog::new(alloc), items)
     }
 }
 
@@ -38,7 +38,12 @@ impl Fold for TablesFold {
     ghost after = { λ _. table_after };
 
     #[tactic(auto, unfolding(crate::specs::Tables::table_after))]
-    fn step<V: JsonValue>(&self, alloc: Global, state: Catalog, item: &V) -> Result<Catalog, DocFault> {
+    fn step<V: JsonValue>(
+        &self,
+        alloc: Global,
+        state: Catalog,
+        item: &V,
+    ) -> Result<Catalog, DocFault> {
         object(alloc, item)?;
         let name = member(alloc, item, "name", &TextDecoder)?;
         let decoder = ArrayDecoder {
