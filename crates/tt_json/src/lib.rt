@@ -7,6 +7,7 @@ mod tape;
 mod tree;
 mod value;
 
+pub use json::{Error, Scratch};
 pub use tape::{TapeItems, TapeValue, parse, root};
 pub use tree::TreeItems;
 pub use value::JsonValue;
