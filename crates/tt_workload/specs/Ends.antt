@@ -1,5 +1,5 @@
 -- The two ends of a run: the document of some bytes, the bytes that a reader gives, and those that a writer gets.
-use Rattle.std.specs.Prelude.{◌≡◌, ◌⊎◌, ℕ, ◌≤◌, nat_lt, if◌then◌else◌, List, length, take, Option, None, Some, Result, Ok, Err, codes}
+use Rattle.std.specs.Prelude.{◌≡◌, ◌⊎◌, ℕ, ◌≤◌, nat_lt, if◌then◌else◌, List, length, take, Option, None, Result, Ok, Err, codes}
 use Rattle.std.specs.Str.{is_utf8}
 use Rattle.std.specs.Io.KnownBytes.{Consumes, Appends}
 use Rattle.serde_json.specs.Data.{Data}
