@@ -1,16 +1,9 @@
 -- JSON values, as the definitions see them.
 use Rattle.std.proofs.Common.{◌≡◌, ℕ, suc, List, [], ◌∷◌, ◌++◌, Result, Ok, Err, refl, sym, ap, ◌∙◌, append_assoc, append-nil}
 use Rattle.serde_json.specs.Data.{Data}
-use Rattle.serde_json.specs.View.{items_of}
 use Rattle.tt_document.specs.declared.fault.DocFault.{DocFault}
 use Rattle.tt_document.specs.Fault.{◌>>=◌, with_path, item_path}
-use Rattle.tt_document.specs.Decoder.{list_of}
 use Rattle.tt_document.specs.Arrays.{fold_items, with_item, each}
-
--- the items of a list, as a list, are that list
-pub list_of-items_of : (ds : List Data) → list_of (items_of ds) ≡ ds
-list_of-items_of [] = refl
-list_of-items_of (d ∷ ds) = ap (λ es. d ∷ es) (list_of-items_of ds)
 
 -- one item more in front of those that are read
 rest_read : {T : Type 0} (xs : List T) (x : T) (rest : Result (List T) DocFault)

@@ -1,4 +1,3 @@
 pub mod DecoderLemmas
 pub mod DocumentLemmas
-pub mod MembersLemmas
 pub mod QuotingLemmas

@@ -1,7 +1,8 @@
 -- JSON values of the types that a document needs. A decoder gives the meaning of a value: what it stands for, or its first fault.
-use Rattle.std.specs.Prelude.{ℕ, ℤ, Bool, List, [], ◌∷◌, ◌++◌, length, Option, Some, None, is_some, option_map, option_and_then, Result, Ok, codes, ⊤, nat_lt, ◌||◌, if◌then◌else◌}
-use Rattle.serde_json.specs.Data.{Data, Items, no_items, item}
+use Rattle.std.specs.Prelude.{ℕ, ℤ, Bool, List, ◌++◌, length, Option, Some, None, is_some, option_map, option_and_then, Result, Ok, codes, ⊤, nat_lt, ◌||◌, if◌then◌else◌}
+use Rattle.serde_json.specs.Data.{Data}
 use Rattle.serde_json.specs.Find.{get, as_bool, as_number, as_str, as_array, as_object, as_i64, as_u64}
+use Rattle.tt_json.specs.Value.{list_of}
 use Rattle.tt_document.specs.declared.fault.DocFault.{DocFault}
 use Rattle.tt_document.specs.Fault.{◌>>=◌, refuse, or_refuse, with_path, member_path}
 
@@ -28,11 +29,6 @@ int v = or_wrong_type (option_and_then as_i64 (as_number v))
 -- the count that a value is: a number that isn't below zero and fits 64 bits
 abbrev pub count : Data → Result ℕ DocFault
 count v = or_wrong_type (option_and_then as_u64 (as_number v))
-
--- items, as a list
-abbrev pub list_of : Items → List Data
-list_of no_items = []
-list_of (item d ds) = d ∷ list_of ds
 
 -- the items of the array that a value is
 abbrev pub array : Data → Result (List Data) DocFault

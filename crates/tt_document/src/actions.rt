@@ -1,6 +1,5 @@
 //! Reading of actions.
 ghost use Rattle.std.specs.Prelude.{◌≡◌, [], ◌∷◌, IfOk, codes};
-ghost use Rattle.serde_json.specs.View.{view};
 ghost use Rattle.tt_document.specs.Fault.{Gives};
 ghost use Rattle.tt_document.specs.Statements.{no_members_at};
 ghost use Rattle.tt_document.specs.Actions.{write, item_of_action, writes, action, has_action};
@@ -11,21 +10,21 @@ use crate::fault::DocFault;
 use crate::members::no_members_but;
 use crate::statements::{Context, delete, insert, update};
 use crate::version::Version;
-use serde_json::Value;
 use std::alloc::{AllocError, Global};
+use tt_json::JsonValue;
 use tt_values::{Catalog, Items, MAX_WRITES, Write};
 
 const NO_KIND: &str = "missing one of insert, update, delete";
 
 /// The write of an object, by the first of its kinds that's there, or none.
 #[tactic(auto, unfolding(crate::specs::Actions::write))]
-pub(crate) fn write(
+pub(crate) fn write<V: JsonValue>(
     alloc: Global,
     catalog: &Catalog,
     context: Context,
-    value: &Value,
+    value: &V,
 ) -> Result<Option<Write>, DocFault>
-    ensures { Gives result (write catalog.now context (view value.now)) }
+    ensures { Gives result (write catalog.now context (V.json value.now)) }
 {
     if has(value, "insert") {
         let write = insert(alloc, catalog, context, value)?;
@@ -52,21 +51,25 @@ pub(crate) fn action_of_one(alloc: Global, write: Write) -> Result<Items<Write>,
 
 /// The action of an object, from its member `do`.
 #[tactic(auto, unfolding(crate::specs::Actions::action))]
-pub(crate) fn action(
+pub(crate) fn action<V: JsonValue>(
     alloc: Global,
     catalog: &Catalog,
     context: Context,
-    value: &Value,
+    value: &V,
 ) -> Result<Items<Write>, DocFault>
-    ensures { Gives result (action catalog.now context (view value.now)) }
+    ensures { Gives result (action catalog.now context (V.json value.now)) }
 {
     let writes = member(alloc, value, "do", &WritesDecoder { catalog })?;
     no_members_but_do(alloc, context, value)?;
     Ok(writes)
 }
 
-fn no_members_but_do(alloc: Global, context: Context, value: &Value) -> Result<(), DocFault>
-    ensures { Gives result (no_members_at context (codes "do" ∷ []) (view value.now)) }
+fn no_members_but_do<V: JsonValue>(
+    alloc: Global,
+    context: Context,
+    value: &V,
+) -> Result<(), DocFault>
+    ensures { Gives result (no_members_at context (codes "do" ∷ []) (V.json value.now)) }
 {
     match context {
         Context::Call => no_members_but(alloc, value, &["worker", "do"]),
@@ -75,8 +78,8 @@ fn no_members_but_do(alloc: Global, context: Context, value: &Value) -> Result<(
 }
 
 /// Whether an object has the kind `do`, which version 1 doesn't know.
-pub(crate) fn has_action(version: Version, object: &Value) -> bool
-    ensures { result ≡ has_action version (view object.now) }
+pub(crate) fn has_action<V: JsonValue>(version: Version, object: &V) -> bool
+    ensures { result ≡ has_action version (V.json object.now) }
 {
     match version {
         Version::One => false,
@@ -95,15 +98,15 @@ impl Decoder for WritesDecoder<'_> {
 
     ghost meaning = { λ r. writes r.catalog.now };
 
-    fn decode(&self, alloc: Global, value: &Value) -> Result<Items<Write>, DocFault> {
+    fn decode<V: JsonValue>(&self, alloc: Global, value: &V) -> Result<Items<Write>, DocFault> {
         let items = array(alloc, value)?;
-        if items.len() > MAX_WRITES {
+        if V::count(&items) > MAX_WRITES {
             return Err(DocFault::here(alloc, OUT_OF_RANGE));
         }
         let decoder = WriteDecoder {
             catalog: self.catalog,
         };
-        decode_items(alloc, &decoder, items)
+        decode_items::<_, V>(alloc, &decoder, items)
     }
 }
 
@@ -119,7 +122,7 @@ impl Decoder for WriteDecoder<'_> {
     ghost meaning = { λ r. item_of_action r.catalog.now };
 
     #[tactic(auto, unfolding(crate::specs::Actions::item_of_action))]
-    fn decode(&self, alloc: Global, value: &Value) -> Result<Write, DocFault> {
+    fn decode<V: JsonValue>(&self, alloc: Global, value: &V) -> Result<Write, DocFault> {
         object(alloc, value)?;
         match write(alloc, self.catalog, Context::Nested, value)? {
             Some(write) => Ok(write),

@@ -1,7 +1,6 @@
 //! Reading of arrays, item by item from the front.
-ghost use Rattle.std.specs.Prelude.{Result, map};
+ghost use Rattle.std.specs.Prelude.{Result};
 ghost use Rattle.serde_json.specs.Data.{Data};
-ghost use Rattle.serde_json.specs.View.{view};
 ghost use Rattle.tt_document.specs.declared.fault.DocFault.{DocFault};
 ghost use Rattle.tt_document.specs.Fault.{Gives, with_path, item_path};
 ghost use Rattle.tt_document.specs.Arrays.{fold_items, with_item, each, array_of};
@@ -9,8 +8,8 @@ ghost use Rattle.tt_document.specs.Arrays.{fold_items, with_item, each, array_of
 use crate::decoder::{Decoder, array};
 use crate::fault::DocFault;
 use crate::owned_items::OwnedItems;
-use serde_json::Value;
 use std::alloc::Global;
+use tt_json::JsonValue;
 use tt_values::Items;
 
 /// A state that is built from the items of an array, one item after another.
@@ -20,34 +19,43 @@ pub(crate) trait Fold {
     /// The state after an item, or the item's first fault.
     ghost after: { Self → Self.State → Data → Result Self.State DocFault };
 
-    fn step(&self, alloc: Global, state: Self::State, item: &Value) -> Result<Self::State, DocFault>
-        ensures { Gives result (after self.now state (view item.now)) };
+    fn step<V: JsonValue>(
+        &self,
+        alloc: Global,
+        state: Self::State,
+        item: &V,
+    ) -> Result<Self::State, DocFault>
+        ensures { Gives result (after self.now state (V.json item.now)) };
 }
 
 /// The state after all items, from the front.
-pub(crate) fn fold_items<T: Fold>(
+pub(crate) fn fold_items<T: Fold, V: JsonValue>(
     alloc: Global,
     fold: &T,
     start: T::State,
-    items: &[Value],
+    items: V::Items,
 ) -> Result<T::State, DocFault>
-    ensures { Gives result (fold_items (T.after fold.now) 0 start (map view items.now)) }
+    ensures { Gives result (fold_items (T.after fold.now) 0 start (V.left items)) }
 {
     let mut state = start;
-    for (index, item) in items.iter().enumerate() {
-        state = step_item(alloc, fold, state, index, item)?;
+    let mut items = items;
+    for index in 0..V::count(&items) {
+        let Some(item) = V::next_item(&mut items) else {
+            break;
+        };
+        state = step_item(alloc, fold, state, index, &item)?;
     }
     Ok(state)
 }
 
-fn step_item<T: Fold>(
+fn step_item<T: Fold, V: JsonValue>(
     alloc: Global,
     fold: &T,
     state: T::State,
     index: usize,
-    item: &Value,
+    item: &V,
 ) -> Result<T::State, DocFault>
-    ensures { Gives result (with_path (item_path index) (T.after fold.now state (view item.now))) }
+    ensures { Gives result (with_path (item_path index) (T.after fold.now state (V.json item.now))) }
 {
     match fold.step(alloc, state, item) {
         Ok(next) => Ok(next),
@@ -69,11 +77,11 @@ where
 
     ghost after = { λ c. with_item (D.meaning c.decoder.now) };
 
-    fn step(
+    fn step<V: JsonValue>(
         &self,
         alloc: Global,
         state: OwnedItems<D::Output>,
-        item: &Value,
+        item: &V,
     ) -> Result<OwnedItems<D::Output>, DocFault> {
         let meaning = self.decoder.decode(alloc, item)?;
         let items = state.with_item(meaning)?;
@@ -95,37 +103,37 @@ where
 
     ghost meaning = { λ a. array_of (D.meaning a.decoder) };
 
-    fn decode(&self, alloc: Global, value: &Value) -> Result<Items<D::Output>, DocFault> {
+    fn decode<V: JsonValue>(&self, alloc: Global, value: &V) -> Result<Items<D::Output>, DocFault> {
         let items = array(alloc, value)?;
-        decode_items(alloc, &self.decoder, items)
+        decode_items::<_, V>(alloc, &self.decoder, items)
     }
 }
 
 /// The meaning of each item of an array, in order.
-pub(crate) fn decode_items<D: Decoder>(
+pub(crate) fn decode_items<D: Decoder, V: JsonValue>(
     alloc: Global,
     decoder: &D,
-    items: &[Value],
+    items: V::Items,
 ) -> Result<Items<D::Output>, DocFault>
 where
     D::Output: Drop,
-    ensures { Gives result (each (D.meaning decoder.now) 0 (map view items.now)) }
+    ensures { Gives result (each (D.meaning decoder.now) 0 (V.left items)) }
 {
-    let list = decode_owned(alloc, decoder, items)?;
+    let list = decode_owned::<_, V>(alloc, decoder, items)?;
     let items = list.into_items(alloc)?;
     Ok(items)
 }
 
 /// As [`decode_items`], in a list with one owner.
-pub(crate) fn decode_owned<D: Decoder>(
+pub(crate) fn decode_owned<D: Decoder, V: JsonValue>(
     alloc: Global,
     decoder: &D,
-    items: &[Value],
+    items: V::Items,
 ) -> Result<OwnedItems<D::Output>, DocFault>
 where
     D::Output: Drop,
-    ensures { Gives result (each (D.meaning decoder.now) 0 (map view items.now)) }
+    ensures { Gives result (each (D.meaning decoder.now) 0 (V.left items)) }
 {
-    let start = OwnedItems::with_room(alloc, items.len())?;
-    fold_items(alloc, &Collector { decoder }, start, items)
+    let start = OwnedItems::with_room(alloc, V::count(&items))?;
+    fold_items::<_, V>(alloc, &Collector { decoder }, start, items)
 }

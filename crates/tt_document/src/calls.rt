@@ -1,6 +1,5 @@
 //! Reading of the calls of a document.
 ghost use Rattle.std.specs.Prelude.{◌≡◌, None};
-ghost use Rattle.serde_json.specs.View.{view};
 ghost use Rattle.tt_document.specs.Fault.{Gives};
 ghost use Rattle.tt_document.specs.Calls.{no_kind, ask_by, ask, call, calls};
 
@@ -13,8 +12,8 @@ use crate::fault::DocFault;
 use crate::owned_items::OwnedItems;
 use crate::statements::{Context, preview, select};
 use crate::version::Version;
-use serde_json::Value;
 use std::alloc::Global;
+use tt_json::JsonValue;
 use tt_values::Catalog;
 
 /// The calls of workers on a catalog, at most [`MAX_CALLS`].
@@ -30,9 +29,9 @@ impl Decoder for CallsDecoder<'_> {
 
     ghost meaning = { λ r. calls r.version r.catalog.now r.workers };
 
-    fn decode(&self, alloc: Global, value: &Value) -> Result<OwnedItems<Call>, DocFault> {
+    fn decode<V: JsonValue>(&self, alloc: Global, value: &V) -> Result<OwnedItems<Call>, DocFault> {
         let items = array(alloc, value)?;
-        if items.len() > MAX_CALLS {
+        if V::count(&items) > MAX_CALLS {
             return Err(DocFault::here(alloc, OUT_OF_RANGE));
         }
         let decoder = CallDecoder {
@@ -40,7 +39,7 @@ impl Decoder for CallsDecoder<'_> {
             catalog: self.catalog,
             workers: self.workers,
         };
-        decode_owned(alloc, &decoder, items)
+        decode_owned::<_, V>(alloc, &decoder, items)
     }
 }
 
@@ -57,7 +56,7 @@ impl Decoder for CallDecoder<'_> {
     ghost meaning = { λ r. call r.version r.catalog.now r.workers };
 
     #[tactic(auto, unfolding(crate::specs::Calls::call))]
-    fn decode(&self, alloc: Global, value: &Value) -> Result<Call, DocFault> {
+    fn decode<V: JsonValue>(&self, alloc: Global, value: &V) -> Result<Call, DocFault> {
         object(alloc, value)?;
         let workers = CountDecoder {
             min: 1,
@@ -71,8 +70,13 @@ impl Decoder for CallDecoder<'_> {
 
 /// What a call asks for, by the first kind that's there.
 #[tactic(auto, unfolding(crate::specs::Calls::ask))]
-fn ask(alloc: Global, version: Version, catalog: &Catalog, value: &Value) -> Result<Ask, DocFault>
-    ensures { Gives result (ask version catalog.now (view value.now)) }
+fn ask<V: JsonValue>(
+    alloc: Global,
+    version: Version,
+    catalog: &Catalog,
+    value: &V,
+) -> Result<Ask, DocFault>
+    ensures { Gives result (ask version catalog.now (V.json value.now)) }
 {
     match write(alloc, catalog, Context::Call, value)? {
         Some(write) => {
@@ -83,13 +87,13 @@ fn ask(alloc: Global, version: Version, catalog: &Catalog, value: &Value) -> Res
     }
 }
 
-fn ask_without_write(
+fn ask_without_write<V: JsonValue>(
     alloc: Global,
     version: Version,
     catalog: &Catalog,
-    value: &Value,
+    value: &V,
 ) -> Result<Ask, DocFault>
-    ensures { Gives result (ask_by version catalog.now (view value.now) None) }
+    ensures { Gives result (ask_by version catalog.now (V.json value.now) None) }
 {
     if has(value, "select") {
         let read = select(alloc, catalog, value)?;

@@ -1,14 +1,13 @@
 //! Reading of the changes of an update.
-ghost use Rattle.std.specs.Prelude.{◌≡◌};
-ghost use Rattle.serde_json.specs.View.{view};
+ghost use Rattle.std.specs.Prelude.{◌≡◌, option_map};
 ghost use Rattle.tt_document.specs.Fault.{GivesViewed};
-ghost use Rattle.tt_document.specs.Changes.{triple, verb_named, verb, change_of, change};
+ghost use Rattle.tt_document.specs.Changes.{three, triple, verb_named, verb, change_of, change};
 
 use crate::conditions::{ColumnNameDecoder, ValueDecoder};
 use crate::decoder::{Decoder, IntDecoder, OUT_OF_RANGE, WRONG_TYPE, array, item, text};
 use crate::fault::DocFault;
-use serde_json::Value;
 use std::alloc::Global;
+use tt_json::JsonValue;
 use tt_values::{Catalog, Change};
 
 /// What a change does to its column.
@@ -31,29 +30,42 @@ impl Decoder for ChangeDecoder<'_> {
     ghost meaning = { λ r. change r.catalog.now r.table };
 
     #[tactic(auto, unfolding(crate::specs::Changes::change))]
-    fn decode(&self, alloc: Global, value: &Value) -> Result<Change, DocFault> {
+    fn decode<V: JsonValue>(&self, alloc: Global, value: &V) -> Result<Change, DocFault> {
         let (first, second, third) = triple(alloc, value)?;
-        let verb = item(alloc, 0, first, &VerbDecoder)?;
+        let verb = item(alloc, 0, &first, &VerbDecoder)?;
         let column = ColumnNameDecoder {
             catalog: self.catalog,
             table: self.table,
         };
-        let column = item(alloc, 1, second, &column)?;
-        let change = item(alloc, 2, third, &OperandDecoder { verb, column })?;
+        let column = item(alloc, 1, &second, &column)?;
+        let change = item(alloc, 2, &third, &OperandDecoder { verb, column })?;
         Ok(change)
     }
 }
 
 /// The items of an array of three.
-fn triple(alloc: Global, value: &Value) -> Result<(&Value, &Value, &Value), DocFault>
-    ensures { GivesViewed (λ t. (view t.0.now, view t.1.now, view t.2.now)) result
-        (triple (view value.now)) }
+fn triple<V: JsonValue>(alloc: Global, value: &V) -> Result<(V, V, V), DocFault>
+    ensures { GivesViewed (λ t. (V.json t.0, V.json t.1, V.json t.2)) result
+        (triple (V.json value.now)) }
 {
-    let items = array(alloc, value)?;
-    if items.len() != 3 {
-        return Err(DocFault::here(alloc, WRONG_TYPE));
+    let mut items = array(alloc, value)?;
+    match three::<V>(&mut items) {
+        Some(triple) => Ok(triple),
+        None => Err(DocFault::here(alloc, WRONG_TYPE)),
     }
-    Ok((&items[0], &items[1], &items[2]))
+}
+
+fn three<V: JsonValue>(items: &mut V::Items) -> Option<(V, V, V)>
+    ensures { option_map (λ t. (V.json t.0, V.json t.1, V.json t.2)) result
+        ≡ three (V.left items.old) }
+{
+    let first = V::next_item(items)?;
+    let second = V::next_item(items)?;
+    let third = V::next_item(items)?;
+    match V::next_item(items) {
+        Some(_) => None,
+        None => Some((first, second, third)),
+    }
 }
 
 #[derive(Drop)]
@@ -64,7 +76,7 @@ impl Decoder for VerbDecoder {
 
     ghost meaning = { λ _. verb };
 
-    fn decode(&self, alloc: Global, value: &Value) -> Result<Verb, DocFault> {
+    fn decode<V: JsonValue>(&self, alloc: Global, value: &V) -> Result<Verb, DocFault> {
         let name = text(alloc, value)?;
         match verb_named(name) {
             Some(verb) => Ok(verb),
@@ -95,7 +107,7 @@ impl Decoder for OperandDecoder {
 
     ghost meaning = { λ r. change_of r.verb r.column };
 
-    fn decode(&self, alloc: Global, value: &Value) -> Result<Change, DocFault> {
+    fn decode<V: JsonValue>(&self, alloc: Global, value: &V) -> Result<Change, DocFault> {
         let column = self.column;
         match self.verb {
             Verb::Set => {

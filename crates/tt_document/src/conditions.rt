@@ -1,13 +1,12 @@
 //! Reading of what statements name: tables, columns, values, and conditions on a table.
-ghost use Rattle.std.specs.Prelude.{◌≡◌};
-ghost use Rattle.serde_json.specs.View.{view};
+ghost use Rattle.std.specs.Prelude.{◌≡◌, option_map};
 ghost use Rattle.tt_document.specs.Fault.{GivesViewed};
-ghost use Rattle.tt_document.specs.Conditions.{value, table_named, column_with, column_named, pair, condition};
+ghost use Rattle.tt_document.specs.Conditions.{value, table_named, column_with, column_named, two, pair, condition};
 
 use crate::decoder::{Decoder, WRONG_TYPE, array, item, text};
 use crate::fault::DocFault;
-use serde_json::Value;
 use std::alloc::Global;
+use tt_json::JsonValue;
 use tt_values::{Catalog, Equal, Text};
 
 const NO_TABLE: &str = "no such table";
@@ -25,7 +24,7 @@ impl Decoder for TableNameDecoder<'_> {
 
     ghost meaning = { λ r. table_named r.catalog.now };
 
-    fn decode(&self, alloc: Global, value: &Value) -> Result<u16, DocFault> {
+    fn decode<V: JsonValue>(&self, alloc: Global, value: &V) -> Result<u16, DocFault> {
         let name = text(alloc, value)?;
         match self.catalog.find(name) {
             Some(table) => Ok(table),
@@ -46,7 +45,7 @@ impl Decoder for ColumnNameDecoder<'_> {
 
     ghost meaning = { λ r. column_named r.catalog.now r.table };
 
-    fn decode(&self, alloc: Global, value: &Value) -> Result<u16, DocFault> {
+    fn decode<V: JsonValue>(&self, alloc: Global, value: &V) -> Result<u16, DocFault> {
         let name = text(alloc, value)?;
         match column_with(self.catalog, self.table, name) {
             Some(column) => Ok(column),
@@ -75,27 +74,38 @@ impl Decoder for ConditionDecoder<'_> {
     ghost meaning = { λ r. condition r.catalog.now r.table };
 
     #[tactic(auto, unfolding(crate::specs::Conditions::condition))]
-    fn decode(&self, alloc: Global, value: &Value) -> Result<Equal, DocFault> {
+    fn decode<V: JsonValue>(&self, alloc: Global, value: &V) -> Result<Equal, DocFault> {
         let (first, second) = pair(alloc, value)?;
         let column = ColumnNameDecoder {
             catalog: self.catalog,
             table: self.table,
         };
-        let column = item(alloc, 0, first, &column)?;
-        let value = item(alloc, 1, second, &ValueDecoder)?;
+        let column = item(alloc, 0, &first, &column)?;
+        let value = item(alloc, 1, &second, &ValueDecoder)?;
         Ok(Equal { column, value })
     }
 }
 
 /// The items of an array of two.
-fn pair(alloc: Global, value: &Value) -> Result<(&Value, &Value), DocFault>
-    ensures { GivesViewed (λ p. (view p.0.now, view p.1.now)) result (pair (view value.now)) }
+fn pair<V: JsonValue>(alloc: Global, value: &V) -> Result<(V, V), DocFault>
+    ensures { GivesViewed (λ p. (V.json p.0, V.json p.1)) result (pair (V.json value.now)) }
 {
-    let items = array(alloc, value)?;
-    if items.len() != 2 {
-        return Err(DocFault::here(alloc, WRONG_TYPE));
+    let mut items = array(alloc, value)?;
+    match two::<V>(&mut items) {
+        Some(pair) => Ok(pair),
+        None => Err(DocFault::here(alloc, WRONG_TYPE)),
     }
-    Ok((&items[0], &items[1]))
+}
+
+fn two<V: JsonValue>(items: &mut V::Items) -> Option<(V, V)>
+    ensures { option_map (λ p. (V.json p.0, V.json p.1)) result ≡ two (V.left items.old) }
+{
+    let first = V::next_item(items)?;
+    let second = V::next_item(items)?;
+    match V::next_item(items) {
+        Some(_) => None,
+        None => Some((first, second)),
+    }
 }
 
 /// A text or an Int.
@@ -107,7 +117,7 @@ impl Decoder for ValueDecoder {
 
     ghost meaning = { λ _. value };
 
-    fn decode(&self, alloc: Global, value: &Value) -> Result<tt_values::Value, DocFault> {
+    fn decode<V: JsonValue>(&self, alloc: Global, value: &V) -> Result<tt_values::Value, DocFault> {
         if let Some(text) = value.as_str() {
             let text = String::from_str(alloc, text)?;
             let text = Text::new(alloc, text)?;

@@ -1,14 +1,13 @@
 //! Reading of JSON values.
-ghost use Rattle.std.specs.Prelude.{◌≡◌, ◌++◌, Result, map, codes};
+ghost use Rattle.std.specs.Prelude.{◌≡◌, ◌++◌, Result, codes};
 ghost use Rattle.serde_json.specs.Data.{Data};
-ghost use Rattle.serde_json.specs.View.{view};
 ghost use Rattle.tt_document.specs.declared.fault.DocFault.{DocFault};
 ghost use Rattle.tt_document.specs.Fault.{Gives, GivesViewed, IsFault, fault_here, with_path, member_path, item_path};
 ghost use Rattle.tt_document.specs.Decoder.{object, text, int, flag, count, count_within, array, has, member, optional};
 
 use crate::fault::DocFault;
-use serde_json::Value;
 use std::alloc::Global;
+use tt_json::JsonValue;
 use tt_values::Text;
 
 pub(crate) const WRONG_TYPE: &str = "wrong type";
@@ -22,23 +21,23 @@ pub(crate) trait Decoder: Drop {
     /// What a value means, or its first fault.
     ghost meaning: { Self → Data → Result Self.Output DocFault };
 
-    fn decode(&self, alloc: Global, value: &Value) -> Result<Self::Output, DocFault>
-        ensures { Gives result (meaning self.now (view value.now)) };
+    fn decode<V: JsonValue>(&self, alloc: Global, value: &V) -> Result<Self::Output, DocFault>
+        ensures { Gives result (meaning self.now (V.json value.now)) };
 }
 
 /// Refuses a value that isn't an object.
-pub(crate) fn object(alloc: Global, value: &Value) -> Result<(), DocFault>
-    ensures { Gives result (object (view value.now)) }
+pub(crate) fn object<V: JsonValue>(alloc: Global, value: &V) -> Result<(), DocFault>
+    ensures { Gives result (object (V.json value.now)) }
 {
-    match value.as_object() {
-        Some(_) => Ok(()),
-        None => Err(DocFault::here(alloc, WRONG_TYPE)),
+    if !value.is_object() {
+        return Err(DocFault::here(alloc, WRONG_TYPE));
     }
+    Ok(())
 }
 
 /// The text that the value is.
-pub(crate) fn text(alloc: Global, value: &Value) -> Result<&str, DocFault>
-    ensures { GivesViewed (λ s. s.now) result (text (view value.now)) }
+pub(crate) fn text<V: JsonValue>(alloc: Global, value: &V) -> Result<&str, DocFault>
+    ensures { GivesViewed (λ s. s.now) result (text (V.json value.now)) }
 {
     match value.as_str() {
         Some(text) => Ok(text),
@@ -47,8 +46,8 @@ pub(crate) fn text(alloc: Global, value: &Value) -> Result<&str, DocFault>
 }
 
 /// The count that the value is.
-pub(crate) fn count(alloc: Global, value: &Value) -> Result<u64, DocFault>
-    ensures { Gives result (count (view value.now)) }
+pub(crate) fn count<V: JsonValue>(alloc: Global, value: &V) -> Result<u64, DocFault>
+    ensures { Gives result (count (V.json value.now)) }
 {
     match value.as_u64() {
         Some(count) => Ok(count),
@@ -57,63 +56,63 @@ pub(crate) fn count(alloc: Global, value: &Value) -> Result<u64, DocFault>
 }
 
 /// The items of the array that the value is.
-pub(crate) fn array(alloc: Global, value: &Value) -> Result<&[Value], DocFault>
-    ensures { GivesViewed (λ items. map view items.now) result (array (view value.now)) }
+pub(crate) fn array<V: JsonValue>(alloc: Global, value: &V) -> Result<V::Items, DocFault>
+    ensures { GivesViewed V.left result (array (V.json value.now)) }
 {
-    match value.as_array() {
-        Some(items) => Ok(items.as_slice()),
+    match value.items() {
+        Some(items) => Ok(items),
         None => Err(DocFault::here(alloc, WRONG_TYPE)),
     }
 }
 
 /// Whether an object has a member.
-pub(crate) fn has(object: &Value, name: &str) -> bool
-    ensures { result ≡ has name.now (view object.now) }
+pub(crate) fn has<V: JsonValue>(object: &V, name: &str) -> bool
+    ensures { result ≡ has name.now (V.json object.now) }
 {
     object.get(name).is_some()
 }
 
 /// The meaning of a member that must be there.
-pub(crate) fn member<D: Decoder>(
+pub(crate) fn member<D: Decoder, V: JsonValue>(
     alloc: Global,
-    object: &Value,
+    object: &V,
     name: &str,
     decoder: &D,
 ) -> Result<D::Output, DocFault>
-    ensures { Gives result (member name.now (D.meaning decoder.now) (view object.now)) }
+    ensures { Gives result (member name.now (D.meaning decoder.now) (V.json object.now)) }
 {
     match object.get(name) {
-        Some(value) => member_value(alloc, value, name, decoder),
+        Some(value) => member_value(alloc, &value, name, decoder),
         None => Err(missing(alloc, name)),
     }
 }
 
 /// The meaning of a member that may be left out.
-pub(crate) fn optional<D: Decoder>(
+pub(crate) fn optional<D: Decoder, V: JsonValue>(
     alloc: Global,
-    object: &Value,
+    object: &V,
     name: &str,
     decoder: &D,
 ) -> Result<Option<D::Output>, DocFault>
-    ensures { Gives result (optional name.now (D.meaning decoder.now) (view object.now)) }
+    ensures { Gives result (optional name.now (D.meaning decoder.now) (V.json object.now)) }
 {
     match object.get(name) {
         Some(value) => {
-            let meaning = member_value(alloc, value, name, decoder)?;
+            let meaning = member_value(alloc, &value, name, decoder)?;
             Ok(Some(meaning))
         }
         None => Ok(None),
     }
 }
 
-fn member_value<D: Decoder>(
+fn member_value<D: Decoder, V: JsonValue>(
     alloc: Global,
-    value: &Value,
+    value: &V,
     name: &str,
     decoder: &D,
 ) -> Result<D::Output, DocFault>
     ensures { Gives result
-        (with_path (member_path name.now) (D.meaning decoder.now (view value.now))) }
+        (with_path (member_path name.now) (D.meaning decoder.now (V.json value.now))) }
 {
     match decoder.decode(alloc, value) {
         Ok(meaning) => Ok(meaning),
@@ -122,13 +121,13 @@ fn member_value<D: Decoder>(
 }
 
 /// The meaning of an item of an array.
-pub(crate) fn item<D: Decoder>(
+pub(crate) fn item<D: Decoder, V: JsonValue>(
     alloc: Global,
     index: usize,
-    value: &Value,
+    value: &V,
     decoder: &D,
 ) -> Result<D::Output, DocFault>
-    ensures { Gives result (with_path (item_path index) (D.meaning decoder.now (view value.now))) }
+    ensures { Gives result (with_path (item_path index) (D.meaning decoder.now (V.json value.now))) }
 {
     match decoder.decode(alloc, value) {
         Ok(meaning) => Ok(meaning),
@@ -151,7 +150,7 @@ impl Decoder for TextDecoder {
 
     ghost meaning = { λ _. text };
 
-    fn decode(&self, alloc: Global, value: &Value) -> Result<Text, DocFault> {
+    fn decode<V: JsonValue>(&self, alloc: Global, value: &V) -> Result<Text, DocFault> {
         let text = text(alloc, value)?;
         let text = String::from_str(alloc, text)?;
         let text = Text::new(alloc, text)?;
@@ -168,7 +167,7 @@ impl Decoder for FlagDecoder {
 
     ghost meaning = { λ _. flag };
 
-    fn decode(&self, alloc: Global, value: &Value) -> Result<bool, DocFault> {
+    fn decode<V: JsonValue>(&self, alloc: Global, value: &V) -> Result<bool, DocFault> {
         match value.as_bool() {
             Some(flag) => Ok(flag),
             None => Err(DocFault::here(alloc, WRONG_TYPE)),
@@ -185,7 +184,7 @@ impl Decoder for IntDecoder {
 
     ghost meaning = { λ _. int };
 
-    fn decode(&self, alloc: Global, value: &Value) -> Result<i64, DocFault> {
+    fn decode<V: JsonValue>(&self, alloc: Global, value: &V) -> Result<i64, DocFault> {
         match value.as_i64() {
             Some(number) => Ok(number),
             None => Err(DocFault::here(alloc, WRONG_TYPE)),
@@ -202,7 +201,7 @@ impl Decoder for AnyCountDecoder {
 
     ghost meaning = { λ _. count };
 
-    fn decode(&self, alloc: Global, value: &Value) -> Result<u64, DocFault> {
+    fn decode<V: JsonValue>(&self, alloc: Global, value: &V) -> Result<u64, DocFault> {
         let count = count(alloc, value)?;
         Ok(count)
     }
@@ -220,7 +219,7 @@ impl Decoder for CountDecoder {
 
     ghost meaning = { λ c. count_within c.min c.max };
 
-    fn decode(&self, alloc: Global, value: &Value) -> Result<u32, DocFault> {
+    fn decode<V: JsonValue>(&self, alloc: Global, value: &V) -> Result<u32, DocFault> {
         let count = count(alloc, value)?;
         if count < u64::from(self.min) || count > u64::from(self.max) {
             return Err(DocFault::here(alloc, OUT_OF_RANGE));

@@ -3,8 +3,11 @@ use crate::owned_items::OwnedItems;
 use crate::reading::from_members;
 use serde_json::Value;
 use std::alloc::Global;
+use tt_json::{Error, JsonValue, Scratch, parse, root};
 use tt_repair_laws::Edit;
 use tt_values::{Catalog, Items, Select, Shared, Write};
+
+const NOT_JSON: &str = "not JSON";
 
 /// A workload: the tables, and the calls that the workers make.
 #[derive(Debug, Drop)]
@@ -33,7 +36,7 @@ impl Document {
     ghost use Rattle.std.specs.Prelude.{◌≡◌, Ok, IfOk, IfErr};
     ghost use Rattle.serde_json.specs.View.{view};
     ghost use Rattle.tt_document.specs.Fault.{FailsWith};
-    ghost use Rattle.tt_document.specs.Document.{document_of, IsValidDocument};
+    ghost use Rattle.tt_document.specs.Document.{document_of, document_of_text, IsValidDocument};
 
     /// The document that a JSON value spells, or its first fault. Memory can run out before the
     /// fault is met.
@@ -41,6 +44,31 @@ impl Document {
         ensures ok { IfOk result (λ document. document_of (view value.now) ≡ Ok document) }
         ensures valid { IfOk result IsValidDocument }
         ensures fault { IfErr result (λ fault. FailsWith fault (document_of (view value.now))) }
+    {
+        Document::from_json(alloc, &value)
+    }
+
+    /// The document that a text spells, or its first fault: that it isn't JSON, or the one of its
+    /// JSON value. Memory can run out before the fault is met, as it does for a text of 4 GiB.
+    /// The text's JSON is read on a tape, which is let go with the call.
+    pub fn from_text(alloc: Global, text: &str) -> Result<Document, DocFault>
+        ensures ok { IfOk result (λ document. document_of_text text.now ≡ Ok document) }
+        ensures valid { IfOk result IsValidDocument }
+        ensures fault { IfErr result (λ fault. FailsWith fault (document_of_text text.now)) }
+    {
+        let mut scratch = Scratch::new(alloc);
+        match parse(text, &mut scratch, Vec::new(alloc)) {
+            Ok(tape) => Document::from_json(alloc, &root(&tape)),
+            Err(Error::Invalid) => Err(DocFault::of_document(alloc, NOT_JSON)),
+            Err(_) => Err(DocFault::Memory),
+        }
+    }
+
+    /// As [`from_value`](Document::from_value), of any JSON value.
+    fn from_json<V: JsonValue>(alloc: Global, value: &V) -> Result<Document, DocFault>
+        ensures ok { IfOk result (λ document. document_of (V.json value.now) ≡ Ok document) }
+        ensures valid { IfOk result IsValidDocument }
+        ensures fault { IfErr result (λ fault. FailsWith fault (document_of (V.json value.now))) }
     {
         match from_members(alloc, value) {
             Ok(document) => Ok(document),

@@ -1,5 +1,4 @@
 //! Reading of a whole document.
-ghost use Rattle.serde_json.specs.View.{view};
 ghost use Rattle.tt_document.specs.Fault.{Gives};
 ghost use Rattle.tt_document.specs.Reading.{members_of_document};
 
@@ -12,14 +11,14 @@ use crate::members::no_members_but;
 use crate::repair::RepairDecoder;
 use crate::tables::TablesDecoder;
 use crate::version::VersionDecoder;
-use serde_json::Value;
 use std::alloc::Global;
+use tt_json::JsonValue;
 use tt_values::Shared;
 
 /// The document of an object. Paths begin at the object.
 #[tactic(auto, unfolding(crate::specs::Reading::members_of_document))]
-pub(crate) fn from_members(alloc: Global, value: &Value) -> Result<Document, DocFault>
-    ensures { Gives result (members_of_document (view value.now)) }
+pub(crate) fn from_members<V: JsonValue>(alloc: Global, value: &V) -> Result<Document, DocFault>
+    ensures { Gives result (members_of_document (V.json value.now)) }
 {
     object(alloc, value)?;
     let version = member(alloc, value, "version", &VersionDecoder)?;

@@ -1,7 +1,6 @@
 //! Reading of the repair of a document.
 ghost use Rattle.std.specs.Prelude.{◌≡◌, ◌==◌, None};
 ghost use Rattle.std.specs.List.{list_any};
-ghost use Rattle.serde_json.specs.View.{view};
 ghost use Rattle.tt_repair_laws.specs.Edits.{slot_number};
 ghost use Rattle.tt_document.specs.Fault.{Gives};
 ghost use Rattle.tt_document.specs.Decoder.{count_within};
@@ -18,8 +17,8 @@ use crate::members::no_members_but;
 use crate::owned_items::OwnedItems;
 use crate::statements::Context;
 use crate::version::Version;
-use serde_json::Value;
 use std::alloc::Global;
+use tt_json::JsonValue;
 use tt_repair_laws::Edit;
 use tt_values::{Catalog, Items, Write};
 
@@ -38,7 +37,7 @@ impl Decoder for RepairDecoder<'_> {
     ghost meaning = { λ r. repair r.version r.catalog.now r.workers r.calls.now };
 
     #[tactic(auto, unfolding(crate::specs::Repair::repair))]
-    fn decode(&self, alloc: Global, value: &Value) -> Result<Plan, DocFault> {
+    fn decode<V: JsonValue>(&self, alloc: Global, value: &V) -> Result<Plan, DocFault> {
         object(alloc, value)?;
         let decoder = EditsDecoder {
             version: self.version,
@@ -74,9 +73,9 @@ impl Decoder for EditsDecoder<'_> {
 
     ghost meaning = { λ r. edits r.version r.catalog.now r.calls.now };
 
-    fn decode(&self, alloc: Global, value: &Value) -> Result<Items<Edit>, DocFault> {
+    fn decode<V: JsonValue>(&self, alloc: Global, value: &V) -> Result<Items<Edit>, DocFault> {
         let items = array(alloc, value)?;
-        if items.len() > MAX_EDITS {
+        if V::count(&items) > MAX_EDITS {
             return Err(DocFault::here(alloc, OUT_OF_RANGE));
         }
         let fold = EditsFold {
@@ -84,8 +83,8 @@ impl Decoder for EditsDecoder<'_> {
             catalog: self.catalog,
             calls: self.calls,
         };
-        let start = OwnedItems::with_room(alloc, items.len())?;
-        let edits = fold_items(alloc, &fold, start, items)?;
+        let start = OwnedItems::with_room(alloc, V::count(&items))?;
+        let edits = fold_items::<_, V>(alloc, &fold, start, items)?;
         let edits = edits.into_items(alloc)?;
         Ok(edits)
     }
@@ -105,11 +104,11 @@ impl Fold for EditsFold<'_> {
     ghost after = { λ t. with_edit t.version t.catalog.now t.calls.now };
 
     #[tactic(auto, unfolding(crate::specs::Repair::with_edit))]
-    fn step(
+    fn step<V: JsonValue>(
         &self,
         alloc: Global,
         state: OwnedItems<Edit>,
-        item: &Value,
+        item: &V,
     ) -> Result<OwnedItems<Edit>, DocFault> {
         object(alloc, item)?;
         let edit = edit(alloc, self.version, self.catalog, self.calls.len(), item)?;
@@ -162,14 +161,14 @@ fn is_edited(edits: &[Edit], number: u64) -> bool
 }
 
 /// The edit of an object, by the first of its kinds that's there.
-fn edit(
+fn edit<V: JsonValue>(
     alloc: Global,
     version: Version,
     catalog: &Catalog,
     calls: usize,
-    value: &Value,
+    value: &V,
 ) -> Result<Edit, DocFault>
-    ensures { Gives result (edit_by_kind version catalog.now calls (view value.now)) }
+    ensures { Gives result (edit_by_kind version catalog.now calls (V.json value.now)) }
 {
     if has(value, "cancel") {
         let edit = cancel(alloc, calls, value)?;
@@ -183,8 +182,8 @@ fn edit(
 }
 
 #[tactic(auto, unfolding(crate::specs::Repair::cancel))]
-fn cancel(alloc: Global, calls: usize, value: &Value) -> Result<Edit, DocFault>
-    ensures { Gives result (cancel calls (view value.now)) }
+fn cancel<V: JsonValue>(alloc: Global, calls: usize, value: &V) -> Result<Edit, DocFault>
+    ensures { Gives result (cancel calls (V.json value.now)) }
 {
     let number = member(alloc, value, "cancel", &CallNumberDecoder { calls })?;
     no_members_but(alloc, value, &["cancel"])?;
@@ -192,14 +191,14 @@ fn cancel(alloc: Global, calls: usize, value: &Value) -> Result<Edit, DocFault>
 }
 
 #[tactic(auto, unfolding(crate::specs::Repair::replace))]
-fn replace(
+fn replace<V: JsonValue>(
     alloc: Global,
     version: Version,
     catalog: &Catalog,
     calls: usize,
-    value: &Value,
+    value: &V,
 ) -> Result<Edit, DocFault>
-    ensures { Gives result (replace version catalog.now calls (view value.now)) }
+    ensures { Gives result (replace version catalog.now calls (V.json value.now)) }
 {
     let number = member(alloc, value, "replace", &CallNumberDecoder { calls })?;
     let action = member(alloc, value, "by", &ReplacementDecoder { version, catalog })?;
@@ -218,7 +217,7 @@ impl Decoder for CallNumberDecoder {
 
     ghost meaning = { λ c. count_within 1 c.calls };
 
-    fn decode(&self, alloc: Global, value: &Value) -> Result<u64, DocFault> {
+    fn decode<V: JsonValue>(&self, alloc: Global, value: &V) -> Result<u64, DocFault> {
         let number = count(alloc, value)?;
         if number < 1 || number > self.calls as u64 {
             return Err(DocFault::here(alloc, OUT_OF_RANGE));
@@ -240,7 +239,7 @@ impl Decoder for ReplacementDecoder<'_> {
     ghost meaning = { λ r. replacement r.version r.catalog.now };
 
     #[tactic(auto, unfolding(crate::specs::Repair::replacement))]
-    fn decode(&self, alloc: Global, value: &Value) -> Result<Items<Write>, DocFault> {
+    fn decode<V: JsonValue>(&self, alloc: Global, value: &V) -> Result<Items<Write>, DocFault> {
         object(alloc, value)?;
         match write(alloc, self.catalog, Context::Nested, value)? {
             Some(write) => {
@@ -252,13 +251,13 @@ impl Decoder for ReplacementDecoder<'_> {
     }
 }
 
-fn replacement_without_write(
+fn replacement_without_write<V: JsonValue>(
     alloc: Global,
     version: Version,
     catalog: &Catalog,
-    value: &Value,
+    value: &V,
 ) -> Result<Items<Write>, DocFault>
-    ensures { Gives result (replacement_by version catalog.now (view value.now) None) }
+    ensures { Gives result (replacement_by version catalog.now (V.json value.now) None) }
 {
     if has_action(version, value) {
         let action = action(alloc, catalog, Context::Nested, value)?;

@@ -1,6 +1,5 @@
 //! Reading of statements.
 ghost use Rattle.std.specs.Prelude.{[], ◌∷◌, codes};
-ghost use Rattle.serde_json.specs.View.{view};
 ghost use Rattle.tt_values.specs.Check.{write_fault, select_fault};
 ghost use Rattle.tt_document.specs.Fault.{Gives};
 ghost use Rattle.tt_document.specs.Statements.{checked_statement, conditions, no_members_at, insert, update, delete, select, preview};
@@ -13,8 +12,8 @@ use crate::decoder::{AnyCountDecoder, member, optional};
 use crate::document::Ask;
 use crate::fault::DocFault;
 use crate::members::no_members_but;
-use serde_json::Value;
 use std::alloc::Global;
+use tt_json::JsonValue;
 use tt_values::{Catalog, Equal, Items, Row, Select, Write, check, check_select};
 
 /// Where a write or an action stands: in a call, which has a worker, or nested in an action or an
@@ -27,13 +26,13 @@ pub(crate) enum Context {
 
 /// The insert of an object.
 #[tactic(auto, unfolding(crate::specs::Statements::insert))]
-pub(crate) fn insert(
+pub(crate) fn insert<V: JsonValue>(
     alloc: Global,
     catalog: &Catalog,
     context: Context,
-    value: &Value,
+    value: &V,
 ) -> Result<Write, DocFault>
-    ensures { Gives result (insert catalog.now context (view value.now)) }
+    ensures { Gives result (insert catalog.now context (V.json value.now)) }
 {
     let table = member(alloc, value, "insert", &TableNameDecoder { catalog })?;
     let decoder = ArrayDecoder {
@@ -47,13 +46,13 @@ pub(crate) fn insert(
 
 /// The update of an object.
 #[tactic(auto, unfolding(crate::specs::Statements::update))]
-pub(crate) fn update(
+pub(crate) fn update<V: JsonValue>(
     alloc: Global,
     catalog: &Catalog,
     context: Context,
-    value: &Value,
+    value: &V,
 ) -> Result<Write, DocFault>
-    ensures { Gives result (update catalog.now context (view value.now)) }
+    ensures { Gives result (update catalog.now context (V.json value.now)) }
 {
     let table = member(alloc, value, "update", &TableNameDecoder { catalog })?;
     let decoder = ArrayDecoder {
@@ -72,13 +71,13 @@ pub(crate) fn update(
 
 /// The delete of an object.
 #[tactic(auto, unfolding(crate::specs::Statements::delete))]
-pub(crate) fn delete(
+pub(crate) fn delete<V: JsonValue>(
     alloc: Global,
     catalog: &Catalog,
     context: Context,
-    value: &Value,
+    value: &V,
 ) -> Result<Write, DocFault>
-    ensures { Gives result (delete catalog.now context (view value.now)) }
+    ensures { Gives result (delete catalog.now context (V.json value.now)) }
 {
     let table = member(alloc, value, "delete", &TableNameDecoder { catalog })?;
     let equals = conditions(alloc, catalog, table, value)?;
@@ -88,8 +87,12 @@ pub(crate) fn delete(
 
 /// The select of an object.
 #[tactic(auto, unfolding(crate::specs::Statements::select))]
-pub(crate) fn select(alloc: Global, catalog: &Catalog, value: &Value) -> Result<Ask, DocFault>
-    ensures { Gives result (select catalog.now (view value.now)) }
+pub(crate) fn select<V: JsonValue>(
+    alloc: Global,
+    catalog: &Catalog,
+    value: &V,
+) -> Result<Ask, DocFault>
+    ensures { Gives result (select catalog.now (V.json value.now)) }
 {
     let table = member(alloc, value, "select", &TableNameDecoder { catalog })?;
     let equals = conditions(alloc, catalog, table, value)?;
@@ -101,8 +104,12 @@ pub(crate) fn select(alloc: Global, catalog: &Catalog, value: &Value) -> Result<
 
 /// The preview of an object.
 #[tactic(auto, unfolding(crate::specs::Statements::preview))]
-pub(crate) fn preview(alloc: Global, catalog: &Catalog, value: &Value) -> Result<Ask, DocFault>
-    ensures { Gives result (preview catalog.now (view value.now)) }
+pub(crate) fn preview<V: JsonValue>(
+    alloc: Global,
+    catalog: &Catalog,
+    value: &V,
+) -> Result<Ask, DocFault>
+    ensures { Gives result (preview catalog.now (V.json value.now)) }
 {
     let table = member(alloc, value, "preview", &TableNameDecoder { catalog })?;
     let equals = conditions(alloc, catalog, table, value)?;
@@ -111,9 +118,13 @@ pub(crate) fn preview(alloc: Global, catalog: &Catalog, value: &Value) -> Result
     Ok(Ask::Preview(select))
 }
 
-fn no_members_but_insert(alloc: Global, context: Context, value: &Value) -> Result<(), DocFault>
+fn no_members_but_insert<V: JsonValue>(
+    alloc: Global,
+    context: Context,
+    value: &V,
+) -> Result<(), DocFault>
     ensures { Gives result
-        (no_members_at context (codes "insert" ∷ codes "row" ∷ []) (view value.now)) }
+        (no_members_at context (codes "insert" ∷ codes "row" ∷ []) (V.json value.now)) }
 {
     match context {
         Context::Call => no_members_but(alloc, value, &["worker", "insert", "row"]),
@@ -121,10 +132,14 @@ fn no_members_but_insert(alloc: Global, context: Context, value: &Value) -> Resu
     }
 }
 
-fn no_members_but_update(alloc: Global, context: Context, value: &Value) -> Result<(), DocFault>
+fn no_members_but_update<V: JsonValue>(
+    alloc: Global,
+    context: Context,
+    value: &V,
+) -> Result<(), DocFault>
     ensures { Gives result
         (no_members_at context (codes "change" ∷ codes "update" ∷ codes "where" ∷ [])
-        (view value.now)) }
+        (V.json value.now)) }
 {
     match context {
         Context::Call => no_members_but(alloc, value, &["worker", "change", "update", "where"]),
@@ -132,9 +147,13 @@ fn no_members_but_update(alloc: Global, context: Context, value: &Value) -> Resu
     }
 }
 
-fn no_members_but_delete(alloc: Global, context: Context, value: &Value) -> Result<(), DocFault>
+fn no_members_but_delete<V: JsonValue>(
+    alloc: Global,
+    context: Context,
+    value: &V,
+) -> Result<(), DocFault>
     ensures { Gives result
-        (no_members_at context (codes "delete" ∷ codes "where" ∷ []) (view value.now)) }
+        (no_members_at context (codes "delete" ∷ codes "where" ∷ []) (V.json value.now)) }
 {
     match context {
         Context::Call => no_members_but(alloc, value, &["worker", "delete", "where"]),
@@ -143,13 +162,13 @@ fn no_members_but_delete(alloc: Global, context: Context, value: &Value) -> Resu
 }
 
 /// The conditions of a statement on a table, from its member `where`.
-fn conditions(
+fn conditions<V: JsonValue>(
     alloc: Global,
     catalog: &Catalog,
     table: u16,
-    statement: &Value,
+    statement: &V,
 ) -> Result<Items<Equal>, DocFault>
-    ensures { Gives result (conditions catalog.now table (view statement.now)) }
+    ensures { Gives result (conditions catalog.now table (V.json statement.now)) }
 {
     let decoder = ArrayDecoder {
         decoder: ConditionDecoder { catalog, table },

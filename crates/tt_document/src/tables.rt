@@ -10,8 +10,8 @@ use crate::decoder::{
 };
 use crate::fault::DocFault;
 use crate::members::no_members_but;
-use serde_json::Value;
 use std::alloc::Global;
+use tt_json::JsonValue;
 use tt_values::{Catalog, CatalogError, Column, Kind, TableDef};
 
 /// The tables, in order of declaration.
@@ -23,9 +23,9 @@ impl Decoder for TablesDecoder {
 
     ghost meaning = { λ _. catalog };
 
-    fn decode(&self, alloc: Global, value: &Value) -> Result<Catalog, DocFault> {
+    fn decode<V: JsonValue>(&self, alloc: Global, value: &V) -> Result<Catalog, DocFault> {
         let items = array(alloc, value)?;
-        fold_items(alloc, &TablesFold, Catalog::new(alloc), items)
+        fold_items::<_, V>(alloc, &TablesFold, Catalog::new(alloc), items)
     }
 }
 
@@ -38,7 +38,12 @@ impl Fold for TablesFold {
     ghost after = { λ _. table_after };
 
     #[tactic(auto, unfolding(crate::specs::Tables::table_after))]
-    fn step(&self, alloc: Global, state: Catalog, item: &Value) -> Result<Catalog, DocFault> {
+    fn step<V: JsonValue>(
+        &self,
+        alloc: Global,
+        state: Catalog,
+        item: &V,
+    ) -> Result<Catalog, DocFault> {
         object(alloc, item)?;
         let name = member(alloc, item, "name", &TextDecoder)?;
         let decoder = ArrayDecoder {
@@ -76,7 +81,7 @@ impl Decoder for ColumnDecoder {
     ghost meaning = { λ _. column };
 
     #[tactic(auto, unfolding(crate::specs::Tables::column))]
-    fn decode(&self, alloc: Global, value: &Value) -> Result<Column, DocFault> {
+    fn decode<V: JsonValue>(&self, alloc: Global, value: &V) -> Result<Column, DocFault> {
         object(alloc, value)?;
         let name = member(alloc, value, "name", &TextDecoder)?;
         let kind = member(alloc, value, "kind", &KindDecoder)?;
@@ -98,7 +103,7 @@ impl Decoder for KindDecoder {
 
     ghost meaning = { λ _. kind };
 
-    fn decode(&self, alloc: Global, value: &Value) -> Result<Kind, DocFault> {
+    fn decode<V: JsonValue>(&self, alloc: Global, value: &V) -> Result<Kind, DocFault> {
         let name = text(alloc, value)?;
         match kind_named(name) {
             Some(kind) => Ok(kind),

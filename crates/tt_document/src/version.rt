@@ -4,8 +4,8 @@ ghost use Rattle.tt_document.specs.Version.{version_numbered, version};
 
 use crate::decoder::{Decoder, OUT_OF_RANGE, count};
 use crate::fault::DocFault;
-use serde_json::Value;
 use std::alloc::Global;
+use tt_json::JsonValue;
 
 /// The version of a document. Version 2 is version 1 with a further kind of call, `do`.
 #[derive(Clone, Copy)]
@@ -22,7 +22,7 @@ impl Decoder for VersionDecoder {
 
     ghost meaning = { λ _. version };
 
-    fn decode(&self, alloc: Global, value: &Value) -> Result<Version, DocFault> {
+    fn decode<V: JsonValue>(&self, alloc: Global, value: &V) -> Result<Version, DocFault> {
         let number = count(alloc, value)?;
         match version_numbered(number) {
             Some(version) => Ok(version),

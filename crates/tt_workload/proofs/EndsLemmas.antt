@@ -7,11 +7,10 @@ use Rattle.std.proofs.lemmas.Bool.{lt-ltb, le-ltb}
 use Rattle.std.proofs.lemmas.Str.{IsUtf8-from_is_utf8, is_utf8-from_IsUtf8}
 use Rattle.std.specs.Io.KnownBytes.{Consumes, IsAtEnd}
 use Rattle.std.proofs.KnownBytes.{Consumes-trans}
-use Rattle.serde_json.specs.Data.{Data}
 use Rattle.serde_json.specs.Read.{read}
 use Rattle.tt_document.specs.Fault.{document_fault}
 use Rattle.std.specs.Prelude.{Err}
-use Rattle.tt_document.specs.Document.{document_of}
+use Rattle.tt_document.specs.Document.{document_of_text}
 use Rattle.tt_workload.specs.Ends.{max_document_bytes, json_of, document_of_bytes, ConsumesAtMost}
 
 pub document_of_bytes-long : (bytes : List ℕ) → max_document_bytes < length bytes → document_of_bytes bytes ≡ Err (document_fault (codes "longer than 16777216 bytes"))
@@ -21,18 +20,15 @@ document_of_bytes-long bytes long = rw (lt-ltb max_document_bytes (length bytes)
 pub json_of-none : (bytes : List ℕ) → (IsUtf8 bytes → read bytes ≡ None) → json_of bytes ≡ None
 json_of-none bytes no_value = elim (is_utf8 bytes) as (λ b. is_utf8 bytes ≡ b → json_of bytes ≡ None) [ true ↦ λ e. rw e (no_value (IsUtf8-from_is_utf8 bytes e)) | false ↦ λ e. rw e refl ] refl
 
-pub json_of-some : (bytes : List ℕ) (d : Data) → IsUtf8 bytes → read bytes ≡ Some d → json_of bytes ≡ Some d
-json_of-some bytes d text value = rw (is_utf8-from_IsUtf8 bytes text) value
-
-pub document_of_bytes-no_json : (bytes : List ℕ) → length bytes ≤ max_document_bytes → (IsUtf8 bytes → read bytes ≡ None) → document_of_bytes bytes ≡ Err (document_fault (codes "not JSON"))
+pub document_of_bytes-no_text : (bytes : List ℕ) → length bytes ≤ max_document_bytes → ¬ (IsUtf8 bytes) → document_of_bytes bytes ≡ Err (document_fault (codes "not JSON"))
 unfolding document_of_bytes
-document_of_bytes-no_json bytes short no_value = rw (le-ltb max_document_bytes (length bytes) short, json_of-none bytes no_value) refl
+document_of_bytes-no_text bytes short no_text = rw (le-ltb max_document_bytes (length bytes) short, json_of-none bytes (λ text. absurd (no_text text))) refl
 
-pub document_of_bytes-value : (bytes : List ℕ) (d : Data) → length bytes ≤ max_document_bytes → IsUtf8 bytes → read bytes ≡ Some d → document_of_bytes bytes ≡ document_of d
+pub document_of_bytes-text : (bytes : List ℕ) → length bytes ≤ max_document_bytes → IsUtf8 bytes → document_of_bytes bytes ≡ document_of_text bytes
 unfolding document_of_bytes
-document_of_bytes-value bytes d short text value = rw (le-ltb max_document_bytes (length bytes) short, json_of-some bytes d text value) refl
+document_of_bytes-text bytes short text = rw (le-ltb max_document_bytes (length bytes) short, is_utf8-from_IsUtf8 bytes text) refl
 
-pub ruleset document_cases = (document_of_bytes-long, document_of_bytes-no_json, document_of_bytes-value)
+pub ruleset document_cases = (document_of_bytes-long, document_of_bytes-no_text, document_of_bytes-text)
 
 -- ---- the bytes that a reader gives
 

@@ -1,5 +1,5 @@
 -- The two ends of a run: the document of some bytes, the bytes that a reader gives, and those that a writer gets.
-use Rattle.std.specs.Prelude.{◌≡◌, ◌⊎◌, ℕ, ◌≤◌, nat_lt, if◌then◌else◌, List, length, take, Option, None, Some, Result, Ok, Err, codes}
+use Rattle.std.specs.Prelude.{◌≡◌, ◌⊎◌, ℕ, ◌≤◌, nat_lt, if◌then◌else◌, List, length, take, Option, None, Result, Ok, Err, codes}
 use Rattle.std.specs.Str.{is_utf8}
 use Rattle.std.specs.Io.KnownBytes.{Consumes, Appends}
 use Rattle.serde_json.specs.Data.{Data}
@@ -8,7 +8,7 @@ use Rattle.tt_document.specs.declared.document.Document.{Document}
 use Rattle.tt_document.specs.declared.fault.DocFault.{DocFault}
 use Rattle.tt_document.specs.declared.fault.DocFault.TheVariants as doc
 use Rattle.tt_document.specs.Fault.{document_fault}
-use Rattle.tt_document.specs.Document.{document_of}
+use Rattle.tt_document.specs.Document.{document_of_json}
 use Rattle.tt_workload.specs.declared.run_fault.RunFault.{RunFault}
 use Rattle.tt_workload.specs.declared.run_fault.RunFault.TheVariants as run
 
@@ -26,11 +26,6 @@ bytes_read remaining = take max_bytes_read remaining
 -- the JSON value of some bytes in UTF-8, if they have one
 abbrev pub json_of : List ℕ → Option Data
 json_of bytes = if is_utf8 bytes then read bytes else None
-
--- the meaning of a JSON value, if there is one
-abbrev pub document_of_json : Option Data → Result Document DocFault
-document_of_json None = Err (document_fault (codes "not JSON"))
-document_of_json (Some v) = document_of v
 
 -- the document of some bytes, or its first fault
 unfoldable pub document_of_bytes : List ℕ → Result Document DocFault

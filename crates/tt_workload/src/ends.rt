@@ -8,7 +8,6 @@ ghost use Rattle.tt_document.specs.Document.{IsValidDocument};
 ghost use Rattle.tt_workload.specs.Ends.{max_bytes_read, bytes_read, document_of_bytes, ConsumesAtMost, AppendsPrefix, ReadsDocument, EndsReading, HasText, IsReadingFault, IsReaderFault};
 
 use crate::run_fault::RunFault;
-use serde_json::Value;
 use std::alloc::Global;
 use std::io::{Error, ErrorKind, Read, Write};
 use tt_document::{DocFault, Document};
@@ -42,50 +41,23 @@ pub fn read_document<R: Read>(alloc: Global, reader: &mut R) -> Result<Document,
     ensures valid { IfOk result IsValidDocument }
     ensures kind { IfErr result IsReadingFault }
 {
-    let (document, _) = read_with_json(alloc, reader)?;
+    let bytes = read_bytes(alloc, reader)?;
+    let document = document_from(alloc, &bytes)?;
     Ok(document)
 }
 
-/// As [`read_document`], and answers the JSON value of the document too.
-pub(crate) fn read_with_json<R: Read>(
-    alloc: Global,
-    reader: &mut R,
-) -> Result<(Document, Value), RunFault>
-    // Of a reader whose bytes are known.
-    ensures ok { IfOk result (λ r.
-        IfSome (R.remaining reader.old) (λ xs. ReadsDocument xs r.0)) }
-    ensures fault { IfErr result (λ e. IfSome (R.remaining reader.old) (λ xs. EndsReading xs e)) }
-    ensures consumed { OnOk result (IfSome (R.remaining reader.old) (λ xs.
-        Consumes (Some xs) (R.remaining reader.new) (bytes_read xs))) }
-    ensures limit { ConsumesAtMost max_bytes_read
-        (R.remaining reader.old) (R.remaining reader.new) }
-
-    // Of any reader.
-    ensures text { IfOk result (λ r. HasText r.0) }
-    ensures valid { IfOk result (λ r. IsValidDocument r.0) }
-    ensures kind { IfErr result IsReadingFault }
-{
-    let bytes = read_bytes(alloc, reader)?;
-    let read = document_from(alloc, &bytes)?;
-    Ok(read)
-}
-
-/// The document that the bytes spell, and its JSON value.
+/// The document that the bytes spell.
 #[tactic(auto, using(crate::proofs::EndsLemmas::document_cases))]
-fn document_from(alloc: Global, bytes: &[u8]) -> Result<(Document, Value), DocFault>
-    ensures ok { IfOk result (λ r. document_of_bytes bytes.now ≡ Ok r.0) }
-    ensures valid { IfOk result (λ r. IsValidDocument r.0) }
+fn document_from(alloc: Global, bytes: &[u8]) -> Result<Document, DocFault>
+    ensures ok { IfOk result (λ document. document_of_bytes bytes.now ≡ Ok document) }
+    ensures valid { IfOk result IsValidDocument }
     ensures fault { IfErr result (λ fault. FailsWith fault (document_of_bytes bytes.now)) }
 {
     if bytes.len() > MAX_DOCUMENT_BYTES {
         return Err(DocFault::of_document(alloc, TOO_LONG));
     }
-    match Value::from_slice(alloc, bytes) {
-        Ok(value) => {
-            let document = Document::from_value(alloc, &value)?;
-            Ok((document, value))
-        }
-        Err(error) if error.is_memory() => Err(DocFault::Memory),
+    match str::from_utf8(bytes) {
+        Ok(text) => Document::from_text(alloc, text),
         Err(_) => Err(DocFault::of_document(alloc, NOT_JSON)),
     }
 }

@@ -5,11 +5,10 @@ ghost use Rattle.tt_workload.specs.Ends.{max_bytes_read, AppendsPrefix, Consumes
 ghost use Rattle.tt_workload.specs.Options.{AreWithin};
 ghost use Rattle.tt_workload.specs.Run.{LeavesDatabase, IsLeftByDocument, WritesReport, EndsEarly, IsFaultOfRun};
 
-use crate::ends::{read_with_json, write_text};
+use crate::ends::{read_document, write_text};
 use crate::options::Options;
 use crate::report::report_of;
 use crate::run_fault::RunFault;
-use serde_json::Value;
 use std::alloc::Global;
 use std::io::{Read, Write};
 use tt_db::Db;
@@ -41,14 +40,12 @@ pub fn run_alone<R: Read, W: Write>(
     Ok(())
 }
 
-/// What a run leaves in memory: the last database, and the JSON value of its document. A program
-/// that ends then may leave it to the system, since releasing it piece by piece takes long.
+/// What a run leaves in memory: the last database. A program that ends then may leave it to the
+/// system, since releasing it piece by piece takes long.
 #[derive(Drop)]
 pub struct RunEnd {
     /// The database after the calls.
     pub db: Db,
-    /// The JSON value of the document, kept so that the run needn't release it.
-    json: Value,
 }
 
 /// As [`run_alone`], and hands over what the run leaves.
@@ -76,9 +73,9 @@ pub fn run_to_end<R: Read, W: Write>(
     ensures left { IfOk result (λ end. IsLeftByDocument options.now.batch end.db) }
     ensures kind { IfErr result IsFaultOfRun }
 {
-    let (document, json) = read_with_json(alloc, reader)?;
+    let document = read_document(alloc, reader)?;
     let (report, db) = report_of(alloc, document, options)?;
-    write_report(writer, &report, RunEnd { db, json })
+    write_report(writer, &report, RunEnd { db })
 }
 
 /// Writes a report, and answers what the run leaves.

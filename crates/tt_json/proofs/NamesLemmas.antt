@@ -12,7 +12,7 @@ use Rattle.std.proofs.lemmas.List.Kept.{IsStrictlySortedBy-filter}
 use Rattle.serde_json.specs.Data.{Members}
 use Rattle.serde_json.specs.View.{members_view}
 use Rattle.serde_json.specs.declared.value.Value.{Value}
-use Rattle.tt_document.specs.Members.{member_names, names_of, lesser, least}
+use Rattle.tt_json.specs.Value.{member_names, names_of, lesser, least}
 
 -- the names that a map's members have are its keys
 names-members_view : (es : List (String Global × Value)) → member_names (members_view es) ≡ map string_bytes (keys_of es)

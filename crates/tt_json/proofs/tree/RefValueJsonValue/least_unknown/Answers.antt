@@ -1,7 +1,7 @@
 -- The first unknown key is the least unknown name.
 use Rattle.std.proofs.Common.{Some, None, ap, ◌∙◌}
-use Rattle.tt_document.proofs.MembersLemmas.{first_is_least}
-use Rattle.tt_document.proofs.members.least_unknown.Goals as goal
+use Rattle.tt_json.proofs.NamesLemmas.{first_is_least}
+use Rattle.tt_json.proofs.tree.RefValueJsonValue.least_unknown.Goals as goal
 
 pub returns-in_err-name : goal.returns-in_err-name
 returns-in_err-name c =

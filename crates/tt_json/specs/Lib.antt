@@ -1,0 +1,4 @@
+pub mod Value
+pub mod Number
+pub mod Fit
+pub mod Tape

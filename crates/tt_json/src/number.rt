@@ -1,0 +1,70 @@
+//! The number that a token of JSON writes, as serde_json reads it.
+ghost use Rattle.std.specs.Prelude.{◌≡◌, ◌<◌, ◌==◌, length, slice_index, IsTrue, Some, None, option_map, true, false, option_and_then};
+ghost use Rattle.serde_json.specs.Find.{as_i64, as_u64, of_float};
+ghost use Rattle.serde_json.specs.Read.{number_of, number_from, float_of};
+ghost use Rattle.tt_json.specs.Number.{number_view};
+
+use fast_float::Numeral;
+
+/// An integer of 64 bits, or a finite float.
+#[derive(Clone, Copy, Drop)]
+pub enum Number {
+    Unsigned(u64),
+    Negative(i64),
+    Float(f64),
+}
+
+/// The number that a text writes, where it's in range.
+#[inline(always)]
+pub fn number_of(text: &str) -> Option<Number>
+    ensures { option_map number_view result ≡ number_of text.now }
+{
+    let bytes = text.as_bytes();
+    if has_minus(bytes) {
+        negative(&Numeral::scan(&bytes[1..]))
+    } else {
+        unsigned(&Numeral::scan(bytes))
+    }
+}
+
+#[inline(always)]
+fn unsigned(numeral: &Numeral<'_>) -> Option<Number>
+    ensures { option_map number_view result ≡ number_from false numeral.now }
+{
+    match numeral.to_u64() {
+        Some(n) => Some(Number::Unsigned(n)),
+        None => nearest(false, numeral),
+    }
+}
+
+#[inline(always)]
+fn negative(numeral: &Numeral<'_>) -> Option<Number>
+    ensures { option_map number_view result ≡ number_from true numeral.now }
+{
+    if let Some(n) = numeral.to_i64(true) {
+        if n < 0 {
+            return Some(Number::Negative(n));
+        }
+    }
+    nearest(true, numeral)
+}
+
+#[inline(always)]
+fn nearest(negative: bool, numeral: &Numeral<'_>) -> Option<Number>
+    ensures { option_map number_view result ≡ float_of negative numeral.now }
+{
+    let x = numeral.to_float::<f64>(negative);
+    if x.is_finite() {
+        Some(Number::Float(x))
+    } else {
+        None
+    }
+}
+
+#[inline(always)]
+fn has_minus(bytes: &[u8]) -> bool
+    ensures value { result ≡ (slice_index bytes.now 0 == 45) }
+    ensures len { IsTrue result → 0 < length bytes.now }
+{
+    !bytes.is_empty() && bytes[0] == b'-'
+}
