@@ -45,8 +45,7 @@ pub(crate) fn write<V: JsonValue>(
 pub(crate) fn action_of_one(alloc: Global, write: Write) -> Result<Items<Write>, AllocError>
     ensures { IfOk result (λ action. action ≡ write ∷ []) }
 {
-    let writes = Vec::from_array(alloc, [write])?;
-    Items::new(alloc, writes)
+    Items::of(alloc, [write])
 }
 
 /// The action of an object, from its member `do`.

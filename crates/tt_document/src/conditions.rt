@@ -119,8 +119,7 @@ impl Decoder for ValueDecoder {
 
     fn decode<V: JsonValue>(&self, alloc: Global, value: &V) -> Result<tt_values::Value, DocFault> {
         if let Some(text) = value.as_str() {
-            let text = String::from_str(alloc, text)?;
-            let text = Text::new(alloc, text)?;
+            let text = Text::copied(alloc, text)?;
             return Ok(tt_values::Value::Text(text));
         }
         match value.as_i64() {

@@ -152,8 +152,7 @@ impl Decoder for TextDecoder {
 
     fn decode<V: JsonValue>(&self, alloc: Global, value: &V) -> Result<Text, DocFault> {
         let text = text(alloc, value)?;
-        let text = String::from_str(alloc, text)?;
-        let text = Text::new(alloc, text)?;
+        let text = Text::copied(alloc, text)?;
         Ok(text)
     }
 }
