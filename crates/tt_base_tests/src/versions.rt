@@ -1,7 +1,7 @@
 use crate::same::same;
 use std::alloc::Global;
 use std::process::Abort;
-use tt_values::{Equal, Row, Value};
+use tt_values::{Equal, Few, Row, Value};
 use tt_versions::{Side, Table};
 
 const A: i64 = 1;
@@ -134,11 +134,11 @@ fn a_split_row_without_versions_stays_apart(rt: HostRuntime) {
 
 /// Key 1 is split as in `two_sides`, and then each key has a row that is written at time 4.
 fn written_together(rt: &impl Abort, alloc: Global) -> Table {
-    let rows = vec![in alloc; (1, row(rt, alloc, 1, C)), (2, row(rt, alloc, 2, A))];
+    let mut rows = Few::new(alloc);
+    rows.push((1, row(rt, alloc, 1, C))).expect(rt, "memory");
+    rows.push((2, row(rt, alloc, 2, A))).expect(rt, "memory");
     let table = a_then_b(rt, alloc).split_back(1, 2).expect(rt, "memory");
-    table
-        .into_all_written(rows.expect(rt, "memory"), 4)
-        .expect(rt, "memory")
+    table.into_all_written(rows, 4).expect(rt, "memory")
 }
 
 #[test]

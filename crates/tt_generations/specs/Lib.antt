@@ -1,4 +1,5 @@
 pub mod Limits
+pub mod RowIds
 pub mod Effect
 pub mod Rows
 pub mod ActionRun

@@ -75,8 +75,8 @@ impl ActionRun {
     {
         let table = write.table();
         let effect = effect_of(alloc, self.rows.table(table), write, time, Side::Current)?;
-        self.replies.push(reply_to(write, &effect))?;
-        add_rows(&mut self.rows_written, table, &effect)?;
+        self.replies.push(reply_to(write, effect.as_slice()))?;
+        add_rows(&mut self.rows_written, table, effect.as_slice())?;
         self.rows.write(catalog, table, effect, time)?;
         Ok(())
     }

@@ -19,9 +19,9 @@ pub(crate) fn effect_of(
     write: &Write,
     time: u64,
     side: Side,
-) -> Result<Vec<(i64, Option<Row>)>, AllocError>
+) -> Result<Few<(i64, Option<Row>)>, AllocError>
     requires { HasKey write.now }
-    ensures { IfOk result (λ e. IsEffect e.items write.now (side_of table.now side) time) }
+    ensures { IfOk result (λ e. IsEffect e write.now (side_of table.now side) time) }
 {
     match write {
         Write::Insert { row, .. } => {
@@ -51,11 +51,11 @@ fn effect_of_insert(
     alloc: Global,
     is_live: bool,
     row: &Row,
-) -> Result<Vec<(i64, Option<Row>)>, AllocError>
+) -> Result<Few<(i64, Option<Row>)>, AllocError>
     requires { IsSome (first_int row.now.values) }
-    ensures { IfOk result (λ e. e.items ≡ insert_effect is_live row.now) }
+    ensures { IfOk result (λ e. e ≡ insert_effect is_live row.now) }
 {
-    let mut effect = Vec::new(alloc);
+    let mut effect = Few::new(alloc);
     if !is_live {
         effect.push((row.key(), Some(row.copy()?)))?;
     }
@@ -67,11 +67,12 @@ fn effect_of_update(
     alloc: Global,
     rows: &Vec<(i64, &Row)>,
     changes: &[Change],
-) -> Result<Vec<(i64, Option<Row>)>, AllocError>
-    ensures { IfOk result (λ r. r.items
+) -> Result<Few<(i64, Option<Row>)>, AllocError>
+    ensures { IfOk result (λ r. r
         ≡ update_effect changes.now (rows_behind rows.now.items)) }
 {
-    let mut effect = Vec::with_capacity(alloc, rows.len())?;
+    let mut effect = Few::new(alloc);
+    effect.reserve(rows.len())?;
     for (key, old) in rows {
         effect.push((*key, Some(changed(alloc, old, changes)?)))?;
     }
@@ -82,11 +83,12 @@ fn effect_of_update(
 fn effect_of_delete(
     alloc: Global,
     rows: &Vec<(i64, &Row)>,
-) -> Result<Vec<(i64, Option<Row>)>, AllocError>
-    ensures { IfOk result (λ r. r.items
+) -> Result<Few<(i64, Option<Row>)>, AllocError>
+    ensures { IfOk result (λ r. r
         ≡ delete_effect (rows_behind rows.now.items)) }
 {
-    let mut effect = Vec::with_capacity(alloc, rows.len())?;
+    let mut effect = Few::new(alloc);
+    effect.reserve(rows.len())?;
     for (key, _) in rows {
         effect.push((*key, None))?;
     }

@@ -11,6 +11,7 @@ mod generations;
 mod progress;
 mod reexecution;
 mod repair;
+mod row_ids;
 mod rows;
 mod slot;
 

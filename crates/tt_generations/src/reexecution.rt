@@ -81,9 +81,9 @@ impl Reexecution {
     {
         let table = write.table();
         let effect = effect_of(alloc, self.rows.table(table), write, time, Side::Next)?;
-        self.split_matched(alloc, catalog, write, &effect, time)?;
-        self.replies.push(reply_to(write, &effect))?;
-        add_rows(&mut self.rows_written, table, &effect)?;
+        self.split_matched(alloc, catalog, write, effect.as_slice(), time)?;
+        self.replies.push(reply_to(write, effect.as_slice()))?;
+        add_rows(&mut self.rows_written, table, effect.as_slice())?;
         self.rows.write_next(catalog, table, effect, time)?;
         Ok(())
     }

@@ -6,7 +6,7 @@ ghost use Rattle.tt_generations.specs.Rows.{versions_at, KeepsOthers, ShowsSide}
 use std::alloc::{AllocError, Global};
 use std::marker::Model;
 use std::mem;
-use tt_values::{Catalog, Column, Row, RowId, TableDef};
+use tt_values::{Catalog, Column, Few, Row, RowId, TableDef};
 use tt_versions::{Side, Table};
 
 /// The rows of all tables with their versions on both sides.
@@ -89,11 +89,11 @@ impl Rows {
         &mut self,
         catalog: &Catalog,
         table: u16,
-        effect: Vec<(i64, Option<Row>)>,
+        effect: Few<(i64, Option<Row>)>,
         time: u64,
     ) -> Result<(), AllocError>
-        ensures current { OnOk result (AddsEffect self.old self.new time table effect.items) }
-        ensures written { OnOk result (WritesCurrent self.old self.new time table effect.items) }
+        ensures current { OnOk result (AddsEffect self.old self.new time table effect) }
+        ensures written { OnOk result (WritesCurrent self.old self.new time table effect) }
         ensures split { OnOk result (KeepsSplitRows self.old self.new) }
     {
         let position = usize::from(table);
@@ -138,11 +138,11 @@ impl Rows {
         &mut self,
         catalog: &Catalog,
         table: u16,
-        effect: Vec<(i64, Option<Row>)>,
+        effect: Few<(i64, Option<Row>)>,
         time: u64,
     ) -> Result<(), AllocError>
-        requires { All (λ e. is_split (versions_at self.old table) e.0 ≡ true) effect.items }
-        ensures { OnOk result (WritesNext self.old self.new time table effect.items) }
+        requires { All (λ e. is_split (versions_at self.old table) e.0 ≡ true) effect }
+        ensures { OnOk result (WritesNext self.old self.new time table effect) }
     {
         let position = usize::from(table);
         let old = take_table(self.alloc, catalog, &mut self.tables, position)?;

@@ -1,6 +1,7 @@
 ghost use Rattle.std.specs.Prelude.{◌≡◌, IfOk};
 ghost use Rattle.tt_generations.specs.Replies.{replies_if};
 
+use crate::row_ids::RowIds;
 use std::alloc::AllocError;
 use tt_pages::Kept;
 use tt_values::{Few, Items, Reply, RowId, Write};
@@ -36,7 +37,7 @@ impl Clone for Slot {
 #[derive(Drop)]
 pub(crate) struct KeptSlot {
     pub(crate) slot: Slot,
-    pub(crate) rows: Items<RowId>,
+    pub(crate) rows: RowIds,
 }
 
 impl KeptSlot {
@@ -56,7 +57,7 @@ impl KeptSlot {
             Some(_) => Some(replies.clone()?),
             None => None,
         };
-        let rows = rows.into_items()?;
+        let rows = RowIds::of(rows)?;
         Ok(KeptSlot {
             slot: Slot { action, replies },
             rows,
@@ -67,7 +68,7 @@ impl KeptSlot {
 impl Kept for KeptSlot {
     fn kept(&self) -> Result<Self, AllocError> {
         let slot = self.slot.clone()?;
-        let rows = self.rows.clone()?;
+        let rows = self.rows.copy()?;
         Ok(KeptSlot { slot, rows })
     }
 }

@@ -40,6 +40,7 @@ use Rattle.tt_repair_laws.specs.contracts.edit.Edit as edit_type
 use Rattle.tt_values.specs.contracts.row_id.RowId as row_id_type
 use Rattle.tt_generations.specs.contracts.slot.Slot as slot_type
 use Rattle.tt_generations.specs.contracts.slot.KeptSlot as kept_slot_type
+use Rattle.tt_generations.specs.contracts.row_ids.RowIds as row_ids_type
 use Rattle.tt_generations.specs.contracts.edits.Replacement as replacement_type
 use Rattle.tt_generations.specs.contracts.repair.Repair as repair_type
 use Rattle.tt_generations.specs.contracts.rows.Rows as rows_type
@@ -338,11 +339,17 @@ slot_field_send = search (items_send, items_sync, write_send, write_sync, reply_
 pub slot_field_sync : IsSync (slot_type.the_field).row
 slot_field_sync = search (items_send, items_sync, write_send, write_sync, reply_send, reply_sync, crosses, sendable) depth 60 fits 50000
 
+pub row_ids_send : IsSend row_ids_type.the_row
+row_ids_send = search (items_send, items_sync, row_id_send, row_id_sync, crosses, sendable) depth 60 fits 50000
+
+pub row_ids_sync : IsSync row_ids_type.the_row
+row_ids_sync = search (items_send, items_sync, row_id_send, row_id_sync, crosses, sendable) depth 60 fits 50000
+
 pub kept_slot_send : IsSend kept_slot_type.the_row
-kept_slot_send = search (items_send, items_sync, slot_field_send, slot_field_sync, row_id_send, row_id_sync, crosses, sendable) depth 60 fits 50000
+kept_slot_send = search (slot_field_send, slot_field_sync, row_ids_send, row_ids_sync, crosses, sendable) depth 60 fits 50000
 
 pub kept_slot_sync : IsSync kept_slot_type.the_row
-kept_slot_sync = search (items_send, items_sync, slot_field_send, slot_field_sync, row_id_send, row_id_sync, crosses, sendable) depth 60 fits 50000
+kept_slot_sync = search (slot_field_send, slot_field_sync, row_ids_send, row_ids_sync, crosses, sendable) depth 60 fits 50000
 
 pub replacement_send : IsSend replacement_type.the_row
 replacement_send = search (items_send, items_sync, write_send, write_sync, crosses, sendable) depth 60 fits 50000

@@ -1,4 +1,4 @@
-ghost use Rattle.std.specs.Prelude.{◌≡◌, [], ◌∷◌, ◌++◌, IfOk, OnOk};
+ghost use Rattle.std.specs.Prelude.{◌≡◌, [], ◌∷◌, ◌++◌, IfOk, OnOk, MatchResult};
 
 use crate::items::Items;
 use std::alloc::{AllocError, Global};
@@ -84,6 +84,18 @@ impl<T: Drop> Few<T> {
         }
     }
 
+    /// The only item, or else all items. Allocates nothing.
+    pub fn into_one(self) -> Result<T, Vec<T>>
+        ensures { MatchResult result (λ item. self ≡ item ∷ []) (λ items. self ≡ items.items) }
+    {
+        let Few { alloc, items } = self;
+        match items {
+            NoneOneMany::None => Err(Vec::new(alloc)),
+            NoneOneMany::One(item) => Ok(only(item)),
+            NoneOneMany::Many(items) => Err(items),
+        }
+    }
+
     /// The list, which can be shared from now on.
     pub fn into_items(self) -> Result<Items<T>, AllocError>
         ensures { IfOk result (λ list. list ≡ self) }
@@ -97,13 +109,19 @@ impl<T: Drop> Few<T> {
     }
 }
 
+fn only<T>(items: [T; 1]) -> T
+    ensures { items ≡ result ∷ [] }
+{
+    let [item] = items;
+    item
+}
+
 /// Two items, with room for further ones.
 fn two<T: Drop>(alloc: Global, first: [T; 1], second: T) -> Result<Vec<T>, AllocError>
     ensures { IfOk result (λ items. items.items ≡ first ++ second ∷ []) }
 {
-    let [first] = first;
     let mut items = Vec::with_capacity(alloc, 4)?;
-    items.push(first)?;
+    items.push(only(first))?;
     items.push(second)?;
     Ok(items)
 }

@@ -18,7 +18,7 @@ use crate::taking::{put_value, take_value};
 use std::alloc::{AllocError, Global};
 use std::marker::Model;
 use tt_pages::{MapIter, PagedMap};
-use tt_values::{Equal, Row};
+use tt_values::{Equal, Few, Row};
 
 /// A map from the keys of rows to their lineages, whose copies share their pages. Contracts see its
 /// entries by rising key.
@@ -134,11 +134,11 @@ impl Lineages {
     pub(crate) fn with_writes(
         self,
         side: Side,
-        rows: Vec<(i64, Option<Row>)>,
+        rows: Few<(i64, Option<Row>)>,
         time: u64,
     ) -> Result<Lineages, AllocError>
-        requires { All (λ e. StaysSplit side (is_split self) e.0) rows.items }
-        ensures { IfOk result (λ m. m ≡ with_writes side rows.items time self) }
+        requires { All (λ e. StaysSplit side (is_split self) e.0) rows }
+        ensures { IfOk result (λ m. m ≡ with_writes side rows time self) }
     {
         let Lineages {
             alloc,
@@ -206,6 +206,30 @@ impl Lineages {
 
 /// Writes rows, or none, on a side. The index lists them then.
 fn write_rows(
+    alloc: Global,
+    side: Side,
+    entries: &mut PagedMap<Lineage>,
+    split_keys: &KeySet,
+    index: &mut Index,
+    rows: Few<(i64, Option<Row>)>,
+    time: u64,
+) -> Result<(), AllocError>
+    requires stored { IsStored split_keys.now index.old entries.old }
+    requires split { All (λ e. StaysSplit side (is_split entries.old) e.0) rows }
+    ensures entries { OnOk result (entries.new ≡ with_writes side rows time entries.old) }
+    ensures stored { OnOk result (IsStored split_keys.now index.new entries.new) }
+{
+    match rows.into_one() {
+        Ok((key, row)) => {
+            let write = RowWrite { side, row, time };
+            write_row(alloc, entries, split_keys, index, key, write)
+        }
+        Err(rows) => write_each(alloc, side, entries, split_keys, index, rows, time),
+    }
+}
+
+/// Writes rows, or none, on a side, one after another. The index lists them then.
+fn write_each(
     alloc: Global,
     side: Side,
     entries: &mut PagedMap<Lineage>,

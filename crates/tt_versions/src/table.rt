@@ -10,7 +10,7 @@ use crate::lineages::Lineages;
 use crate::side::Side;
 use std::alloc::{AllocError, Global};
 use std::marker::Model;
-use tt_values::{Equal, Row, matches};
+use tt_values::{Equal, Few, Row, matches};
 
 /// A table of multi-version rows, with a current and a next side. Contracts see the lineages of its
 /// rows by key, and speak of them by `side_of` and `is_split`.
@@ -270,18 +270,18 @@ impl Table {
     #[tactic(auto, using(crate::proofs::SidesLemmas::writes_all))]
     pub fn into_all_written(
         self,
-        rows: Vec<(i64, Option<Row>)>,
+        rows: Few<(i64, Option<Row>)>,
         time: u64,
     ) -> Result<Table, AllocError>
         ensures current { IfOk result (λ t.
-            current_of t ≡ all_written_from rows.items time (current_of self)) }
+            current_of t ≡ all_written_from rows time (current_of self)) }
         ensures next { IfOk result (λ t. next_of t
-            ≡ all_written_from (whole_among (is_split self) rows.items) time (next_of self)) }
+            ≡ all_written_from (whole_among (is_split self) rows) time (next_of self)) }
         ensures split { IfOk result (λ t. is_split t ≡ is_split self) }
         ensures current_adds { IfOk result (λ t.
-            AddsRowWritesOf (current_of self) (current_of t) rows.items time) }
+            AddsRowWritesOf (current_of self) (current_of t) rows time) }
         ensures next_adds { IfOk result (λ t. AddsRowWritesOf (next_of self) (next_of t)
-            (whole_among (is_split self) rows.items) time) }
+            (whole_among (is_split self) rows) time) }
     {
         let Table { alloc, lineages } = self;
         let lineages = lineages.with_writes(Side::Current, rows, time)?;
@@ -327,16 +327,16 @@ impl Table {
     #[tactic(auto, using(crate::proofs::SidesLemmas::writes_all_next))]
     pub fn into_all_next_written(
         self,
-        rows: Vec<(i64, Option<Row>)>,
+        rows: Few<(i64, Option<Row>)>,
         time: u64,
     ) -> Result<Table, AllocError>
-        requires { All (λ e. is_split self e.0 ≡ true) rows.items }
+        requires { All (λ e. is_split self e.0 ≡ true) rows }
         ensures current { IfOk result (λ t. current_of t ≡ current_of self) }
         ensures next { IfOk result (λ t.
-            next_of t ≡ all_written_from rows.items time (next_of self)) }
+            next_of t ≡ all_written_from rows time (next_of self)) }
         ensures split { IfOk result (λ t. is_split t ≡ is_split self) }
         ensures next_adds { IfOk result (λ t.
-            AddsRowWritesOf (next_of self) (next_of t) rows.items time) }
+            AddsRowWritesOf (next_of self) (next_of t) rows time) }
     {
         let Table { alloc, lineages } = self;
         let lineages = lineages.with_writes(Side::Next, rows, time)?;

@@ -3,7 +3,7 @@ use super::marks::{Tally, mark, quiet};
 use super::{owned_by, row, same};
 use std::alloc::{AllocError, Global};
 use std::process::Abort;
-use tt_values::{Row, Value};
+use tt_values::{Few, Row, Value};
 use tt_versions::{Side, Table};
 
 /// The row of ann with this balance.
@@ -171,7 +171,9 @@ fn with_two_rows(rt: &impl Abort, alloc: Global) -> Table {
     let table = searchable(rt, alloc);
     let kept = table.share().expect(rt, "memory");
     let bob = Some(row(rt, alloc, 2, "bob", 6));
-    let rows = vec![in alloc; (1, ann(rt, alloc, 5)), (2, bob)].expect(rt, "memory");
+    let mut rows = Few::new(alloc);
+    rows.push((1, ann(rt, alloc, 5))).expect(rt, "memory");
+    rows.push((2, bob)).expect(rt, "memory");
     mark(alloc);
     let written = table.into_all_written(rows, 1);
     mark(alloc);

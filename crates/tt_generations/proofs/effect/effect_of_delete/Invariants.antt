@@ -6,5 +6,5 @@ use Rattle.tt_generations.proofs.effect.effect_of_delete.Given as goal
 
 abbrev pub invariant-loop-key : goal.invariant-loop-key
 invariant-loop-key l =
-    l.effect.items ++ delete_effect (rows_behind (drop l.key-index l.rows.items))
+    l.effect ++ delete_effect (rows_behind (drop l.key-index l.rows.items))
     ≡ delete_effect (rows_behind l.rows.items)

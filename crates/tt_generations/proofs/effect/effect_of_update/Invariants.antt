@@ -6,5 +6,5 @@ use Rattle.tt_generations.proofs.effect.effect_of_update.Given as goal
 
 abbrev pub invariant-loop-key : goal.invariant-loop-key
 invariant-loop-key l =
-    l.effect.items ++ update_effect l.changes (rows_behind (drop l.key-index l.rows.items))
+    l.effect ++ update_effect l.changes (rows_behind (drop l.key-index l.rows.items))
     ≡ update_effect l.changes (rows_behind l.rows.items)

@@ -11,19 +11,19 @@ use Rattle.tt_generations.proofs.action_run.ActionRun.carry_out.Goals as goal
 
 pub reply_to-requires : goal.reply_to-requires
 reply_to-requires c =
-    let pairs = c.in_ok-effect.effect.items in
+    let pairs = c.in_ok-effect.effect in
     let is = subst (λ (t : LineagesByKey). IsEffect pairs c.args.write.now (current_of t) c.args.time) c.table.ensures c.in_ok-effect.ensures in
-    omega (arith, length-effect c.args.self.now.rows Current c.args.time (most_rows + max_writes) c.table-table.result c.args.write.now pairs c.requires.few c.table-table.ensures is, ap length c.deref.ensures.value)
+    omega (arith, length-effect c.args.self.now.rows Current c.args.time (most_rows + max_writes) c.table-table.result c.args.write.now pairs c.requires.few c.table-table.ensures is, ap length c.as_slice.ensures)
 
 pub returns : goal.returns
 returns c =
-    let pairs = c.in_ok-effect.effect.items in
+    let pairs = c.in_ok-effect.effect in
     let is = subst (λ (t : LineagesByKey). IsEffect pairs c.args.write.now (current_of t) c.args.time) c.table.ensures c.in_ok-effect.ensures in
     let written = c.in_ok-write.ensures in
     record {
       current = CarriesOut-write c.args.time c.table-table.result c.args.write.now c.args.self.now _ pairs c.reply_to.result c.table-table.ensures is written.current
-          (λ rows same. c.reply_to.ensures rows (c.deref.ensures.value ∙ same)) c.in_ok-push.ensures
-          (c.in_ok-add_rows.ensures ∙ ap (λ es. c.args.self.now.rows_written ++ rows_of_effect c.table-table.result es) c.deref-2.ensures.value);
+          (λ rows same. c.reply_to.ensures rows (c.as_slice.ensures ∙ same)) c.in_ok-push.ensures
+          (c.in_ok-add_rows.ensures ∙ ap (λ es. c.args.self.now.rows_written ++ rows_of_effect c.table-table.result es) c.as_slice-2.ensures);
       few = AddsOneRowAtMost-write c.args.time c.table-table.result c.args.write.now c.args.self.now.rows _ pairs c.table-table.ensures is written.written;
       split = written.split;
     }

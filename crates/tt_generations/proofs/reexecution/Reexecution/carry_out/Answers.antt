@@ -13,18 +13,18 @@ use Rattle.tt_generations.proofs.reexecution.Reexecution.carry_out.Goals as goal
 
 pub reply_to-requires : goal.reply_to-requires
 reply_to-requires c =
-    let pairs = c.in_ok-effect.effect.items in
+    let pairs = c.in_ok-effect.effect in
     let is = subst (λ (t : LineagesByKey). IsEffect pairs c.args.write.now (next_of t) c.args.time) c.table.ensures c.in_ok-effect.ensures in
-    omega (arith, length-effect c.args.self.now.rows Next c.args.time (most_rows + max_writes) c.table-table.result c.args.write.now pairs c.requires.few c.table-table.ensures is, ap length c.deref-2.ensures.value)
+    omega (arith, length-effect c.args.self.now.rows Next c.args.time (most_rows + max_writes) c.table-table.result c.args.write.now pairs c.requires.few c.table-table.ensures is, ap length c.as_slice-2.ensures)
 
 pub write_next-requires : goal.write_next-requires
 write_next-requires c =
     let before = c.args.self.now.rows in
     let between = c.split_matched.new.self.rows in
     let w = c.args.write.now in
-    let pairs = c.in_ok-effect.effect.items in
+    let pairs = c.in_ok-effect.effect in
     let is = subst (λ (t : LineagesByKey). IsEffect pairs w (next_of t) c.args.time) c.table.ensures c.in_ok-effect.ensures in
-    let splits = subst (λ (es : List (ℤ × Option Row)). SplitsRows before between (matched_rows w es) c.args.time) c.deref.ensures.value c.in_ok-split_matched.ensures.rows in
+    let splits = subst (λ (es : List (ℤ × Option Row)). SplitsRows before between (matched_rows w es) c.args.time) c.as_slice.ensures c.in_ok-split_matched.ensures.rows in
     effect-is_split before between c.args.time (most_rows + max_writes) c.table-table.result w pairs (matched_rows w pairs) c.requires.few c.table-table.ensures is refl splits
 
 pub returns : goal.returns
@@ -33,10 +33,10 @@ returns c =
     let between = c.split_matched.new.self in
     let w = c.args.write.now in
     let table = c.table-table.result in
-    let pairs = c.in_ok-effect.effect.items in
+    let pairs = c.in_ok-effect.effect in
     let split = c.in_ok-split_matched.ensures in
     let is = subst (λ (t : LineagesByKey). IsEffect pairs w (next_of t) c.args.time) c.table.ensures c.in_ok-effect.ensures in
-    let splits = subst (λ (es : List (ℤ × Option Row)). SplitsRows before.rows between.rows (matched_rows w es) c.args.time) c.deref.ensures.value split.rows in
+    let splits = subst (λ (es : List (ℤ × Option Row)). SplitsRows before.rows between.rows (matched_rows w es) c.args.time) c.as_slice.ensures split.rows in
     ReexecutesWrites-write c.args.time w before _ (record {
       table = table;
       between = between.rows;
@@ -46,8 +46,8 @@ returns c =
       found = is;
       splits = splits;
       writes = c.in_ok-write_next.ensures;
-      answers = λ rows same. c.reply_to.ensures rows (c.deref-2.ensures.value ∙ same);
+      answers = λ rows same. c.reply_to.ensures rows (c.as_slice-2.ensures ∙ same);
       replies = c.in_ok-push.ensures ∙ ap (λ rs. rs ++ c.reply_to.result ∷ []) split.replies;
-      written = c.in_ok-add_rows.ensures ∙ (λ i. split.rows_written i ++ rows_of_effect table (c.deref-3.ensures.value i));
-      reexecuted = split.reexecuted ∙ ap (λ es. before.reexecuted.items ++ matched_rows w es) c.deref.ensures.value;
+      written = c.in_ok-add_rows.ensures ∙ (λ i. split.rows_written i ++ rows_of_effect table (c.as_slice-3.ensures i));
+      reexecuted = split.reexecuted ∙ ap (λ es. before.reexecuted.items ++ matched_rows w es) c.as_slice.ensures;
     })

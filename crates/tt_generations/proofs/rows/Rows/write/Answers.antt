@@ -12,7 +12,7 @@ returns c =
     let before = c.args.self.now in
     let new = c.in_ok-new.new in
     let after = set c.take_table.new.tables.items c.from-position.result new in
-    let effect = c.args.effect.items in
+    let effect = c.args.effect in
     let taken = c.in_ok-old.ensures in
     let puts = subst (λ (r : TablesByPosition). PutsTable c.args.table new r after) c.self.view_is
     (PutsTable-set c.self.inside.tables.items c.take_table.new.tables.items c.from-position.result c.args.table new c.from-position.ensures taken.others taken.room) in

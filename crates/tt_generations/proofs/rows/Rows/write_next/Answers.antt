@@ -12,7 +12,7 @@ into_all_next_written-requires c =
     let taken = c.in_ok-old.ensures in
     let old : c.in_ok-old.old ≡ versions_at c.args.self.now c.args.table =
     taken.table ∙ (λ i. versions_at (c.self.view_is i) (c.from-position.ensures i)) in
-    subst (λ (t : LineagesByKey). All (λ e. is_split t e.0 ≡ true) c.args.effect.items) (sym old) c.requires
+    subst (λ (t : LineagesByKey). All (λ e. is_split t e.0 ≡ true) c.args.effect) (sym old) c.requires
 
 pub returns : goal.returns
 returns c =
@@ -26,5 +26,5 @@ returns c =
     let old : c.in_ok-old.old ≡ versions_at before table =
     taken.table ∙ (λ i. versions_at (c.self.view_is i) (c.from-position.ensures i)) in
     let is = c.in_ok-new.ensures in
-    WritesNext-put before after table new c.args.time c.args.effect.items puts (is.current ∙ ap current_of old)
-    (is.next ∙ ap (λ (t : LineagesByKey). all_written_from c.args.effect.items c.args.time (next_of t)) old) (is.split ∙ ap is_split old)
+    WritesNext-put before after table new c.args.time c.args.effect puts (is.current ∙ ap current_of old)
+    (is.next ∙ ap (λ (t : LineagesByKey). all_written_from c.args.effect c.args.time (next_of t)) old) (is.split ∙ ap is_split old)

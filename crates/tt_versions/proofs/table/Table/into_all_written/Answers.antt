@@ -6,8 +6,8 @@ use Rattle.tt_versions.proofs.RowsByWritesLemmas.{adds_row_writes}
 use Rattle.tt_versions.proofs.table.Table.into_all_written.Goals as goal
 
 pub returns-clause-current_adds : goal.returns-clause-current_adds
-returns-clause-current_adds c = adds_row_writes c.args.rows.items (current_of c.args.self) (current_of c.in_ok-lineages.lineages) c.args.time (grind (arith, writes_all))
+returns-clause-current_adds c = adds_row_writes c.args.rows (current_of c.args.self) (current_of c.in_ok-lineages.lineages) c.args.time (grind (arith, writes_all))
 
 pub returns-clause-next_adds : goal.returns-clause-next_adds
 returns-clause-next_adds c =
-    adds_row_writes (whole_among (is_split c.args.self) c.args.rows.items) (next_of c.args.self) (next_of c.in_ok-lineages.lineages) c.args.time (grind (arith, writes_all))
+    adds_row_writes (whole_among (is_split c.args.self) c.args.rows) (next_of c.args.self) (next_of c.in_ok-lineages.lineages) c.args.time (grind (arith, writes_all))

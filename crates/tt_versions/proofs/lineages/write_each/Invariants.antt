@@ -3,7 +3,7 @@ use Rattle.std.proofs.Common.{◌≡◌}
 use Rattle.std.specs.List.{All}
 use Rattle.tt_versions.specs.Sides.{is_split, with_writes, StaysSplit}
 use Rattle.tt_versions.specs.Index.{IsStored}
-use Rattle.tt_versions.proofs.lineages.write_rows.Given as goal
+use Rattle.tt_versions.proofs.lineages.write_each.Given as goal
 
 abbrev pub invariant-loop-key : goal.invariant-loop-key
 invariant-loop-key l = record {

@@ -9,7 +9,7 @@ use Rattle.tt_versions.specs.Sides.{LineagesByKey, lineage_at, is_split, with_wr
 use Rattle.std.specs.Ordering.{int_cmp}
 use Rattle.std.specs.FinMap.Entries.{put}
 use Rattle.tt_versions.proofs.SidesLemmas.{is_split-write_on}
-use Rattle.tt_versions.proofs.lineages.write_rows.Goals as goal
+use Rattle.tt_versions.proofs.lineages.write_each.Goals as goal
 
 pub write_row-requires : goal.write_row-requires
 write_row-requires c =
