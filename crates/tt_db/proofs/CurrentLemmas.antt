@@ -5,11 +5,11 @@ use Rattle.tt_values.specs.Tables.{Tables}
 use Rattle.tt_values.specs.RowWrites.{Slots}
 use Rattle.tt_values.proofs.LawProofs.{added_slot_leaves_past}
 use Rattle.tt_repair_laws.proofs.LawProofs.{no_affected_slot_is_missed, content_after_is_kept, next_side_shows_edited_slots}
-use Rattle.tt_generations.specs.TwoGenerations.{Phase, Idle, Repairing, next_side_of, next_content_in, done_of, IsWithin}
+use Rattle.tt_generations.specs.TwoGenerations.{Phase, Idle, Repairing, next_side_of, next_content_in, next_content_at, done_of, IsWithin}
 use Rattle.tt_db.specs.declared.event.Entry.{Entry}
 use Rattle.tt_db.specs.declared.event.Event.{Event}
 use Rattle.tt_db.specs.declared.event.Event.TheVariants as events
-use Rattle.tt_db.specs.State.{State, current_at, next_content_at, next_state}
+use Rattle.tt_db.specs.State.{State, current_at, next_state}
 use Rattle.tt_db.specs.Database.{Database, state_of, current_slots, with_entry, IsDueOrSame, MissesNoSlot, ShowsCurrent}
 use Rattle.tt_db.proofs.DatabaseLemmas.{after-push}
 

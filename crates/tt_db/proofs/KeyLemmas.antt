@@ -37,8 +37,8 @@ use Rattle.tt_repair_laws.specs.declared.edit.Edit.{Edit}
 use Rattle.tt_repair_laws.specs.declared.edit.Edit.TheVariants.{Cancel, Replace}
 use Rattle.tt_repair_laws.specs.Edits.{edit_of, slot_with_edit, edited_slots_from, edited_slots}
 use Rattle.tt_generations.specs.KeptSlots.{IsAccepted}
-use Rattle.tt_generations.specs.TwoGenerations.{Phase, Idle, Repairing, phase_after_step, slots_edited_by, done_of}
-use Rattle.tt_db.specs.State.{State, ClosedGeneration, start, after, current_at, next_content_at, next_at, slots_in, next_state, with_closed, edits_fault, refusal, IsLegal, IsLegalFrom}
+use Rattle.tt_generations.specs.TwoGenerations.{Phase, Idle, Repairing, phase_after_step, slots_edited_by, done_of, next_content_at}
+use Rattle.tt_db.specs.State.{State, ClosedGeneration, start, after, current_at, next_at, slots_in, next_state, with_closed, edits_fault, refusal, IsLegal, IsLegalFrom}
 use Rattle.tt_db.specs.RightAnswers.{RowsHaveRisingKeys}
 use Rattle.tt_db.proofs.RefusalLemmas.{accepted_action, accepted_begin}
 
@@ -291,16 +291,19 @@ IsKeyedContent-slots tables W (suc n) catalog h =
     (IsKeyedContent-slot tables (slot_after W n) (suc n) X catalog (slot_after-AllAccepted tables W n h) (rows_rise (row_writes W n) n) (IsKeyedContent-slots tables W n catalog h))
 
 -- at every time
-IsKeyedContent-content_of : (tables : Tables) (W : Slots) (time : ℕ) → IsCatalog tables → AllAccepted tables W → IsKeyedContent (content_of W time)
-IsKeyedContent-content_of tables W time catalog h = by (nat_le time (length W)) refl
+IsKeyedContent-at : (tables : Tables) (W : Slots) (n time : ℕ) → IsCatalog tables → AllAccepted tables W → IsKeyedContent (content_at (row_writes W n) time)
+IsKeyedContent-at tables W n time catalog h = by (nat_le time n) refl
   where
-    by : (b : Bool) → nat_le time (length W) ≡ b → IsKeyedContent (content_of W time)
+    by : (b : Bool) → nat_le time n ≡ b → IsKeyedContent (content_at (row_writes W n) time)
     by true e =
-        let past : time ≤ length W = grind (arith, nat_tests) in
-        subst IsKeyedContent (sym (past_stays W time (length W) time (omega arith) past)) (IsKeyedContent-slots tables W time catalog h)
+        let past : time ≤ n = grind (arith, nat_tests) in
+        subst IsKeyedContent (sym (past_stays W time n time (omega arith) past)) (IsKeyedContent-slots tables W time catalog h)
     by false e =
-        let later : length W ≤ time = grind (arith, nat_tests) in
-        subst IsKeyedContent (sym (last_content_stays W (length W) time later)) (IsKeyedContent-slots tables W (length W) catalog h)
+        let later : n ≤ time = grind (arith, nat_tests) in
+        subst IsKeyedContent (sym (last_content_stays W n time later)) (IsKeyedContent-slots tables W n catalog h)
+
+IsKeyedContent-content_of : (tables : Tables) (W : Slots) (time : ℕ) → IsCatalog tables → AllAccepted tables W → IsKeyedContent (content_of W time)
+IsKeyedContent-content_of tables W time catalog h = IsKeyedContent-at tables W (length W) time catalog h
 
 pub IsKeyedContent-legal : (tables : Tables) (limits : Limits) (history : List Entry) (time : ℕ) → IsCatalog tables → IsLegal tables limits history → IsKeyedContent (current_at (after limits history) time)
 IsKeyedContent-legal tables limits history time catalog legal =
@@ -383,23 +386,31 @@ pub RowsHaveRisingKeys-in : (tables : Tables) (limits : Limits) (history : List 
 RowsHaveRisingKeys-in tables limits history number W q time catalog legal is =
     RowsHaveRisingKeys-content q (row_writes W (length W)) time (IsKeyedContent-in tables limits history number W time catalog legal is)
 
--- and in the next generation
-keyed_next : (tables : Tables) (phase : Phase) (W : Slots) → IsCatalog tables → AllAccepted tables W → HasAcceptedEdits tables phase → IsKeyedContent (next_content_at phase W (done_of phase))
-keyed_next tables Idle W catalog slots edits = IsKeyedContent-content_of tables W 0 catalog slots
-keyed_next tables (Repairing E n) W catalog slots edits = IsKeyedContent-slots tables (edited_slots W E) n catalog (AllAccepted-edits tables E 1 W edits slots)
+-- and in the next generation, at each time
+keyed_next_at : (tables : Tables) (phase : Phase) (W : Slots) (time : ℕ) → IsCatalog tables → AllAccepted tables W → HasAcceptedEdits tables phase → IsKeyedContent (next_content_at phase W time)
+keyed_next_at tables Idle W time catalog slots edits = IsKeyedContent-content_of tables W time catalog slots
+keyed_next_at tables (Repairing E n) W time catalog slots edits = IsKeyedContent-at tables (edited_slots W E) n time catalog (AllAccepted-edits tables E 1 W edits slots)
 
+of_next_at : (phase : Phase) (W : Slots) (time : ℕ) (q : Select) → IsKeyedContent (next_content_at phase W time) → RowsHaveRisingKeys (answer_of q (next_content_at phase W time))
+of_next_at Idle W time q keyed = RowsHaveRisingKeys-content q (row_writes W (length W)) time keyed
+of_next_at (Repairing E n) W time q keyed = RowsHaveRisingKeys-content q (row_writes (edited_slots W E) n) time keyed
+
+pub RowsHaveRisingKeys-next_at : (tables : Tables) (limits : Limits) (history : List Entry) (q : Select) (time : ℕ) → IsCatalog tables → IsLegal tables limits history
+    → RowsHaveRisingKeys (answer_of q (next_at (after limits history) time))
+RowsHaveRisingKeys-next_at tables limits history q time catalog legal =
+    let S = after limits history in
+    let accepted = IsAcceptedState-after tables limits history legal in
+    of_next_at S.phase S.slots time q (keyed_next_at tables S.phase S.slots time catalog accepted.slots accepted.edits)
+
+-- and at the last slot done
 pub IsKeyedContent-next : (tables : Tables) (limits : Limits) (history : List Entry) → IsCatalog tables → IsLegal tables limits history
     → IsKeyedContent (next_at (after limits history) (done_of (after limits history).phase))
 IsKeyedContent-next tables limits history catalog legal =
     let S = after limits history in
     let accepted = IsAcceptedState-after tables limits history legal in
-    keyed_next tables S.phase S.slots catalog accepted.slots accepted.edits
-
-of_next : (phase : Phase) (W : Slots) (q : Select) → IsKeyedContent (next_content_at phase W (done_of phase)) → RowsHaveRisingKeys (answer_of q (next_content_at phase W (done_of phase)))
-of_next Idle W q keyed = RowsHaveRisingKeys-content q (row_writes W (length W)) 0 keyed
-of_next (Repairing E n) W q keyed = RowsHaveRisingKeys-content q (row_writes (edited_slots W E) n) n keyed
+    keyed_next_at tables S.phase S.slots (done_of S.phase) catalog accepted.slots accepted.edits
 
 pub RowsHaveRisingKeys-next : (tables : Tables) (limits : Limits) (history : List Entry) (q : Select) → IsCatalog tables → IsLegal tables limits history
     → RowsHaveRisingKeys (answer_of q (next_at (after limits history) (done_of (after limits history).phase)))
 RowsHaveRisingKeys-next tables limits history q catalog legal =
-    of_next (after limits history).phase (after limits history).slots q (IsKeyedContent-next tables limits history catalog legal)
+    RowsHaveRisingKeys-next_at tables limits history q (done_of (after limits history).phase) catalog legal

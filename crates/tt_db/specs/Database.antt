@@ -13,7 +13,7 @@ use Rattle.tt_repair_laws.specs.Laws.{IsSameSlot}
 use Rattle.tt_generations.specs.declared.slot.Slot.{Slot}
 use Rattle.tt_generations.specs.declared.progress.Progress.{Progress}
 use Rattle.tt_generations.specs.KeptSlots.{slot_at}
-use Rattle.tt_generations.specs.TwoGenerations.{Phase, Idle, Repairing, TwoGenerations, progress_of, slots_edited_by, dirty_rows_of, done_of, IsWithin}
+use Rattle.tt_generations.specs.TwoGenerations.{Phase, Idle, Repairing, TwoGenerations, progress_of, slots_edited_by, next_slot_at, dirty_rows_of, done_of, IsWithin}
 use Rattle.tt_db.specs.declared.limits.Limits.{Limits}
 use Rattle.tt_db.specs.declared.event.Event.{Event}
 use Rattle.tt_db.specs.declared.event.Event.TheVariants as events
@@ -23,7 +23,7 @@ use Rattle.tt_db.specs.declared.errors.DbError.{DbError}
 use Rattle.tt_db.specs.declared.errors.ReadError.{ReadError}
 use Rattle.tt_db.specs.Limits.{Fits}
 use Rattle.tt_db.specs.State.{State, ClosedGeneration, after, now_of, current_at, next_at, oldest_of, refusal, outcome_of, IsLegal}
-use Rattle.tt_db.specs.RightAnswers.{right_select, right_select_at, right_select_in, right_preview}
+use Rattle.tt_db.specs.RightAnswers.{right_select, right_select_at, right_select_in, right_preview, right_preview_at}
 
 -- a database: its tables, its limits and its history
 pub record Database : Type 0 where
@@ -79,6 +79,10 @@ right_answer_in db number select time = right_select_in db.catalog (state_of db)
 abbrev pub right_preview_of : Database → Select → Result Reply ReadError
 right_preview_of db select = right_preview db.catalog (state_of db) select
 
+-- the right answer to a select of the next generation at a time
+abbrev pub right_preview_at_of : Database → Select → ℕ → Result Reply ReadError
+right_preview_at_of db select time = right_preview_at db.catalog (state_of db) select time
+
 -- what a select answers at a time
 abbrev pub answer_for : Database → Select → ℕ → Reply
 answer_for db select time = answer_of select (current_at (state_of db) time)
@@ -87,9 +91,17 @@ answer_for db select time = answer_of select (current_at (state_of db) time)
 abbrev pub preview_for : Database → Select → Reply
 preview_for db select = answer_of select (next_at (state_of db) (done_of (state_of db).phase))
 
+-- what a select answers in the next generation at a time
+abbrev pub preview_at_for : Database → Select → ℕ → Reply
+preview_at_for db select time = answer_of select (next_at (state_of db) time)
+
 -- the slot of a number, counted from 1, with its replies
 abbrev pub slot_of : Database → ℕ → Option Slot
 slot_of db number = slot_at (current_slots db) number
+
+-- the slot of a number, counted from 1, as edited and with its replies in the next generation, if a repair has done it
+abbrev pub next_slot_of : Database → ℕ → Option Slot
+next_slot_of db number = next_slot_at (state_of db).phase (current_slots db) number
 
 -- how far the repair is, if one is under way
 abbrev pub repair_of : Database → Option Progress

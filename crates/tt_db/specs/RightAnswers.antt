@@ -55,6 +55,11 @@ abbrev pub right_preview : Tables → State → Select → Result Reply ReadErro
 right_preview tables S q =
     unless_fault (select_fault tables q) (unless_idle S.phase (Ok (answer_of q (next_at S (done_of S.phase)))))
 
+-- the right answer to a select of the next generation at a time, up to the last slot that the repair has done
+abbrev pub right_preview_at : Tables → State → Select → ℕ → Result Reply ReadError
+right_preview_at tables S q time =
+    unless_fault (select_fault tables q) (unless_idle S.phase (unless_later time (done_of S.phase) (answer_of q (next_at S time))))
+
 -- a read gives the right answer. It may run out of memory only where that is no refusal
 abbrev pub Answers : Result Reply ReadError → Result Reply ReadError → Type 0
 Answers right (Ok reply) = right ≡ Ok reply

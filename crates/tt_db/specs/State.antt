@@ -5,13 +5,13 @@ use Rattle.std.specs.Option.{option_map, option_or}
 use Rattle.tt_values.specs.Tables.{Tables}
 use Rattle.tt_values.specs.declared.checking.CheckError.{CheckError}
 use Rattle.tt_values.specs.Check.{action_fault}
-use Rattle.tt_values.specs.Content.{Content, content_at}
+use Rattle.tt_values.specs.Content.{Content}
 use Rattle.tt_values.specs.Action.{replies_of}
-use Rattle.tt_values.specs.RowWrites.{Slots, row_writes, content_of}
+use Rattle.tt_values.specs.RowWrites.{Slots, content_of}
 use Rattle.tt_repair_laws.specs.declared.edit.Edit.{Edit}
 use Rattle.tt_repair_laws.specs.declared.edit.Edit.TheVariants.{Cancel, Replace}
-use Rattle.tt_repair_laws.specs.Edits.{slot_number, edited_slots}
-use Rattle.tt_generations.specs.TwoGenerations.{Phase, Idle, Repairing, is_repairing, done_of, left_of, reexecuted_of, is_due_in, phase_after_step, slots_edited_by}
+use Rattle.tt_repair_laws.specs.Edits.{slot_number}
+use Rattle.tt_generations.specs.TwoGenerations.{Phase, Idle, Repairing, is_repairing, done_of, left_of, reexecuted_of, is_due_in, phase_after_step, slots_edited_by, next_content_at}
 use Rattle.tt_db.specs.declared.limits.Limits.{Limits}
 use Rattle.tt_db.specs.declared.event.Event.{Event}
 use Rattle.tt_db.specs.declared.event.Event.TheVariants as events
@@ -48,10 +48,6 @@ abbrev pub current_at : State → ℕ → Content
 current_at S time = content_of S.slots time
 
 -- the next content at a time, by the slots that the repair has done. Without a repair it is the current one
-abbrev pub next_content_at : Phase → Slots → ℕ → Content
-next_content_at Idle W time = content_of W time
-next_content_at (Repairing edits n) W time = content_at (row_writes (edited_slots W edits) n) time
-
 abbrev pub next_at : State → ℕ → Content
 next_at S time = next_content_at S.phase S.slots time
 

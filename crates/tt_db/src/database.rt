@@ -1,10 +1,11 @@
-ghost use Rattle.std.specs.Prelude.{◌≡◌, ◌<◌, ◌↔◌, IsSome, IsOk, IfSome, [], length, None, Some, OnOk, OnErr, IfOk, IfErr};
+ghost use Rattle.std.specs.Prelude.{◌≡◌, ◌<◌, ◌≤◌, ◌↔◌, IsSome, IsOk, IfSome, [], length, None, Some, OnOk, OnErr, IfOk, IfErr};
 ghost use Rattle.std.specs.Option.{option_copied, option_map};
 ghost use Rattle.tt_versions.specs.Sides.{current_of, next_of, is_split};
+ghost use Rattle.tt_generations.specs.TwoGenerations.{done_of};
 ghost use Rattle.tt_db.specs.Limits.{Fits};
 ghost use Rattle.tt_db.specs.Errors.{refusal_of_error};
 ghost use Rattle.tt_db.specs.State.{IsLegal, full_at, slots_in};
-ghost use Rattle.tt_db.specs.Database.{state_of, now_in, oldest_in, with_entry, refusal_of, outcome_for, right_answer, right_answer_at, right_answer_in, right_preview_of, answer_for, preview_for, slot_of, repair_of, current_rows_of, ShowsNextRows, dirty_rows_in, MissesNoSlot, ShowsCurrent, nth_item};
+ghost use Rattle.tt_db.specs.Database.{state_of, now_in, oldest_in, with_entry, refusal_of, outcome_for, right_answer, right_answer_at, right_answer_in, right_preview_of, right_preview_at_of, answer_for, preview_for, preview_at_for, slot_of, next_slot_of, repair_of, current_rows_of, ShowsNextRows, dirty_rows_in, MissesNoSlot, ShowsCurrent, nth_item};
 ghost use Rattle.tt_db.specs.RightAnswers.{Answers, RowsHaveRisingKeys};
 ghost use Rattle.tt_db.specs.Run.{IsRun};
 
@@ -140,6 +141,15 @@ impl Db {
         ensures { option_copied result ≡ slot_of self.now number }
     {
         self.generations.slot(number)
+    }
+
+    /// Of the slots that the repair has done, the one of a number, counted from 1, as the next
+    /// generation has it: its action as edited, and its replies there. None for any other number,
+    /// and where no repair is under way. Takes no memory.
+    pub fn next_slot(&self, number: u64) -> Option<&Slot>
+        ensures { option_copied result ≡ next_slot_of self.now number }
+    {
+        self.generations.next_slot(number)
     }
 
     /// How far the repair is; None where none is under way. Takes no memory.
@@ -511,6 +521,26 @@ impl Db {
         }
     }
 
+    /// The rows that match in the next generation at a time, by rising key. Each time up to the
+    /// last slot that the repair has done can be read; at this one it answers as
+    /// [`preview`](Db::preview).
+    pub fn preview_at(&self, select: &Select, time: u64) -> Result<Reply, ReadError>
+        ensures right { Answers (right_preview_at_of self.now select.now time) result }
+        ensures keyed { IfOk result (λ reply. RowsHaveRisingKeys reply) }
+    {
+        if let Err(fault) = check_select(self.catalog(), select) {
+            return Err(ReadError::Statement(fault));
+        }
+        let progress = self.repair().ok_or(ReadError::NotRepairing)?;
+        if time > progress.done {
+            return Err(ReadError::Later { now: progress.done });
+        }
+        match self.next_answer_at(select, time) {
+            Ok(reply) => Ok(reply),
+            Err(AllocError) => Err(ReadError::Memory),
+        }
+    }
+
     /// The reply to a select at a time.
     fn answer_at(&self, select: &Select, time: u64) -> Result<Reply, AllocError>
         ensures right { IfOk result (λ reply. reply ≡ answer_for self.now select.now time) }
@@ -526,6 +556,18 @@ impl Db {
         ensures keyed { IfOk result (λ reply. RowsHaveRisingKeys reply) }
     {
         let reply = self.generations.preview(select)?;
+        Ok(reply)
+    }
+
+    /// The reply to a select in the next generation, at a time up to the last slot that the repair
+    /// has done.
+    fn next_answer_at(&self, select: &Select, time: u64) -> Result<Reply, AllocError>
+        requires { time ≤ done_of (state_of self.now).phase }
+        ensures right { IfOk result (λ reply. reply
+            ≡ preview_at_for self.now select.now time) }
+        ensures keyed { IfOk result (λ reply. RowsHaveRisingKeys reply) }
+    {
+        let reply = self.generations.preview_at(select, time)?;
         Ok(reply)
     }
 

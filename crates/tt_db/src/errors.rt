@@ -53,7 +53,8 @@ pub enum ReadError {
     /// The generation can't be read: only those from `oldest` to `newest`, the current one, can.
     #[error("no such generation: {oldest} to {newest} can be read")]
     NoGeneration { oldest: u64, newest: u64 },
-    /// The time is later than `now`, the last time of the generation that is read.
+    /// The time is later than `now`, the last time of the generation that is read; of the next one
+    /// that is the last slot that the repair has done.
     #[error("later than {now}")]
     Later { now: u64 },
     /// Out of memory.

@@ -1,5 +1,6 @@
 -- The tables of two generations, before and after each event.
-use Rattle.std.proofs.Common.{◌≡◌, ℕ, zero, suc, ◌<◌, ◌≤◌, ◌+◌, Bool, true, false, ℤ, List, [], ◌∷◌, ◌++◌, map, length, slice_get, Option, None, Some, refl, sym, ap, subst, ◌∙◌, arith, length-append}
+use Rattle.std.proofs.Common.{◌≡◌, ℕ, zero, suc, ◌<◌, ◌≤◌, ◌+◌, ◌-◌, nat_lt, if◌then◌else◌, Bool, true, false, ℤ, List, [], ◌∷◌, ◌++◌, map, length, slice_get, Option, None, Some, refl, sym, ap, subst, ◌∙◌, arith, length-append}
+use Rattle.std.proofs.lemmas.Bool.Decides.{nat_tests}
 use Rattle.std.proofs.lemmas.List.{length-map}
 use Rattle.std.proofs.lemmas.Option.{slice_get_within}
 use Rattle.std.proofs.lemmas.List.Elements.{All-nil, All-cons, All-append}
@@ -24,7 +25,7 @@ use Rattle.tt_repair_laws.specs.declared.edit.Edit.{Edit}
 use Rattle.tt_repair_laws.specs.Edits.{slot_number, edited_slots}
 use Rattle.tt_repair_laws.specs.Due.{content_after, is_due, reexecuted_count, slot_rows_written}
 use Rattle.tt_repair_laws.specs.NextSide.{current_side}
-use Rattle.tt_repair_laws.proofs.LawProofs.{next_side_shows_edited_slots, no_slot_is_reexecuted_at_first, due_slots_are_reexecuted, undue_slots_are_not_reexecuted}
+use Rattle.tt_repair_laws.proofs.LawProofs.{edited_slots_are_as_many, next_side_shows_edited_slots, no_slot_is_reexecuted_at_first, due_slots_are_reexecuted, undue_slots_are_not_reexecuted}
 use Rattle.tt_generations.specs.declared.slot.KeptSlot.{KeptSlot}
 use Rattle.tt_generations.specs.declared.action_run.ActionRun.{ActionRun}
 use Rattle.tt_generations.specs.declared.repair.Repair.{Repair}
@@ -32,9 +33,9 @@ use Rattle.tt_generations.specs.Limits.{max_slots}
 use Rattle.tt_generations.specs.Rows.{TablesByPosition, HasFewRows, CurrentAgrees, KeepsSplitRows, ShowsSide}
 use Rattle.tt_generations.specs.ActionRun.{step_writes, CarriesOutAction, most_rows}
 use Rattle.tt_generations.specs.Reexecution.{ShowsContentBefore, ShowsFewBefore}
-use Rattle.tt_generations.specs.KeptSlots.{last_content, kept_slot, actions_of, AreKept, IsAccepted, AreAccepted}
+use Rattle.tt_generations.specs.KeptSlots.{last_content, slot_with_replies, kept_slot, actions_of, AreKept, IsAccepted, AreAccepted}
 use Rattle.tt_generations.specs.Repair.{HasKeysIfAny, is_kept_due, next_action, repair_with_slot, next_slots, HasDoneDueSlot, HasReexecutedSlot, ReexecutesSlot, DoesSlot}
-use Rattle.tt_generations.specs.TwoGenerations.{TwoGenerations, Phase, Idle, Repairing, NamesSlot, HasNoFault, IsWithin, done_of, next_content_in, left_of, slots_edited_by, next_side_of, rows_on}
+use Rattle.tt_generations.specs.TwoGenerations.{TwoGenerations, Phase, Idle, Repairing, NamesSlot, HasNoFault, IsWithin, done_of, next_content_in, next_content_at, next_slot_at, left_of, slots_edited_by, next_side_of, rows_on}
 use Rattle.tt_generations.specs.Generations.{phase_of, next_kept_slot, HaveBothSides, IsRepair, IsRepairIfAny, AreGenerations}
 use Rattle.tt_generations.proofs.ActionStepsLemmas.{CurrentAgrees-action}
 use Rattle.tt_generations.proofs.FewRowsLemmas.{HasFewRows-agree}
@@ -70,6 +71,15 @@ lists-next tables Idle W table within = record {
 lists-next tables (Repairing E n) W table within = record {
   sorted = rows_rise (row_writes (edited_slots W E) n) n table;
   finds = λ key. sym (next_side_shows_edited_slots tables W E n n table key within (omega arith));
+}
+
+-- and so does the next content at each time up to it
+pub lists-next_at : (tables : Tables) (phase : Phase) (W : Slots) (time table : ℕ) → IsWithin phase W → time ≤ done_of phase
+    → ListsRows (next_content_at phase W time table) (next_side_of tables phase W table) time
+lists-next_at tables Idle W time table within past = lists-current W time table
+lists-next_at tables (Repairing E n) W time table within past = record {
+  sorted = rows_rise (row_writes (edited_slots W E) n) time table;
+  finds = λ key. sym (next_side_shows_edited_slots tables W E n time table key within past);
 }
 
 -- a table that shows what both sides are to show, on either of them
@@ -312,6 +322,49 @@ AreGenerations-step tables kept before versions r after k true are at due does =
 pub phase-step : (r after : Repair) (k : KeptSlot) (before versions : TablesByPosition) (due : Bool) → DoesSlot r k before due after versions → phase_of (Some after) ≡ Repairing r.edits (suc r.done)
 phase-step r after k before versions false does = ap (λ (s : Repair). Repairing s.edits s.done) does.0 ∙ ap (Repairing r.edits) (omega arith)
 phase-step r after k before versions true does = (λ i. Repairing (does.0.edits i) (does.0.done i)) ∙ ap (Repairing r.edits) (omega arith)
+
+-- a slot that the repair has done is kept as the next generation has it
+pub next_slot-kept : (tables : Tables) (W : Slots) (r : Repair) (number position : ℕ) (k : KeptSlot) → IsRepair tables W r → 1 ≤ number → number ≤ r.done → position ≡ number - 1
+    → slice_get r.slots position ≡ Some k → Some k.slot ≡ next_slot_at (Repairing r.edits r.done) W number
+next_slot-kept tables W r zero position k is first within at found = absurd (omega (arith, first))
+next_slot-kept tables W r (suc i) position k is first within at found = by (nat_lt i r.done) (nat_lt r.done (suc i)) (nat_lt i (length V)) done (sym past) there kept
+  where
+    V : Slots
+    V = edited_slots W r.edits
+
+    inside : i < length W
+    inside = omega (arith, within, is.done)
+
+    many : length V ≡ length W
+    many = edited_slots_are_as_many W r.edits
+
+    done : true ≡ nat_lt i r.done
+    done = grind (arith, nat_tests)
+
+    past : nat_lt r.done (suc i) ≡ false
+    past = grind (arith, nat_tests)
+
+    there : true ≡ nat_lt i (length V)
+    there = let below : i < length V = omega (arith, inside, many) in grind (arith, nat_tests)
+
+    here : position ≡ i
+    here = omega (arith, at)
+
+    kept : k ≡ next_kept_slot W r.edits r.done i
+    kept = some-injective k (next_kept_slot W r.edits r.done i) (sym found ∙ ap (slice_get r.slots) here ∙ is.slots.each i inside)
+
+    by : (a b c : Bool) → true ≡ a → false ≡ b → true ≡ c → k ≡ (if a then kept_slot V i else kept_slot W i)
+        → Some k.slot ≡ (if b then None else if c then Some (slot_with_replies V i) else None)
+    by true false true e f g same = ap (λ (j : KeptSlot). Some j.slot) same
+    by false b c e f g same = absurd (cc e)
+    by true true c e f g same = absurd (cc f)
+    by true false false e f g same = absurd (cc g)
+
+pub next_slot-done : (tables : Tables) (W : Slots) (repair : Option Repair) (r : Repair) (number position : ℕ) (k : KeptSlot) → IsRepairIfAny tables W repair → Some r ≡ repair
+    → 1 ≤ number → number ≤ r.done → position ≡ number - 1 → slice_get r.slots position ≡ Some k → Some k.slot ≡ next_slot_at (phase_of repair) W number
+next_slot-done tables W repair r number position k is under_way first within at found =
+    next_slot-kept tables W r number position k (subst (IsRepairIfAny tables W) (sym under_way) is) first within at found
+    ∙ ap (λ (o : Option Repair). next_slot_at (phase_of o) W number) under_way
 
 -- ---- the end of a repair
 

@@ -1,20 +1,22 @@
 -- The slots of two generations: those of the current one, and what a repair makes of them.
-use Rattle.std.specs.Prelude.{◌≡◌, ℕ, suc, ◌≤◌, ◌-◌, ℤ, Bool, true, false, List, [], ◌∷◌, ◌++◌, map, length, Option, None, Some}
+use Rattle.std.specs.Prelude.{◌≡◌, ℕ, suc, ◌≤◌, ◌-◌, ℤ, Bool, true, false, List, [], ◌∷◌, ◌++◌, map, length, nat_lt, Option, None, Some, if◌then◌else◌}
 use Rattle.tt_values.specs.declared.statement.Write.{Write}
 use Rattle.tt_values.specs.Tables.{Tables}
 use Rattle.tt_values.specs.Check.{action_fault}
-use Rattle.tt_values.specs.Content.{Content, RowsByKey}
+use Rattle.tt_values.specs.Content.{Content, RowsByKey, content_at}
 use Rattle.tt_values.specs.Effect.{matching_rows}
 use Rattle.tt_values.specs.declared.statement.Select.{Select}
 use Rattle.tt_values.specs.declared.reply.Reply.{Reply}
 use Rattle.tt_values.specs.declared.reply.Reply.TheVariants as replies
 use Rattle.tt_versions.specs.declared.side.Side.{Side}
 use Rattle.tt_versions.specs.declared.side.Side.TheVariants.{Current, Next}
-use Rattle.tt_values.specs.RowWrites.{Slots}
+use Rattle.tt_values.specs.RowWrites.{Slots, row_writes, content_of}
 use Rattle.tt_versions.specs.Sides.{RowsOverTime, ListsRows}
 use Rattle.tt_parts.specs.Dirty.{has_row}
 use Rattle.tt_repair_laws.specs.declared.edit.Edit.{Edit}
 use Rattle.tt_generations.specs.declared.progress.Progress.{Progress}
+use Rattle.tt_generations.specs.declared.slot.Slot.{Slot}
+use Rattle.tt_generations.specs.KeptSlots.{slot_at}
 use Rattle.tt_repair_laws.specs.declared.edit.Edit.TheVariants.{Cancel, Replace}
 use Rattle.tt_repair_laws.specs.Edits.{slot_number, edited_slots}
 use Rattle.tt_repair_laws.specs.Due.{content_after, dirty_after, is_due, reexecuted_count}
@@ -99,6 +101,16 @@ next_content_in (Repairing edits n) W = content_after (edited_slots W edits) n
 
 abbrev pub next_content_of : TwoGenerations → Content
 next_content_of G = next_content_in G.phase G.slots
+
+-- the next content at a time, by the slots that the repair has done. Without a repair it is the current one
+abbrev pub next_content_at : Phase → Slots → ℕ → Content
+next_content_at Idle W time = content_of W time
+next_content_at (Repairing edits n) W time = content_at (row_writes (edited_slots W edits) n) time
+
+-- of the slots that the repair has done, the one of a number, counted from 1, as edited and with its replies in the next generation
+abbrev pub next_slot_at : Phase → Slots → ℕ → Option Slot
+next_slot_at Idle W number = None
+next_slot_at (Repairing edits n) W number = if nat_lt n number then None else slot_at (edited_slots W edits) number
 
 -- the next side of a table, which is the current one where no repair is under way
 abbrev pub next_side_of : Tables → Phase → Slots → ℕ → RowsOverTime

@@ -10,7 +10,7 @@ ghost use Rattle.tt_repair_laws.specs.NextSide.{current_side};
 ghost use Rattle.tt_generations.specs.Limits.{max_slots};
 ghost use Rattle.tt_generations.specs.KeptSlots.{slot_at, last_content, actions_of};
 ghost use Rattle.tt_generations.specs.Repair.{repair_with_slot, next_slots};
-ghost use Rattle.tt_generations.specs.TwoGenerations.{no_slots, with_action, with_repair, after_step, after_switch, after_abort, is_repairing, done_of, left_of, reexecuted_of, is_next_due, is_due_in, phase_after_step, next_content_of, rows_on, AnswersOn, IsWithin, progress_of, next_side_of, dirty_rows_of, NamesSlot, HasNoFault, Phase};
+ghost use Rattle.tt_generations.specs.TwoGenerations.{no_slots, with_action, with_repair, after_step, after_switch, after_abort, is_repairing, done_of, left_of, reexecuted_of, is_next_due, is_due_in, phase_after_step, next_content_of, next_content_at, next_slot_at, rows_on, AnswersOn, IsWithin, progress_of, next_side_of, dirty_rows_of, NamesSlot, HasNoFault, Phase};
 ghost use Rattle.tt_generations.specs.Generations.{phase_of, AreGenerations};
 
 use crate::action_run::ActionRun;
@@ -120,6 +120,21 @@ impl Generations {
         Some(&kept.slot)
     }
 
+    /// Of the slots that the repair has done, the one of a number, counted from 1, as the next
+    /// generation has it: edited, and with its replies there. None where no repair is under way.
+    pub fn next_slot(&self, number: u64) -> Option<&Slot>
+        ensures { option_copied result
+            ≡ next_slot_at self.now.phase self.now.slots number }
+    {
+        let repair = self.state.repair.as_ref()?;
+        if number > repair.done {
+            return None;
+        }
+        let position = number.checked_sub(1)?;
+        let kept = repair.slots.get(position as usize)?;
+        Some(&kept.slot)
+    }
+
     /// How far the repair is, if one is under way.
     pub fn progress(&self) -> Option<Progress>
         ensures { result ≡ progress_of self.now }
@@ -199,6 +214,19 @@ impl Generations {
         ensures { IfOk result (λ r. r ≡ answer_of select.now (next_content_of self.now)) }
     {
         let reply = self.answer_on(select, self.done(), Side::Next)?;
+        Ok(reply)
+    }
+
+    /// The reply to a select in the next generation, at a time up to the last slot that the repair
+    /// has done. Where no repair is under way, that is the current one before its first slot.
+    pub fn preview_at(&self, select: &Select, time: u64) -> Result<Reply, AllocError>
+        requires { time ≤ done_of self.now.phase }
+        ensures { IfOk result (λ r. r
+            ≡ answer_of select.now (next_content_at self.now.phase self.now.slots time)) }
+    {
+        // For the proof: the repair has done no more slots than there are.
+        let _ = self.done();
+        let reply = self.answer_on(select, time, Side::Next)?;
         Ok(reply)
     }
 

@@ -1,8 +1,8 @@
 -- The next generation's rows are stored under their keys too.
 use Rattle.std.proofs.Common.{◌≡◌, sym, ap, subst, ◌∙◌}
 use Rattle.tt_values.specs.Effect.{answer_of}
-use Rattle.tt_generations.specs.TwoGenerations.{done_of}
-use Rattle.tt_db.specs.State.{after, next_content_at, next_at}
+use Rattle.tt_generations.specs.TwoGenerations.{done_of, next_content_at}
+use Rattle.tt_db.specs.State.{after, next_at}
 use Rattle.tt_db.specs.Database.{Database, preview_for}
 use Rattle.tt_db.specs.RightAnswers.{RowsHaveRisingKeys}
 use Rattle.tt_db.proofs.CurrentLemmas.{next_content-is}

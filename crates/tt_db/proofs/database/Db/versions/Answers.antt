@@ -1,8 +1,8 @@
 -- The next side shows the next generation.
 use Rattle.std.proofs.Common.{◌≡◌, ◌≤◌, ap, sym, subst, ◌∙◌}
 use Rattle.tt_values.specs.Content.{row_at}
-use Rattle.tt_generations.specs.TwoGenerations.{done_of}
-use Rattle.tt_db.specs.State.{next_content_at, next_at}
+use Rattle.tt_generations.specs.TwoGenerations.{done_of, next_content_at}
+use Rattle.tt_db.specs.State.{next_at}
 use Rattle.tt_db.specs.Database.{Database, state_of}
 use Rattle.tt_db.proofs.CurrentLemmas.{next_side-shows}
 use Rattle.tt_db.proofs.database.Db.versions.Goals as goal
