@@ -43,6 +43,7 @@ use Rattle.tt_generations.specs.contracts.slot.KeptSlot as kept_slot_type
 use Rattle.tt_generations.specs.contracts.row_ids.RowIds as row_ids_type
 use Rattle.tt_generations.specs.contracts.edits.Replacement as replacement_type
 use Rattle.tt_generations.specs.contracts.repair.Repair as repair_type
+use Rattle.tt_generations.specs.contracts.boxed_repair.BoxedRepair as boxed_repair_type
 use Rattle.tt_generations.specs.contracts.rows.Rows as rows_type
 use Rattle.tt_generations.specs.contracts.generations.State as state_type
 use Rattle.tt_generations.specs.contracts.generations.Generations as generations_type
@@ -363,6 +364,12 @@ repair_send = search (items_send, items_sync, edit_send, edit_sync, map_send, ma
 pub repair_sync : IsSync repair_type.the_row
 repair_sync = search (items_send, items_sync, edit_send, edit_sync, map_send, map_sync, replacement_send, replacement_sync, dirty_send, dirty_sync, log_send, log_sync, kept_slot_send, kept_slot_sync, crosses, sendable) depth 60 fits 50000
 
+pub boxed_repair_send : IsSend boxed_repair_type.the_row
+boxed_repair_send = search (repair_send, repair_sync, crosses, sendable) depth 60 fits 50000
+
+pub boxed_repair_sync : IsSync boxed_repair_type.the_row
+boxed_repair_sync = search (repair_send, repair_sync, crosses, sendable) depth 60 fits 50000
+
 pub rows_send : IsSend rows_type.the_row
 rows_send = search (table_send, table_sync, crosses, sendable) depth 60 fits 50000
 
@@ -370,16 +377,16 @@ pub rows_sync : IsSync rows_type.the_row
 rows_sync = search (table_send, table_sync, crosses, sendable) depth 60 fits 50000
 
 pub state_send : IsSend state_type.the_row
-state_send = search (shared_send, shared_sync, catalog_send, catalog_sync, log_send, log_sync, kept_slot_send, kept_slot_sync, rows_send, rows_sync, repair_send, repair_sync, crosses, sendable) depth 60 fits 50000
+state_send = search (shared_send, shared_sync, catalog_send, catalog_sync, log_send, log_sync, kept_slot_send, kept_slot_sync, rows_send, rows_sync, boxed_repair_send, boxed_repair_sync, crosses, sendable) depth 60 fits 50000
 
 pub state_sync : IsSync state_type.the_row
-state_sync = search (shared_send, shared_sync, catalog_send, catalog_sync, log_send, log_sync, kept_slot_send, kept_slot_sync, rows_send, rows_sync, repair_send, repair_sync, crosses, sendable) depth 60 fits 50000
+state_sync = search (shared_send, shared_sync, catalog_send, catalog_sync, log_send, log_sync, kept_slot_send, kept_slot_sync, rows_send, rows_sync, boxed_repair_send, boxed_repair_sync, crosses, sendable) depth 60 fits 50000
 
 pub state_field_send : IsSend (state_type.the_field).row
-state_field_send = search (shared_send, shared_sync, catalog_send, catalog_sync, log_send, log_sync, kept_slot_send, kept_slot_sync, rows_send, rows_sync, repair_send, repair_sync, crosses, sendable) depth 60 fits 50000
+state_field_send = search (shared_send, shared_sync, catalog_send, catalog_sync, log_send, log_sync, kept_slot_send, kept_slot_sync, rows_send, rows_sync, boxed_repair_send, boxed_repair_sync, crosses, sendable) depth 60 fits 50000
 
 pub state_field_sync : IsSync (state_type.the_field).row
-state_field_sync = search (shared_send, shared_sync, catalog_send, catalog_sync, log_send, log_sync, kept_slot_send, kept_slot_sync, rows_send, rows_sync, repair_send, repair_sync, crosses, sendable) depth 60 fits 50000
+state_field_sync = search (shared_send, shared_sync, catalog_send, catalog_sync, log_send, log_sync, kept_slot_send, kept_slot_sync, rows_send, rows_sync, boxed_repair_send, boxed_repair_sync, crosses, sendable) depth 60 fits 50000
 
 pub generations_send : IsSend generations_type.the_row
 generations_send = search (state_field_send, state_field_sync, crosses, sendable) depth 60 fits 50000
