@@ -5,7 +5,7 @@ use std::alloc::Global;
 use std::process::Abort;
 use std::test::*;
 use tt_db::{Db, Entry, Event, Limits, ReadError};
-use tt_repair::{Record, changes, changes_next};
+use tt_records::{Record, changes, changes_next};
 use tt_values::Reply;
 
 /// Applies an event that isn't refused.
