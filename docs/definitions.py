@@ -64,13 +64,14 @@ PARTS = [
          'Slot after slot, each on what those before it left: the content at every time'),
     ]),
     ('One database. `Db::apply`, `advanced` and `apply_all` of `tt_db` make these states, and '
-     '`select`, `select_at`, `select_in` and `preview` give these answers.', [
+     '`select`, `select_at`, `select_in`, `preview` and `preview_at` give these answers.', [
         ('tt_repair_laws', 'Edits', 'slot_number replacement_of edit_of slot_with_edit'
          ' edited_slots_from edited_slots', 'The slots as the edits of a repair leave them'),
         ('tt_generations', 'TwoGenerations', 'Phase phase_after_step slots_edited_by is_repairing'
-         ' done_of left_of reexecuted_of is_due_in', 'Whether a repair is under way, and how far it is.'
+         ' done_of left_of reexecuted_of is_due_in next_content_at',
+         'Whether a repair is under way, how far it is, and the content that it leaves.'
          ' Which slots are due comes in the next table'),
-        ('tt_db', 'State', 'ClosedGeneration State start now_of current_at next_content_at next_at oldest_of'
+        ('tt_db', 'State', 'ClosedGeneration State start now_of current_at next_at oldest_of'
          ' slots_in slots_left',
          'A state of the sequential table, and the contents that it has'),
         ('tt_db', 'State', 'edits_fault missing_slot slot_edited_twice first_refusal refused_if'
@@ -80,7 +81,7 @@ PARTS = [
          ' after', 'What an event makes of a state, and what it answers'),
         ('tt_db', 'State', 'IsLegalFrom IsLegal', 'A history of which no event is refused'),
         ('tt_db', 'RightAnswers', 'unless_fault unless_later right_select right_select_at'
-         ' unless_no_generation right_select_in unless_idle right_preview Answers',
+         ' unless_no_generation right_select_in unless_idle right_preview right_preview_at Answers',
          'The right answer to each kind of read'),
         ('tt_db', 'Errors', 'refusal_of_error', 'Out of memory is no refusal'),
         ('tt_db', 'Run', 'IsRun', 'A whole run, of any entries, with their answers'),
@@ -128,14 +129,14 @@ PARTS = [
         ('tt_store', 'Closing', 'bearers EachOnce IsUnclosed IsPartOf IsOfWorker',
          'At the end the history has the entries of each worker, and no others'),
     ]),
-    ('A whole repair, and the program: `repair` of `tt_repair`, `changes` of `tt_records`, `run_alone` of '
-     '`tt_workload`, `run_workers` of `tt_workers`, `carry_out_words` of `tt_cli`.', [
+    ('A whole repair, and the program: `repair` of `tt_repair`, `changes` and `changes_next` of `tt_records`, '
+     '`run_alone` of `tt_workload`, `run_workers` of `tt_workers`, `carry_out_words` of `tt_cli`.', [
         ('tt_repair', 'Growth', 'GrewBy IsMergedAt IsWrite',
          'A worker\'s entries, merged with those of others'),
         ('tt_repair', 'Repairing', 'entry_by begun_steps HasRepaired',
          'A repair adds its beginning, its steps and its switch to the history, and nothing else'),
-        ('tt_records', 'Changes', 'answered_now is_still change_to changes_of',
-         'The replies that are answered differently now'),
+        ('tt_records', 'Changes', 'answered_now is_still change_to changes_of answered_next'
+         ' next_changes_of', 'The replies that are answered differently now, or in the next generation'),
         ('tt_workload', 'Report', 'report_of', 'The report of a run in one thread'),
         ('tt_workers', 'Report', 'IsAnswered AreAnswered IsRepaired IsReportOf text_of_report',
          'What holds of the report of a run in threads, and its text'),

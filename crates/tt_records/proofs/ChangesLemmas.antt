@@ -21,7 +21,7 @@ none_if_refused S q time reply None e h = by (nat_lt (now_of S) time) refl
     by true later = rw later refl
     by false later = let clash : ◌≡◌ {A = Result Reply ReadError} (Ok reply) (Err e) = subst (λ b. (if b then Err (errors.Later (now_of S)) else Ok reply) ≡ Err e) later h in cc
 
-right-refused : (right : Result Reply ReadError) (e : ReadError) → e ≢ errors.Memory → Answers right (Err e) → right ≡ Err e
+pub right-refused : (right : Result Reply ReadError) (e : ReadError) → e ≢ errors.Memory → Answers right (Err e) → right ≡ Err e
 right-refused right (errors.Statement fault) some h = h
 right-refused right (errors.NoGeneration oldest newest) some h = h
 right-refused right errors.NoReading some h = h

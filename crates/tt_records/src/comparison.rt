@@ -62,7 +62,8 @@ fn change_of_write(
     }
 }
 
-fn change_of_slot(
+/// The change of a write, if its slot has other replies, or none.
+pub(crate) fn change_of_slot(
     call: u64,
     before: &Items<Reply>,
     slot: &Slot,
@@ -122,7 +123,7 @@ fn change_of_read(
 }
 
 /// A change to another reply, unless it is the same.
-fn change_to_reply(
+pub(crate) fn change_to_reply(
     alloc: Global,
     call: u64,
     before: &Reply,
@@ -144,7 +145,7 @@ fn change_to_reply(
 }
 
 /// No change without an answer, or no memory for one.
-fn no_answer(error: ReadError) -> Result<Option<Changed>, AllocError>
+pub(crate) fn no_answer(error: ReadError) -> Result<Option<Changed>, AllocError>
     ensures nothing { IfOk result (λ c. c ≡ None) }
     ensures memory { OnOk result (error ≢ ReadError.Memory) }
 {

@@ -1,13 +1,15 @@
 //! Which replies a repair has changed: the records of calls as they were answered, and what the
-//! same calls would be answered now.
+//! same calls would be answered now, or after a repair that is under way.
 #![tactic(auto)]
 
 mod changed;
 mod comparison;
 pub mod laws;
+mod next;
 mod record;
 mod same;
 
 pub use changed::{After, Changed};
 pub use comparison::changes;
+pub use next::changes_next;
 pub use record::{Record, What};

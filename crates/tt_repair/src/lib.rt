@@ -9,4 +9,4 @@ mod repairing;
 pub use repair_fault::{Phase, RepairFault};
 pub use repaired::Repaired;
 pub use repairing::repair;
-pub use tt_records::{After, Changed, Record, What, changes};
+pub use tt_records::{After, Changed, Record, What, changes, changes_next};

@@ -3,6 +3,7 @@ mod alone;
 mod beside;
 mod full;
 mod held;
+mod next;
 mod printed;
 mod refused;
 

@@ -3,8 +3,8 @@ use super::repairs::{
     FIVE_SLOTS_HAD, begin, begin_and_step, delete_bob, finish, five_slots, switched,
 };
 use super::{
-    ACCT, ANN, add_to_balance, done, had, has, id_is, made, new_db, open, previews, same,
-    select_all, set_balance, set_owner, update, write,
+    ACCT, ANN, Account, action, add_to_balance, delete, done, had, has, id_is, made, new_db, open,
+    owner_is, previews, replies, rows, same, select_all, set_balance, set_owner, update, write,
 };
 use std::alloc::Global;
 use std::process::Abort;
@@ -34,6 +34,53 @@ fn the_current_generation_stays_until_the_switch(rt: HostRuntime) {
         &db,
         &[(1, "ann", 6), (2, "ann", 7), (4, "dan", 1)],
     );
+    done(db);
+}
+
+/// The accounts of the next generation of the five slots at each time up to slot 4.
+const FOUR_SLOTS_HAVE: [&'static [Account]; 5] = [
+    &[],
+    &[(1, "ann", 5)],
+    &[(1, "ann", 5), (2, "ann", 6)],
+    &[(1, "ann", 5), (2, "ann", 6), (3, "bob", 7)],
+    &[(1, "ann", 5), (2, "ann", 6)],
+];
+
+#[test]
+fn the_next_generation_is_read_at_each_time_that_is_done(rt: HostRuntime) {
+    let alloc = rt.alloc();
+    let mut db = five_slots(&rt, alloc);
+    let edit = delete_bob(&rt, alloc);
+    begin_and_step(&rt, alloc, &mut db, [edit], 4);
+    let all = select_all(&rt, alloc, ACCT);
+    for (time, accounts) in FOUR_SLOTS_HAVE.iter().enumerate() {
+        let reply = db.preview_at(&all, time as u64).expect(&rt, "a reply");
+        same(&rt, &reply, &rows(&rt, alloc, accounts));
+    }
+    let later = Some(ReadError::Later { now: 4 });
+    same(&rt, &db.preview_at(&all, 5).err(), &later);
+    finish(&rt, &mut db);
+    let idle = Some(ReadError::NotRepairing);
+    same(&rt, &db.preview_at(&all, 9).err(), &idle);
+    done(db);
+}
+
+#[test]
+fn slots_that_are_done_are_as_edited(rt: HostRuntime) {
+    let alloc = rt.alloc();
+    let mut db = five_slots(&rt, alloc);
+    let edit = delete_bob(&rt, alloc);
+    begin_and_step(&rt, alloc, &mut db, [Edit::Cancel(2), edit], 4);
+    let cancelled = db.next_slot(2).expect(&rt, "a slot");
+    assert!(rt; cancelled.action.is_none() && cancelled.replies.is_none());
+    let edited = db.next_slot(4).expect(&rt, "a slot");
+    let delete = delete(owner_is(&rt, alloc, "bob"));
+    same(&rt, &edited.action, &Some(action(&rt, alloc, [delete])));
+    let want = Some(replies(&rt, alloc, [Reply::Deleted(1)]));
+    same(&rt, &edited.replies, &want);
+    assert!(rt; db.next_slot(0).is_none() && db.next_slot(5).is_none());
+    finish(&rt, &mut db);
+    assert!(rt; db.next_slot(4).is_none() && db.slot(4).is_some());
     done(db);
 }
 

@@ -114,6 +114,8 @@ fn tells(rt: &impl Abort, db: &Db) {
     same(rt, &db.repair(), &Some(progress));
     assert!(rt; db.entry(0).is_none() && db.entry(10).is_some() && db.entry(11).is_none());
     assert!(rt; db.slot(0).is_none() && db.slot(5).is_some() && db.slot(6).is_none());
+    assert!(rt; db.next_slot(0).is_none() && db.next_slot(4).is_some());
+    assert!(rt; db.next_slot(5).is_none());
     assert!(rt; db.versions(0).is_some() && db.versions(1).is_none());
 }
 
@@ -124,6 +126,7 @@ fn refuses_select(rt: &impl Abort, db: &Db, select: &Select) {
     same(rt, &db.select_at(select, 3).err(), &error);
     same(rt, &db.select_in(0, select, 3).err(), &error);
     same(rt, &db.preview(select).err(), &error);
+    same(rt, &db.preview_at(select, 3).err(), &error);
 }
 
 /// Times and generations that aren't there.
@@ -131,6 +134,8 @@ fn refuses_time(rt: &impl Abort, db: &Db, select: &Select) {
     let later = Some(ReadError::Later { now: 5 });
     same(rt, &db.select_at(select, 6).err(), &later);
     same(rt, &db.select_in(0, select, 6).err(), &later);
+    let later = Some(ReadError::Later { now: 4 });
+    same(rt, &db.preview_at(select, 5).err(), &later);
     let missing = ReadError::NoGeneration {
         oldest: 0,
         newest: 0,

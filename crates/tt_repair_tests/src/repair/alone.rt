@@ -85,7 +85,7 @@ fn tells_changes(rt: &impl Abort, alloc: Global, db: &Db) {
 }
 
 /// Call 4 deleted the accounts of ann.
-fn deleted_two(rt: &impl Abort, alloc: Global) -> Record {
+pub(super) fn deleted_two(rt: &impl Abort, alloc: Global) -> Record {
     Record {
         call: 4,
         worker: 1,
@@ -97,7 +97,7 @@ fn deleted_two(rt: &impl Abort, alloc: Global) -> Record {
 }
 
 /// Call 5 updated the account of bob.
-fn updated_one(rt: &impl Abort, alloc: Global) -> Record {
+pub(super) fn updated_one(rt: &impl Abort, alloc: Global) -> Record {
     Record {
         call: 5,
         worker: 1,
@@ -109,7 +109,7 @@ fn updated_one(rt: &impl Abort, alloc: Global) -> Record {
 }
 
 /// Call 6 read all accounts as they were before the delete.
-fn read_three(rt: &impl Abort, alloc: Global) -> Record {
+pub(super) fn read_three(rt: &impl Abort, alloc: Global) -> Record {
     let accounts = [(1, "ann", 5), (2, "ann", 6), (3, "bob", 7)];
     Record {
         call: 6,
@@ -123,7 +123,12 @@ fn read_three(rt: &impl Abort, alloc: Global) -> Record {
 }
 
 /// A call whose only reply has changed.
-fn changed(rt: &impl Abort, alloc: Global, call: u64, (before, after): (Reply, Reply)) -> Changed {
+pub(super) fn changed(
+    rt: &impl Abort,
+    alloc: Global,
+    call: u64,
+    (before, after): (Reply, Reply),
+) -> Changed {
     Changed {
         call,
         before: one(rt, alloc, before),
