@@ -55,7 +55,8 @@ fn step_item<T: Fold, V: JsonValue>(
     index: usize,
     item: &V,
 ) -> Result<T::State, DocFault>
-    ensures { Gives result (with_path (item_path index) (T.after fold.now state (V.json item.now))) }
+    ensures { Gives result
+        (with_path (item_path index) (T.after fold.now state (V.json item.now))) }
 {
     match fold.step(alloc, state, item) {
         Ok(next) => Ok(next),

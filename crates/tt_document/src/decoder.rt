@@ -127,7 +127,8 @@ pub(crate) fn item<D: Decoder, V: JsonValue>(
     value: &V,
     decoder: &D,
 ) -> Result<D::Output, DocFault>
-    ensures { Gives result (with_path (item_path index) (D.meaning decoder.now (V.json value.now))) }
+    ensures { Gives result
+        (with_path (item_path index) (D.meaning decoder.now (V.json value.now))) }
 {
     match decoder.decode(alloc, value) {
         Ok(meaning) => Ok(meaning),

@@ -22,7 +22,8 @@ use std::marker::Model;
 
 const MAX_DEPTH: usize = 127;
 
-/// Reads a text onto a tape.
+/// Reads a text onto a tape. It's `Invalid` where serde_json refuses the text. The tape is made of
+/// `buffer`, and `scratch` holds the texts that were written with escapes.
 pub fn parse<'a, S: Allocator, A: Allocator>(
     text: &'a str,
     scratch: &'a mut Scratch<S>,
@@ -110,7 +111,7 @@ pub fn root<'t, 'a, A: Allocator>(tape: &'t Tape<'a, A>) -> TapeValue<'t, 'a>
     }
 }
 
-/// The items of an array from one on.
+/// The items of an array that are left.
 #[derive(Drop)]
 pub struct TapeItems<'t, 'a> {
     items: json::Items<'t, 'a>,
@@ -118,14 +119,13 @@ pub struct TapeItems<'t, 'a> {
 }
 
 impl<'t, 'a> Model for TapeItems<'t, 'a> {
-    ghost use Rattle.std.specs.Prelude.{List};
+    ghost use Rattle.std.specs.Prelude.{◌≡◌, List, length};
     ghost use Rattle.json.specs.Token.{Token, tokens_code};
 
     ghost Value = { List Token };
 
     ghost coded = { tokens_code };
 
-    ghost use Rattle.std.specs.Prelude.{◌≡◌, length};
     ghost use Rattle.tt_json.specs.Tape.{AreItems, items_at};
 
     ghost view = { λ a. a.items };
