@@ -42,7 +42,7 @@ impl<T: Drop> Few<T> {
         }
     }
 
-    /// Makes room for this many more items.
+    /// Makes room for this many more items at once, except in a list of one item.
     pub fn reserve(&mut self, more: usize) -> Result<(), AllocError>
         ensures { OnOk result (self.new ≡ self.old) }
     {
@@ -86,7 +86,8 @@ impl<T: Drop> Few<T> {
 
     /// The only item, or else all items. Allocates nothing.
     pub fn into_one(self) -> Result<T, Vec<T>>
-        ensures { MatchResult result (λ item. self ≡ item ∷ []) (λ items. self ≡ items.items) }
+        ensures { MatchResult result
+            (λ item. self ≡ item ∷ []) (λ items. self ≡ items.items) }
     {
         let Few { alloc, items } = self;
         match items {
