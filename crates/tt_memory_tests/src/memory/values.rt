@@ -47,14 +47,14 @@ fn shared_made(rt: &impl Abort, alloc: Global) -> Shared<u64> {
 fn values_that_are_shared(rt: HostRuntime) {
     let alloc = rt.alloc();
     let _tally = Tally::new(alloc);
-    let text = text_made(&rt, alloc, "ann");
+    let text = text_made(&rt, alloc, "ann of the north sea");
     let items = items_made(&rt, alloc);
     let shared = shared_made(&rt, alloc);
     quiet(alloc);
     same(
         &rt,
         &(text.as_str(), text.len(), text.is_empty()),
-        &("ann", 3, false),
+        &("ann of the north sea", 20, false),
     );
     same(
         &rt,
