@@ -89,6 +89,7 @@ PARTS = [
          'A database as contracts see it: tables, limits and a history'),
         ('tt_db', 'Database', 'current_slots now_in current_of_db HasSlots ShowsCurrent',
          'A repair changes no current answer before its switch'),
+        ('tt_db', 'History', 'is_write write_places', 'At which places of the history the slots were made'),
     ]),
     ('What a repair re-executes. `Db::apply` carries the law, and tells of each step whether its '
      'slot was due.', [

@@ -2,8 +2,9 @@
 use Rattle.tt_values.specs.Content.{Content}
 use Rattle.tt_values.specs.RowWrites.{content_of}
 use Rattle.tt_generations.specs.TwoGenerations.{done_of}
-use Rattle.tt_db.specs.Laws.{IsKeyed, RowsHaveTheirKeys, LastGenerationsAreKept}
+use Rattle.tt_db.specs.Laws.{IsKeyed, RowsHaveTheirKeys, LastGenerationsAreKept, EachSlotHasItsPlace}
 use Rattle.tt_db.specs.State.{start, after, current_at, next_at}
+use Rattle.tt_db.proofs.HistoryLemmas.{slots-places}
 use Rattle.tt_db.proofs.ClosedLemmas.{KeepsLastGenerations-after, KeepsLastGenerations-start}
 use Rattle.tt_db.proofs.KeyLemmas.{IsKeyedContent, IsKeyedContent-legal, IsKeyedContent-in, IsKeyedContent-next, AllKeyed-row_at}
 
@@ -19,3 +20,6 @@ rows_have_their_keys = record {
 
 pub last_generations_are_kept : LastGenerationsAreKept
 last_generations_are_kept limits history = KeepsLastGenerations-after limits start history (KeepsLastGenerations-start limits)
+
+pub each_slot_has_its_place : EachSlotHasItsPlace
+each_slot_has_its_place limits history = slots-places limits history

@@ -1,6 +1,7 @@
 pub mod RefusalLemmas
 pub mod ClosedLemmas
 pub mod DatabaseLemmas
+pub mod HistoryLemmas
 pub mod CurrentLemmas
 pub mod KeyLemmas
 pub mod LawProofs

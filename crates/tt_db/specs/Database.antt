@@ -23,6 +23,7 @@ use Rattle.tt_db.specs.declared.errors.DbError.{DbError}
 use Rattle.tt_db.specs.declared.errors.ReadError.{ReadError}
 use Rattle.tt_db.specs.Limits.{Fits}
 use Rattle.tt_db.specs.State.{State, ClosedGeneration, after, now_of, current_at, next_at, oldest_of, refusal, outcome_of, IsLegal}
+use Rattle.tt_db.specs.History.{write_places}
 use Rattle.tt_db.specs.RightAnswers.{right_select, right_select_at, right_select_in, right_preview, right_preview_at}
 
 -- a database: its tables, its limits and its history
@@ -149,6 +150,10 @@ ShowsCurrent before event next = HasSlots next (current_slots before)
 abbrev pub nth_item : {X : Type 0} → List X → ℕ → Option X
 nth_item items zero = None
 nth_item items (suc n) = slice_get items n
+
+-- the place of the entry that made a slot: slot t was made by the t-th write of the history
+abbrev pub place_of : Database → ℕ → Option ℕ
+place_of db slot = nth_item (write_places 1 db.history) slot
 
 -- a history is legal, and the slots, the generation, what is under way and the closed generations are those that it leads to
 pub record IsConsistent (limits : Limits) (history : List Entry) (G : TwoGenerations) (number : ℕ) (kept : List ClosedGeneration) : Type 0 where

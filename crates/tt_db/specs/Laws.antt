@@ -8,7 +8,8 @@ use Rattle.tt_values.specs.RowWrites.{Slots, content_of}
 use Rattle.tt_generations.specs.TwoGenerations.{done_of}
 use Rattle.tt_db.specs.declared.limits.Limits.{Limits}
 use Rattle.tt_db.specs.declared.event.Entry.{Entry}
-use Rattle.tt_db.specs.State.{State, ClosedGeneration, after, current_at, next_at, slots_in, oldest_of, IsLegal}
+use Rattle.tt_db.specs.History.{write_places}
+use Rattle.tt_db.specs.State.{State, ClosedGeneration, after, now_of, current_at, next_at, slots_in, oldest_of, IsLegal}
 
 -- each row of a content begins with an Int, which is the key that it is stored under
 abbrev pub IsKeyed : Content → Type 0
@@ -36,3 +37,7 @@ pub record KeepsLastGenerations (limits : Limits) (S : State) : Type 0 where
 -- this holds after each history
 abbrev pub LastGenerationsAreKept : Type 0
 LastGenerationsAreKept = (limits : Limits) (history : List Entry) → KeepsLastGenerations limits (after limits history)
+
+-- each slot was made by one write of the history, which no repair changes: there are as many writes as slots
+abbrev pub EachSlotHasItsPlace : Type 0
+EachSlotHasItsPlace = (limits : Limits) (history : List Entry) → length (write_places 1 history) ≡ now_of (after limits history)

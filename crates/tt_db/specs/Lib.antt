@@ -2,6 +2,7 @@ pub mod Limits
 pub mod State
 pub mod Errors
 pub mod RightAnswers
+pub mod History
 pub mod Database
 pub mod Transition
 pub mod Run

@@ -5,13 +5,14 @@ ghost use Rattle.tt_generations.specs.TwoGenerations.{done_of};
 ghost use Rattle.tt_db.specs.Limits.{Fits};
 ghost use Rattle.tt_db.specs.Errors.{refusal_of_error};
 ghost use Rattle.tt_db.specs.State.{IsLegal, full_at, slots_in};
-ghost use Rattle.tt_db.specs.Database.{state_of, now_in, oldest_in, with_entry, refusal_of, outcome_for, right_answer, right_answer_at, right_answer_in, right_preview_of, right_preview_at_of, answer_for, preview_for, preview_at_for, slot_of, next_slot_of, repair_of, current_rows_of, ShowsNextRows, dirty_rows_in, MissesNoSlot, ShowsCurrent, nth_item};
+ghost use Rattle.tt_db.specs.Database.{state_of, now_in, oldest_in, with_entry, refusal_of, outcome_for, right_answer, right_answer_at, right_answer_in, right_preview_of, right_preview_at_of, answer_for, preview_for, preview_at_for, slot_of, next_slot_of, repair_of, current_rows_of, ShowsNextRows, dirty_rows_in, MissesNoSlot, ShowsCurrent, nth_item, place_of};
 ghost use Rattle.tt_db.specs.RightAnswers.{Answers, RowsHaveRisingKeys};
 ghost use Rattle.tt_db.specs.Run.{IsRun};
 
 use crate::closed::{ClosedGeneration, closed_of, oldest_of, with_closed};
 use crate::errors::{DbError, ReadError};
 use crate::event::{Entry, Event};
+use crate::history::History;
 use crate::limits::Limits;
 use crate::outcome::Outcome;
 use crate::refusals::{edits_fault, missing_slot, slot_edited_twice};
@@ -28,7 +29,7 @@ use tt_versions::Table;
 pub struct Db {
     alloc: Global,
     limits: Limits,
-    history: PagedLog<Entry>,
+    history: History,
     generations: Generations,
     generation: u64,
     /// The closed generations that are kept, the oldest first.
@@ -76,7 +77,7 @@ impl Db {
         Db {
             alloc,
             limits,
-            history: PagedLog::new(alloc),
+            history: History::new(alloc),
             generations: Generations::new(alloc, catalog),
             generation: 0,
             closed: PagedLog::new(alloc),
@@ -134,6 +135,15 @@ impl Db {
     {
         let position = place.checked_sub(1)?;
         self.history.get(position as usize)
+    }
+
+    /// The place in the history, counted from 1, of the entry that made a slot; None where there is
+    /// no such slot. It stays over repairs. Takes no memory, and time logarithmic in the number of
+    /// entries that aren't writes.
+    pub fn place_of(&self, slot: u64) -> Option<u64>
+        ensures { result ≡ place_of self.now slot }
+    {
+        self.history.place_of_write(slot)
     }
 
     /// The slot of a number, counted from 1, in the current generation.
@@ -350,7 +360,7 @@ impl Db {
         let Db {
             alloc,
             limits,
-            mut history,
+            history,
             generations,
             generation,
             closed,
@@ -365,7 +375,7 @@ impl Db {
             generation,
             outcome,
         } = transition;
-        history.push(entry)?;
+        let history = history.into_pushed(entry)?;
         let db = Db {
             alloc,
             limits,

@@ -1,6 +1,6 @@
 //! Laws of the definitions that the contracts of this crate use. Each is the contract of a
 //! function with an empty body.
-ghost use Rattle.tt_db.specs.Laws.{RowsHaveTheirKeys, LastGenerationsAreKept};
+ghost use Rattle.tt_db.specs.Laws.{RowsHaveTheirKeys, LastGenerationsAreKept, EachSlotHasItsPlace};
 
 /// After a legal history each row begins with an Int, which is the key that it is stored under: in
 /// each generation that can be read at every time, and in the next one at the last slot that the
@@ -13,4 +13,9 @@ pub fn rows_have_their_keys()
 /// one higher than the one before it, and no more than the limit.
 pub fn last_generations_are_kept()
     ensures { LastGenerationsAreKept }
+{}
+
+/// Each slot has its place in the history: the place of the write that made it.
+pub fn each_slot_has_its_place()
+    ensures { EachSlotHasItsPlace }
 {}

@@ -7,6 +7,7 @@ mod closed;
 mod database;
 mod errors;
 mod event;
+mod history;
 pub mod laws;
 mod limits;
 mod outcome;

@@ -49,6 +49,7 @@ use Rattle.tt_generations.specs.contracts.generations.State as state_type
 use Rattle.tt_generations.specs.contracts.generations.Generations as generations_type
 use Rattle.tt_db.specs.contracts.event.Event as event_type
 use Rattle.tt_db.specs.contracts.event.Entry as entry_type
+use Rattle.tt_db.specs.contracts.history.History as history_type
 use Rattle.tt_db.specs.contracts.closed.ClosedGeneration as closed_type
 use Rattle.tt_db.specs.contracts.database.Db as db_type
 use Rattle.tt_store.specs.contracts.front.Front as front_type
@@ -418,6 +419,12 @@ entry_field_send = search (event_field_send, event_field_sync, crosses, sendable
 pub entry_field_sync : IsSync (entry_type.the_field).row
 entry_field_sync = search (event_field_send, event_field_sync, crosses, sendable) depth 60 fits 50000
 
+pub history_send : IsSend history_type.the_row
+history_send = search (log_send, log_sync, entry_send, entry_sync, crosses, sendable) depth 60 fits 50000
+
+pub history_sync : IsSync history_type.the_row
+history_sync = search (log_send, log_sync, entry_send, entry_sync, crosses, sendable) depth 60 fits 50000
+
 pub closed_send : IsSend closed_type.the_row
 closed_send = search (generations_send, generations_sync, crosses, sendable) depth 60 fits 50000
 
@@ -425,10 +432,10 @@ pub closed_sync : IsSync closed_type.the_row
 closed_sync = search (generations_send, generations_sync, crosses, sendable) depth 60 fits 50000
 
 pub db_send : IsSend db_type.the_row
-db_send = search (log_send, log_sync, entry_send, entry_sync, generations_send, generations_sync, closed_send, closed_sync, crosses, sendable) depth 60 fits 50000
+db_send = search (log_send, log_sync, history_send, history_sync, generations_send, generations_sync, closed_send, closed_sync, crosses, sendable) depth 60 fits 50000
 
 pub db_sync : IsSync db_type.the_row
-db_sync = search (log_send, log_sync, entry_send, entry_sync, generations_send, generations_sync, closed_send, closed_sync, crosses, sendable) depth 60 fits 50000
+db_sync = search (log_send, log_sync, history_send, history_sync, generations_send, generations_sync, closed_send, closed_sync, crosses, sendable) depth 60 fits 50000
 
 pub front_send : IsSend front_type.the_row
 front_send = search (seen_send, seen_sync, crosses, sendable) depth 60 fits 50000

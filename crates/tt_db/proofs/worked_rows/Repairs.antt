@@ -1,10 +1,10 @@
 -- Histories with repairs, computed.
-use Rattle.std.proofs.Common.{◌≡◌, ℕ, pos, true, false, List, [], ◌∷◌, ◌++◌, map, Option, None, Some, Ok, Err, refl}
+use Rattle.std.proofs.Common.{◌≡◌, pos, true, false, List, [], ◌∷◌, ◌++◌, map, None, Some, Ok, Err, refl}
 use Rattle.tt_values.specs.declared.statement.Write.{Write}
 use Rattle.tt_values.specs.declared.statement.Change.TheVariants.{Set}
 use Rattle.tt_values.specs.declared.statement.Select.{Select}
 use Rattle.tt_values.specs.declared.value.Value.TheVariants as values
-use Rattle.tt_values.specs.declared.reply.Reply.TheVariants.{Inserted, Duplicate, Updated, Deleted, Rows}
+use Rattle.tt_values.specs.declared.reply.Reply.TheVariants.{Inserted, Updated, Rows}
 use Rattle.tt_values.specs.declared.checking.CheckError.TheVariants as faults
 use Rattle.tt_values.specs.RowWrites.{row_writes}
 use Rattle.tt_values.proofs.worked_rows.Accounts.{tables, ann, bob, eve, account, of_id, of_owner, owner_to, balance_to, balance_by, insert, update, delete, select}
@@ -16,8 +16,7 @@ use Rattle.tt_generations.specs.TwoGenerations.{progress_of}
 use Rattle.tt_db.specs.declared.limits.Limits.{Limits}
 use Rattle.tt_db.specs.declared.event.Event.{Event}
 use Rattle.tt_db.specs.declared.event.Event.TheVariants as events
-use Rattle.tt_db.specs.declared.event.Entry.{Entry}
-use Rattle.tt_db.specs.declared.outcome.Outcome.TheVariants.{Written, Begun, Stepped, Switched, Aborted}
+use Rattle.tt_db.specs.declared.outcome.Outcome.TheVariants.{Begun, Stepped, Switched}
 use Rattle.tt_db.specs.declared.errors.DbError.TheVariants as errors
 use Rattle.tt_db.specs.declared.errors.ReadError.TheVariants as read_errors
 use Rattle.tt_db.specs.Limits.{max_limits}

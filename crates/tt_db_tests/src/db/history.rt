@@ -1,5 +1,6 @@
+use super::repairs::{begin_and_step, delete_bob, finish, five_slots};
 use super::{
-    ACCT, ANN, BOB, SAME_KEY, action, after, done, entry, has, insert, new_db, replies, same,
+    ACCT, ANN, BOB, SAME_KEY, action, after, done, entry, has, insert, new_db, open, replies, same,
 };
 use tt_db::Slot;
 use tt_values::Reply;
@@ -70,5 +71,33 @@ fn a_duplicate_has_a_slot_and_an_entry(rt: HostRuntime) {
         assert!(rt; db.slot(number).is_none(), "slot {number}");
         assert!(rt; db.entry(number).is_none(), "entry {number}");
     }
+    done(db);
+}
+
+#[test]
+fn each_slot_has_the_place_of_its_entry(rt: HostRuntime) {
+    let alloc = rt.alloc();
+    let mut db = five_slots(&rt, alloc);
+    let edit = delete_bob(&rt, alloc);
+    // The entries from 6 on: the begin, four steps, slot 6, two steps, the switch, and slot 7.
+    begin_and_step(&rt, alloc, &mut db, [edit], 4);
+    open(&rt, alloc, &mut db, (4, "dan", 1));
+    finish(&rt, &mut db);
+    open(&rt, alloc, &mut db, (5, "eve", 1));
+    let places = [
+        None,
+        Some(1),
+        Some(2),
+        Some(3),
+        Some(4),
+        Some(5),
+        Some(11),
+        Some(15),
+        None,
+    ];
+    for (slot, place) in places.iter().enumerate() {
+        assert_eq!(rt; db.place_of(slot as u64), *place, "of slot {slot}");
+    }
+    same(&rt, &db.place_of(u64::MAX), &None);
     done(db);
 }

@@ -113,6 +113,7 @@ fn tells(rt: &impl Abort, db: &Db) {
     };
     same(rt, &db.repair(), &Some(progress));
     assert!(rt; db.entry(0).is_none() && db.entry(10).is_some() && db.entry(11).is_none());
+    same(rt, &(db.place_of(5), db.place_of(6)), &(Some(5), None));
     assert!(rt; db.slot(0).is_none() && db.slot(5).is_some() && db.slot(6).is_none());
     assert!(rt; db.next_slot(0).is_none() && db.next_slot(4).is_some());
     assert!(rt; db.next_slot(5).is_none());

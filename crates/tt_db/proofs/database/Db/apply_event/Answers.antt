@@ -21,7 +21,7 @@ by_event-requires-clause-small c =
     (subst (λ (d : Database). refusal_of d event ≡ None) (sym c.self.view_is) c.requires)
 
 -- a switch alone closes a generation
-closed : (c : goal.In_ok-push) → let db = c.self.inside in
+closed : (c : goal.In_ok-history) → let db = c.self.inside in
     c.match-entry.closed2 ≡ closed_after db.limits.keep db.closed db.generation db.generations.slots c.args.entry.event
 closed c =
     let db = c.self.inside in
@@ -36,7 +36,7 @@ invariant_of-db c =
     let db = c.self.inside in
     let event = c.args.entry.event in
     let accepted = subst (λ (d : Database). refusal_of d event ≡ None) (sym c.self.view_is) c.requires in
-    let history = c.in_ok-push.ensures.ok in
+    let history = c.in_ok-history.ensures in
     let is = c.in_ok-transition.ensures in
     rw (history, is.generations, is.generation, closed c)
     (IsConsistent-push db.limits db.history db.generations db.generation db.closed c.args.entry c.self.invariant accepted)
@@ -45,5 +45,5 @@ pub returns-clause-state : goal.returns-clause-state
 returns-clause-state c =
     let db = c.self.inside in
     let catalog = ap (λ G. G.catalog) c.in_ok-transition.ensures.generations ∙ catalog-after db.generations c.args.entry.event in
-    (λ i. record { catalog = catalog i; limits = db.limits; history = c.in_ok-push.ensures.ok i })
+    (λ i. record { catalog = catalog i; limits = db.limits; history = c.in_ok-history.ensures i })
     ∙ ap (λ (d : Database). with_entry d c.args.entry) c.self.view_is

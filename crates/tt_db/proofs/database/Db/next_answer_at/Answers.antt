@@ -1,5 +1,5 @@
 -- The next generation is as its slots done leave it, at each time.
-use Rattle.std.proofs.Common.{◌≡◌, ◌≤◌, sym, ap, subst, ◌∙◌}
+use Rattle.std.proofs.Common.{◌≡◌, ◌≤◌, sym, subst, ◌∙◌}
 use Rattle.tt_values.specs.Effect.{answer_of}
 use Rattle.tt_generations.specs.TwoGenerations.{done_of, next_content_at}
 use Rattle.tt_db.specs.State.{after, next_at}

@@ -1,5 +1,5 @@
 -- The next side shows the next generation.
-use Rattle.std.proofs.Common.{◌≡◌, ◌≤◌, ap, sym, subst, ◌∙◌}
+use Rattle.std.proofs.Common.{◌≤◌, ap, sym, subst, ◌∙◌}
 use Rattle.tt_values.specs.Content.{row_at}
 use Rattle.tt_generations.specs.TwoGenerations.{done_of, next_content_at}
 use Rattle.tt_db.specs.State.{next_at}

@@ -1,0 +1,141 @@
+//! The history: the accepted entries in order, and at which places the slots were made.
+ghost use Rattle.std.specs.Prelude.{◌≡◌, ◌<◌, ◌+◌, [], ◌++◌, ◌∷◌, length, slice_get, take, drop, IfOk, IsTrue, IsFalse};
+ghost use Rattle.std.specs.Option.{option_copied};
+ghost use Rattle.tt_db.specs.Database.{nth_item};
+ghost use Rattle.tt_db.specs.History.{is_write, write_places, writes_before_others, AllBelow, NoneBelow, IsCut};
+
+use crate::event::{Entry, Event};
+use std::alloc::{AllocError, Global};
+use std::marker::Model;
+use tt_pages::PagedLog;
+
+/// The accepted entries. A write costs nothing beside its entry; any other entry costs a number.
+#[derive(Drop)]
+pub(crate) struct History {
+    entries: PagedLog<Entry>,
+    /// For each entry that isn't a write, how many writes are before it. These numbers don't fall.
+    write_counts: PagedLog<u64>,
+}
+
+impl Model for History {
+    ghost use Rattle.std.specs.Prelude.{◌≡◌, List};
+    ghost use Rattle.tt_db.specs.declared.event.Entry.{Entry};
+    ghost use Rattle.tt_db.specs.History.{writes_before_others};
+
+    ghost Value = { List Entry };
+
+    ghost view = { λ h. h.entries };
+
+    ghost invariant = { λ h. h.write_counts ≡ writes_before_others 0 h.entries };
+}
+
+impl History {
+    /// No entries. Takes no memory.
+    pub(crate) fn new(alloc: Global) -> History
+        ensures { result ≡ [] }
+    {
+        History {
+            entries: PagedLog::new(alloc),
+            write_counts: PagedLog::new(alloc),
+        }
+    }
+
+    /// How many entries there are.
+    pub(crate) fn len(&self) -> usize
+        ensures { result ≡ length self.now }
+    {
+        self.entries.len()
+    }
+
+    /// The entry at a position, counted from 0.
+    pub(crate) fn get(&self, position: usize) -> Option<&Entry>
+        ensures { option_copied result ≡ slice_get self.now position }
+    {
+        self.entries.get(position)
+    }
+
+    /// A further owner of the same entries. Copies none of them.
+    pub(crate) fn share(&self) -> Result<History, AllocError>
+        ensures { IfOk result (λ h. h ≡ self.now) }
+    {
+        let entries = self.entries.share()?;
+        let write_counts = self.write_counts.share()?;
+        Ok(History {
+            entries,
+            write_counts,
+        })
+    }
+
+    /// The history with one more entry.
+    pub(crate) fn into_pushed(self, entry: Entry) -> Result<History, AllocError>
+        ensures { IfOk result (λ h. h ≡ self ++ entry ∷ []) }
+    {
+        let History {
+            mut entries,
+            mut write_counts,
+        } = self;
+        if !is_write(&entry.event) {
+            let writes = entries.len() - write_counts.len();
+            write_counts.push(writes as u64)?;
+        }
+        entries.push(entry)?;
+        Ok(History {
+            entries,
+            write_counts,
+        })
+    }
+
+    /// The place, counted from 1, of the write of a number, counted from 1. Takes no memory, and
+    /// time logarithmic in the number of entries that are no writes.
+    pub(crate) fn place_of_write(&self, number: u64) -> Option<u64>
+        ensures { result ≡ nth_item (write_places 1 self.now) number }
+    {
+        let writes = self.entries.len() - self.write_counts.len();
+        if number == 0 || number > writes as u64 {
+            return None;
+        }
+        Some(number + self.others_before(number) as u64)
+    }
+
+    /// How many entries before the write of a number aren't writes: those with fewer writes before
+    /// them.
+    fn others_before(&self, number: u64) -> usize
+        ensures { IsCut (writes_before_others 0 self.now) number result }
+    {
+        let mut low = 0;
+        let mut high = self.write_counts.len();
+        while low < high {
+            let middle = low + (high - low) / 2;
+            if self.has_fewer(middle, number) {
+                low = middle + 1;
+            } else {
+                high = middle;
+            }
+        }
+        low
+    }
+
+    /// Whether fewer writes than a number are before the other entry at a position.
+    fn has_fewer(&self, position: usize, number: u64) -> bool
+        requires { position < length (writes_before_others 0 self.now) }
+        ensures front { IsTrue result
+            → AllBelow number (take (position + 1) (writes_before_others 0 self.now)) }
+        ensures rest { IsFalse result
+            → NoneBelow number (drop position (writes_before_others 0 self.now)) }
+    {
+        match self.write_counts.get(position) {
+            Some(writes) => *writes < number,
+            None => false,
+        }
+    }
+}
+
+/// Whether an event is a write.
+fn is_write(event: &Event) -> bool
+    ensures { result ≡ is_write event.now }
+{
+    match event {
+        Event::Write(_) => true,
+        _ => false,
+    }
+}
