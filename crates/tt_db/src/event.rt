@@ -30,6 +30,7 @@ impl Clone for Event {
 
     ghost is_clone = { λ source copy. copy ≡ source };
 
+    #[inline(always)]
     fn clone(&self) -> Result<Self, AllocError> {
         match self {
             Event::Write(action) => {
@@ -52,6 +53,7 @@ impl Clone for Entry {
 
     ghost is_clone = { λ source copy. copy ≡ source };
 
+    #[inline(always)]
     fn clone(&self) -> Result<Self, AllocError> {
         let event = self.event.clone()?;
         Ok(Entry {
@@ -62,6 +64,7 @@ impl Clone for Entry {
 }
 
 impl Kept for Entry {
+    #[inline(always)]
     fn kept(&self) -> Result<Self, AllocError> {
         self.clone()
     }

@@ -49,6 +49,7 @@ impl RowIds {
     }
 
     /// An equal list.
+    #[inline(always)]
     pub(crate) fn copy(&self) -> Result<RowIds, AllocError>
         ensures { IfOk result (λ ids. ids ≡ self.now) }
     {

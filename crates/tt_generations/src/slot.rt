@@ -19,6 +19,7 @@ impl Clone for Slot {
 
     ghost is_clone = { λ source copy. copy ≡ source };
 
+    #[inline(always)]
     fn clone(&self) -> Result<Self, AllocError> {
         let action = match &self.action {
             Some(action) => Some(action.clone()?),
@@ -66,6 +67,7 @@ impl KeptSlot {
 }
 
 impl Kept for KeptSlot {
+    #[inline(always)]
     fn kept(&self) -> Result<Self, AllocError> {
         let slot = self.slot.clone()?;
         let rows = self.rows.copy()?;

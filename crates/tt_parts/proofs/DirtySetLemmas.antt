@@ -19,6 +19,12 @@ SamePartitions-three k bs cs ds one two three h i j p =
     let same = is_same_partition p in
     grind (arith, list_any-append same cs two, list_any-append same bs one, list_any-append same (bs ++ cs) ds, list_any-append same bs cs, h p, i p, j p)
 
+-- partitions that were put before a list may be put before what came of it again
+pub SamePartitions-again : (ps before after : List Partition) → SamePartitions after (ps ++ before) → SamePartitions after (ps ++ after)
+SamePartitions-again ps before after h p =
+    let same = is_same_partition p in
+    grind (arith, list_any-append same ps before, list_any-append same ps after, h p)
+
 -- partitions that are put before a list instead of being left for later
 pub SamePartitions-moved : (ps rest members after all : List Partition) → SamePartitions after (ps ++ members) → SamePartitions ((ps ++ rest) ++ members) all → SamePartitions (rest ++ after) all
 SamePartitions-moved ps rest members after all h g p =

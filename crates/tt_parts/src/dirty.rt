@@ -7,7 +7,9 @@ ghost use Rattle.tt_parts.specs.Dirty.{columns_in, parts_if, SameRows, SameParti
 
 use crate::dirty_partitions::DirtyPartitions;
 use crate::dirty_rows::DirtyRows;
-use crate::members::{add_key, add_parts, has_other_equated, has_other_partition, reads_partition};
+use crate::members::{
+    add_changed_parts, add_key, add_parts, has_other_equated, has_other_partition, reads_partition,
+};
 use crate::partition::Reads;
 use std::alloc::{AllocError, Global};
 use std::marker::Model;
@@ -199,7 +201,7 @@ fn add_row_to(
 {
     add_row_and_key(alloc, rows, partitions, row.id)?;
     add_parts(alloc, partitions, row.id.table, def, row.before)?;
-    add_parts(alloc, partitions, row.id.table, def, row.after)?;
+    add_changed_parts(alloc, partitions, row.id.table, def, row.before, row.after)?;
     Ok(())
 }
 

@@ -1,5 +1,5 @@
 //! Partitions of rows and of equalities as members of the set of dirty partitions.
-ghost use Rattle.std.specs.Prelude.{◌≡◌, ◌≤◌, ◌^◌, ◌&&◌, not, ◌∷◌, ◌++◌, length, OnOk};
+ghost use Rattle.std.specs.Prelude.{◌≡◌, ℕ, ◌≤◌, ◌^◌, ◌&&◌, not, ◌∷◌, ◌++◌, length, OnOk, IsTrue};
 ghost use Rattle.std.specs.List.{list_any};
 ghost use Rattle.std.specs.Option.{option_copied};
 ghost use Rattle.tt_parts.specs.Partitions.{key_partition, part_at, parts_of, is_partition_position, partition_of, is_partition_in};
@@ -47,6 +47,82 @@ pub(crate) fn add_parts(
         Some(row) => add_parts_of(alloc, members, table, def.columns.as_slice(), row),
         None => Ok(()),
     }
+}
+
+/// Adds the partitions that a row lies in after a change, if there is a row. Those that it lay in
+/// before are members, so nothing is left to do where it lies in the same ones.
+pub(crate) fn add_changed_parts(
+    alloc: Global,
+    members: &mut DirtyPartitions,
+    table: u16,
+    def: &TableDef,
+    before: Option<&Row>,
+    after: Option<&Row>,
+) -> Result<(), AllocError>
+    requires few { length def.now.columns ≤ 2 ^ 16 }
+    requires before { SamePartitions members.old
+        (parts_if table def.now.columns (option_copied before) ++ members.old) }
+    ensures { OnOk result (SamePartitions members.new
+        (parts_if table def.now.columns (option_copied after.entry) ++ members.old)) }
+{
+    if lies_in_same(def.columns.as_slice(), before, after) {
+        return Ok(());
+    }
+    add_parts(alloc, members, table, def, after)
+}
+
+/// Whether a row lies in the same partitions before and after a change, if it's there both times.
+fn lies_in_same(columns: &[Column], before: Option<&Row>, after: Option<&Row>) -> bool
+    requires { length columns.now ≤ 2 ^ 16 }
+    ensures { IsTrue result → ((table : ℕ) → parts_if table columns.now (option_copied before.entry)
+        ≡ parts_if table columns.now (option_copied after.entry)) }
+{
+    let Some(before) = before else {
+        return false;
+    };
+    let Some(after) = after else {
+        return false;
+    };
+    have_same_parts(columns, before, after)
+}
+
+/// Whether both rows lie in the same partitions.
+fn have_same_parts(columns: &[Column], before: &Row, after: &Row) -> bool
+    requires { length columns.now ≤ 2 ^ 16 }
+    ensures { IsTrue result → ((table : ℕ) → parts_of table columns.now before.now
+        ≡ parts_of table columns.now after.now) }
+{
+    for i in 0..columns.len() {
+        if !is_same_part(
+            i as u16,
+            &columns[i],
+            before.values.get(i),
+            after.values.get(i),
+        ) {
+            return false;
+        }
+    }
+    true
+}
+
+/// Whether two values in a column, if there are any, are in the same partition, or in none.
+fn is_same_part(
+    position: u16,
+    column: &Column,
+    before: Option<&Value>,
+    after: Option<&Value>,
+) -> bool
+    ensures { IsTrue result
+        → ((table : ℕ) → part_at table position column.now (option_copied before.entry)
+        ≡ part_at table position column.now (option_copied after.entry)) }
+{
+    let Some(before) = before else {
+        return false;
+    };
+    let Some(after) = after else {
+        return false;
+    };
+    !is_partition_column(position, column) || before.is_same(after)
 }
 
 /// Adds the partitions that a row lies in.

@@ -1,6 +1,6 @@
 ghost use Rattle.std.specs.Array.Iter.{IntoIterFitsInMemory};
 ghost use Rattle.tt_values.specs.Items.{arrays_view};
-ghost use Rattle.std.specs.Prelude.{◌≡◌, ◌==◌, ◌<◌, ◌≤◌, ◌^◌, length, slice_get, IfOk, IsTrue};
+ghost use Rattle.std.specs.Prelude.{◌≡◌, ◌==◌, ◌<◌, ◌≤◌, ◌^◌, [], ◌∷◌, length, slice_get, IfOk, IsTrue};
 ghost use Rattle.std.specs.Option.{option_copied};
 
 use crate::measured::{Measured, bytes_of};
@@ -79,6 +79,19 @@ impl<T: Drop> Items<T> {
         }
     }
 
+    /// A list of one item, as [`of`](Items::of) makes it, also of a type whose size isn't known.
+    pub fn of_one(alloc: Global, item: T) -> Result<Self, AllocError>
+        ensures { IfOk result (λ list. list ≡ item ∷ []) }
+    {
+        if is_small::<T>() {
+            one(alloc, item)
+        } else {
+            let mut items = Vec::new(alloc);
+            items.push(item)?;
+            Items::new(alloc, items)
+        }
+    }
+
     pub fn len(&self) -> usize
         ensures { result ≡ length self.now }
     {
@@ -138,6 +151,7 @@ impl<T: Drop> Clone for Items<T> {
 
     ghost is_clone = { λ source copy. copy ≡ source };
 
+    #[inline(always)]
     fn clone(&self) -> Result<Self, AllocError> {
         let arrays = match &self.arrays {
             Arrays::None => Arrays::None,
@@ -149,6 +163,16 @@ impl<T: Drop> Clone for Items<T> {
         };
         Ok(Items { arrays })
     }
+}
+
+/// A list of one item that isn't large, in one block.
+fn one<T: Measured + Drop>(alloc: Global, item: T) -> Result<Items<T>, AllocError>
+    requires { T.bytes < 2 ^ 32 }
+    ensures { IfOk result (λ list. list ≡ item ∷ []) }
+{
+    T::measured();
+    let arrays = Arrays::One(Arc::new(alloc, [item])?);
+    Ok(Items { arrays })
 }
 
 /// A list of up to four items that aren't large, in one block.

@@ -33,9 +33,11 @@ impl Row {
     }
 
     /// An equal row, which shares its values with this one.
+    #[inline(always)]
     pub fn copy(&self) -> Result<Row, AllocError>
         ensures { IfOk result (λ copy. copy ≡ self.now) }
     {
-        self.clone()
+        let values = self.values.clone()?;
+        Ok(Row { values })
     }
 }

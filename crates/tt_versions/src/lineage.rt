@@ -137,6 +137,7 @@ impl Lineage {
 }
 
 impl Kept for Lineage {
+    #[inline(always)]
     fn kept(&self) -> Result<Self, AllocError> {
         let current = self.current.share()?;
         let next = match &self.next {

@@ -45,6 +45,7 @@ impl NextChain {
     }
 
     /// A further owner of the same chain.
+    #[inline(always)]
     pub(crate) fn share(&self) -> Result<NextChain, AllocError>
         ensures { IfOk result (λ n. n ≡ self.now) }
     {

@@ -12,6 +12,7 @@ pub(crate) struct Version {
 }
 
 impl Kept for Version {
+    #[inline(always)]
     fn kept(&self) -> Result<Self, AllocError> {
         let row = match &self.row {
             Some(row) => Some(row.copy()?),

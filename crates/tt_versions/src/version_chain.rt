@@ -84,6 +84,7 @@ impl VersionChain {
     }
 
     /// A further owner of the same versions.
+    #[inline(always)]
     pub(crate) fn share(&self) -> Result<VersionChain, AllocError>
         ensures { IfOk result (λ c. c ≡ self.now) }
     {

@@ -1,10 +1,13 @@
 -- The partition of the key is added, and then those of the two rows.
 use Rattle.tt_parts.specs.Partitions.{key_partition}
-use Rattle.tt_parts.proofs.DirtySetLemmas.{SamePartitions-three}
+use Rattle.tt_parts.proofs.DirtySetLemmas.{SamePartitions-three, SamePartitions-again}
 use Rattle.tt_parts.proofs.dirty.add_row_to.Goals as goal
 
 pub returns-clause-partitions : goal.returns-clause-partitions
 returns-clause-partitions c =
     let id = c.args.row.now.id in
     SamePartitions-three (key_partition id.table id.key) _ _ c.args.partitions.now _ _ _
-    c.in_ok-add_row_and_key.ensures.partitions c.in_ok-add_parts.ensures c.in_ok-add_parts-2.ensures
+    c.in_ok-add_row_and_key.ensures.partitions c.in_ok-add_parts.ensures c.in_ok-add_changed_parts.ensures
+
+pub add_changed_parts-requires-clause-before : goal.add_changed_parts-requires-clause-before
+add_changed_parts-requires-clause-before c = SamePartitions-again _ _ _ c.in_ok-add_parts.ensures

@@ -1,5 +1,5 @@
 -- The column's partition moves to the members from those that are left.
-use Rattle.std.proofs.Common.{◌≡◌, suc, List, ◌++◌, drop, Some, slice_get, length, refl, subst, ap, ◌∙◌, add-one}
+use Rattle.std.proofs.Common.{◌≡◌, suc, List, ◌++◌, drop, Some, slice_get, length, refl, subst, add-one}
 use Rattle.std.proofs.lemmas.Option.{slice_get_read}
 use Rattle.tt_parts.specs.declared.partition.Partition.{Partition}
 use Rattle.tt_parts.specs.Partitions.{part_at, parts_from, parts_of}
