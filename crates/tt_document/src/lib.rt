@@ -8,6 +8,7 @@ mod causes;
 mod changes;
 mod conditions;
 mod decoder;
+pub mod decoding;
 mod document;
 mod fault;
 mod json_text;
