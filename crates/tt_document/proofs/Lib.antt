@@ -1,3 +1,4 @@
 pub mod DecoderLemmas
 pub mod DocumentLemmas
 pub mod QuotingLemmas
+pub mod RepeatedLemmas

@@ -1,8 +1,9 @@
 -- The meaning of a JSON document, and what holds of every document that is read.
-use Rattle.std.specs.Prelude.{◌≡◌, ℕ, ◌≤◌, ◌==◌, true, false, List, [], ◌∷◌, ◌++◌, length, Option, None, Some, IfSome, All, Result, Err, codes}
+use Rattle.std.specs.Prelude.{◌≡◌, ℕ, ◌≤◌, ◌==◌, true, false, List, [], ◌∷◌, ◌++◌, length, Option, None, IfSome, All, Result}
 use Rattle.std.specs.List.{list_any}
+use Rattle.json.specs.Json as json
 use Rattle.serde_json.specs.Data.{Data}
-use Rattle.serde_json.specs.Read.{read}
+use Rattle.tt_json.specs.Text.{json_of_text}
 use Rattle.tt_values.specs.declared.checking.CheckError.{CheckError}
 use Rattle.tt_values.specs.Tables.{Tables}
 use Rattle.tt_values.specs.Check.{action_fault, select_fault}
@@ -15,7 +16,8 @@ use Rattle.tt_document.specs.declared.document.Call.{Call}
 use Rattle.tt_document.specs.declared.document.Ask.{Ask}
 use Rattle.tt_document.specs.declared.document.Ask.TheVariants as asks
 use Rattle.tt_document.specs.declared.fault.DocFault.{DocFault}
-use Rattle.tt_document.specs.Fault.{with_path, document_path, document_fault}
+use Rattle.tt_document.specs.Fault.{◌>>=◌, with_path, document_path}
+use Rattle.tt_document.specs.TextValue.{value_of_found}
 use Rattle.tt_document.specs.Calls.{max_calls}
 use Rattle.tt_document.specs.Repair.{max_edits, is_action_call}
 use Rattle.tt_document.specs.Reading.{max_workers, members_of_document}
@@ -24,14 +26,13 @@ use Rattle.tt_document.specs.Reading.{max_workers, members_of_document}
 abbrev pub document_of : Data → Result Document DocFault
 document_of v = with_path document_path (members_of_document v)
 
--- the meaning of a JSON value, if there is one
-abbrev pub document_of_json : Option Data → Result Document DocFault
-document_of_json None = Err (document_fault (codes "not JSON"))
-document_of_json (Some v) = document_of v
+-- the meaning of the JSON of a text, if it has one: the document of its value, or the first fault of the text
+abbrev pub document_of_json : Option json.Json → Result Document DocFault
+document_of_json found = with_path document_path (value_of_found found >>= members_of_document)
 
 -- the document of a text in UTF-8, or its first fault
 abbrev pub document_of_text : List ℕ → Result Document DocFault
-document_of_text text = document_of_json (read text)
+document_of_text text = document_of_json (json_of_text text)
 
 -- the fault of what a call asks for, if it has one
 abbrev pub ask_fault : Tables → Ask → Option CheckError

@@ -3,6 +3,8 @@ pub mod Decoder
 pub mod Arrays
 pub mod Quoting
 pub mod Members
+pub mod RepeatedMembers
+pub mod TextValue
 pub mod Causes
 pub mod Tables
 pub mod Conditions

@@ -31,10 +31,15 @@ checked_statement statement fault = do
 abbrev pub conditions : Tables → ℕ → Data → Result (List Equal) DocFault
 conditions tables table v = member (codes "where") (array_of (condition tables table)) v
 
--- an object of a write has only members of these names, and in a call its worker
+-- an object of a write has only members of these names, and in a call its worker, and in a request its worker and the time that it expects
 abbrev pub no_members_at : Context → List (List ℕ) → Data → Result ⊤ DocFault
 no_members_at contexts.Call names v = no_members_but (is_one_of (codes "worker" ∷ names)) v
+no_members_at contexts.Request names v = no_members_but (is_one_of (codes "if" ∷ codes "worker" ∷ names)) v
 no_members_at contexts.Nested names v = no_members_but (is_one_of names) v
+
+-- where the commands of a session stand
+abbrev pub in_request : Context
+in_request = contexts.Request
 
 -- an insert: the table, and the values of its row
 unfoldable pub insert : Tables → Context → Data → Result Write DocFault

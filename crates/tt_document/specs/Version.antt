@@ -16,3 +16,7 @@ abbrev pub version : Data → Result Version DocFault
 version v = do
   n ← count v
   or_refuse (codes "out of range") (version_numbered n)
+
+-- the version whose statements the commands of a session are
+abbrev pub version_of_sessions : Version
+version_of_sessions = versions.Two

@@ -48,9 +48,10 @@ pub(crate) fn action_of_one(alloc: Global, write: Write) -> Result<Items<Write>,
     Items::of(alloc, [write])
 }
 
-/// The action of an object, from its member `do`.
+/// The action of an object, from its member `do`. Another member than that and those of its context
+/// is a fault.
 #[tactic(auto, unfolding(crate::specs::Actions::action))]
-pub(crate) fn action<V: JsonValue>(
+pub fn action<V: JsonValue>(
     alloc: Global,
     catalog: &Catalog,
     context: Context,
@@ -72,6 +73,7 @@ fn no_members_but_do<V: JsonValue>(
 {
     match context {
         Context::Call => no_members_but(alloc, value, &["worker", "do"]),
+        Context::Request => no_members_but(alloc, value, &["if", "worker", "do"]),
         Context::Nested => no_members_but(alloc, value, &["do"]),
     }
 }

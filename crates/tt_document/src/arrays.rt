@@ -92,8 +92,9 @@ where
 
 /// An array of what a decoder decodes.
 #[derive(Drop)]
-pub(crate) struct ArrayDecoder<D> {
-    pub(crate) decoder: D,
+pub struct ArrayDecoder<D> {
+    /// Decodes each item.
+    pub decoder: D,
 }
 
 impl<D: Decoder> Decoder for ArrayDecoder<D>
@@ -111,7 +112,7 @@ where
 }
 
 /// The meaning of each item of an array, in order.
-pub(crate) fn decode_items<D: Decoder, V: JsonValue>(
+pub fn decode_items<D: Decoder, V: JsonValue>(
     alloc: Global,
     decoder: &D,
     items: V::Items,

@@ -13,10 +13,11 @@ const NO_TABLE: &str = "no such table";
 
 const NO_COLUMN: &str = "no such column";
 
-/// A table of the catalog, by its name.
+/// A table of the catalog, by its name: its position.
 #[derive(Drop)]
-pub(crate) struct TableNameDecoder<'a> {
-    pub(crate) catalog: &'a Catalog,
+pub struct TableNameDecoder<'a> {
+    /// The tables.
+    pub catalog: &'a Catalog,
 }
 
 impl Decoder for TableNameDecoder<'_> {
@@ -87,7 +88,7 @@ impl Decoder for ConditionDecoder<'_> {
 }
 
 /// The items of an array of two.
-fn pair<V: JsonValue>(alloc: Global, value: &V) -> Result<(V, V), DocFault>
+pub fn pair<V: JsonValue>(alloc: Global, value: &V) -> Result<(V, V), DocFault>
     ensures { GivesViewed (λ p. (V.json p.0, V.json p.1)) result (pair (V.json value.now)) }
 {
     let mut items = array(alloc, value)?;

@@ -10,23 +10,27 @@ use std::alloc::Global;
 use tt_json::JsonValue;
 use tt_values::Text;
 
-pub(crate) const WRONG_TYPE: &str = "wrong type";
+/// Why a value is refused that isn't of the wanted type.
+pub const WRONG_TYPE: &str = "wrong type";
 
-pub(crate) const OUT_OF_RANGE: &str = "out of range";
+/// Why a value is refused that is of the wanted type, but isn't one of those that are taken.
+pub const OUT_OF_RANGE: &str = "out of range";
 
 /// Reads the JSON values that stand for one kind of thing in the grammar.
-pub(crate) trait Decoder: Drop {
+pub trait Decoder: Drop {
+    /// What a value stands for.
     type Output;
 
     /// What a value means, or its first fault.
     ghost meaning: { Self → Data → Result Self.Output DocFault };
 
+    /// The meaning of a value, or its first fault, whose path begins at the value.
     fn decode<V: JsonValue>(&self, alloc: Global, value: &V) -> Result<Self::Output, DocFault>
         ensures { Gives result (meaning self.now (V.json value.now)) };
 }
 
 /// Refuses a value that isn't an object.
-pub(crate) fn object<V: JsonValue>(alloc: Global, value: &V) -> Result<(), DocFault>
+pub fn object<V: JsonValue>(alloc: Global, value: &V) -> Result<(), DocFault>
     ensures { Gives result (object (V.json value.now)) }
 {
     if !value.is_object() {
@@ -36,7 +40,7 @@ pub(crate) fn object<V: JsonValue>(alloc: Global, value: &V) -> Result<(), DocFa
 }
 
 /// The text that the value is.
-pub(crate) fn text<V: JsonValue>(alloc: Global, value: &V) -> Result<&str, DocFault>
+pub fn text<V: JsonValue>(alloc: Global, value: &V) -> Result<&str, DocFault>
     ensures { GivesViewed (λ s. s.now) result (text (V.json value.now)) }
 {
     match value.as_str() {
@@ -56,7 +60,7 @@ pub(crate) fn count<V: JsonValue>(alloc: Global, value: &V) -> Result<u64, DocFa
 }
 
 /// The items of the array that the value is.
-pub(crate) fn array<V: JsonValue>(alloc: Global, value: &V) -> Result<V::Items, DocFault>
+pub fn array<V: JsonValue>(alloc: Global, value: &V) -> Result<V::Items, DocFault>
     ensures { GivesViewed V.left result (array (V.json value.now)) }
 {
     match value.items() {
@@ -66,14 +70,14 @@ pub(crate) fn array<V: JsonValue>(alloc: Global, value: &V) -> Result<V::Items, 
 }
 
 /// Whether an object has a member.
-pub(crate) fn has<V: JsonValue>(object: &V, name: &str) -> bool
+pub fn has<V: JsonValue>(object: &V, name: &str) -> bool
     ensures { result ≡ has name.now (V.json object.now) }
 {
     object.get(name).is_some()
 }
 
 /// The meaning of a member that must be there.
-pub(crate) fn member<D: Decoder, V: JsonValue>(
+pub fn member<D: Decoder, V: JsonValue>(
     alloc: Global,
     object: &V,
     name: &str,
@@ -88,7 +92,7 @@ pub(crate) fn member<D: Decoder, V: JsonValue>(
 }
 
 /// The meaning of a member that may be left out.
-pub(crate) fn optional<D: Decoder, V: JsonValue>(
+pub fn optional<D: Decoder, V: JsonValue>(
     alloc: Global,
     object: &V,
     name: &str,
@@ -121,7 +125,7 @@ fn member_value<D: Decoder, V: JsonValue>(
 }
 
 /// The meaning of an item of an array.
-pub(crate) fn item<D: Decoder, V: JsonValue>(
+pub fn item<D: Decoder, V: JsonValue>(
     alloc: Global,
     index: usize,
     value: &V,
@@ -144,7 +148,7 @@ fn missing(alloc: Global, name: &str) -> DocFault
 
 /// A text, copied.
 #[derive(Drop)]
-pub(crate) struct TextDecoder;
+pub struct TextDecoder;
 
 impl Decoder for TextDecoder {
     type Output = Text;
@@ -160,7 +164,7 @@ impl Decoder for TextDecoder {
 
 /// True or false.
 #[derive(Drop)]
-pub(crate) struct FlagDecoder;
+pub struct FlagDecoder;
 
 impl Decoder for FlagDecoder {
     type Output = bool;
@@ -177,7 +181,7 @@ impl Decoder for FlagDecoder {
 
 /// An Int.
 #[derive(Drop)]
-pub(crate) struct IntDecoder;
+pub struct IntDecoder;
 
 impl Decoder for IntDecoder {
     type Output = i64;
@@ -194,7 +198,7 @@ impl Decoder for IntDecoder {
 
 /// Any count.
 #[derive(Drop)]
-pub(crate) struct AnyCountDecoder;
+pub struct AnyCountDecoder;
 
 impl Decoder for AnyCountDecoder {
     type Output = u64;
@@ -209,9 +213,11 @@ impl Decoder for AnyCountDecoder {
 
 /// A count within bounds.
 #[derive(Drop)]
-pub(crate) struct CountDecoder {
-    pub(crate) min: u32,
-    pub(crate) max: u32,
+pub struct CountDecoder {
+    /// The least count.
+    pub min: u32,
+    /// The greatest count.
+    pub max: u32,
 }
 
 impl Decoder for CountDecoder {

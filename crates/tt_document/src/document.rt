@@ -1,13 +1,12 @@
 use crate::fault::DocFault;
+use crate::json_text::parse_text;
 use crate::owned_items::OwnedItems;
 use crate::reading::from_members;
 use serde_json::Value;
 use std::alloc::Global;
-use tt_json::{Error, JsonValue, Scratch, parse, root};
+use tt_json::{JsonValue, Scratch, root};
 use tt_repair_laws::Edit;
 use tt_values::{Catalog, Items, Select, Shared, Write};
-
-const NOT_JSON: &str = "not JSON";
 
 /// A workload: the tables, and the calls that the workers make.
 #[derive(Debug, Drop)]
@@ -48,19 +47,19 @@ impl Document {
         Document::from_json(alloc, &value)
     }
 
-    /// The document that a text spells, or its first fault: that it isn't JSON, or the one of its
-    /// JSON value. Memory can run out before the fault is met, as it does for a text of 4 GiB.
-    /// The text's JSON is read on a tape, which is let go with the call.
+    /// The document that a text spells, or its first fault: that it isn't JSON; or else that an
+    /// object names a member twice; or else the one of its JSON value. Memory can run out before
+    /// the fault is met, as it does for a text of 4 GiB. The text's JSON is read on a tape, which
+    /// is let go with the call.
     pub fn from_text(alloc: Global, text: &str) -> Result<Document, DocFault>
         ensures ok { IfOk result (λ document. document_of_text text.now ≡ Ok document) }
         ensures valid { IfOk result IsValidDocument }
         ensures fault { IfErr result (λ fault. FailsWith fault (document_of_text text.now)) }
     {
         let mut scratch = Scratch::new(alloc);
-        match parse(text, &mut scratch, Vec::new(alloc)) {
+        match parse_text(alloc, text, &mut scratch) {
             Ok(tape) => Document::from_json(alloc, &root(&tape)),
-            Err(Error::Invalid) => Err(DocFault::of_document(alloc, NOT_JSON)),
-            Err(_) => Err(DocFault::Memory),
+            Err(fault) => Err(fault.in_document(alloc)),
         }
     }
 

@@ -45,15 +45,15 @@ impl DocFault {
         DocFault::here(alloc, cause).in_document(alloc)
     }
 
-    /// A fault of the value itself.
-    pub(crate) fn here(alloc: Global, cause: &str) -> DocFault
+    /// A fault of the value itself, with its cause. The path is empty.
+    pub fn here(alloc: Global, cause: &str) -> DocFault
         ensures { IsFault result (fault_here cause.now) }
     {
         DocFault::because(alloc, String::from_str(alloc, cause))
     }
 
     /// The same, with the text of the cause, or `Memory` where there was no memory for it.
-    pub(crate) fn because(alloc: Global, cause: Result<String, AllocError>) -> DocFault
+    pub fn because(alloc: Global, cause: Result<String, AllocError>) -> DocFault
         ensures { MatchResult cause
             (λ text. IsFault result (fault_here (string_bytes text)))
             (λ _. result ≡ DocFault.Memory) }
@@ -65,7 +65,7 @@ impl DocFault {
     }
 
     /// The fault of a member's value, as one of the object.
-    pub(crate) fn in_member(self, alloc: Global, name: &str) -> DocFault
+    pub fn in_member(self, alloc: Global, name: &str) -> DocFault
         ensures { IsFault result (fault_at (member_path name.now) self) }
     {
         let DocFault::At { path, cause } = self else {
@@ -76,7 +76,7 @@ impl DocFault {
     }
 
     /// The fault of an item, as one of the array.
-    pub(crate) fn in_item(self, alloc: Global, index: usize) -> DocFault
+    pub fn in_item(self, alloc: Global, index: usize) -> DocFault
         ensures { IsFault result (fault_at (item_path index) self) }
     {
         let DocFault::At { path, cause } = self else {
@@ -87,7 +87,7 @@ impl DocFault {
     }
 
     /// The fault of the whole value, as one of the document.
-    pub(crate) fn in_document(self, alloc: Global) -> DocFault
+    pub fn in_document(self, alloc: Global) -> DocFault
         ensures { IsFault result (fault_at document_path self) }
     {
         let DocFault::At { path, cause } = self else {

@@ -12,7 +12,7 @@ use std::alloc::{AllocError, Global};
 use tt_json::JsonValue;
 
 /// Refuses an object that has a member of another name than these.
-pub(crate) fn no_members_but<V: JsonValue>(
+pub fn no_members_but<V: JsonValue>(
     alloc: Global,
     object: &V,
     known: &[&str],

@@ -66,7 +66,7 @@ pub fn push_quoted(out: &mut Vec<u8>, text: &[u8]) -> Result<(), AllocError>
 }
 
 /// As [`push_quoted`], as a text of its own.
-pub(crate) fn quoted_text(alloc: Global, text: &str) -> Result<String, AllocError>
+pub fn quoted_text(alloc: Global, text: &str) -> Result<String, AllocError>
     ensures { IfOk result (λ s. string_bytes s ≡ quoted text.now) }
 {
     let mut bytes = Vec::new(alloc);

@@ -228,9 +228,11 @@ impl Decoder for CallNumberDecoder {
 
 /// The action that replaces the one of a call.
 #[derive(Drop)]
-struct ReplacementDecoder<'a> {
-    version: Version,
-    catalog: &'a Catalog,
+pub struct ReplacementDecoder<'a> {
+    /// Which kinds of write there are.
+    pub version: Version,
+    /// The tables.
+    pub catalog: &'a Catalog,
 }
 
 impl Decoder for ReplacementDecoder<'_> {

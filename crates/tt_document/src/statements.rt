@@ -16,17 +16,19 @@ use std::alloc::Global;
 use tt_json::JsonValue;
 use tt_values::{Catalog, Equal, Items, Row, Select, Write, check, check_select};
 
-/// Where a write or an action stands: in a call, which has a worker, or nested in an action or an
-/// edit, which have none.
+/// Where a write or an action stands: in a call, which has a worker; in a request of a session,
+/// which may have a worker and a time that it expects; or nested in an action or an edit, which
+/// have neither.
 #[derive(Clone, Copy)]
-pub(crate) enum Context {
+pub enum Context {
     Call,
+    Request,
     Nested,
 }
 
 /// The insert of an object.
 #[tactic(auto, unfolding(crate::specs::Statements::insert))]
-pub(crate) fn insert<V: JsonValue>(
+pub fn insert<V: JsonValue>(
     alloc: Global,
     catalog: &Catalog,
     context: Context,
@@ -46,7 +48,7 @@ pub(crate) fn insert<V: JsonValue>(
 
 /// The update of an object.
 #[tactic(auto, unfolding(crate::specs::Statements::update))]
-pub(crate) fn update<V: JsonValue>(
+pub fn update<V: JsonValue>(
     alloc: Global,
     catalog: &Catalog,
     context: Context,
@@ -71,7 +73,7 @@ pub(crate) fn update<V: JsonValue>(
 
 /// The delete of an object.
 #[tactic(auto, unfolding(crate::specs::Statements::delete))]
-pub(crate) fn delete<V: JsonValue>(
+pub fn delete<V: JsonValue>(
     alloc: Global,
     catalog: &Catalog,
     context: Context,
@@ -128,6 +130,7 @@ fn no_members_but_insert<V: JsonValue>(
 {
     match context {
         Context::Call => no_members_but(alloc, value, &["worker", "insert", "row"]),
+        Context::Request => no_members_but(alloc, value, &["if", "worker", "insert", "row"]),
         Context::Nested => no_members_but(alloc, value, &["insert", "row"]),
     }
 }
@@ -143,6 +146,9 @@ fn no_members_but_update<V: JsonValue>(
 {
     match context {
         Context::Call => no_members_but(alloc, value, &["worker", "change", "update", "where"]),
+        Context::Request => {
+            no_members_but(alloc, value, &["if", "worker", "change", "update", "where"])
+        }
         Context::Nested => no_members_but(alloc, value, &["change", "update", "where"]),
     }
 }
@@ -157,12 +163,13 @@ fn no_members_but_delete<V: JsonValue>(
 {
     match context {
         Context::Call => no_members_but(alloc, value, &["worker", "delete", "where"]),
+        Context::Request => no_members_but(alloc, value, &["if", "worker", "delete", "where"]),
         Context::Nested => no_members_but(alloc, value, &["delete", "where"]),
     }
 }
 
 /// The conditions of a statement on a table, from its member `where`.
-fn conditions<V: JsonValue>(
+pub fn conditions<V: JsonValue>(
     alloc: Global,
     catalog: &Catalog,
     table: u16,
@@ -186,7 +193,8 @@ fn checked_write(alloc: Global, catalog: &Catalog, write: Write) -> Result<Write
     }
 }
 
-fn checked_select(alloc: Global, catalog: &Catalog, select: Select) -> Result<Select, DocFault>
+/// A select that the tables accept.
+pub fn checked_select(alloc: Global, catalog: &Catalog, select: Select) -> Result<Select, DocFault>
     ensures { Gives result (checked_statement select (select_fault catalog.now select)) }
 {
     match check_select(catalog, &select) {

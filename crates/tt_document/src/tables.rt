@@ -14,9 +14,9 @@ use std::alloc::Global;
 use tt_json::JsonValue;
 use tt_values::{Catalog, CatalogError, Column, Kind, TableDef};
 
-/// The tables, in order of declaration.
+/// The tables of a document, in order of declaration.
 #[derive(Drop)]
-pub(crate) struct TablesDecoder;
+pub struct TablesDecoder;
 
 impl Decoder for TablesDecoder {
     type Output = Catalog;

@@ -9,7 +9,7 @@ use tt_json::JsonValue;
 
 /// The version of a document. Version 2 is version 1 with a further kind of call, `do`.
 #[derive(Clone, Copy)]
-pub(crate) enum Version {
+pub enum Version {
     One,
     Two,
 }

@@ -16,6 +16,7 @@ use Rattle.json.proofs.Unique.Spelling.{tokens-document, value-json_tokens_back}
 use Rattle.serde_json.specs.Data.{Data, number, array, object, item, Items, Members, put}
 use Rattle.serde_json.specs.Read.{number_of, of_json, of_items, of_members, read}
 use Rattle.tt_json.specs.Tape.{IsRead}
+use Rattle.tt_json.specs.Text.{json_of_text}
 use Rattle.tt_json.proofs.DataLemmas.{mapped, chained}
 use Rattle.tt_json.specs.Fit.{tokens_fit, fits, items_fit, members_fit}
 
@@ -127,10 +128,13 @@ whole_fits text j e = ap (tokens_fit 0) (tokens-document text j e ∙ sym (appen
     and_true false = refl
 
 -- the grammar at a depth that is enough
-at_depth : (text : List ℕ) (j : json.Json) → document text ≡ Some j → tree.depth j ≤ max_depth → read text ≡ of_json j
-at_depth text j e shallow =
+json_of_text-shallow : (text : List ℕ) (j : json.Json) → document text ≡ Some j → tree.depth j ≤ max_depth → json_of_text text ≡ Some j
+json_of_text-shallow text j e shallow =
     let same : json.value max_depth (tokens text) ≡ Some (j, []) = ap (json.value max_depth) (tokens-document text j e ∙ sym (append-nil _)) ∙ value-json_tokens j max_depth [] shallow in
-    ap (λ o. option_and_then of_json (option_and_then (λ p. if_last p.0 p.1) o)) same
+    ap (λ o. option_and_then (λ p. if_last p.0 p.1) o) same
+
+at_depth : (text : List ℕ) (j : json.Json) → document text ≡ Some j → tree.depth j ≤ max_depth → read text ≡ of_json j
+at_depth text j e shallow = ap (option_and_then of_json) (json_of_text-shallow text j e shallow)
 
 -- a value that serde_json reads, and the value of the grammar
 read_parts : (text : List ℕ) (d : Data) → read text ≡ Some d → (j : json.Json) × (tree.depth j ≤ max_depth) × (of_json j ≡ Some d) × (document text ≡ Some j)
@@ -164,3 +168,9 @@ read-refused text e = go (read text) refl
     go : (o : Option Data) → read text ≡ o → o ≡ None
     go None is = refl
     go (Some d) is = let p = read_parts text d is in not_found p.0 (sym e ∙ p.3)
+
+-- the JSON of a text that serde_json reads is the one of the grammar
+pub json_of_text-document : (text : List ℕ) (d : Data) → read text ≡ Some d → json_of_text text ≡ document text
+json_of_text-document text d e =
+    let p = read_parts text d e in
+    json_of_text-shallow text p.0 p.3 p.1 ∙ sym p.3

@@ -8,6 +8,6 @@ mod tree;
 mod value;
 
 pub use json::{Error, Scratch};
-pub use tape::{TapeItems, TapeValue, parse, root};
+pub use tape::{TapeItems, TapeValue, parse, parse_strict, root};
 pub use tree::TreeItems;
 pub use value::JsonValue;

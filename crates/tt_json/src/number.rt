@@ -8,7 +8,7 @@ use fast_float::Numeral;
 
 /// An integer of 64 bits, or a finite float.
 #[derive(Clone, Copy, Drop)]
-pub enum Number {
+pub(crate) enum Number {
     Unsigned(u64),
     Negative(i64),
     Float(f64),
@@ -16,7 +16,7 @@ pub enum Number {
 
 /// The number that a text writes, where it's in range.
 #[inline(always)]
-pub fn number_of(text: &str) -> Option<Number>
+pub(crate) fn number_of(text: &str) -> Option<Number>
     ensures { option_map number_view result ≡ number_of text.now }
 {
     let bytes = text.as_bytes();

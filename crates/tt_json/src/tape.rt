@@ -1,8 +1,10 @@
 //! A text on a tape, read as serde_json reads it.
-ghost use Rattle.std.specs.Prelude.{◌≡◌, ◌<◌, [], ◌∷◌, false, not, filter, map, length, Some, None, Err, IfOk, OnSome, MatchOption, option_map, option_and_then, List, is_some};
+ghost use Rattle.std.specs.Prelude.{◌≡◌, ◌<◌, [], ◌∷◌, false, not, filter, map, length, Some, None, Err, IfOk, OnOk, IsSomeAnd, OnSome, MatchOption, option_map, option_and_then, List, is_some};
 ghost use Rattle.std.specs.List.{list_any};
 ghost use Rattle.std.specs.Option.{option_copied};
 ghost use Rattle.std.specs.Str.{bytes_eq};
+ghost use Rattle.json.specs.Json.{document};
+ghost use Rattle.json.specs.Strict.{HasUniqueKeys};
 ghost use Rattle.json.specs.Tape.{node_token};
 ghost use Rattle.json.specs.Token.{Token};
 ghost use Rattle.serde_json.specs.Read.{read};
@@ -12,11 +14,12 @@ ghost use Rattle.tt_json.specs.Fit.{tokens_fit};
 ghost use Rattle.tt_json.specs.Number.{number_view};
 ghost use Rattle.tt_json.specs.Value.{items_in, member_names, lesser, least};
 ghost use Rattle.tt_json.specs.Tape.{value_at, items_at, IsValue, AreItems, AreMembers};
+ghost use Rattle.tt_json.specs.Text.{json_of_text};
 
 use crate::names::is_known;
 use crate::number::{Number, number_of};
 use crate::value::JsonValue;
-use json::{Element, Error, Members, Node, Scratch, Tape};
+use json::{Element, Error, MAX_LEN, Members, Node, Scratch, Tape};
 use std::alloc::Allocator;
 use std::marker::Model;
 
@@ -32,8 +35,34 @@ pub fn parse<'a, S: Allocator, A: Allocator>(
     ensures value { IfOk result (λ tape. IsValue tape) }
     ensures ok { IfOk result (λ tape. read text.now ≡ Some (value_at tape)) }
     ensures invalid { result ≡ Err Error.Invalid → read text.now ≡ None }
+    ensures too_long { result ≡ Err Error.TooLong → MAX_LEN < length text.now }
 {
     match Tape::parse(text, scratch, buffer) {
+        Ok(tape) => if fits(tape.nodes()) {
+            Ok(tape)
+        } else {
+            Err(Error::Invalid)
+        },
+        Err(error) => Err(error),
+    }
+}
+
+/// As [`parse`], but it's `DuplicateKey` where an object names a member twice, also where
+/// serde_json refuses the text.
+pub fn parse_strict<'a, S: Allocator, A: Allocator>(
+    text: &'a str,
+    scratch: &'a mut Scratch<S>,
+    buffer: Vec<Node<'a>, A>,
+) -> Result<Tape<'a, A>, Error>
+    ensures value { IfOk result (λ tape. IsValue tape) }
+    ensures ok { IfOk result (λ tape. read text.now ≡ Some (value_at tape)) }
+    ensures unique { OnOk result (IsSomeAnd (json_of_text text.now) HasUniqueKeys) }
+    ensures invalid { result ≡ Err Error.Invalid → read text.now ≡ None }
+    ensures duplicate { result ≡ Err Error.DuplicateKey
+        → IsSomeAnd (document text.now) (λ j. ¬ HasUniqueKeys j) }
+    ensures too_long { result ≡ Err Error.TooLong → MAX_LEN < length text.now }
+{
+    match Tape::parse_strict(text, scratch, buffer) {
         Ok(tape) => if fits(tape.nodes()) {
             Ok(tape)
         } else {
