@@ -1,11 +1,11 @@
 //! Reading of arrays, item by item from the front.
-ghost use Rattle.std.specs.Prelude.{Result};
+ghost use Rattle.std.specs.Prelude.{◌≡◌, length, Result};
 ghost use Rattle.serde_json.specs.Data.{Data};
 ghost use Rattle.tt_document.specs.declared.fault.DocFault.{DocFault};
 ghost use Rattle.tt_document.specs.Fault.{Gives, with_path, item_path};
 ghost use Rattle.tt_document.specs.Arrays.{fold_items, with_item, each, array_of};
 
-use crate::decoder::{Decoder, array};
+use crate::decoder::{Decoder, array, item};
 use crate::fault::DocFault;
 use crate::owned_items::OwnedItems;
 use std::alloc::Global;
@@ -121,9 +121,32 @@ where
     D::Output: Drop,
     ensures { Gives result (each (D.meaning decoder.now) 0 (V.left items)) }
 {
+    if V::count(&items) == 1 {
+        return decode_only::<_, V>(alloc, decoder, items);
+    }
     let list = decode_owned::<_, V>(alloc, decoder, items)?;
     let items = list.into_items(alloc)?;
     Ok(items)
+}
+
+/// The meaning of the only item of an array, which goes into its list without a buffer.
+fn decode_only<D: Decoder, V: JsonValue>(
+    alloc: Global,
+    decoder: &D,
+    items: V::Items,
+) -> Result<Items<D::Output>, DocFault>
+where
+    D::Output: Drop,
+    requires { length (V.left items) ≡ 1 }
+    ensures { Gives result (each (D.meaning decoder.now) 0 (V.left items)) }
+{
+    let mut items = items;
+    let Some(only) = V::next_item(&mut items) else {
+        unreachable!();
+    };
+    let meaning = item(alloc, 0, &only, decoder)?;
+    let list = Items::of_one(alloc, meaning)?;
+    Ok(list)
 }
 
 /// As [`decode_items`], in a list with one owner.
