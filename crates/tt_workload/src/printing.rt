@@ -11,7 +11,7 @@ use tt_document::push_quoted;
 use tt_values::{Reply, Row, Value};
 
 /// Pushes a number in decimal digits.
-pub(crate) fn push_decimal(out: &mut Vec<u8>, number: u64) -> Result<(), AllocError>
+pub fn push_decimal(out: &mut Vec<u8>, number: u64) -> Result<(), AllocError>
     ensures { OnOk result (out.new.items ≡ out.old.items ++ decimal number) }
 {
     match write!(out, "{number}") {
@@ -29,7 +29,8 @@ pub(crate) fn push_labelled(out: &mut Vec<u8>, label: &[u8], number: u64) -> Res
     Ok(())
 }
 
-fn push_int(out: &mut Vec<u8>, number: i64) -> Result<(), AllocError>
+/// Pushes an Int in decimal digits, behind a minus sign where it is negative.
+pub fn push_int(out: &mut Vec<u8>, number: i64) -> Result<(), AllocError>
     ensures { OnOk result (out.new.items ≡ out.old.items ++ signed_decimal number) }
 {
     match write!(out, "{number}") {
@@ -38,7 +39,8 @@ fn push_int(out: &mut Vec<u8>, number: i64) -> Result<(), AllocError>
     }
 }
 
-fn push_value(out: &mut Vec<u8>, value: &Value) -> Result<(), AllocError>
+/// Pushes a value: an Int by its digits, a Text in quotes.
+pub fn push_value(out: &mut Vec<u8>, value: &Value) -> Result<(), AllocError>
     ensures { OnOk result (out.new.items ≡ out.old.items ++ value_text value.now) }
 {
     match value {
@@ -68,7 +70,8 @@ fn push_further(out: &mut Vec<u8>, values: &[Value]) -> Result<(), AllocError>
     Ok(())
 }
 
-fn push_row(out: &mut Vec<u8>, row: &Row) -> Result<(), AllocError>
+/// Pushes a row: its values in brackets.
+pub fn push_row(out: &mut Vec<u8>, row: &Row) -> Result<(), AllocError>
     ensures { OnOk result (out.new.items ≡ out.old.items ++ row_text row.now) }
 {
     out.push(b'[')?;

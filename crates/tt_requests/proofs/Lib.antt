@@ -1,0 +1,2 @@
+pub mod LineLemmas
+mod worked_lines

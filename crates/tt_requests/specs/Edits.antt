@@ -1,0 +1,48 @@
+-- The edits that a repair begins with. They name slots; whether a slot is there is the database's to judge.
+use Rattle.std.specs.Prelude.{List, [], ◌∷◌, if◌then◌else◌, Result, Ok, codes}
+use Rattle.serde_json.specs.Data.{Data}
+use Rattle.tt_values.specs.Tables.{Tables}
+use Rattle.tt_repair_laws.specs.declared.edit.Edit.{Edit}
+use Rattle.tt_repair_laws.specs.declared.edit.Edit.TheVariants.{Cancel, Replace}
+use Rattle.tt_document.specs.declared.fault.DocFault.{DocFault}
+use Rattle.tt_document.specs.declared.version.Version.TheVariants as versions
+use Rattle.tt_document.specs.Fault.{◌>>=◌, refuse}
+use Rattle.tt_document.specs.Decoder.{object, array, within_limit, count, has, member}
+use Rattle.tt_document.specs.Arrays.{each}
+use Rattle.tt_document.specs.Members.{is_one_of, no_members_but}
+use Rattle.tt_document.specs.Repair.{max_edits, replacement}
+
+-- an edit that cancels a slot, by its number
+unfoldable pub cancel : Data → Result Edit DocFault
+cancel v = do
+  slot ← member (codes "cancel") count v
+  _ ← no_members_but (is_one_of (codes "cancel" ∷ [])) v
+  Ok (Cancel slot)
+
+-- an edit that replaces the action of a slot, by its number
+unfoldable pub replace : Tables → Data → Result Edit DocFault
+replace tables v = do
+  slot ← member (codes "replace") count v
+  action ← member (codes "by") (replacement versions.Two tables) v
+  _ ← no_members_but (is_one_of (codes "by" ∷ codes "replace" ∷ [])) v
+  Ok (Replace slot action)
+
+-- an edit, by the first of its kinds that it has
+abbrev pub edit_by_kind : Tables → Data → Result Edit DocFault
+edit_by_kind tables v =
+    if has (codes "cancel") v then cancel v else (
+    if has (codes "replace") v then replace tables v else
+    refuse (codes "missing one of cancel, replace"))
+
+-- an edit of an object
+unfoldable pub edit : Tables → Data → Result Edit DocFault
+edit tables v = do
+  _ ← object v
+  edit_by_kind tables v
+
+-- the edits, or the fault that there are too many
+abbrev pub edits : Tables → Data → Result (List Edit) DocFault
+edits tables v = do
+  ds ← array v
+  _ ← within_limit max_edits ds
+  each (edit tables) 0 ds

@@ -1,0 +1,72 @@
+-- The questions of a session about its slots and its calls.
+use Rattle.std.specs.Prelude.{ℕ, ◌+◌, nat_lt, List, [], ◌∷◌, Option, None, Some, if◌then◌else◌, Result, Ok, codes}
+use Rattle.std.specs.Str.{bytes_eq}
+use Rattle.serde_json.specs.Data.{Data}
+use Rattle.tt_values.specs.declared.row_id.RowId.{RowId}
+use Rattle.tt_values.specs.Tables.{Tables}
+use Rattle.tt_document.specs.declared.fault.DocFault.{DocFault}
+use Rattle.tt_document.specs.declared.statements.Context.TheVariants as contexts
+use Rattle.tt_document.specs.Fault.{◌>>=◌, refuse, or_refuse, with_path, item_path}
+use Rattle.tt_document.specs.Decoder.{text, int, count, count_within, member, optional}
+use Rattle.tt_document.specs.Conditions.{pair, table_named}
+use Rattle.tt_document.specs.Statements.{no_members_at}
+use Rattle.tt_requests.specs.declared.request.Command.{Command}
+use Rattle.tt_requests.specs.declared.request.Command.TheVariants as commands
+
+-- the largest number of a worker
+abbrev pub max_worker : ℕ
+max_worker = 4294967295
+
+-- the number of a worker
+abbrev pub worker_number : Data → Result ℕ DocFault
+worker_number v = count_within 1 max_worker v
+
+-- how far the last slot of a question may be behind the first one
+abbrev pub max_span : ℕ
+max_span = 9999
+
+-- the first and the last slot of a question, which may have none between them
+abbrev pub within_span : ℕ → ℕ → Result (ℕ × ℕ) DocFault
+within_span from to = if nat_lt (from + max_span) to then refuse (codes "out of range") else Ok (from, to)
+
+-- the slots from one to another, both by their numbers
+unfoldable pub span : Data → Result (ℕ × ℕ) DocFault
+span v = do
+  items ← pair v
+  from ← with_path (item_path 0) (count items.0)
+  to ← with_path (item_path 1) (count items.1)
+  within_span from to
+
+-- a row, by the name of its table and its key
+unfoldable pub row_named : Tables → Data → Result RowId DocFault
+row_named tables v = do
+  items ← pair v
+  table ← with_path (item_path 0) (table_named tables items.0)
+  key ← with_path (item_path 1) (int items.1)
+  Ok (record { table = table; key = key })
+
+-- a question about slots: which ones, of which worker, and which row they changed. The last two may be left out
+unfoldable pub slots : Tables → Data → Result Command DocFault
+slots tables v = do
+  span ← member (codes "slots") span v
+  worker ← optional (codes "of") worker_number v
+  row ← optional (codes "row") (row_named tables) v
+  _ ← no_members_at contexts.Request (codes "of" ∷ codes "row" ∷ codes "slots" ∷ []) v
+  Ok (commands.Slots span.0 span.1 worker row)
+
+-- which changed replies a text asks for: those of now, or those of the next generation
+abbrev pub changes_named : List ℕ → Option Command
+changes_named name = if bytes_eq name (codes "now") then Some commands.Changes else (if bytes_eq name (codes "next") then Some commands.NextChanges else None)
+
+-- which changed replies are asked for
+unfoldable pub changes_asked : Data → Result Command DocFault
+changes_asked v = do
+  name ← text v
+  or_refuse (codes "out of range") (changes_named name)
+
+-- a question about changed replies
+unfoldable pub changes : Data → Result Command DocFault
+changes v = do
+  asked ← member (codes "changes") changes_asked v
+  _ ← no_members_at contexts.Request (codes "changes" ∷ []) v
+  Ok asked

@@ -1,0 +1,50 @@
+-- The selects and previews of a session, which may ask for one page of their rows.
+use Rattle.std.specs.Prelude.{ℕ, [], ◌∷◌, Result, Ok, codes}
+use Rattle.serde_json.specs.Data.{Data}
+use Rattle.tt_values.specs.declared.statement.Select.{Select}
+use Rattle.tt_values.specs.Tables.{Tables}
+use Rattle.tt_values.specs.Check.{select_fault}
+use Rattle.tt_document.specs.declared.fault.DocFault.{DocFault}
+use Rattle.tt_document.specs.declared.statements.Context.TheVariants as contexts
+use Rattle.tt_document.specs.Fault.{◌>>=◌}
+use Rattle.tt_document.specs.Decoder.{int, count, count_within, member, optional}
+use Rattle.tt_document.specs.Conditions.{table_named}
+use Rattle.tt_document.specs.Statements.{checked_statement, conditions, no_members_at}
+use Rattle.tt_requests.specs.declared.request.Command.{Command}
+use Rattle.tt_requests.specs.declared.request.Command.TheVariants as commands
+use Rattle.tt_requests.specs.declared.request.Page.{Page}
+
+-- the largest number of rows that a page may ask for
+abbrev pub max_page : ℕ
+max_page = 100000
+
+-- a page of rows: the key after which it begins, and how many rows it has at most, each of which may be left out
+unfoldable pub page : Data → Result Page DocFault
+page v = do
+  after ← optional (codes "after") int v
+  most ← optional (codes "most") (count_within 1 max_page) v
+  Ok (record { after = after; most = most })
+
+-- a select: the table, the conditions, the time, the generation, and the page
+unfoldable pub read : Tables → Data → Result Command DocFault
+read tables v = do
+  table ← member (codes "select") (table_named tables) v
+  equals ← conditions tables table v
+  at ← optional (codes "at") count v
+  generation ← optional (codes "in") count v
+  page ← page v
+  _ ← no_members_at contexts.Request (codes "after" ∷ codes "at" ∷ codes "in" ∷ codes "most" ∷ codes "select" ∷ codes "where" ∷ []) v
+  let statement : Select = record { table = table; equals = equals }
+  select ← checked_statement statement (select_fault tables statement)
+  Ok (commands.Read select at generation page)
+
+-- a select of the next generation: the table, the conditions, and the page
+unfoldable pub preview : Tables → Data → Result Command DocFault
+preview tables v = do
+  table ← member (codes "preview") (table_named tables) v
+  equals ← conditions tables table v
+  page ← page v
+  _ ← no_members_at contexts.Request (codes "after" ∷ codes "most" ∷ codes "preview" ∷ codes "where" ∷ []) v
+  let statement : Select = record { table = table; equals = equals }
+  select ← checked_statement statement (select_fault tables statement)
+  Ok (commands.Preview select page)

@@ -1,0 +1,174 @@
+//! Reading of commands, each by the first of its kinds that's there.
+ghost use Rattle.std.specs.Prelude.{◌∷◌, ◌++◌, Ok};
+ghost use Rattle.tt_document.specs.Fault.{Gives};
+ghost use Rattle.tt_requests.specs.Requests.{one_write, several_writes, begin, step, only_true, bare, repair_kinds, question_kinds, by_first_kind, command};
+
+use crate::MAX_STEPS;
+use crate::edits::EditsDecoder;
+use crate::questions::{changes, slots};
+use crate::reads::{preview, read};
+use crate::request::Command;
+use std::alloc::Global;
+use tt_document::DocFault;
+use tt_document::decoding::{
+    Context, CountDecoder, Decoder, FlagDecoder, OUT_OF_RANGE, action, delete, has, insert, member,
+    no_members_but, update,
+};
+use tt_json::JsonValue;
+use tt_values::{Catalog, Items, Write};
+
+const NO_KIND: &str =
+    "missing one of insert, update, delete, select, preview, do, begin, step, finish, abort, status, slots, changes, tables";
+
+const STEPS: CountDecoder = CountDecoder {
+    min: 1,
+    max: MAX_STEPS,
+};
+
+/// The command of an object.
+#[tactic(auto, unfolding(crate::specs::Requests::one_write))]
+pub(crate) fn command<V: JsonValue>(
+    alloc: Global,
+    catalog: &Catalog,
+    value: &V,
+) -> Result<Command, DocFault>
+    ensures { Gives result (command catalog.now (V.json value.now)) }
+{
+    if has(value, "insert") {
+        let write = insert(alloc, catalog, Context::Request, value)?;
+        return one_write(alloc, write);
+    }
+    if has(value, "update") {
+        let write = update(alloc, catalog, Context::Request, value)?;
+        return one_write(alloc, write);
+    }
+    if has(value, "delete") {
+        let write = delete(alloc, catalog, Context::Request, value)?;
+        return one_write(alloc, write);
+    }
+    if has(value, "select") {
+        return read(alloc, catalog, value);
+    }
+    if has(value, "preview") {
+        return preview(alloc, catalog, value);
+    }
+    if has(value, "do") {
+        return several_writes(alloc, catalog, value);
+    }
+    repair_or_question(alloc, catalog, value)
+}
+
+fn repair_or_question<V: JsonValue>(
+    alloc: Global,
+    catalog: &Catalog,
+    value: &V,
+) -> Result<Command, DocFault>
+    ensures { Gives result
+        (by_first_kind (repair_kinds catalog.now ++ question_kinds catalog.now)
+        (V.json value.now)) }
+{
+    if has(value, "begin") {
+        return begin(alloc, catalog, value);
+    }
+    if has(value, "step") {
+        return step(alloc, value);
+    }
+    if has(value, "finish") {
+        return bare(alloc, "finish", Command::Finish, value);
+    }
+    if has(value, "abort") {
+        return bare(alloc, "abort", Command::Abort, value);
+    }
+    question(alloc, catalog, value)
+}
+
+fn question<V: JsonValue>(alloc: Global, catalog: &Catalog, value: &V) -> Result<Command, DocFault>
+    ensures { Gives result (by_first_kind (question_kinds catalog.now) (V.json value.now)) }
+{
+    if has(value, "status") {
+        return bare(alloc, "status", Command::Status, value);
+    }
+    if has(value, "slots") {
+        return slots(alloc, catalog, value);
+    }
+    if has(value, "changes") {
+        return changes(alloc, value);
+    }
+    if has(value, "tables") {
+        return bare(alloc, "tables", Command::Tables, value);
+    }
+    Err(DocFault::here(alloc, NO_KIND))
+}
+
+/// A write of its own, as an action of one.
+#[tactic(auto, unfolding(crate::specs::Requests::one_write))]
+fn one_write(alloc: Global, write: Write) -> Result<Command, DocFault>
+    ensures { Gives result (one_write (Ok write)) }
+{
+    let action = Items::of(alloc, [write])?;
+    Ok(Command::Write(action))
+}
+
+#[tactic(auto, unfolding(crate::specs::Requests::several_writes))]
+fn several_writes<V: JsonValue>(
+    alloc: Global,
+    catalog: &Catalog,
+    value: &V,
+) -> Result<Command, DocFault>
+    ensures { Gives result (several_writes catalog.now (V.json value.now)) }
+{
+    let action = action(alloc, catalog, Context::Request, value)?;
+    Ok(Command::Write(action))
+}
+
+#[tactic(auto, unfolding(crate::specs::Requests::begin))]
+fn begin<V: JsonValue>(alloc: Global, catalog: &Catalog, value: &V) -> Result<Command, DocFault>
+    ensures { Gives result (begin catalog.now (V.json value.now)) }
+{
+    let edits = member(alloc, value, "begin", &EditsDecoder { catalog })?;
+    no_members_but(alloc, value, &["if", "worker", "begin"])?;
+    Ok(Command::Begin(edits))
+}
+
+#[tactic(auto, unfolding(crate::specs::Requests::step))]
+fn step<V: JsonValue>(alloc: Global, value: &V) -> Result<Command, DocFault>
+    ensures { Gives result (step (V.json value.now)) }
+{
+    let most = member(alloc, value, "step", &STEPS)?;
+    no_members_but(alloc, value, &["if", "worker", "step"])?;
+    Ok(Command::Step(most))
+}
+
+/// A command with nothing but its name.
+#[tactic(auto, unfolding(crate::specs::Requests::bare))]
+fn bare<V: JsonValue>(
+    alloc: Global,
+    name: &str,
+    command: Command,
+    value: &V,
+) -> Result<Command, DocFault>
+    ensures { Gives result (bare name.now command (V.json value.now)) }
+{
+    member(alloc, value, name, &OnlyTrueDecoder)?;
+    no_members_but(alloc, value, &["if", "worker", name])?;
+    Ok(command)
+}
+
+/// The value true, and not false.
+#[derive(Drop)]
+struct OnlyTrueDecoder;
+
+impl Decoder for OnlyTrueDecoder {
+    type Output = ();
+
+    ghost meaning = { λ _. only_true };
+
+    #[tactic(auto, unfolding(crate::specs::Requests::only_true))]
+    fn decode<V: JsonValue>(&self, alloc: Global, value: &V) -> Result<(), DocFault> {
+        let flag = FlagDecoder.decode(alloc, value)?;
+        if !flag {
+            return Err(DocFault::here(alloc, OUT_OF_RANGE));
+        }
+        Ok(())
+    }
+}

@@ -1,0 +1,31 @@
+//! What the lines of a session ask for: the opening of a database, and then requests, each one JSON
+//! text on a line, or the line's first fault.
+#![tactic(auto)]
+
+mod commands;
+mod edits;
+mod line_value;
+mod lines;
+mod opening;
+mod questions;
+mod reads;
+mod request;
+
+pub use lines::is_passed_over;
+pub use opening::Opening;
+pub use request::{Command, Page, Request};
+
+/// The largest length of a line, in bytes, without its line feed.
+pub const MAX_LINE_BYTES: usize = 16_777_216;
+
+/// The largest number of records of calls that a session keeps.
+pub const MAX_RECORDS: u32 = 1_000_000;
+
+/// The largest number of steps of a repair that a request asks for.
+pub const MAX_STEPS: u32 = 10_000;
+
+/// The largest number of rows that a page asks for.
+pub const MAX_PAGE: u32 = 100_000;
+
+/// How far the last slot that a request asks for may be behind the first one.
+pub const MAX_SPAN: u64 = 9_999;

@@ -1,0 +1,79 @@
+//! Reading of selects and previews, which may ask for one page of their rows.
+ghost use Rattle.tt_document.specs.Fault.{Gives};
+ghost use Rattle.tt_requests.specs.Reads.{page, read, preview};
+
+use crate::MAX_PAGE;
+use crate::request::{Command, Page};
+use std::alloc::Global;
+use tt_document::DocFault;
+use tt_document::decoding::{
+    AnyCountDecoder, CountDecoder, IntDecoder, TableNameDecoder, checked_select, conditions,
+    member, no_members_but, optional,
+};
+use tt_json::JsonValue;
+use tt_values::{Catalog, Select};
+
+const MOST: CountDecoder = CountDecoder {
+    min: 1,
+    max: MAX_PAGE,
+};
+
+/// The select of an object.
+#[tactic(auto, unfolding(crate::specs::Reads::read))]
+pub(crate) fn read<V: JsonValue>(
+    alloc: Global,
+    catalog: &Catalog,
+    value: &V,
+) -> Result<Command, DocFault>
+    ensures { Gives result (read catalog.now (V.json value.now)) }
+{
+    let table = member(alloc, value, "select", &TableNameDecoder { catalog })?;
+    let equals = conditions(alloc, catalog, table, value)?;
+    let at = optional(alloc, value, "at", &AnyCountDecoder)?;
+    let generation = optional(alloc, value, "in", &AnyCountDecoder)?;
+    let page = page(alloc, value)?;
+    no_members_but(
+        alloc,
+        value,
+        &[
+            "if", "worker", "after", "at", "in", "most", "select", "where",
+        ],
+    )?;
+    let select = checked_select(alloc, catalog, Select { table, equals })?;
+    Ok(Command::Read {
+        select,
+        at,
+        generation,
+        page,
+    })
+}
+
+/// The preview of an object.
+#[tactic(auto, unfolding(crate::specs::Reads::preview))]
+pub(crate) fn preview<V: JsonValue>(
+    alloc: Global,
+    catalog: &Catalog,
+    value: &V,
+) -> Result<Command, DocFault>
+    ensures { Gives result (preview catalog.now (V.json value.now)) }
+{
+    let table = member(alloc, value, "preview", &TableNameDecoder { catalog })?;
+    let equals = conditions(alloc, catalog, table, value)?;
+    let page = page(alloc, value)?;
+    no_members_but(
+        alloc,
+        value,
+        &["if", "worker", "after", "most", "preview", "where"],
+    )?;
+    let select = checked_select(alloc, catalog, Select { table, equals })?;
+    Ok(Command::Preview { select, page })
+}
+
+#[tactic(auto, unfolding(crate::specs::Reads::page))]
+fn page<V: JsonValue>(alloc: Global, value: &V) -> Result<Page, DocFault>
+    ensures { Gives result (page (V.json value.now)) }
+{
+    let after = optional(alloc, value, "after", &IntDecoder)?;
+    let most = optional(alloc, value, "most", &MOST)?;
+    Ok(Page { after, most })
+}

@@ -1,0 +1,127 @@
+//! Requests: what a line of an open session asks for.
+ghost use Rattle.std.specs.Prelude.{Ok};
+ghost use Rattle.tt_document.specs.Fault.{Gives};
+ghost use Rattle.tt_requests.specs.Requests.{members_of_request, request_of};
+
+use crate::commands::command;
+use crate::line_value::parse_line;
+use crate::questions::WORKER;
+use std::alloc::Global;
+use tt_document::decoding::{AnyCountDecoder, object, optional};
+use tt_document::{DocFault, Edit};
+use tt_json::{JsonValue, Scratch, root};
+use tt_values::{Catalog, Items, RowId, Select, Write};
+
+const USUAL_WORKER: u32 = 1;
+
+/// A request of a session.
+#[derive(Debug, Drop)]
+pub struct Request {
+    /// The number of the worker that asks, from 1.
+    pub worker: u32,
+    /// The current time for which the request is meant, if it is meant for one alone.
+    pub expected: Option<u64>,
+    pub command: Command,
+}
+
+/// What a request asks for.
+#[derive(Debug, Drop)]
+pub enum Command {
+    /// An action: at most [`MAX_WRITES`](tt_values::MAX_WRITES) writes, carried out in order as
+    /// one slot.
+    Write(Items<Write>),
+    /// Rows of a table, in the current generation or an older one.
+    Read {
+        select: Select,
+        /// The time, or the last one of the generation where none is given.
+        at: Option<u64>,
+        /// The number of the generation, or the current one where none is given.
+        generation: Option<u64>,
+        page: Page,
+    },
+    /// Rows of a table in the next generation, at the last slot that the repair has done.
+    Preview {
+        select: Select,
+        page: Page,
+    },
+    /// A repair begins, with at most [`MAX_EDITS`](tt_document::MAX_EDITS) edits.
+    Begin(Items<Edit>),
+    /// The repair does slots: at most this many, from 1 to [`MAX_STEPS`](crate::MAX_STEPS).
+    Step(u32),
+    /// The repair does all slots that are left, and the next generation becomes the current one.
+    Finish,
+    /// The repair is given up.
+    Abort,
+    /// How the database stands.
+    Status,
+    /// The slots from one number to another, at most [`MAX_SPAN`](crate::MAX_SPAN) behind it.
+    Slots {
+        from: u64,
+        to: u64,
+        /// Those of one worker, where it is given.
+        worker: Option<u32>,
+        /// Those that changed a row, where it is given.
+        row: Option<RowId>,
+    },
+    /// The calls that are answered differently now.
+    Changes,
+    /// The calls that are answered differently in the next generation, as far as the repair is.
+    NextChanges,
+    /// The tables, and how much is kept.
+    Tables,
+}
+
+/// Which of the rows of a select or a preview are asked for.
+#[derive(Clone, Copy, Debug, PartialEq, Eq)]
+pub struct Page {
+    /// The rows with greater keys than this, where it is given.
+    pub after: Option<i64>,
+    /// The first rows, this many, from 1 to [`MAX_PAGE`](crate::MAX_PAGE), where it is given.
+    pub most: Option<u32>,
+}
+
+impl Request {
+    ghost use Rattle.tt_requests.specs.LineValue.{value_of_line};
+
+    /// The request that a line spells to a database with these tables, or its first fault: that the
+    /// line is too long; or else that it isn't JSON; or else that an object names a member twice;
+    /// or else the one of its JSON value. Memory can run out before the fault is met.
+    pub fn from_line(alloc: Global, catalog: &Catalog, line: &[u8]) -> Result<Request, DocFault>
+        ensures { Gives result (request_of catalog.now (value_of_line line.now)) }
+    {
+        let mut scratch = Scratch::new(alloc);
+        match parse_line(alloc, line, &mut scratch) {
+            Ok(tape) => from_json(alloc, catalog, &root(&tape)),
+            Err(fault) => Err(fault.in_document(alloc)),
+        }
+    }
+}
+
+fn from_json<V: JsonValue>(alloc: Global, catalog: &Catalog, value: &V) -> Result<Request, DocFault>
+    ensures { Gives result (request_of catalog.now (Ok (V.json value.now))) }
+{
+    match from_members(alloc, catalog, value) {
+        Ok(request) => Ok(request),
+        Err(fault) => Err(fault.in_document(alloc)),
+    }
+}
+
+/// The request of an object. Paths begin at the object.
+#[tactic(auto, unfolding(crate::specs::Requests::members_of_request))]
+fn from_members<V: JsonValue>(
+    alloc: Global,
+    catalog: &Catalog,
+    value: &V,
+) -> Result<Request, DocFault>
+    ensures { Gives result (members_of_request catalog.now (V.json value.now)) }
+{
+    object(alloc, value)?;
+    let worker = optional(alloc, value, "worker", &WORKER)?;
+    let expected = optional(alloc, value, "if", &AnyCountDecoder)?;
+    let command = command(alloc, catalog, value)?;
+    Ok(Request {
+        worker: worker.unwrap_or(USUAL_WORKER),
+        expected,
+        command,
+    })
+}
