@@ -74,7 +74,8 @@ pub(crate) fn add_changed_parts(
 /// Whether a row lies in the same partitions before and after a change, if it's there both times.
 fn lies_in_same(columns: &[Column], before: Option<&Row>, after: Option<&Row>) -> bool
     requires { length columns.now ≤ 2 ^ 16 }
-    ensures { IsTrue result → ((table : ℕ) → parts_if table columns.now (option_copied before.entry)
+    ensures { IsTrue result
+        → ((table : ℕ) → parts_if table columns.now (option_copied before.entry)
         ≡ parts_if table columns.now (option_copied after.entry)) }
 {
     let Some(before) = before else {
