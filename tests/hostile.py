@@ -1,6 +1,6 @@
 #!/usr/bin/env python3
 """Hostile use of the built program and libraries: documents that are cut off, the largest document,
-and memory that runs out at each growth, of a run or of a call.
+the widest object, and memory that runs out at each growth, of a run or of a call.
 
   tests/hostile.py PROGRAM [SCENARIOS..]
 
@@ -96,6 +96,14 @@ class Hostile:
             self.check(answer == want, f'{command} of {LONGEST} bytes', answer)
             answer = self.run([command], document.ljust(LONGEST + 1))
             self.check(answer == refusal, f'{command} of {LONGEST + 1} bytes', answer)
+
+    def widest(self):
+        """A member named twice is found among very many, the last one as well as the first."""
+        members = b','.join(b'"%d":0' % number for number in range(1_000_000))
+        for number in (0, 999_999):
+            answer = self.run(['replay'], b'{%s,"%d":0}' % (members, number))
+            refusal = (1, b'', b'timetravel: $: member "%d" named twice\n' % number)
+            self.check(answer == refusal, f'a million members, and "{number}" again', answer)
 
     # Memory
 
@@ -245,6 +253,7 @@ def main():
             print(f'{tried} prefixes of {len(SMALL)} documents')
             hostile.no_text()
             hostile.longest()
+            hostile.widest()
             library = hostile.library()
             hostile.runs(library)
             for scenarios in sys.argv[2:]:

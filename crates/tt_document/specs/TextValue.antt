@@ -20,7 +20,7 @@ value_of_json j = do
   _ ← names_once j
   Ok d
 
--- the same, where there is JSON
+-- the value that a text's JSON stands for; a text without JSON is refused
 abbrev pub value_of_found : Option json.Json → Result Data DocFault
 value_of_found found = do
   j ← or_refuse (codes "not JSON") found
