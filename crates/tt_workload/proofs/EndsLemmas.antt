@@ -7,22 +7,22 @@ use Rattle.std.proofs.lemmas.Bool.{lt-ltb, le-ltb}
 use Rattle.std.proofs.lemmas.Str.{IsUtf8-from_is_utf8, is_utf8-from_IsUtf8}
 use Rattle.std.specs.Io.KnownBytes.{Consumes, IsAtEnd}
 use Rattle.std.proofs.KnownBytes.{Consumes-trans}
-use Rattle.serde_json.specs.Read.{read}
 use Rattle.tt_document.specs.Fault.{document_fault}
 use Rattle.std.specs.Prelude.{Err}
+use Rattle.tt_document.specs.TextValue.{json_of_bytes}
 use Rattle.tt_document.specs.Document.{document_of_text}
-use Rattle.tt_workload.specs.Ends.{max_document_bytes, json_of, document_of_bytes, ConsumesAtMost}
+use Rattle.tt_workload.specs.Ends.{max_document_bytes, document_of_bytes, ConsumesAtMost}
 
 pub document_of_bytes-long : (bytes : List ℕ) → max_document_bytes < length bytes → document_of_bytes bytes ≡ Err (document_fault (codes "longer than 16777216 bytes"))
 unfolding document_of_bytes
 document_of_bytes-long bytes long = rw (lt-ltb max_document_bytes (length bytes) long) refl
 
-pub json_of-none : (bytes : List ℕ) → (IsUtf8 bytes → read bytes ≡ None) → json_of bytes ≡ None
-json_of-none bytes no_value = elim (is_utf8 bytes) as (λ b. is_utf8 bytes ≡ b → json_of bytes ≡ None) [ true ↦ λ e. rw e (no_value (IsUtf8-from_is_utf8 bytes e)) | false ↦ λ e. rw e refl ] refl
+pub json_of_bytes-none : (bytes : List ℕ) → ¬ (IsUtf8 bytes) → json_of_bytes bytes ≡ None
+json_of_bytes-none bytes no_text = elim (is_utf8 bytes) as (λ b. is_utf8 bytes ≡ b → json_of_bytes bytes ≡ None) [ true ↦ λ e. absurd (no_text (IsUtf8-from_is_utf8 bytes e)) | false ↦ λ e. rw e refl ] refl
 
 pub document_of_bytes-no_text : (bytes : List ℕ) → length bytes ≤ max_document_bytes → ¬ (IsUtf8 bytes) → document_of_bytes bytes ≡ Err (document_fault (codes "not JSON"))
 unfolding document_of_bytes
-document_of_bytes-no_text bytes short no_text = rw (le-ltb max_document_bytes (length bytes) short, json_of-none bytes (λ text. absurd (no_text text))) refl
+document_of_bytes-no_text bytes short no_text = rw (le-ltb max_document_bytes (length bytes) short, json_of_bytes-none bytes no_text) refl
 
 pub document_of_bytes-text : (bytes : List ℕ) → length bytes ≤ max_document_bytes → IsUtf8 bytes → document_of_bytes bytes ≡ document_of_text bytes
 unfolding document_of_bytes

@@ -1,13 +1,11 @@
 -- The two ends of a run: the document of some bytes, the bytes that a reader gives, and those that a writer gets.
-use Rattle.std.specs.Prelude.{◌≡◌, ◌⊎◌, ℕ, ◌≤◌, nat_lt, if◌then◌else◌, List, length, take, Option, None, Result, Ok, Err, codes}
-use Rattle.std.specs.Str.{is_utf8}
+use Rattle.std.specs.Prelude.{◌≡◌, ◌⊎◌, ℕ, ◌≤◌, nat_lt, if◌then◌else◌, List, length, take, Option, Result, Ok, Err, codes}
 use Rattle.std.specs.Io.KnownBytes.{Consumes, Appends}
-use Rattle.serde_json.specs.Data.{Data}
-use Rattle.serde_json.specs.Read.{read}
 use Rattle.tt_document.specs.declared.document.Document.{Document}
 use Rattle.tt_document.specs.declared.fault.DocFault.{DocFault}
 use Rattle.tt_document.specs.declared.fault.DocFault.TheVariants as doc
 use Rattle.tt_document.specs.Fault.{document_fault}
+use Rattle.tt_document.specs.TextValue.{json_of_bytes}
 use Rattle.tt_document.specs.Document.{document_of_json}
 use Rattle.tt_workload.specs.declared.run_fault.RunFault.{RunFault}
 use Rattle.tt_workload.specs.declared.run_fault.RunFault.TheVariants as run
@@ -23,15 +21,11 @@ max_bytes_read = 16777217
 abbrev pub bytes_read : List ℕ → List ℕ
 bytes_read remaining = take max_bytes_read remaining
 
--- the JSON value of some bytes in UTF-8, if they have one
-abbrev pub json_of : List ℕ → Option Data
-json_of bytes = if is_utf8 bytes then read bytes else None
-
 -- the document of some bytes, or its first fault
 unfoldable pub document_of_bytes : List ℕ → Result Document DocFault
 document_of_bytes bytes =
     if nat_lt max_document_bytes (length bytes) then Err (document_fault (codes "longer than 16777216 bytes"))
-    else document_of_json (json_of bytes)
+    else document_of_json (json_of_bytes bytes)
 
 -- a reader gave at most n of its bytes
 pub record ConsumesAtMost (n : ℕ) (old new : Option (List ℕ)) : Type 0 where
