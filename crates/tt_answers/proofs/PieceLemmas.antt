@@ -1,0 +1,91 @@
+-- The pieces of an object or an array, one after another.
+use Rattle.std.proofs.Common.{◌≡◌, ℕ, List, [], ◌++◌, sym, ap, ◌∙◌, append_assoc, append-nil}
+
+-- four pieces
+pub four-pieces : (out first second third all one two three four : List ℕ) → first ≡ out ++ one → second ≡ first ++ two → third ≡ second ++ three
+    → all ≡ third ++ four → all ≡ out ++ (one ++ (two ++ (three ++ four)))
+four-pieces out first second third all one two three four p q r s =
+    s ∙ ap (λ o. o ++ four) (r ∙ ap (λ o. o ++ three) (q ∙ ap (λ o. o ++ two) p)) ∙ simp append_assoc
+
+-- an object of two members, each of which is a label and a value
+pub two-members : (out first label second all label_1 value_1 label_2 value_2 end : List ℕ) → first ≡ out ++ (label_1 ++ value_1) → label ≡ first ++ label_2
+    → second ≡ label ++ value_2 → all ≡ second ++ end → all ≡ out ++ (label_1 ++ ((value_1 ++ (label_2 ++ (value_2 ++ []))) ++ end))
+two-members out first label second all label_1 value_1 label_2 value_2 end p q r s =
+    s ∙ ap (λ o. o ++ end) (r ∙ ap (λ o. o ++ value_2) (q ∙ ap (λ o. o ++ label_2) p)) ∙ simp (append_assoc, append-nil)
+
+-- the same of three
+pub three-members : (out first label second relabel third all label_1 value_1 label_2 value_2 label_3 value_3 end : List ℕ) → first ≡ out ++ (label_1 ++ value_1)
+    → label ≡ first ++ label_2 → second ≡ label ++ value_2 → relabel ≡ second ++ label_3 → third ≡ relabel ++ value_3 → all ≡ third ++ end
+    → all ≡ out ++ (label_1 ++ ((value_1 ++ (label_2 ++ (value_2 ++ (label_3 ++ (value_3 ++ []))))) ++ end))
+three-members out first label second relabel third all label_1 value_1 label_2 value_2 label_3 value_3 end p q r s t u =
+    u ∙ ap (λ o. o ++ end) (t ∙ ap (λ o. o ++ value_3) (s ∙ ap (λ o. o ++ label_3) (r ∙ ap (λ o. o ++ value_2) (q ∙ ap (λ o. o ++ label_2) p))))
+    ∙ simp (append_assoc, append-nil)
+
+-- an object of two numbers and two values, and more members
+pub slot-pieces : (out one two label_3 three label_4 four more all name_1 number_1 name_2 number_2 name_3 value_3 name_4 value_4 last end : List ℕ)
+    → one ≡ out ++ (name_1 ++ number_1) → two ≡ one ++ (name_2 ++ number_2) → label_3 ≡ two ++ name_3 → three ≡ label_3 ++ value_3
+    → label_4 ≡ three ++ name_4 → four ≡ label_4 ++ value_4 → more ≡ four ++ last → all ≡ more ++ end
+    → all ≡ out ++ (name_1 ++ ((number_1 ++ (name_2 ++ (number_2 ++ (name_3 ++ (value_3 ++ (name_4 ++ (value_4 ++ last))))))) ++ end))
+slot-pieces out one two label_3 three label_4 four more all name_1 number_1 name_2 number_2 name_3 value_3 name_4 value_4 last end p q r s t u v w =
+    w ∙ ap (λ o. o ++ end) (v ∙ ap (λ o. o ++ last) (u ∙ ap (λ o. o ++ value_4) (t ∙ ap (λ o. o ++ name_4) (s ∙ ap (λ o. o ++ value_3)
+    (r ∙ ap (λ o. o ++ name_3) (q ∙ ap (λ o. o ++ (name_2 ++ number_2)) p))))))
+    ∙ simp append_assoc
+
+-- an object of a number, a member and two values
+pub changed-pieces : (out one two label_3 three label_4 four all name_1 number_1 member name_3 value_3 name_4 value_4 end : List ℕ)
+    → one ≡ out ++ (name_1 ++ number_1) → two ≡ one ++ member → label_3 ≡ two ++ name_3 → three ≡ label_3 ++ value_3
+    → label_4 ≡ three ++ name_4 → four ≡ label_4 ++ value_4 → all ≡ four ++ end
+    → all ≡ out ++ (name_1 ++ ((number_1 ++ (member ++ (name_3 ++ (value_3 ++ (name_4 ++ (value_4 ++ [])))))) ++ end))
+changed-pieces out one two label_3 three label_4 four all name_1 number_1 member name_3 value_3 name_4 value_4 end p q r s t u v =
+    v ∙ ap (λ o. o ++ end) (u ∙ ap (λ o. o ++ value_4) (t ∙ ap (λ o. o ++ name_4) (s ∙ ap (λ o. o ++ value_3)
+    (r ∙ ap (λ o. o ++ name_3) (q ∙ ap (λ o. o ++ member) p)))))
+    ∙ simp (append_assoc, append-nil)
+
+-- members: a number, a value, and two numbers
+pub declared-pieces : (out one label_2 two three all name_1 number_1 name_2 value_2 name_3 number_3 name_4 number_4 : List ℕ)
+    → one ≡ out ++ (name_1 ++ number_1) → label_2 ≡ one ++ name_2 → two ≡ label_2 ++ value_2 → three ≡ two ++ (name_3 ++ number_3)
+    → all ≡ three ++ (name_4 ++ number_4)
+    → all ≡ out ++ (name_1 ++ (number_1 ++ (name_2 ++ (value_2 ++ (name_3 ++ (number_3 ++ (name_4 ++ (number_4 ++ []))))))))
+declared-pieces out one label_2 two three all name_1 number_1 name_2 value_2 name_3 number_3 name_4 number_4 p q r s t =
+    t ∙ ap (λ o. o ++ (name_4 ++ number_4)) (s ∙ ap (λ o. o ++ (name_3 ++ number_3)) (r ∙ ap (λ o. o ++ value_2) (q ∙ ap (λ o. o ++ name_2) p)))
+    ∙ simp (append_assoc, append-nil)
+
+-- members: a number, and a value
+pub number-value : (out first label all name_1 number name_2 value : List ℕ) → first ≡ out ++ (name_1 ++ number) → label ≡ first ++ name_2 → all ≡ label ++ value
+    → all ≡ out ++ (name_1 ++ (number ++ (name_2 ++ (value ++ []))))
+number-value out first label all name_1 number name_2 value p q r =
+    r ∙ ap (λ o. o ++ value) (q ∙ ap (λ o. o ++ name_2) p) ∙ simp (append_assoc, append-nil)
+
+-- members: two numbers
+pub two-numbers : (out first all name_1 number_1 name_2 number_2 : List ℕ) → first ≡ out ++ (name_1 ++ number_1) → all ≡ first ++ (name_2 ++ number_2)
+    → all ≡ out ++ (name_1 ++ (number_1 ++ (name_2 ++ (number_2 ++ []))))
+two-numbers out first all name_1 number_1 name_2 number_2 p q = q ∙ ap (λ o. o ++ (name_2 ++ number_2)) p ∙ simp (append_assoc, append-nil)
+
+-- a member that is an object of two values
+pub object-member : (out first second all label_1 value_1 label_2 value_2 end : List ℕ) → first ≡ out ++ (label_1 ++ value_1) → second ≡ first ++ (label_2 ++ value_2)
+    → all ≡ second ++ end → all ≡ out ++ (label_1 ++ (((value_1 ++ (label_2 ++ (value_2 ++ []))) ++ end) ++ []))
+object-member out first second all label_1 value_1 label_2 value_2 end p q r =
+    r ∙ ap (λ o. o ++ end) (q ∙ ap (λ o. o ++ (label_2 ++ value_2)) p) ∙ simp (append_assoc, append-nil)
+
+-- members: a value, and a number behind its name
+pub value-number : (out first second third all label value comma name colon number : List ℕ) → first ≡ out ++ (label ++ value) → second ≡ first ++ (comma ++ name)
+    → third ≡ second ++ colon → all ≡ third ++ number → all ≡ out ++ (label ++ (value ++ (comma ++ ((name ++ (colon ++ number)) ++ []))))
+value-number out first second third all label value comma name colon number p q r s =
+    s ∙ ap (λ o. o ++ number) (r ∙ ap (λ o. o ++ colon) (q ∙ ap (λ o. o ++ (comma ++ name)) p)) ∙ simp (append_assoc, append-nil)
+
+-- the line of a call: its number, further members, and the end
+pub call-pieces : (out first second third all label number comma members further close feed : List ℕ) → further ≡ comma ++ members → first ≡ out ++ (label ++ number)
+    → second ≡ first ++ comma → third ≡ second ++ members → all ≡ third ++ (close ++ feed) → all ≡ out ++ (label ++ (((number ++ further) ++ close) ++ feed))
+call-pieces out first second third all label number comma members further close feed e p q r s =
+    s ∙ ap (λ o. o ++ (close ++ feed)) (r ∙ ap (λ o. o ++ members) (q ∙ ap (λ o. o ++ comma) p))
+    ∙ whole
+    ∙ ap (λ f. out ++ (label ++ (((number ++ f) ++ close) ++ feed))) (sym e)
+  where
+    whole : (((out ++ (label ++ number)) ++ comma) ++ members) ++ (close ++ feed) ≡ out ++ (label ++ (((number ++ (comma ++ members)) ++ close) ++ feed))
+    whole = simp append_assoc
+
+-- the line of an opening: its members, and the end
+pub opening-pieces : (out first second all begin members close feed : List ℕ) → first ≡ out ++ begin → second ≡ first ++ members → all ≡ second ++ (close ++ feed)
+    → all ≡ out ++ (begin ++ ((members ++ close) ++ feed))
+opening-pieces out first second all begin members close feed p q r =
+    r ∙ ap (λ o. o ++ (close ++ feed)) (q ∙ ap (λ o. o ++ members) p) ∙ simp append_assoc

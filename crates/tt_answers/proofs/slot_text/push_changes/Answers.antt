@@ -1,0 +1,16 @@
+-- The pieces of the array, one after another.
+use Rattle.std.proofs.Common.{◌≡◌, ◌-◌, ◌++◌, length, map, take, drop, subst, codes}
+use Rattle.std.specs.List.{flat_map}
+use Rattle.tt_answers.specs.JsonText.{further_item}
+use Rattle.tt_answers.specs.AnswerText.{change_text}
+use Rattle.tt_answers.proofs.PieceLemmas.{four-pieces}
+use Rattle.tt_answers.proofs.ItemLemmas.{array_text-first}
+use Rattle.tt_answers.proofs.slot_text.push_changes.Goals as goal
+
+pub returns : goal.returns
+returns c =
+    subst (λ t. c.push-2.new.self.items ≡ c.args.out.now.items ++ t)
+    (array_text-first change_text c.args.changes.now c.first-item.result c.in-len1-up.len_at_least c.first-item.is)
+    (four-pieces c.args.out.now.items c.push.new.self.items c.push_change.new.out.items c.push_further_changes.new.out.items c.push-2.new.self.items
+    (codes "[") (change_text c.first-item.result) (flat_map further_item (map change_text (take (length c.args.changes.now - 1) (drop 1 c.args.changes.now)))) (codes "]")
+    c.in_ok-push.ensures.items c.in_ok-push_change.ensures c.in_ok-push_further_changes.ensures c.in_ok-push-2.ensures.items)

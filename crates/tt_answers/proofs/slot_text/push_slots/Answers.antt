@@ -1,0 +1,16 @@
+-- The pieces of the array, one after another.
+use Rattle.std.proofs.Common.{◌≡◌, ◌-◌, ◌++◌, length, map, take, drop, subst, codes}
+use Rattle.std.specs.List.{flat_map}
+use Rattle.tt_answers.specs.JsonText.{further_item}
+use Rattle.tt_answers.specs.AnswerText.{slot_text}
+use Rattle.tt_answers.proofs.PieceLemmas.{four-pieces}
+use Rattle.tt_answers.proofs.ItemLemmas.{array_text-first}
+use Rattle.tt_answers.proofs.slot_text.push_slots.Goals as goal
+
+pub returns : goal.returns
+returns c =
+    subst (λ t. c.push-2.new.self.items ≡ c.args.out.now.items ++ t)
+    (array_text-first (slot_text c.args.catalog.now) c.args.slots.now c.first-item.result c.in-len1-up.len_at_least c.first-item.is)
+    (four-pieces c.args.out.now.items c.push.new.self.items c.push_slot.new.out.items c.push_further_slots.new.out.items c.push-2.new.self.items
+    (codes "[") (slot_text c.args.catalog.now c.first-item.result) (flat_map further_item (map (slot_text c.args.catalog.now) (take (length c.args.slots.now - 1) (drop 1 c.args.slots.now)))) (codes "]")
+    c.in_ok-push.ensures.items c.in_ok-push_slot.ensures c.in_ok-push_further_slots.ensures c.in_ok-push-2.ensures.items)

@@ -1,0 +1,6 @@
+mod Accounts
+mod Writing
+mod Repairing
+mod Telling
+mod Refusing
+mod ReadingBack

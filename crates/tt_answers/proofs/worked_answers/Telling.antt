@@ -1,0 +1,77 @@
+-- What is told of slots and of the database.
+use Rattle.std.specs.Prelude.{◌≡◌, pos, [], ◌∷◌, ◌++◌, None, Some, codes, refl}
+use Rattle.std.specs.Fmt.{digits}
+use Rattle.tt_values.specs.declared.value.Value.TheVariants as values
+use Rattle.tt_values.specs.declared.statement.Change.TheVariants as changes
+use Rattle.tt_values.specs.declared.statement.Write.TheVariants as writes
+use Rattle.tt_values.specs.declared.reply.Reply.TheVariants as replies
+use Rattle.tt_answers.specs.declared.answer.Answer.TheVariants as answers
+use Rattle.tt_answers.specs.AnswerText.{call_text}
+use Rattle.tt_answers.proofs.worked_answers.Accounts.{accounts, account}
+
+slots : call_text accounts 18 (answers.Slots 4 (
+    record {
+      number = 1;
+      worker = 1;
+      slot = record { action = Some (writes.Insert 0 (account (pos 1) (codes "ann") (pos 10)) ∷ []); replies = Some (replies.Inserted ∷ []) };
+      asked = None;
+    }
+    ∷ record {
+      number = 3;
+      worker = 1;
+      slot = record {
+        action = Some (writes.Update 0 (changes.Add 2 (pos 1) ∷ []) (record { column = 0; value = values.Int (pos 1) } ∷ []) ∷ []);
+        replies = Some (replies.Updated 1 ∷ []);
+      };
+      asked = None;
+    }
+    ∷ []))
+    ≡ (codes "{\"call\":18,\"time\":4,\"slots\":[{\"slot\":1,\"worker\":1,\"do\":[{\"insert\":\"acct\",\"row\":[1,\"ann\",10]}],\"replies\":[\"inserted\"]},"
+    ++ codes "{\"slot\":3,\"worker\":1,\"do\":[{\"update\":\"acct\",\"change\":[[\"add\",\"bal\",1]],\"where\":[[\"id\",1]]}],\"replies\":[{\"updated\":1}]}]}\n")
+unfolding digits
+slots = refl
+
+-- a slot that a repair cancelled: nothing is done, and its own action is what was asked for
+cancelled : call_text accounts 19 (answers.Slots 4 (
+    record {
+      number = 2;
+      worker = 2;
+      slot = record { action = None; replies = None };
+      asked = Some (writes.Update 0 (changes.Set 2 (values.Int (pos 0)) ∷ []) [] ∷ []);
+    }
+    ∷ []))
+    ≡ (codes "{\"call\":19,\"time\":4,\"slots\":[{\"slot\":2,\"worker\":2,\"do\":null,\"replies\":null,\"asked\":[{\"update\":\"acct\",\"change\":[[\"set\","
+    ++ codes "\"bal\",0]],\"where\":[]}]}]}\n")
+unfolding digits
+cancelled = refl
+
+-- a slot that a repair replaced by two writes
+replaced : call_text accounts 25 (answers.Slots 4 (
+    record {
+      number = 2;
+      worker = 2;
+      slot = record {
+        action = Some (
+            writes.Delete 0 (record { column = 1; value = values.Text (codes "bob") } ∷ record { column = 2; value = values.Int (pos 0) } ∷ [])
+            ∷ writes.Update 0 (changes.Set 1 (values.Text (codes "eve")) ∷ changes.Add 2 (pos 5) ∷ []) [] ∷ []);
+        replies = Some (replies.Deleted 0 ∷ replies.Updated 2 ∷ []);
+      };
+      asked = Some [];
+    }
+    ∷ []))
+    ≡ (codes "{\"call\":25,\"time\":4,\"slots\":[{\"slot\":2,\"worker\":2,\"do\":[{\"delete\":\"acct\",\"where\":[[\"owner\",\"bob\"],[\"bal\",0]]},"
+    ++ codes "{\"update\":\"acct\",\"change\":[[\"set\",\"owner\",\"eve\"],[\"add\",\"bal\",5]],\"where\":[]}],\"replies\":[{\"deleted\":0},{\"updated\":2}],"
+    ++ codes "\"asked\":[]}]}\n")
+unfolding digits
+replaced = refl
+
+tables : call_text accounts 21 (answers.Declared 4 100000)
+    ≡ (codes "{\"call\":21,\"version\":2,\"tables\":[{\"name\":\"acct\",\"columns\":[{\"name\":\"id\",\"kind\":\"int\",\"partition\":false},{\"name\":\"owner\","
+    ++ codes "\"kind\":\"text\",\"partition\":true},{\"name\":\"bal\",\"kind\":\"int\",\"partition\":false}]}],\"keep\":4,\"records\":100000}\n")
+unfolding digits
+tables = refl
+
+status : call_text accounts 22 (answers.Standing (record { time = 4; generation = 1; oldest = 0; entries = 9; repair = None }))
+    ≡ codes "{\"call\":22,\"time\":4,\"generation\":1,\"oldest\":0,\"entries\":9,\"repair\":null}\n"
+unfolding digits
+status = refl

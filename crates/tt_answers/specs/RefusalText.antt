@@ -1,0 +1,72 @@
+-- Refusals and faults as they are printed.
+use Rattle.std.specs.Prelude.{ℕ, List, [], ◌∷◌, codes}
+use Rattle.tt_db.specs.declared.errors.DbError.{DbError}
+use Rattle.tt_db.specs.declared.errors.DbError.TheVariants as errors
+use Rattle.tt_db.specs.declared.errors.ReadError.{ReadError}
+use Rattle.tt_db.specs.declared.errors.ReadError.TheVariants as read_errors
+use Rattle.tt_document.specs.declared.fault.DocFault.{DocFault}
+use Rattle.tt_document.specs.declared.fault.DocFault.TheVariants as faults
+use Rattle.tt_document.specs.Causes.{cause_of_check}
+use Rattle.tt_document.specs.Fault.{document_fault}
+use Rattle.tt_document.specs.Quoting.{quoted}
+use Rattle.tt_answers.specs.declared.answer.Refusal.{Refusal}
+use Rattle.tt_answers.specs.declared.answer.Refusal.TheVariants as refusals
+use Rattle.tt_answers.specs.JsonText.{Member, number_member, object_text}
+
+-- a refusal without a number
+abbrev pub refused : List ℕ → List Member
+refused cause = (codes "refused", quoted cause) ∷ []
+
+-- a refusal with a number that belongs to it
+abbrev pub refused_at : List ℕ → List ℕ → ℕ → List Member
+refused_at cause name n = (codes "refused", quoted cause) ∷ number_member name n ∷ []
+
+-- there was no memory for the line
+abbrev pub out_of_memory : List Member
+out_of_memory = refused (codes "memory")
+
+-- why the database refuses an event. A session never meets the faults of a statement, slots that are left or that aren't left, or too many edits
+abbrev pub event_refused : DbError → List Member
+event_refused (errors.Statement fault) = refused (cause_of_check fault)
+event_refused errors.Repairing = refused (codes "repairing")
+event_refused errors.NotRepairing = refused (codes "not repairing")
+event_refused (errors.NotCaughtUp left) = refused_at (codes "not caught up") (codes "left") left
+event_refused errors.NothingLeft = refused (codes "nothing left")
+event_refused (errors.NoSlot slot) = refused_at (codes "no slot") (codes "slot") slot
+event_refused (errors.EditTwice slot) = refused_at (codes "edited twice") (codes "slot") slot
+event_refused errors.TooManyEdits = refused (codes "too many edits")
+event_refused (errors.Full limit) = refused_at (codes "full") (codes "limit") limit
+event_refused errors.Memory = out_of_memory
+
+-- a generation can't be read: only those from the oldest to the newest can
+abbrev pub no_generation : ℕ → ℕ → List Member
+no_generation oldest newest =
+    (codes "refused", quoted (codes "no generation")) ∷ number_member (codes "oldest") oldest ∷ number_member (codes "newest") newest ∷ []
+
+-- why the database refuses a read. A session never meets the faults of a statement, or a worker without a reading
+abbrev pub read_refused : ReadError → List Member
+read_refused (read_errors.Statement fault) = refused (cause_of_check fault)
+read_refused read_errors.NoReading = refused (codes "no reading")
+read_refused read_errors.NotRepairing = refused (codes "not repairing")
+read_refused (read_errors.NoGeneration oldest newest) = no_generation oldest newest
+read_refused (read_errors.Later now) = refused_at (codes "later") (codes "now") now
+read_refused read_errors.Memory = out_of_memory
+
+-- why a request is refused, in words
+abbrev pub refusal_members : Refusal → List Member
+refusal_members (refusals.Moved now) = refused_at (codes "moved") (codes "now") now
+refusal_members (refusals.Event error) = event_refused error
+refusal_members (refusals.Read error) = read_refused error
+
+-- a fault: its path and its cause
+abbrev pub fault_members_at : List ℕ → List ℕ → List Member
+fault_members_at path cause = (codes "fault", object_text ((codes "path", quoted path) ∷ (codes "cause", quoted cause) ∷ [])) ∷ []
+
+-- a fault of a line, or that there was no memory for it
+abbrev pub fault_members : DocFault → List Member
+fault_members (faults.At path cause) = fault_members_at path cause
+fault_members faults.Memory = out_of_memory
+
+-- the fault of a line that is longer than lines may be
+abbrev pub too_long : DocFault
+too_long = document_fault (codes "longer than 16777216 bytes")

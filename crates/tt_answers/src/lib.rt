@@ -1,0 +1,18 @@
+//! What a request to a live database is answered, and the line of JSON that says so.
+#![tactic(auto)]
+
+mod answer;
+mod answer_text;
+mod fault_text;
+mod json_text;
+mod refusal_text;
+mod reply_text;
+mod slot_text;
+mod table_text;
+mod write_text;
+
+pub use answer::{Answer, ChangeEntry, Place, Refusal, RowPage, SlotEntry, Status};
+pub use answer_text::{push_call, push_opening};
+pub use fault_text::{
+    push_call_memory, push_call_too_long, push_opening_memory, push_opening_too_long,
+};

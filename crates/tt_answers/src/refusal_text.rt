@@ -1,0 +1,109 @@
+//! Refusals as they are printed.
+ghost use Rattle.std.specs.Prelude.{◌≡◌, ◌++◌, OnOk};
+ghost use Rattle.tt_document.specs.Causes.{cause_of_check};
+ghost use Rattle.tt_answers.specs.JsonText.{members_text};
+ghost use Rattle.tt_answers.specs.RefusalText.{refused, refused_at, no_generation, event_refused, read_refused, refusal_members};
+
+use crate::answer::Refusal;
+use crate::fault_text::push_out_of_memory;
+use crate::json_text::{push_labelled, push_named};
+use std::alloc::AllocError;
+use tt_db::{DbError, ReadError};
+use tt_values::CheckError;
+use tt_workload::push_decimal;
+
+/// Pushes the members of a refusal.
+pub(crate) fn push_refusal(out: &mut Vec<u8>, refusal: Refusal) -> Result<(), AllocError>
+    ensures { OnOk result (out.new.items
+        ≡ out.old.items ++ members_text (refusal_members refusal)) }
+{
+    match refusal {
+        Refusal::Moved { now } => push_refused_at(out, "moved", "now", now),
+        Refusal::Event(error) => push_event_refused(out, error),
+        Refusal::Read(error) => push_read_refused(out, error),
+    }
+}
+
+/// Pushes why the database refuses an event.
+fn push_event_refused(out: &mut Vec<u8>, error: DbError) -> Result<(), AllocError>
+    ensures { OnOk result (out.new.items ≡ out.old.items ++ members_text (event_refused error)) }
+{
+    match error {
+        DbError::Statement(fault) => push_refused(out, cause_of_check(fault)),
+        DbError::Repairing => push_refused(out, "repairing"),
+        DbError::NotRepairing => push_refused(out, "not repairing"),
+        DbError::NotCaughtUp { left } => push_refused_at(out, "not caught up", "left", left),
+        DbError::NothingLeft => push_refused(out, "nothing left"),
+        DbError::NoSlot { t } => push_refused_at(out, "no slot", "slot", t),
+        DbError::EditTwice { t } => push_refused_at(out, "edited twice", "slot", t),
+        DbError::TooManyEdits => push_refused(out, "too many edits"),
+        DbError::Full { limit } => push_refused_at(out, "full", "limit", limit),
+        DbError::Memory => push_out_of_memory(out),
+    }
+}
+
+/// Pushes why the database refuses a read.
+fn push_read_refused(out: &mut Vec<u8>, error: ReadError) -> Result<(), AllocError>
+    ensures { OnOk result (out.new.items ≡ out.old.items ++ members_text (read_refused error)) }
+{
+    match error {
+        ReadError::Statement(fault) => push_refused(out, cause_of_check(fault)),
+        ReadError::NoReading => push_refused(out, "no reading"),
+        ReadError::NotRepairing => push_refused(out, "not repairing"),
+        ReadError::NoGeneration { oldest, newest } => push_no_generation(out, oldest, newest),
+        ReadError::Later { now } => push_refused_at(out, "later", "now", now),
+        ReadError::Memory => push_out_of_memory(out),
+    }
+}
+
+/// Pushes that a generation can't be read.
+fn push_no_generation(out: &mut Vec<u8>, oldest: u64, newest: u64) -> Result<(), AllocError>
+    ensures { OnOk result (out.new.items
+        ≡ out.old.items ++ members_text (no_generation oldest newest)) }
+{
+    push_labelled(out, b"\"refused\":\"no generation\",\"oldest\":", oldest)?;
+    push_labelled(out, b",\"newest\":", newest)?;
+    Ok(())
+}
+
+/// Pushes a refusal without a number.
+fn push_refused(out: &mut Vec<u8>, cause: &str) -> Result<(), AllocError>
+    ensures { OnOk result (out.new.items ≡ out.old.items ++ members_text (refused cause.now)) }
+{
+    push_named(out, b"\"refused\":", cause.as_bytes())?;
+    Ok(())
+}
+
+/// Pushes a refusal with a number that belongs to it.
+fn push_refused_at(
+    out: &mut Vec<u8>,
+    cause: &str,
+    name: &str,
+    number: u64,
+) -> Result<(), AllocError>
+    ensures { OnOk result (out.new.items
+        ≡ out.old.items ++ members_text (refused_at cause.now name.now number)) }
+{
+    push_named(out, b"\"refused\":", cause.as_bytes())?;
+    push_named(out, b",", name.as_bytes())?;
+    out.push(b':')?;
+    push_decimal(out, number)?;
+    Ok(())
+}
+
+/// Why a statement or an action is refused.
+fn cause_of_check(error: CheckError) -> &'static str
+    ensures { result.now ≡ cause_of_check error }
+{
+    match error {
+        CheckError::NoTable => "no such table",
+        CheckError::NoColumn => "no such column",
+        CheckError::WrongKind => "value of the wrong kind",
+        CheckError::WrongWidth => "row of the wrong width",
+        CheckError::TextTooLong => "text too long",
+        CheckError::SetsKey => "key set by an update",
+        CheckError::SameColumnTwice => "column changed twice",
+        CheckError::TooManyEquals => "too many equalities",
+        CheckError::TooManyWrites => "too many writes",
+    }
+}

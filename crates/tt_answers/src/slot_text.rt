@@ -1,0 +1,141 @@
+//! Slots and changed replies as they are printed.
+ghost use Rattle.std.specs.Prelude.{◌≡◌, ◌++◌, map, OnOk};
+ghost use Rattle.std.specs.List.{flat_map};
+ghost use Rattle.tt_answers.specs.JsonText.{further_item, array_text, member_text};
+ghost use Rattle.tt_answers.specs.AnswerText.{asked_members, slot_text, place_member, after_text, change_text};
+
+use crate::answer::{ChangeEntry, Place, SlotEntry};
+use crate::json_text::push_labelled;
+use crate::reply_text::{push_replies, push_replies_or_null};
+use crate::write_text::{push_action, push_action_or_null};
+use std::alloc::AllocError;
+use tt_records::After;
+use tt_values::{Catalog, Items, Write};
+
+/// Pushes slots as an array.
+pub(crate) fn push_slots(
+    out: &mut Vec<u8>,
+    catalog: &Catalog,
+    slots: &[SlotEntry],
+) -> Result<(), AllocError>
+    ensures { OnOk result (out.new.items
+        ≡ out.old.items ++ array_text (map (slot_text catalog.now) slots.now)) }
+{
+    let [first, further @ ..] = slots else {
+        return out.extend_from_slice(b"[]");
+    };
+    out.push(b'[')?;
+    push_slot(out, catalog, first)?;
+    push_further_slots(out, catalog, further)?;
+    out.push(b']')?;
+    Ok(())
+}
+
+/// Pushes further slots, each behind a comma.
+fn push_further_slots(
+    out: &mut Vec<u8>,
+    catalog: &Catalog,
+    slots: &[SlotEntry],
+) -> Result<(), AllocError>
+    ensures { OnOk result (out.new.items
+        ≡ out.old.items ++ flat_map further_item (map (slot_text catalog.now) slots.now)) }
+{
+    for slot in slots {
+        out.push(b',')?;
+        push_slot(out, catalog, slot)?;
+    }
+    Ok(())
+}
+
+/// Pushes a slot.
+fn push_slot(out: &mut Vec<u8>, catalog: &Catalog, entry: &SlotEntry) -> Result<(), AllocError>
+    ensures { OnOk result (out.new.items ≡ out.old.items ++ slot_text catalog.now entry.now) }
+{
+    push_labelled(out, b"{\"slot\":", entry.number)?;
+    push_labelled(out, b",\"worker\":", u64::from(entry.worker))?;
+    out.extend_from_slice(b",\"do\":")?;
+    push_action_or_null(out, catalog, &entry.slot.action)?;
+    out.extend_from_slice(b",\"replies\":")?;
+    push_replies_or_null(out, &entry.slot.replies)?;
+    push_asked(out, catalog, &entry.asked)?;
+    out.push(b'}')?;
+    Ok(())
+}
+
+/// Pushes the action that was asked for, if that is told.
+fn push_asked(
+    out: &mut Vec<u8>,
+    catalog: &Catalog,
+    asked: &Option<Items<Write>>,
+) -> Result<(), AllocError>
+    ensures { OnOk result (out.new.items ≡ out.old.items
+        ++ flat_map further_item (map member_text (asked_members catalog.now asked.now))) }
+{
+    if let Some(action) = asked {
+        out.extend_from_slice(b",\"asked\":")?;
+        push_action(out, catalog, action.as_slice())?;
+    }
+    Ok(())
+}
+
+/// Pushes changed replies as an array.
+pub(crate) fn push_changes(out: &mut Vec<u8>, changes: &[ChangeEntry]) -> Result<(), AllocError>
+    ensures { OnOk result (out.new.items
+        ≡ out.old.items ++ array_text (map change_text changes.now)) }
+{
+    let [first, further @ ..] = changes else {
+        return out.extend_from_slice(b"[]");
+    };
+    out.push(b'[')?;
+    push_change(out, first)?;
+    push_further_changes(out, further)?;
+    out.push(b']')?;
+    Ok(())
+}
+
+/// Pushes further changed replies, each behind a comma.
+fn push_further_changes(out: &mut Vec<u8>, changes: &[ChangeEntry]) -> Result<(), AllocError>
+    ensures { OnOk result (out.new.items
+        ≡ out.old.items ++ flat_map further_item (map change_text changes.now)) }
+{
+    for change in changes {
+        out.push(b',')?;
+        push_change(out, change)?;
+    }
+    Ok(())
+}
+
+/// Pushes a changed reply.
+fn push_change(out: &mut Vec<u8>, entry: &ChangeEntry) -> Result<(), AllocError>
+    ensures { OnOk result (out.new.items ≡ out.old.items ++ change_text entry.now) }
+{
+    push_labelled(out, b"{\"call\":", entry.change.call)?;
+    push_place(out, entry.place)?;
+    out.extend_from_slice(b",\"before\":")?;
+    push_replies(out, entry.change.before.as_slice())?;
+    out.extend_from_slice(b",\"after\":")?;
+    push_after(out, &entry.change.after)?;
+    out.push(b'}')?;
+    Ok(())
+}
+
+/// Pushes a slot or a time, behind a comma.
+fn push_place(out: &mut Vec<u8>, place: Place) -> Result<(), AllocError>
+    ensures { OnOk result (out.new.items
+        ≡ out.old.items ++ further_item (member_text (place_member place))) }
+{
+    match place {
+        Place::Slot(slot) => push_labelled(out, b",\"slot\":", slot),
+        Place::Time(time) => push_labelled(out, b",\"time\":", time),
+    }
+}
+
+/// Pushes what stands in the place of replies.
+fn push_after(out: &mut Vec<u8>, after: &After) -> Result<(), AllocError>
+    ensures { OnOk result (out.new.items ≡ out.old.items ++ after_text after.now) }
+{
+    match after {
+        After::Cancelled => out.extend_from_slice(b"\"cancelled\""),
+        After::Replies(replies) => push_replies(out, replies.as_slice()),
+    }
+}
