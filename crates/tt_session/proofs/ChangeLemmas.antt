@@ -1,0 +1,43 @@
+-- The changes of records, one record after another.
+use Rattle.std.proofs.Common.{◌≡◌, ℕ, true, false, ◌<◌, List, [], ◌∷◌, ◌++◌, length, Option, None, Some, refl, sym, ap, ◌∙◌, arith, length-append}
+use Rattle.std.specs.Prelude.{IsSome, ◌↔◌}
+use Rattle.std.specs.Option.{option_to_list}
+use Rattle.std.specs.List.{cons_option}
+use Rattle.tt_records.specs.declared.record.Record.{Record}
+use Rattle.tt_records.specs.declared.changed.Changed.{Changed}
+use Rattle.tt_records.specs.Changes.{as_list}
+use Rattle.tt_answers.specs.declared.answer.ChangeEntry.{ChangeEntry}
+use Rattle.tt_session.specs.ChangeEntries.{first_call, entry_of_change, entries_of_changes, telling_changes}
+use Rattle.tt_answers.specs.declared.answer.Answer.TheVariants as answers
+use Rattle.tt_session.specs.declared.carried_out.CarriedOut.{CarriedOut}
+use Rattle.tt_session.specs.Session.{OpenSession}
+use Rattle.tt_session.specs.Answers.{answered_by}
+
+last-of-one : (x y : Changed) (rest : List Changed) → x ∷ [] ≡ rest ++ y ∷ [] → x ≡ y
+last-of-one x y [] is = cc
+last-of-one x y (z ∷ rest) is = absurd (omega (arith, ap length is, length-append rest (y ∷ [])))
+
+-- the only change is the last one
+pub only_change : (change last : Option Changed) (rest : List Changed) → as_list change ++ [] ≡ rest ++ option_to_list last → (IsSome last ↔ (0 < length (as_list change ++ []))) → last ≡ change
+only_change None None rest is some = refl
+only_change None (Some y) rest is some = absurd (omega (arith, ap length is, length-append rest (y ∷ [])))
+only_change (Some x) None rest is some = let clash : false ≡ true = some.1 (omega arith) in cc
+only_change (Some x) (Some y) rest is some = ap Some (sym (last-of-one x y rest is))
+
+-- the changes of two lists of records
+pub entries-append : (change_in : Record → Option Changed) (older newer : List Record)
+    → entries_of_changes change_in (older ++ newer) ≡ entries_of_changes change_in older ++ entries_of_changes change_in newer
+entries-append change_in [] newer = refl
+entries-append change_in (r ∷ older) newer = by (entry_of_change r.what (change_in r)) (entries-append change_in older newer)
+  where
+    by : (o : Option ChangeEntry) → entries_of_changes change_in (older ++ newer) ≡ entries_of_changes change_in older ++ entries_of_changes change_in newer
+        → cons_option o (entries_of_changes change_in (older ++ newer)) ≡ cons_option o (entries_of_changes change_in older) ++ entries_of_changes change_in newer
+    by None is = is
+    by (Some e) is = ap (λ es. e ∷ es) is
+
+-- what is told of the changes of all records
+pub tells_changes : (session : OpenSession) (done : CarriedOut) (first : ℕ) (list : List ChangeEntry) (change_in : Record → Option Changed)
+    → done ≡ record { answer = answers.Changes first list; db = None; latest = None } → first ≡ first_call session.records session.calls
+    → list ≡ entries_of_changes change_in session.records → answered_by session done ≡ telling_changes session change_in
+tells_changes session done first list change_in is first_is list_is =
+    ap (answered_by session) is ∙ (λ i. record { answer = answers.Changes (first_is i) (list_is i); session = session })

@@ -1,0 +1,285 @@
+-- An open session goes on as one, whatever it is asked.
+use Rattle.std.proofs.Common.{◌≡◌, ℕ, ◌+◌, ◌-◌, ◌≤◌, min, Bool, true, false, ◌&&◌, nat_lt, List, [], ◌∷◌, ◌++◌, length, Option, None, Some, Result, Ok, Err, refl, sym, ap, subst, ◌∙◌, arith, length-drop}
+use Rattle.std.specs.Option.{option_or}
+use Rattle.std.proofs.lemmas.Bool.Decides.{nat_tests}
+use Rattle.tt_values.specs.declared.statement.Write.{Write}
+use Rattle.tt_values.specs.declared.statement.Select.{Select}
+use Rattle.tt_values.specs.declared.reply.Reply.{Reply}
+use Rattle.tt_values.specs.Tables.{IsCatalog}
+use Rattle.tt_values.specs.Action.{replies_of}
+use Rattle.tt_repair_laws.specs.declared.edit.Edit.{Edit}
+use Rattle.tt_generations.specs.TwoGenerations.{Phase, Idle, Repairing, is_repairing}
+use Rattle.tt_db.specs.declared.limits.Limits.{Limits}
+use Rattle.tt_db.specs.declared.event.Event.{Event}
+use Rattle.tt_db.specs.declared.event.Event.TheVariants as events
+use Rattle.tt_db.specs.declared.errors.DbError.{DbError}
+use Rattle.tt_db.specs.declared.errors.DbError.TheVariants as errors
+use Rattle.tt_db.specs.Limits.{Fits}
+use Rattle.tt_db.specs.declared.errors.ReadError.{ReadError}
+use Rattle.tt_db.specs.State.{next_state, slots_left, refused_if, unless_repairing, last_items}
+use Rattle.tt_db.specs.Database.{Database, state_of, refusal_of, now_in, current_of_db, right_preview_of}
+use Rattle.tt_records.specs.declared.record.Record.{Record}
+use Rattle.tt_records.specs.declared.record.What.{What}
+use Rattle.tt_records.specs.declared.record.What.TheVariants as whats
+use Rattle.tt_records.specs.Changes.{next_change_of}
+use Rattle.tt_requests.specs.declared.request.Command.{Command}
+use Rattle.tt_requests.specs.declared.request.Command.TheVariants as commands
+use Rattle.tt_requests.specs.declared.request.Request.{Request}
+use Rattle.tt_requests.specs.declared.request.Page.{Page}
+use Rattle.tt_answers.specs.declared.answer.Answer.{Answer}
+use Rattle.tt_answers.specs.declared.answer.Refusal.{Refusal}
+use Rattle.tt_workload.proofs.SlotLemmas.{after-push}
+use Rattle.tt_session.specs.Session.{OpenSession, state_in, with_database, with_latest_if}
+use Rattle.std.specs.Prelude.{⊤, OnOk}
+use Rattle.tt_answers.specs.AnswerText.{call_text}
+use Rattle.tt_session.specs.declared.carried_out.CarriedOut.{CarriedOut}
+use Rattle.tt_session.specs.Run.{turn_by_outcome, turn_by_request}
+use Rattle.tt_session.specs.Answers.{Answered, answered_by}
+use Rattle.tt_session.specs.Room.{has_no_room_to_end, events_at_end, full_by_repair, refusal_in_session, CanEnd}
+use Rattle.tt_session.specs.Sound.{IsSound, GoesOn}
+use Rattle.tt_session.specs.Repairing.{entry_by, with_event, with_steps, with_all_steps, unless_refused, telling_progress, telling_status, after_switch, begin, step, finish, abort}
+use Rattle.tt_session.specs.Reading.{selected_by, previewed_by, latest_if, asks_for_all}
+use Rattle.tt_session.specs.ChangeEntries.{telling_changes, next_changes}
+use Rattle.tt_session.specs.Commands.{write, written, carried_out, moved_to, unless_moved, outcome_of_request}
+use Rattle.tt_session.proofs.StepLemmas.{can_end, switch_is_accepted, abort_is_accepted}
+use Rattle.tt_session.proofs.LawLemmas.{HasLegalHistory, legal-push, is_stepped}
+
+-- what is known of an open session
+abbrev pub IsSoundSession : OpenSession → Type 0
+IsSoundSession session = IsSound session.database session.database.limits session.records session.most_records
+
+-- ---- from a result back to what it came from
+
+from_unless : (refusal : Option DbError) (a b : Answered) → unless_refused refusal a ≡ Ok b → (refusal ≡ None) × (a ≡ b)
+from_unless None a b is = (refl, cc)
+from_unless (Some error) a b is = cc
+
+or-none : (first second : Option DbError) → option_or first second ≡ None → (first ≡ None) × (second ≡ None)
+or-none None second is = (refl, is)
+or-none (Some error) second is = cc
+
+refused_if-none : (b : Bool) (error : DbError) → refused_if b error ≡ None → b ≡ false
+refused_if-none true error is = cc
+refused_if-none false error is = refl
+
+under_way-none : (phase : Phase) → unless_repairing phase ≡ None → is_repairing phase ≡ true
+under_way-none Idle is = cc
+under_way-none (Repairing edits n) is = refl
+
+moved-none : (now : Option ℕ) (outcome : Result Answered Refusal) (b : Answered) → unless_moved now outcome ≡ Ok b → outcome ≡ Ok b
+moved-none None outcome b is = is
+moved-none (Some now) outcome b is = cc
+
+-- ---- the next database
+
+-- a database with a legal history, and room for the end of its repair
+record IsNext (next : Database) : Type 0 where
+  legal : HasLegalHistory next
+  room : has_no_room_to_end next.limits (state_of next) ≡ false
+
+room-test : (limit : ℕ) (n : ℕ) → n ≤ limit → nat_lt limit n ≡ false
+room-test limit n few = grind (arith, nat_tests, few)
+
+room-can_end : (db : Database) → CanEnd db → has_no_room_to_end db.limits (state_of db) ≡ false
+room-can_end db is =
+    ap (λ b. b && nat_lt db.limits.events (events_at_end (state_of db))) is.repairing
+    ∙ room-test db.limits.events (events_at_end (state_of db)) is.room
+
+-- an event that a session doesn't refuse
+accepted : (db : Database) (worker : ℕ) (event : Event) → HasLegalHistory db → refusal_in_session db event ≡ None → IsNext (with_event db worker event)
+accepted db worker event legal none =
+    let both = or-none (refusal_of db event) (full_by_repair db event) none in
+    record {
+      legal = legal-push db worker event legal both.0;
+      room = ap (has_no_room_to_end db.limits) (after-push db.limits db.history (entry_by worker event)) ∙ refused_if-none (has_no_room_to_end db.limits (next_state db.limits (state_of db) event)) (errors.Full db.limits.events) both.1;
+    }
+
+stepped : (db : Database) (worker count : ℕ) → HasLegalHistory db → CanEnd db → count ≤ slots_left (state_of db) → IsNext (with_steps db worker count)
+stepped db worker count legal is few =
+    let all = is_stepped count db worker is legal few in
+    record { legal = all.legal; room = room-can_end (with_steps db worker count) all.can_end }
+
+switched : (db : Database) (worker : ℕ) → HasLegalHistory db → CanEnd db → IsNext (with_event (with_all_steps db worker) worker events.Switch)
+switched db worker legal is =
+    let all = is_stepped (slots_left (state_of db)) db worker is legal (omega arith) in
+    let last = with_all_steps db worker in
+    let none : slots_left (state_of last) ≡ 0 = omega (arith, all.left) in
+    record {
+      legal = legal-push last worker events.Switch all.legal (switch_is_accepted last all.can_end none);
+      room = ap (has_no_room_to_end db.limits) (after-push db.limits last.history (entry_by worker events.Switch));
+    }
+
+given_up : (db : Database) (worker : ℕ) → HasLegalHistory db → CanEnd db → IsNext (with_event db worker events.Abort)
+given_up db worker legal is = record {
+  legal = legal-push db worker events.Abort legal (abort_is_accepted db is);
+  room = ap (has_no_room_to_end db.limits) (after-push db.limits db.history (entry_by worker events.Abort));
+}
+
+-- ---- the next session
+
+same : (session : OpenSession) → IsSoundSession session → GoesOn session session
+same session sound = record { catalog = refl; limits = refl; sound = sound }
+
+few_last : (most : ℕ) (records : List Record) → length (last_items most records) ≤ most
+few_last most records = omega (arith, length-drop (length records - most) records)
+
+with_latest-sound : (session : OpenSession) (latest : Record) → IsSoundSession session → GoesOn session (with_latest_if session (Some latest))
+with_latest-sound session latest sound = record {
+  catalog = refl;
+  limits = refl;
+  sound = record {
+    limits = refl;
+    catalog = sound.catalog;
+    fits = sound.fits;
+    legal = sound.legal;
+    room = sound.room;
+    few_records = few_last session.most_records (session.records ++ latest ∷ []);
+    few_kept = sound.few_kept;
+  };
+}
+
+-- the database is another one, with the same tables and limits
+next-sound : (session : OpenSession) (next : Database) → IsSoundSession session → IsNext next → next.catalog ≡ session.database.catalog → next.limits ≡ session.database.limits
+    → GoesOn session (with_database session next)
+next-sound session next sound is catalog limits = record {
+  catalog = catalog;
+  limits = limits;
+  sound = record {
+    limits = refl;
+    catalog = subst IsCatalog (sym catalog) sound.catalog;
+    fits = subst Fits (sym limits) sound.fits;
+    legal = is.legal;
+    room = is.room;
+    few_records = sound.few_records;
+    few_kept = sound.few_kept;
+  };
+}
+
+onwards : (first second last : OpenSession) → GoesOn first second → (IsSoundSession second → GoesOn second last) → GoesOn first last
+onwards first second last on more =
+    let sound : IsSoundSession second = on.sound in
+    let rest = more sound in
+    record { catalog = rest.catalog ∙ on.catalog; limits = rest.limits ∙ on.limits; sound = rest.sound }
+
+-- ---- commands
+
+-- an answered session goes on
+abbrev AnswersOn : OpenSession → Result Answered Refusal → Type 0
+AnswersOn session outcome = (b : Answered) → outcome ≡ Ok b → GoesOn session b.session
+
+to : (session : OpenSession) (a b : Answered) → a ≡ b → GoesOn session a.session → GoesOn session b.session
+to session a b is on = subst (λ (x : Answered). GoesOn session x.session) is on
+
+from_ok : (a b : Answered) → ◌≡◌ {A = Result Answered Refusal} (Ok a) (Ok b) → a ≡ b
+from_ok a b is = cc
+
+told : (session : OpenSession) (answer : Answer) → IsSoundSession session → AnswersOn session (Ok (record { answer = answer; session = session }))
+told session answer sound b is = to session _ b (from_ok (record { answer = answer; session = session }) b is) (same session sound)
+
+write-on : (session : OpenSession) (worker : ℕ) (action : List Write) → IsSoundSession session → AnswersOn session (write session worker action)
+write-on session worker action sound b is =
+    let db = session.database in
+    let next = with_event db worker (events.Write action) in
+    let parts = from_unless (refusal_in_session db (events.Write action)) (written session worker action) b is in
+    let on = next-sound session next sound (accepted db worker (events.Write action) sound.legal parts.0) refl refl in
+    let latest : Record = record { call = session.calls; worker = worker; what = whats.Write (now_in db + 1) (replies_of action (current_of_db db (now_in db))) } in
+    to session (written session worker action) b parts.1 (onwards session (with_database session next) _ on (λ s. with_latest-sound (with_database session next) latest s))
+
+begin-on : (session : OpenSession) (worker : ℕ) (edits : List Edit) → IsSoundSession session → AnswersOn session (begin session worker edits)
+begin-on session worker edits sound b is =
+    let db = session.database in
+    let next = with_event db worker (events.Begin edits) in
+    let parts = from_unless (refusal_in_session db (events.Begin edits)) (telling_progress session next) b is in
+    to session (telling_progress session next) b parts.1 (next-sound session next sound (accepted db worker (events.Begin edits) sound.legal parts.0) refl refl)
+
+under_way : (session : OpenSession) → IsSoundSession session → unless_repairing (state_in session).phase ≡ None → CanEnd session.database
+under_way session sound none = can_end session.database (under_way-none (state_in session).phase none) sound.room
+
+step-on : (session : OpenSession) (worker most : ℕ) → IsSoundSession session → AnswersOn session (step session worker most)
+step-on session worker most sound b is =
+    let db = session.database in
+    let count = min most (slots_left (state_of db)) in
+    let next = with_steps db worker count in
+    let parts = from_unless (unless_repairing (state_of db).phase) (telling_progress session next) b is in
+    let few : count ≤ slots_left (state_of db) = omega arith in
+    to session (telling_progress session next) b parts.1 (next-sound session next sound (stepped db worker count sound.legal (under_way session sound parts.0) few) refl refl)
+
+finish-on : (session : OpenSession) (worker : ℕ) → IsSoundSession session → AnswersOn session (finish session worker)
+finish-on session worker sound b is =
+    let db = session.database in
+    let last = with_all_steps db worker in
+    let parts = from_unless (unless_repairing (state_of db).phase) (after_switch session worker last) b is in
+    to session (after_switch session worker last) b parts.1
+    (next-sound session (with_event last worker events.Switch) sound (switched db worker sound.legal (under_way session sound parts.0)) refl refl)
+
+abort-on : (session : OpenSession) (worker : ℕ) → IsSoundSession session → AnswersOn session (abort session worker)
+abort-on session worker sound b is =
+    let db = session.database in
+    let next = with_event db worker events.Abort in
+    let parts = from_unless (unless_repairing (state_of db).phase) (telling_status session next) b is in
+    to session (telling_status session next) b parts.1 (next-sound session next sound (given_up db worker sound.legal (under_way session sound parts.0)) refl refl)
+
+latest-on : (session : OpenSession) (kept : Bool) (worker : ℕ) (what : What) → IsSoundSession session → GoesOn session (with_latest_if session (latest_if kept session worker what))
+latest-on session true worker what sound = with_latest-sound session (record { call = session.calls; worker = worker; what = what }) sound
+latest-on session false worker what sound = same session sound
+
+selected-on : (session : OpenSession) (worker : ℕ) (q : Select) (generation : Option ℕ) (page : Page) (time : ℕ) (right : Result Reply ReadError) → IsSoundSession session
+    → AnswersOn session (selected_by session worker q generation page time right)
+selected-on session worker q generation page time (Err error) sound b is = cc
+selected-on session worker q generation page time (Ok reply) sound b is =
+    to session _ b (from_ok _ b is) (latest-on session (asks_for_all generation page) worker (whats.Read q time reply) sound)
+
+previewed-on : (session : OpenSession) (page : Page) (right : Result Reply ReadError) → IsSoundSession session → AnswersOn session (previewed_by session page right)
+previewed-on session page (Err error) sound b is = cc
+previewed-on session page (Ok reply) sound b is = to session _ b (from_ok _ b is) (same session sound)
+
+next_changes-on : (session : OpenSession) → IsSoundSession session → AnswersOn session (next_changes session)
+next_changes-on session sound b is =
+    let S = state_in session in
+    let told = telling_changes session (next_change_of session.database.catalog S) in
+    let parts = from_unless (unless_repairing S.phase) told b is in
+    to session told b parts.1 (same session sound)
+
+carried_out-on : (session : OpenSession) (worker : ℕ) (command : Command) → IsSoundSession session → AnswersOn session (carried_out session worker command)
+carried_out-on session worker (commands.Write action) sound = write-on session worker action sound
+carried_out-on session worker (commands.Read q at generation page) sound = selected-on session worker q generation page _ _ sound
+carried_out-on session worker (commands.Preview q page) sound = previewed-on session page (right_preview_of session.database q) sound
+carried_out-on session worker (commands.Begin edits) sound = begin-on session worker edits sound
+carried_out-on session worker (commands.Step most) sound = step-on session worker most sound
+carried_out-on session worker commands.Finish sound = finish-on session worker sound
+carried_out-on session worker commands.Abort sound = abort-on session worker sound
+carried_out-on session worker commands.Status sound = told session _ sound
+carried_out-on session worker (commands.Slots from to by row) sound = told session _ sound
+carried_out-on session worker commands.Changes sound = told session _ sound
+carried_out-on session worker commands.NextChanges sound = next_changes-on session sound
+carried_out-on session worker commands.Tables sound = told session _ sound
+
+-- whatever a session is asked, it goes on as one
+pub goes_on : (session : OpenSession) (request : Request) → IsSoundSession session → (b : Answered) → outcome_of_request session request ≡ Ok b → GoesOn session b.session
+goes_on session request sound b is =
+    carried_out-on session request.worker request.command sound b (moved-none (moved_to (now_in session.database) request.expected) _ b is)
+
+-- what is told of a request that is carried out: the tables stay, and so does the number of the call
+pub told_text : {E : Type 0} (r : Result ⊤ E) (session : OpenSession) (request : Request) (done : CarriedOut) (old new : List ℕ)
+    → outcome_of_request session request ≡ Ok (answered_by session done) → GoesOn session (answered_by session done).session
+    → OnOk r (new ≡ old ++ call_text session.database.catalog session.calls done.answer) → OnOk r (new ≡ old ++ (turn_by_request session (Ok request)).text)
+told_text (Ok u) session request done old new is on text =
+    text ∙ ap (λ tables. old ++ call_text tables session.calls done.answer) (sym on.catalog)
+    ∙ ap (λ (o : Result Answered Refusal). old ++ (turn_by_outcome session o).text) (sym is)
+told_text (Err e) session request done old new is on text = tt
+
+-- what is known of the fields of a session is known of it
+pub known : (db : Database) (limits : Limits) (records : List Record) (most calls : ℕ) (session : OpenSession) → IsSound db limits records most
+    → ◌≡◌ {A = OpenSession} (record { database = db; records = records; most_records = most; calls = calls }) session → IsSoundSession session
+known db limits records most calls session is view_is =
+    let opened : OpenSession = record { database = db; records = records; most_records = most; calls = calls } in
+    let sound : IsSoundSession opened = record {
+      limits = refl;
+      catalog = is.catalog;
+      fits = is.fits;
+      legal = is.legal;
+      room = is.room;
+      few_records = is.few_records;
+      few_kept = is.few_kept;
+    } in
+    subst IsSoundSession view_is sound

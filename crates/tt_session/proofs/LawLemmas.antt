@@ -1,0 +1,56 @@
+-- What holds of an open session, whatever it is asked.
+use Rattle.std.proofs.Common.{◌≡◌, ℕ, zero, suc, ◌+◌, ◌<◌, ◌≤◌, List, [], ◌∷◌, ◌++◌, None, sym, subst, arith, fold}
+use Rattle.tt_values.specs.Tables.{Tables}
+use Rattle.tt_db.specs.declared.limits.Limits.{Limits}
+use Rattle.tt_db.specs.declared.event.Entry.{Entry}
+use Rattle.tt_db.specs.declared.event.Event.{Event}
+use Rattle.tt_db.specs.declared.event.Event.TheVariants as events
+use Rattle.tt_db.specs.State.{State, start, next_state, slots_left, refusal, IsLegal, IsLegalFrom}
+use Rattle.tt_db.specs.Database.{Database, state_of, refusal_of}
+use Rattle.tt_session.specs.Room.{CanEnd}
+use Rattle.tt_session.specs.Repairing.{entry_by, with_event, with_steps, with_all_steps}
+use Rattle.tt_session.specs.Invariants.{RepairsCanEnd}
+use Rattle.tt_session.proofs.StepLemmas.{can_end, step_is_accepted, switch_is_accepted, abort_is_accepted, can_end-step, left-step, with_steps-none, with_steps-first}
+
+-- ---- a database with further entries
+
+IsLegalFrom-push : (tables : Tables) (limits : Limits) (S : State) (history : List Entry) (e : Entry) → IsLegalFrom tables limits S history
+    → refusal tables limits (fold (λ T d. next_state limits T d.event) S history) e.event ≡ None → IsLegalFrom tables limits S (history ++ e ∷ [])
+IsLegalFrom-push tables limits S [] e legal none = (none, tt)
+IsLegalFrom-push tables limits S (d ∷ history) e legal none = (legal.0, IsLegalFrom-push tables limits (next_state limits S d.event) history e legal.1 none)
+
+-- the history of a database is legal
+abbrev pub HasLegalHistory : Database → Type 0
+HasLegalHistory db = IsLegal db.catalog db.limits db.history
+
+pub legal-push : (db : Database) (worker : ℕ) (event : Event) → HasLegalHistory db → refusal_of db event ≡ None → HasLegalHistory (with_event db worker event)
+legal-push db worker event legal none = IsLegalFrom-push db.catalog db.limits start db.history (entry_by worker event) legal none
+
+-- after steps a repair can still be ended, and has fewer slots left
+pub record IsStepped (db last : Database) (count : ℕ) : Type 0 where
+  pub can_end : CanEnd last
+  pub legal : HasLegalHistory last
+  pub left : slots_left (state_of last) + count ≡ slots_left (state_of db)
+
+pub is_stepped : (count : ℕ) (db : Database) (worker : ℕ) → CanEnd db → HasLegalHistory db → count ≤ slots_left (state_of db) → IsStepped db (with_steps db worker count) count
+is_stepped zero db worker is legal few =
+    let none : db ≡ with_steps db worker 0 = sym (with_steps-none db worker) in
+    subst (λ (d : Database). IsStepped db d 0) none (record { can_end = is; legal = legal; left = omega arith })
+is_stepped (suc count) db worker is legal few =
+    let some : 0 < slots_left (state_of db) = omega (arith, few) in
+    let next = with_event db worker events.Step in
+    let fewer = left-step db worker is some in
+    let rest = is_stepped count next worker (can_end-step db worker is some) (legal-push db worker events.Step legal (step_is_accepted db is some)) (omega (arith, few, fewer)) in
+    let all : IsStepped db (with_steps next worker count) (suc count) = record { can_end = rest.can_end; legal = rest.legal; left = omega (arith, rest.left, fewer) } in
+    subst (λ (d : Database). IsStepped db d (suc count)) (with_steps-first db worker count) all
+
+-- a repair that is under way can be finished, and can be given up
+pub repairs_can_end : RepairsCanEnd
+repairs_can_end session worker is repairing =
+    let db = session.database in
+    let under_way = can_end db repairing is.room in
+    let all = is_stepped (slots_left (state_of db)) db worker under_way is.legal (omega arith) in
+    let none : slots_left (state_of (with_all_steps db worker)) ≡ 0 = omega (arith, all.left) in (
+      legal-push (with_all_steps db worker) worker events.Switch all.legal (switch_is_accepted (with_all_steps db worker) all.can_end none),
+      abort_is_accepted db under_way,
+    )

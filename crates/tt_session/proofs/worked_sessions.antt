@@ -1,0 +1,5 @@
+mod Asking
+mod Transcript
+mod Faults
+mod Repairs
+mod Room

@@ -1,0 +1,85 @@
+-- What an open session answers to a request, and the session after it, or why the request is refused.
+use Rattle.std.specs.Prelude.{ℕ, ◌+◌, ◌==◌, List, Option, None, Some, Result, Ok, Err, if◌then◌else◌}
+use Rattle.tt_values.specs.declared.row_id.RowId.{RowId}
+use Rattle.tt_values.specs.declared.statement.Write.{Write}
+use Rattle.tt_values.specs.Action.{replies_of}
+use Rattle.tt_db.specs.declared.event.Event.TheVariants as events
+use Rattle.tt_db.specs.Database.{now_in, current_of_db}
+use Rattle.tt_records.specs.declared.record.What.TheVariants as whats
+use Rattle.tt_requests.specs.declared.request.Command.{Command}
+use Rattle.tt_requests.specs.declared.request.Command.TheVariants as commands
+use Rattle.tt_requests.specs.declared.request.Request.{Request}
+use Rattle.tt_session.specs.Session.{OpenSession, with_database, with_record}
+use Rattle.tt_answers.specs.declared.answer.Refusal.{Refusal}
+use Rattle.tt_answers.specs.declared.answer.Refusal.TheVariants as refusals
+use Rattle.tt_answers.specs.declared.answer.Answer.{Answer}
+use Rattle.tt_answers.specs.declared.answer.Answer.TheVariants as answers
+use Rattle.tt_session.specs.Answers.{Answered}
+use Rattle.tt_session.specs.Room.{refusal_in_session}
+use Rattle.tt_session.specs.Repairing.{with_event, status_of, unless_refused, begin, step, finish, abort}
+use Rattle.tt_session.specs.Reading.{read, preview}
+use Rattle.tt_session.specs.SlotEntries.{slot_entries}
+use Rattle.tt_session.specs.ChangeEntries.{changes, next_changes}
+
+-- an action takes the next slot: its replies are told, and recorded
+abbrev pub written : OpenSession → ℕ → List Write → Answered
+written session worker action =
+    let db = session.database in
+    let slot = now_in db + 1 in
+    let replies = replies_of action (current_of_db db (now_in db)) in
+    record {
+      answer = answers.Written slot replies;
+      session = with_record (with_database session (with_event db worker (events.Write action))) worker (whats.Write slot replies);
+    }
+
+-- an action takes the next slot, unless it is refused
+abbrev pub write : OpenSession → ℕ → List Write → Result Answered Refusal
+write session worker action = unless_refused (refusal_in_session session.database (events.Write action)) (written session worker action)
+
+-- the session stays as it is
+abbrev pub telling : OpenSession → Answer → Result Answered Refusal
+telling session answer = Ok (record { answer = answer; session = session })
+
+-- how the database stands
+abbrev pub status : OpenSession → Result Answered Refusal
+status session = telling session (answers.Standing (status_of session.database))
+
+-- what is told of slots, and the current time
+abbrev pub slots : OpenSession → ℕ → ℕ → Option ℕ → Option RowId → Result Answered Refusal
+slots session from to worker row =
+    telling session (answers.Slots (now_in session.database) (slot_entries session.database from to worker row))
+
+-- the tables, and how much is kept
+abbrev pub declared_tables : OpenSession → Result Answered Refusal
+declared_tables session =
+    telling session (answers.Declared session.database.limits.keep session.most_records)
+
+-- a command of a worker is carried out
+abbrev pub carried_out : OpenSession → ℕ → Command → Result Answered Refusal
+carried_out session worker (commands.Write action) = write session worker action
+carried_out session worker (commands.Read select at generation page) = read session worker select generation at page
+carried_out session worker (commands.Preview select page) = preview session select page
+carried_out session worker (commands.Begin edits) = begin session worker edits
+carried_out session worker (commands.Step most) = step session worker most
+carried_out session worker commands.Finish = finish session worker
+carried_out session worker commands.Abort = abort session worker
+carried_out session worker commands.Status = status session
+carried_out session worker (commands.Slots from to by row) = slots session from to by row
+carried_out session worker commands.Changes = changes session
+carried_out session worker commands.NextChanges = next_changes session
+carried_out session worker commands.Tables = declared_tables session
+
+-- the current time, if a request expects another one
+abbrev pub moved_to : ℕ → Option ℕ → Option ℕ
+moved_to now None = None
+moved_to now (Some expected) = if expected == now then None else Some now
+
+-- a request is carried out, unless the time isn't the one that it expects
+abbrev pub unless_moved : Option ℕ → Result Answered Refusal → Result Answered Refusal
+unless_moved None outcome = outcome
+unless_moved (Some now) outcome = Err (refusals.Moved now)
+
+-- what becomes of a request: it is carried out, unless it is refused
+abbrev pub outcome_of_request : OpenSession → Request → Result Answered Refusal
+outcome_of_request session request =
+    unless_moved (moved_to (now_in session.database) request.expected) (carried_out session request.worker request.command)

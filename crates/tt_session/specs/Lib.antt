@@ -1,0 +1,16 @@
+pub mod Session
+pub mod Failures
+pub mod Answers
+pub mod Room
+pub mod Sound
+pub mod Pages
+pub mod Reading
+pub mod Repairing
+pub mod SameWrites
+pub mod SlotEntries
+pub mod Moments
+pub mod ChangeEntries
+pub mod Commands
+pub mod Run
+pub mod Ends
+pub mod Invariants

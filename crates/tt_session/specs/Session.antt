@@ -1,0 +1,52 @@
+-- The state of a session: before it is opened, and while it is open.
+use Rattle.std.specs.Prelude.{ℕ, ◌+◌, List, [], ◌∷◌, ◌++◌, Option, None, Some, unwrap_or}
+use Rattle.tt_db.specs.Limits.{usual_limits}
+use Rattle.tt_db.specs.State.{State, last_items}
+use Rattle.tt_db.specs.Database.{Database, state_of}
+use Rattle.tt_records.specs.declared.record.Record.{Record}
+use Rattle.tt_records.specs.declared.record.What.{What}
+use Rattle.tt_requests.specs.declared.opening.Opening.{Opening}
+
+-- an open session: its database, the records of the last calls, how many records are kept at most, and how many calls there were
+pub record OpenSession : Type 0 where
+  pub database : Database
+  pub records : List Record
+  pub most_records : ℕ
+  pub calls : ℕ
+
+-- the state of its database
+abbrev pub state_in : OpenSession → State
+state_in session = state_of session.database
+
+-- the database that an opening asks for, with no history
+abbrev pub empty_database : Opening → Database
+empty_database opening = record { catalog = opening.catalog; limits = record usual_limits { keep = opening.keep }; history = [] }
+
+-- the session that an opening asks for, before its first call
+abbrev pub opened : Opening → OpenSession
+opened opening = record { database = empty_database opening; records = []; most_records = opening.records; calls = 0 }
+
+-- one more call
+abbrev pub counted : OpenSession → OpenSession
+counted session = record session { calls = session.calls + 1 }
+
+-- another database
+abbrev pub with_database : OpenSession → Database → OpenSession
+with_database session db = record session { database = db }
+
+-- the session with another database, if there is one
+abbrev pub with_database_if : OpenSession → Option Database → OpenSession
+with_database_if session next = with_database session (unwrap_or next session.database)
+
+-- records with a further one, if there is one. The oldest record goes if there are more than this many
+abbrev pub records_with : ℕ → List Record → Option Record → List Record
+records_with most records None = records
+records_with most records (Some latest) = last_items most (records ++ latest ∷ [])
+
+-- the session with a further record, if there is one
+abbrev pub with_latest_if : OpenSession → Option Record → OpenSession
+with_latest_if session latest = record session { records = records_with session.most_records session.records latest }
+
+-- what the last call asked for and was answered, on record
+abbrev pub with_record : OpenSession → ℕ → What → OpenSession
+with_record session worker what = with_latest_if session (Some (record { call = session.calls; worker = worker; what = what }))

@@ -1,0 +1,91 @@
+-- What a session tells of slots: who asked for what, and what became of it in the current generation.
+use Rattle.std.specs.Prelude.{ℕ, ◌+◌, ◌-◌, ◌==◌, ◌&&◌, not, nat_lt, Bool, true, false, List, length, Option, None, Some, option_map, option_and_then, if◌then◌else◌}
+use Rattle.std.specs.List.{filter_map, range_with_len}
+use Rattle.tt_values.specs.declared.row.Row.{Row}
+use Rattle.tt_values.specs.declared.row_id.RowId.{RowId}
+use Rattle.tt_values.specs.declared.statement.Write.{Write}
+use Rattle.tt_values.specs.Content.{row_at}
+use Rattle.tt_generations.specs.declared.slot.Slot.{Slot}
+use Rattle.tt_db.specs.declared.event.Event.{Event}
+use Rattle.tt_db.specs.declared.event.Event.TheVariants as events
+use Rattle.tt_db.specs.declared.event.Entry.{Entry}
+use Rattle.tt_db.specs.Database.{Database, nth_item, current_of_db, slot_of}
+use Rattle.tt_records.specs.Same.{is_same_row}
+use Rattle.tt_answers.specs.declared.answer.SlotEntry.{SlotEntry}
+use Rattle.tt_session.specs.SameWrites.{is_same_action}
+
+-- an action as it was asked for, and the worker that did
+pub record Asked : Type 0 where
+  pub worker : ℕ
+  pub action : List Write
+
+-- the action that an event asks for, if it does
+abbrev pub action_of : Event → Option (List Write)
+action_of (events.Write action) = Some action
+action_of (events.Begin edits) = None
+action_of events.Step = None
+action_of events.Switch = None
+action_of events.Abort = None
+
+-- an action as a worker asked for it
+abbrev pub asked_for : ℕ → List Write → Asked
+asked_for worker action = record { worker = worker; action = action }
+
+-- what a worker asks for by an event, if it is an action
+abbrev pub asked_by : ℕ → Event → Option Asked
+asked_by worker event = option_map (asked_for worker) (action_of event)
+
+-- the actions that a history asks for, each of which took the next slot
+abbrev pub asked_in : List Entry → List Asked
+asked_in history = filter_map (λ e. asked_by e.worker e.event) history
+
+-- an action that was asked for, where its slot has another one now, or none
+abbrev pub if_replaced : List Write → Option (List Write) → Option (List Write)
+if_replaced asked None = Some asked
+if_replaced asked (Some action) = if is_same_action asked action then None else Some asked
+
+-- a slot by its number, with what was asked for
+abbrev pub slot_entry : ℕ → Slot → Asked → SlotEntry
+slot_entry number slot asked = record { number = number; worker = asked.worker; slot = slot; asked = if_replaced asked.action slot.action }
+
+-- the slot of a number, if it is there
+abbrev pub entry_of_slot : Database → ℕ → Option SlotEntry
+entry_of_slot db number =
+    option_and_then (λ slot. option_map (slot_entry number slot) (nth_item (asked_in db.history) number)) (slot_of db number)
+
+-- the numbers from one to another, both among them
+abbrev pub numbers_between : ℕ → ℕ → List ℕ
+numbers_between from to = range_with_len from (to + 1 - from)
+
+-- whether a worker is the one that is asked for, if one is
+abbrev pub is_asked_for : Option ℕ → ℕ → Bool
+is_asked_for None worker = true
+is_asked_for (Some wanted) worker = wanted == worker
+
+-- a row in the current generation at a time, if its table is declared and it is there
+abbrev pub row_in : Database → RowId → ℕ → Option Row
+row_in db row time = if nat_lt row.table (length db.catalog) then row_at (current_of_db db time row.table) row.key else None
+
+-- whether a row is as it was: there with the same values, or not there at both times
+abbrev pub is_unchanged : Option Row → Option Row → Bool
+is_unchanged None None = true
+is_unchanged None (Some after) = false
+is_unchanged (Some before) None = false
+is_unchanged (Some before) (Some after) = is_same_row before after
+
+-- whether a slot changed the row that is asked for, if one is
+abbrev pub changes_row : Database → Option RowId → ℕ → Bool
+changes_row db None number = true
+changes_row db (Some row) number = not (is_unchanged (row_in db row (number - 1)) (row_in db row number))
+
+-- what is told of a slot, if it is one of the worker and changes the row, where these are asked for
+abbrev pub if_asked_for : Database → Option ℕ → Option RowId → SlotEntry → Option SlotEntry
+if_asked_for db worker row e = if is_asked_for worker e.worker && changes_row db row e.number then Some e else None
+
+-- what is told of the slot of a number, if it is there and asked for
+abbrev pub asked_entry : Database → Option ℕ → Option RowId → ℕ → Option SlotEntry
+asked_entry db worker row number = option_and_then (if_asked_for db worker row) (entry_of_slot db number)
+
+-- the slots from one number to another, of a worker and with changes of a row where these are asked for
+abbrev pub slot_entries : Database → ℕ → ℕ → Option ℕ → Option RowId → List SlotEntry
+slot_entries db from to worker row = filter_map (asked_entry db worker row) (numbers_between from to)

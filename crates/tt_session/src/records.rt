@@ -1,0 +1,80 @@
+//! The records of the last calls.
+ghost use Rattle.std.specs.Prelude.{◌≡◌, ◌+◌, ◌-◌, ◌≤◌, ◌++◌, ◌∷◌, [], length, take, OnOk, OnErr};
+ghost use Rattle.tt_db.specs.State.{last_items};
+ghost use Rattle.tt_session.specs.ChangeEntries.{first_call};
+
+use std::alloc::{AllocError, Global};
+use std::collections::VecDeque;
+use std::marker::Model;
+use tt_records::Record;
+
+/// Records of calls, the oldest first.
+#[derive(Drop)]
+pub(crate) struct Records {
+    queue: VecDeque<Record>,
+}
+
+impl Model for Records {
+    ghost use Rattle.std.specs.Prelude.{List};
+    ghost use Rattle.tt_records.specs.declared.record.Record.{Record};
+
+    ghost Value = { List Record };
+
+    ghost view = { λ r. r.queue.items };
+}
+
+impl Records {
+    /// No records. Takes no memory.
+    pub(crate) fn new(alloc: Global) -> Records
+        ensures { result ≡ [] }
+    {
+        Records {
+            queue: VecDeque::new(alloc),
+        }
+    }
+
+    /// Adds the record of the latest call.
+    pub(crate) fn push(&mut self, latest: Record) -> Result<(), AllocError>
+        ensures ok { OnOk result (self.new ≡ self.old ++ latest ∷ []) }
+        ensures err { OnErr result (self.new ≡ self.old) }
+    {
+        match self.queue.push_back(latest) {
+            Ok(()) => Ok(()),
+            Err(_) => Err(AllocError),
+        }
+    }
+
+    /// Takes the record of the latest call away again.
+    pub(crate) fn pop(&mut self)
+        ensures { self.new ≡ take (length self.old - 1) self.old }
+    {
+        let _latest = self.queue.pop_back();
+    }
+
+    /// Keeps the latest records, at most this many. There is at most one record more.
+    pub(crate) fn keep_last(&mut self, most: usize)
+        requires { length self.old ≤ most + 1 }
+        ensures { self.new ≡ last_items most self.old }
+    {
+        if self.queue.len() > most {
+            let _oldest = self.queue.pop_front();
+        }
+    }
+
+    /// The records as two lists, one after the other.
+    pub(crate) fn parts(&self) -> (&[Record], &[Record])
+        ensures { result.0.now ++ result.1.now ≡ self.now }
+    {
+        self.queue.as_slices()
+    }
+
+    /// The call of the first record, or this call where there is none.
+    pub(crate) fn first_call(&self, call: u64) -> u64
+        ensures { result ≡ first_call self.now call }
+    {
+        match self.queue.front() {
+            Some(first) => first.call,
+            None => call,
+        }
+    }
+}

@@ -1,0 +1,128 @@
+//! A session, from its opening on.
+ghost use Rattle.std.specs.Prelude.{◌≡◌, ◌<◌, ◌-◌, ◌^◌, ◌++◌, OnOk, OnErr, IfOk};
+ghost use Rattle.tt_requests.specs.LineValue.{value_of_line};
+ghost use Rattle.tt_requests.specs.Opening.{opening_of};
+ghost use Rattle.tt_answers.specs.AnswerText.{opening_text};
+
+use crate::open_session::OpenSession;
+use crate::repairing::status_of;
+use std::alloc::{AllocError, Global};
+use tt_answers::{Answer, push_opening, push_opening_memory, push_opening_too_long};
+use tt_document::DocFault;
+use tt_requests::{Opening, is_passed_over};
+
+/// A session: a database that is opened by a line, and answers each further line.
+#[derive(Drop)]
+pub enum Session {
+    /// No line has opened it yet.
+    NotOpen,
+    /// It holds a database.
+    Open(OpenSession),
+}
+
+impl Session {
+    ghost use Rattle.tt_session.specs.Run.{turn_with_memory, turn_without_memory, turn_of_long_line, calls_of};
+
+    /// How many calls there were: lines, after the one that opened the session, that weren't passed
+    /// over.
+    pub fn calls(&self) -> u64
+        ensures { result ≡ calls_of self.now }
+    {
+        match self {
+            Session::NotOpen => 0,
+            Session::Open(session) => session.calls(),
+        }
+    }
+
+    /// Answers a line: pushes the text of its answer, which is empty where the line is passed over,
+    /// and becomes the session after it. Where memory runs out, the session and the text are as
+    /// before; [`answer_without_memory`](Session::answer_without_memory) answers the line then.
+    pub fn answer(
+        &mut self,
+        alloc: Global,
+        out: &mut Vec<u8>,
+        line: &[u8],
+    ) -> Result<(), AllocError>
+        requires { calls_of self.old < 2 ^ 64 - 1 }
+        ensures text { OnOk result (out.new.items
+            ≡ out.old.items ++ (turn_with_memory self.old line.now).text) }
+        ensures session { OnOk result
+            (self.new ≡ (turn_with_memory self.old line.now).session) }
+        ensures text_stays { OnErr result (out.new.items ≡ out.old.items) }
+        ensures session_stays { OnErr result (self.new ≡ self.old) }
+    {
+        if is_passed_over(line) {
+            return Ok(());
+        }
+        if let Session::Open(session) = self {
+            return session.answer(out, line);
+        }
+        *self = open(alloc, out, line)?;
+        Ok(())
+    }
+
+    /// Answers a line for which there is no memory: a call is counted. Where there is no memory for
+    /// the text of the answer either, the session is as before.
+    pub fn answer_without_memory(&mut self, out: &mut Vec<u8>) -> Result<(), AllocError>
+        requires { calls_of self.old < 2 ^ 64 - 1 }
+        ensures text { OnOk result (out.new.items
+            ≡ out.old.items ++ (turn_without_memory self.old).text) }
+        ensures session { OnOk result (self.new ≡ (turn_without_memory self.old).session) }
+        ensures session_stays { OnErr result (self.new ≡ self.old) }
+    {
+        match self {
+            Session::NotOpen => push_opening_memory(out),
+            Session::Open(session) => session.answer_without_memory(out),
+        }
+    }
+
+    /// Answers a line that is longer than lines may be, of which nothing is kept: a call is counted.
+    /// Where there is no memory for the text of the answer, the session is as before.
+    pub fn answer_too_long(&mut self, out: &mut Vec<u8>) -> Result<(), AllocError>
+        requires { calls_of self.old < 2 ^ 64 - 1 }
+        ensures text { OnOk result (out.new.items
+            ≡ out.old.items ++ (turn_of_long_line self.old).text) }
+        ensures session { OnOk result (self.new ≡ (turn_of_long_line self.old).session) }
+        ensures session_stays { OnErr result (self.new ≡ self.old) }
+    {
+        match self {
+            Session::NotOpen => push_opening_too_long(out),
+            Session::Open(session) => session.answer_too_long(out),
+        }
+    }
+}
+
+ghost use Rattle.tt_session.specs.Run.{turn_by_opening};
+
+/// Answers a line that is an opening. Answers the session after it, which isn't open after a fault.
+fn open(alloc: Global, out: &mut Vec<u8>, line: &[u8]) -> Result<Session, AllocError>
+    ensures text { OnOk result (out.new.items ≡ out.old.items
+        ++ (turn_by_opening (opening_of (value_of_line line.now))).text) }
+    ensures session { IfOk result (λ s.
+        s ≡ (turn_by_opening (opening_of (value_of_line line.now))).session) }
+    ensures text_stays { OnErr result (out.new.items ≡ out.old.items) }
+{
+    match Opening::from_line(alloc, line) {
+        Ok(opening) => {
+            let session = OpenSession::new(alloc, opening);
+            let status = status_of(session.db());
+            push_opening_answer(alloc, out, &Answer::Standing(status))?;
+            Ok(Session::Open(session))
+        }
+        Err(DocFault::Memory) => Err(AllocError),
+        Err(fault) => {
+            push_opening_answer(alloc, out, &Answer::Faulty(fault))?;
+            Ok(Session::NotOpen)
+        }
+    }
+}
+
+/// Pushes the text of an answer to an opening.
+fn push_opening_answer(alloc: Global, out: &mut Vec<u8>, answer: &Answer) -> Result<(), AllocError>
+    ensures text { OnOk result (out.new.items ≡ out.old.items ++ opening_text answer.now) }
+    ensures text_stays { OnErr result (out.new.items ≡ out.old.items) }
+{
+    let mut text = Vec::new(alloc);
+    push_opening(alloc, &mut text, answer)?;
+    out.extend_from_slice(&text)
+}
