@@ -1,4 +1,13 @@
 pub mod PieceLemmas
 pub mod ItemLemmas
 pub mod AnswerLemmas
+pub mod EveryLemmas
+pub mod Utf8Lemmas
+pub mod JsonReadLemmas
+pub mod ItemReadLemmas
+pub mod ValueReadLemmas
+pub mod NameLemmas
+pub mod StatementReadLemmas
+pub mod WriteReadLemmas
+pub mod ActionReadLemmas
 mod worked_answers

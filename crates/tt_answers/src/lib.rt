@@ -5,6 +5,7 @@ mod answer;
 mod answer_text;
 mod fault_text;
 mod json_text;
+pub mod laws;
 mod refusal_text;
 mod reply_text;
 mod slot_text;

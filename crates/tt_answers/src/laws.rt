@@ -1,0 +1,15 @@
+//! Laws of the definitions that the contracts of this crate speak by. Each is the contract of a
+//! function with an empty body.
+ghost use Rattle.tt_answers.specs.ReadBack.{WritesAreReadBack, ActionsAreReadBack};
+
+/// A write that can be carried out is printed as JSON that is read as the same write: among the
+/// writes of an action, and where it replaces the action of a slot.
+pub fn writes_are_read_back()
+    ensures { WritesAreReadBack }
+{}
+
+/// An action that can be carried out is printed as JSON that is read as the same writes: under
+/// `do`, and so where it replaces the action of a slot.
+pub fn actions_are_read_back()
+    ensures { ActionsAreReadBack }
+{}
