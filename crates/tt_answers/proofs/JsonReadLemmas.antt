@@ -16,7 +16,7 @@ use Rattle.serde_json.specs.Written.{comma_if}
 use Rattle.tt_json.specs.Text.{json_of_text}
 use Rattle.tt_document.specs.Quoting.{escape, quoted}
 use Rattle.tt_document.specs.TextValue.{json_of_bytes}
-use Rattle.tt_answers.specs.JsonText.{further_item, items_text, array_text, Member, member_text, members_text, object_text}
+use Rattle.tt_answers.specs.JsonText.{further_item, items_text, array_text, Member, member_text, members_text, object_text, flag_text}
 
 -- ---- texts in quotes
 
@@ -75,6 +75,11 @@ string-prints text = λ later ts.
       | true ↦ ap (λ q. 44 ∷ (q ++ print_from true ts)) (quoted-same text)
       | false ↦ ap (λ q. q ++ print_from true ts) (quoted-same text)
     ]
+
+pub flag-prints : (flag : Bool) → Prints (json.boolean flag) (flag_text flag)
+unfolding print_from
+flag-prints true later ts = elim later as (λ b. print_from b (Token.boolean true ∷ ts) ≡ comma_if b ++ (codes "true" ++ print_from true ts)) [ true ↦ refl | false ↦ refl ]
+flag-prints false later ts = elim later as (λ b. print_from b (Token.boolean false ∷ ts) ≡ comma_if b ++ (codes "false" ++ print_from true ts)) [ true ↦ refl | false ↦ refl ]
 
 further_items-print : (js : json.Items) (texts : List (List ℕ)) → ItemsPrint js texts → (ts : List Token)
     → print_from true (items_tokens js ++ ts) ≡ flat_map further_item texts ++ (codes "]" ++ print_from true ts)

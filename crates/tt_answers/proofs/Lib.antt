@@ -10,4 +10,5 @@ pub mod NameLemmas
 pub mod StatementReadLemmas
 pub mod WriteReadLemmas
 pub mod ActionReadLemmas
+pub mod TableReadLemmas
 mod worked_answers

@@ -26,7 +26,7 @@ none_passes test [] i x h e = cc
 none_passes test (y ∷ ys) zero x h e = let same : y ≡ x = cc in subst (λ z. test z ≡ false) same (or_parts (test y) (list_any test ys) h).0
 none_passes test (y ∷ ys) (suc i) x h e = none_passes test ys i x (or_parts (test y) (list_any test ys) h).1 e
 
-differ_both_ways : (xs ys : List ℕ) → bytes_eq xs ys ≡ false → bytes_eq ys xs ≡ false
+pub differ_both_ways : (xs ys : List ℕ) → bytes_eq xs ys ≡ false → bytes_eq ys xs ≡ false
 differ_both_ways xs ys h =
     false_from_ne_true (bytes_eq ys xs) (λ same. let both : bytes_eq xs ys ≡ true = (bytes_eq-Decides xs ys).1 (sym ((bytes_eq-Decides ys xs).0 same)) in cc)
 

@@ -2,7 +2,6 @@
 use Rattle.std.specs.Prelude.{◌≡◌, ℕ, FitsSigned, List, [], ◌∷◌, ◌++◌, map, All, None, Some, Result, Ok, IsUtf8, codes}
 use Rattle.std.specs.Int.{w64}
 use Rattle.serde_json.specs.Data.{Data}
-use Rattle.serde_json.specs.Read.{read}
 use Rattle.tt_values.specs.declared.value.Value.{Value}
 use Rattle.tt_values.specs.declared.value.Value.TheVariants as values
 use Rattle.tt_values.specs.declared.statement.Change.{Change}
@@ -60,6 +59,6 @@ ActionsAreReadBack = (tables : Tables) (ws : List Write) → IsCatalog tables �
     (read_with (writes tables) (action_text tables ws) ≡ Ok ws)
     × (read_with (replacement version_of_sessions tables) (object_text ((codes "do", action_text tables ws) ∷ [])) ≡ Ok ws)
 
--- a catalog is printed as JSON that is read as the same tables. No contract promises this yet
+-- a catalog is printed as JSON that is read as the same tables
 abbrev pub TablesAreReadBack : Type 0
-TablesAreReadBack = (tables : Tables) → IsCatalog tables → (d : Data) × (read (tables_text tables) ≡ Some d) × (catalog d ≡ Ok tables)
+TablesAreReadBack = (tables : Tables) → IsCatalog tables → read_with catalog (tables_text tables) ≡ Ok tables
