@@ -63,9 +63,14 @@ action-back tables ws catalog sound storable =
 
 -- ---- an action under `do`
 
+abbrev pub do_tree : Tables → List Write → json.Json
+do_tree tables ws = json.object (json.member (codes "do") (json_of_action tables ws) json.no_members)
+
+abbrev pub do_data : Tables → List Write → Data
+do_data tables ws = spec.object (member (codes "do") (data_of_action tables ws) no_members)
+
 pub do-back : (tables : Tables) (ws : List Write) → IsReadBack 4 (json_of_action tables ws) (action_text tables ws) (data_of_action tables ws) (writes tables) ws
-    → IsReadBack 5 (json.object (json.member (codes "do") (json_of_action tables ws) json.no_members)) (object_text ((codes "do", action_text tables ws) ∷ []))
-        (spec.object (member (codes "do") (data_of_action tables ws) no_members)) (replacement version_of_sessions tables) ws
+    → IsReadBack 5 (do_tree tables ws) (object_text ((codes "do", action_text tables ws) ∷ [])) (do_data tables ws) (replacement version_of_sessions tables) ws
 unfolding replacement write action
 do-back tables ws back =
     let ms : List Member = (codes "do", action_text tables ws) ∷ [] in
@@ -84,5 +89,5 @@ pub actions_are_read_back : ActionsAreReadBack
 actions_are_read_back tables ws catalog sound storable =
     let back = action-back tables ws catalog sound storable in (
       read-back 4 (json_of_action tables ws) (action_text tables ws) (data_of_action tables ws) (writes tables) ws back (omega arith),
-      read-back 5 _ (object_text ((codes "do", action_text tables ws) ∷ [])) _ (replacement version_of_sessions tables) ws (do-back tables ws back) (omega arith),
+      read-back 5 (do_tree tables ws) (object_text ((codes "do", action_text tables ws) ∷ [])) (do_data tables ws) (replacement version_of_sessions tables) ws (do-back tables ws back) (omega arith),
     )

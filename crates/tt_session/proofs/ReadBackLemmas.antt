@@ -1,0 +1,108 @@
+-- A printed action, put under `by`, is read as the same action.
+use Rattle.std.proofs.Common.{◌≡◌, ℕ, ◌^◌, ◌<◌, ◌≤◌, Bool, true, false, if◌then◌else◌, List, [], ◌∷◌, None, Ok, IsUtf8, codes, decimal, option_map, refl, ap, ◌∙◌, arith, All}
+use Rattle.std.proofs.lemmas.Fmt.{IsAscii-decimal}
+use Rattle.std.proofs.lemmas.Str.{IsUtf8-from_ascii}
+use Rattle.json.specs.Json as json
+use Rattle.json.proofs.Printed.Decimals.{IsNumber-decimal}
+use Rattle.json.proofs.Printed.Utf8.{IsUtf8-are_ascii}
+use Rattle.serde_json.specs.Data.{Data, unsigned, number, member, no_members, no_items, item}
+use Rattle.serde_json.specs.Data as spec
+use Rattle.serde_json.proofs.Numbers.{number_of-decimal}
+use Rattle.tt_values.specs.declared.statement.Write.{Write}
+use Rattle.tt_values.specs.Check.{action_fault}
+use Rattle.tt_values.specs.Tables.{Tables, IsCatalog}
+use Rattle.tt_repair_laws.specs.declared.edit.Edit.{Edit}
+use Rattle.tt_repair_laws.specs.declared.edit.Edit.TheVariants.{Replace}
+use Rattle.tt_document.specs.Fault.{◌>>=◌, with_path, document_path}
+use Rattle.tt_document.specs.Repair.{replacement}
+use Rattle.tt_document.specs.TextValue.{json_of_bytes, value_of_found}
+use Rattle.tt_document.specs.Version.{version_of_sessions}
+use Rattle.tt_requests.specs.declared.request.Command.TheVariants as commands
+use Rattle.tt_requests.specs.declared.request.Request.{Request}
+use Rattle.tt_requests.specs.Edits.{replace, edit, edits}
+use Rattle.tt_requests.specs.LineValue.{fits_line, value_of_line}
+use Rattle.tt_requests.specs.Lines.{is_too_long}
+use Rattle.tt_requests.specs.Requests.{begin, members_of_request, usual_worker, request_of}
+use Rattle.tt_answers.specs.JsonText.{Member, array_text, number_member, object_text}
+use Rattle.tt_answers.specs.WriteText.{action_text}
+use Rattle.tt_answers.specs.ReadBack.{IsStorable, values_of_write, read_with}
+use Rattle.tt_answers.proofs.Utf8Lemmas.{IsUtf8-array, IsUtf8-object}
+use Rattle.tt_answers.proofs.JsonReadLemmas.{object-prints, array-prints, number-prints}
+use Rattle.tt_answers.proofs.ItemReadLemmas.{IsReadBack, read-back}
+use Rattle.tt_answers.proofs.ActionReadLemmas.{do_tree, do_data, action-back, do-back}
+use Rattle.tt_session.specs.ReadBack.{replacing_text, replacing_line, PrintedActionsReplace}
+
+-- ---- an edit
+
+abbrev edit_tree : Tables → ℕ → List Write → json.Members
+edit_tree tables slot ws = json.member (codes "replace") (json.number (decimal slot)) (json.member (codes "by") (do_tree tables ws) json.no_members)
+
+abbrev edit_data : Tables → ℕ → List Write → Data
+edit_data tables slot ws = spec.object (member (codes "by") (do_data tables ws) (member (codes "replace") (number (unsigned slot)) no_members))
+
+abbrev edit_members : Tables → ℕ → List Write → List Member
+edit_members tables slot ws = number_member (codes "replace") slot ∷ (codes "by", object_text ((codes "do", action_text tables ws) ∷ [])) ∷ []
+
+abbrev IsDoBack : Tables → List Write → Type 0
+IsDoBack tables ws = IsReadBack 5 (do_tree tables ws) (object_text ((codes "do", action_text tables ws) ∷ [])) (do_data tables ws) (replacement version_of_sessions tables) ws
+
+edit-back : (tables : Tables) (slot : ℕ) (ws : List Write) → slot < 2 ^ 64 → IsDoBack tables ws
+    → IsReadBack 6 (json.object (edit_tree tables slot ws)) (replacing_text tables slot ws) (edit_data tables slot ws) (edit tables) (Replace slot ws)
+unfolding edit replace
+edit-back tables slot ws fits back =
+    let digits : IsUtf8 (decimal slot) = IsUtf8-from_ascii (decimal slot) (IsAscii-decimal slot fits) in
+    record {
+      prints = object-prints (edit_tree tables slot ws) (edit_members tables slot ws) (refl, number-prints (decimal slot), (refl, back.prints, tt));
+      utf8 = IsUtf8-object (edit_members tables slot ws) ((IsUtf8-are_ascii (codes "replace") refl, digits), ((IsUtf8-are_ascii (codes "by") refl, back.utf8), tt));
+      numbers = (IsNumber-decimal slot fits, (back.numbers, tt));
+      shallow = let flat = back.shallow in omega arith;
+      stands = simp (number_of-decimal slot fits, back.stands);
+      once = simp back.once;
+      decoded = simp back.decoded;
+    }
+
+-- ---- a line
+
+abbrev line_items : Tables → ℕ → List Write → json.Items
+line_items tables slot ws = json.item (json.object (edit_tree tables slot ws)) json.no_items
+
+abbrev line_tree : Tables → ℕ → List Write → json.Members
+line_tree tables slot ws = json.member (codes "begin") (json.array (line_items tables slot ws)) json.no_members
+
+abbrev line_data : Tables → ℕ → List Write → Data
+line_data tables slot ws = spec.object (member (codes "begin") (spec.array (item (edit_data tables slot ws) no_items)) no_members)
+
+abbrev line_members : Tables → ℕ → List Write → List Member
+line_members tables slot ws = (codes "begin", array_text (replacing_text tables slot ws ∷ [])) ∷ []
+
+abbrev the_request : ℕ → List Write → Request
+the_request slot ws = record { worker = usual_worker; expected = None; command = commands.Begin (Replace slot ws ∷ []) }
+
+line-back : (tables : Tables) (slot : ℕ) (ws : List Write)
+    → IsReadBack 6 (json.object (edit_tree tables slot ws)) (replacing_text tables slot ws) (edit_data tables slot ws) (edit tables) (Replace slot ws)
+    → IsReadBack 8 (json.object (line_tree tables slot ws)) (replacing_line tables slot ws) (line_data tables slot ws) (members_of_request tables) (the_request slot ws)
+unfolding members_of_request begin
+line-back tables slot ws back =
+    let printed = array-prints (line_items tables slot ws) (replacing_text tables slot ws ∷ []) (back.prints, tt) in
+    record {
+      prints = object-prints (line_tree tables slot ws) (line_members tables slot ws) (refl, printed, tt);
+      utf8 = IsUtf8-object (line_members tables slot ws) ((IsUtf8-are_ascii (codes "begin") refl, IsUtf8-array (replacing_text tables slot ws ∷ []) (back.utf8, tt)), tt);
+      numbers = ((back.numbers, tt), tt);
+      shallow = let flat = back.shallow in omega arith;
+      stands = simp back.stands;
+      once = simp back.once;
+      decoded = simp back.decoded;
+    }
+
+-- a line that isn't too long is read as its bytes are
+line-read : (line : List ℕ) → is_too_long line ≡ false → value_of_line line ≡ value_of_found (json_of_bytes line)
+unfolding value_of_line
+line-read line short = rw short refl
+
+pub printed_actions_replace : PrintedActionsReplace
+printed_actions_replace tables slot ws catalog fits sound storable short =
+    let line : List ℕ = replacing_line tables slot ws in
+    let back = line-back tables slot ws (edit-back tables slot ws fits (do-back tables ws (action-back tables ws catalog sound storable))) in
+    let read : read_with (members_of_request tables) line ≡ Ok (the_request slot ws) =
+        read-back 8 (json.object (line_tree tables slot ws)) line (line_data tables slot ws) (members_of_request tables) (the_request slot ws) back (omega arith) in
+    ap (request_of tables) (line-read line short) ∙ ap (with_path document_path) read
