@@ -49,15 +49,15 @@ flag-utf8 false = IsUtf8-are_ascii (codes "false") refl
 abbrev column_members : Column → List Member
 column_members c = (codes "name", quoted c.name) ∷ (codes "kind", quoted (kind_name c.kind)) ∷ (codes "partition", flag_text c.partition) ∷ []
 
-abbrev members_of_column : Column → json.Members
+abbrev pub members_of_column : Column → json.Members
 members_of_column c =
     json.member (codes "name") (json.string c.name)
     (json.member (codes "kind") (json.string (kind_name c.kind)) (json.member (codes "partition") (json.boolean c.partition) json.no_members))
 
-abbrev json_of_column : Column → json.Json
+abbrev pub json_of_column : Column → json.Json
 json_of_column c = json.object (members_of_column c)
 
-abbrev data_of_column : Column → Data
+abbrev pub data_of_column : Column → Data
 data_of_column c =
     spec.object (member (codes "kind") (string (kind_name c.kind)) (member (codes "name") (string c.name) (member (codes "partition") (boolean c.partition) no_members)))
 
@@ -93,13 +93,13 @@ one_table v = do
 abbrev table_members : List ℕ × TableDef → List Member
 table_members t = (codes "name", quoted t.0) ∷ (codes "columns", array_text (map column_text t.1.columns)) ∷ []
 
-abbrev members_of_table : List ℕ × TableDef → json.Members
+abbrev pub members_of_table : List ℕ × TableDef → json.Members
 members_of_table t = json.member (codes "name") (json.string t.0) (json.member (codes "columns") (json.array (trees json_of_column t.1.columns)) json.no_members)
 
-abbrev json_of_table : List ℕ × TableDef → json.Json
+abbrev pub json_of_table : List ℕ × TableDef → json.Json
 json_of_table t = json.object (members_of_table t)
 
-abbrev data_of_table : List ℕ × TableDef → Data
+abbrev pub data_of_table : List ℕ × TableDef → Data
 data_of_table t = spec.object (member (codes "columns") (spec.array (meanings data_of_column t.1.columns)) (member (codes "name") (string t.0) no_members))
 
 -- what holds of each table of a catalog
@@ -168,12 +168,19 @@ tables-decoded earlier (t ∷ ts) i sound differ few =
     let rest = tables-decoded (earlier ++ t ∷ []) ts (suc i) sound.1 (ap has_same_table same ∙ differ) (subst (λ us. length us ≤ max_tables) (sym same) few) in
     simp first (rest ∙ ap (λ us. Ok us) same)
 
--- the tables of a catalog are read back
-pub tables_are_read_back : TablesAreReadBack
-tables_are_read_back tables sound =
+abbrev pub json_of_tables : Tables → json.Json
+json_of_tables tables = json.array (trees json_of_table tables)
+
+abbrev pub data_of_tables : Tables → Data
+data_of_tables tables = spec.array (meanings data_of_table tables)
+
+pub tables-back : (tables : Tables) → IsCatalog tables → IsReadBack 4 (json_of_tables tables) (tables_text tables) (data_of_tables tables) catalog tables
+tables-back tables sound =
     let each_is_sound : Every Sound tables = every-both (λ t. is_name t.0 ≡ true) (λ t. IsTable t.1) Sound tables (λ t named def. (named, def)) (every _ tables sound.tables_are_named) (every _ tables sound.sound) in
     let items = array-back 3 json_of_table table_text data_of_table one_table tables (every-then Sound _ tables table-back each_is_sound) in
-    let j = json.array (trees json_of_table tables) in
-    let d = spec.array (meanings data_of_table tables) in
-    let back = also-back 4 j (tables_text tables) d (array_of one_table) tables catalog tables items (tables-decoded [] tables 0 each_is_sound sound.names_differ sound.few_tables) in
-    read-back 4 j (tables_text tables) d catalog tables back (omega arith)
+    also-back 4 (json_of_tables tables) (tables_text tables) (data_of_tables tables) (array_of one_table) tables catalog tables items
+    (tables-decoded [] tables 0 each_is_sound sound.names_differ sound.few_tables)
+
+-- the tables of a catalog are read back
+pub tables_are_read_back : TablesAreReadBack
+tables_are_read_back tables sound = read-back 4 (json_of_tables tables) (tables_text tables) (data_of_tables tables) catalog tables (tables-back tables sound) (omega arith)

@@ -3,6 +3,7 @@ pub mod GoingOnLemmas
 pub mod LawLemmas
 pub mod OpeningLemmas
 pub mod PageLemmas
+pub mod ReadBackLemmas
 pub mod ReadLemmas
 pub mod RoomLemmas
 pub mod SlotLemmas

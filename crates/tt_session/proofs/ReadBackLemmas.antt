@@ -1,5 +1,6 @@
--- A printed action, put under `by`, is read as the same action.
-use Rattle.std.proofs.Common.{◌≡◌, ℕ, ◌^◌, ◌<◌, ◌≤◌, Bool, true, false, if◌then◌else◌, List, [], ◌∷◌, None, Ok, IsUtf8, codes, decimal, option_map, refl, ap, ◌∙◌, arith, All}
+-- A printed action, put under `by`, is read as the same action, and printed tables open a session with the same tables.
+use Rattle.std.proofs.Common.{◌≡◌, ℕ, ◌^◌, ◌<◌, ◌≤◌, nat_lt, Bool, true, false, if◌then◌else◌, List, [], ◌∷◌, None, Ok, IsUtf8, codes, decimal, option_map, refl, ap, ◌∙◌, arith, All}
+use Rattle.std.proofs.lemmas.Bool.Decides.{nat_tests}
 use Rattle.std.proofs.lemmas.Fmt.{IsAscii-decimal}
 use Rattle.std.proofs.lemmas.Str.{IsUtf8-from_ascii}
 use Rattle.json.specs.Json as json
@@ -14,23 +15,31 @@ use Rattle.tt_values.specs.Tables.{Tables, IsCatalog}
 use Rattle.tt_repair_laws.specs.declared.edit.Edit.{Edit}
 use Rattle.tt_repair_laws.specs.declared.edit.Edit.TheVariants.{Replace}
 use Rattle.tt_document.specs.Fault.{◌>>=◌, with_path, document_path}
+use Rattle.tt_document.specs.Decoder.{count_within}
 use Rattle.tt_document.specs.Repair.{replacement}
 use Rattle.tt_document.specs.TextValue.{json_of_bytes, value_of_found}
 use Rattle.tt_document.specs.Version.{version_of_sessions}
 use Rattle.tt_requests.specs.declared.request.Command.TheVariants as commands
 use Rattle.tt_requests.specs.declared.request.Request.{Request}
+use Rattle.tt_requests.specs.declared.opening.Opening.{Opening}
 use Rattle.tt_requests.specs.Edits.{replace, edit, edits}
 use Rattle.tt_requests.specs.LineValue.{fits_line, value_of_line}
 use Rattle.tt_requests.specs.Lines.{is_too_long}
+use Rattle.tt_requests.specs.Opening.{max_keep, max_records, members_of_opening, opening_of}
 use Rattle.tt_requests.specs.Requests.{begin, members_of_request, usual_worker, request_of}
 use Rattle.tt_answers.specs.JsonText.{Member, array_text, number_member, object_text}
 use Rattle.tt_answers.specs.WriteText.{action_text}
+use Rattle.tt_answers.specs.AnswerText.{declared_members}
 use Rattle.tt_answers.specs.ReadBack.{IsStorable, values_of_write, read_with}
 use Rattle.tt_answers.proofs.Utf8Lemmas.{IsUtf8-array, IsUtf8-object}
 use Rattle.tt_answers.proofs.JsonReadLemmas.{object-prints, array-prints, number-prints}
 use Rattle.tt_answers.proofs.ItemReadLemmas.{IsReadBack, read-back}
 use Rattle.tt_answers.proofs.ActionReadLemmas.{do_tree, do_data, action-back, do-back}
-use Rattle.tt_session.specs.ReadBack.{replacing_text, replacing_line, PrintedActionsReplace}
+use Rattle.tt_answers.proofs.TableReadLemmas.{json_of_tables, data_of_tables, tables-back}
+use Rattle.tt_session.specs.ReadBack.{opening_line, PrintedTablesOpen, replacing_text, replacing_line, PrintedActionsReplace}
+
+digits-utf8 : (n : ℕ) → n < 2 ^ 64 → IsUtf8 (decimal n)
+digits-utf8 n fits = IsUtf8-from_ascii (decimal n) (IsAscii-decimal n fits)
 
 -- ---- an edit
 
@@ -50,10 +59,9 @@ edit-back : (tables : Tables) (slot : ℕ) (ws : List Write) → slot < 2 ^ 64 �
     → IsReadBack 6 (json.object (edit_tree tables slot ws)) (replacing_text tables slot ws) (edit_data tables slot ws) (edit tables) (Replace slot ws)
 unfolding edit replace
 edit-back tables slot ws fits back =
-    let digits : IsUtf8 (decimal slot) = IsUtf8-from_ascii (decimal slot) (IsAscii-decimal slot fits) in
     record {
       prints = object-prints (edit_tree tables slot ws) (edit_members tables slot ws) (refl, number-prints (decimal slot), (refl, back.prints, tt));
-      utf8 = IsUtf8-object (edit_members tables slot ws) ((IsUtf8-are_ascii (codes "replace") refl, digits), ((IsUtf8-are_ascii (codes "by") refl, back.utf8), tt));
+      utf8 = IsUtf8-object (edit_members tables slot ws) ((IsUtf8-are_ascii (codes "replace") refl, digits-utf8 slot fits), ((IsUtf8-are_ascii (codes "by") refl, back.utf8), tt));
       numbers = (IsNumber-decimal slot fits, (back.numbers, tt));
       shallow = let flat = back.shallow in omega arith;
       stands = simp (number_of-decimal slot fits, back.stands);
@@ -106,3 +114,57 @@ printed_actions_replace tables slot ws catalog fits sound storable short =
     let read : read_with (members_of_request tables) line ≡ Ok (the_request slot ws) =
         read-back 8 (json.object (line_tree tables slot ws)) line (line_data tables slot ws) (members_of_request tables) (the_request slot ws) back (omega arith) in
     ap (request_of tables) (line-read line short) ∙ ap (with_path document_path) read
+
+-- ---- an opening
+
+abbrev opening_tree : Tables → ℕ → ℕ → json.Members
+opening_tree tables keep records =
+    json.member (codes "version") (json.number (decimal 2))
+    (json.member (codes "tables") (json_of_tables tables)
+    (json.member (codes "keep") (json.number (decimal keep)) (json.member (codes "records") (json.number (decimal records)) json.no_members)))
+
+abbrev opening_data : Tables → ℕ → ℕ → Data
+opening_data tables keep records =
+    spec.object (member (codes "keep") (number (unsigned keep))
+    (member (codes "records") (number (unsigned records)) (member (codes "tables") (data_of_tables tables) (member (codes "version") (number (unsigned 2)) no_members))))
+
+count-within : (max n : ℕ) → n ≤ max → count_within 0 max (number (unsigned n)) ≡ Ok n
+count-within max n h =
+    let above : nat_lt n 0 ≡ false = grind (arith, nat_tests) in
+    let below : nat_lt max n ≡ false = grind (arith, nat_tests) in
+    rw (above, below) refl
+
+opening-back : (tables : Tables) (keep records : ℕ) → IsCatalog tables → keep ≤ max_keep → records ≤ max_records
+    → IsReadBack 5 (json.object (opening_tree tables keep records)) (opening_line tables keep records) (opening_data tables keep records) members_of_opening
+        (record { catalog = tables; keep = keep; records = records })
+unfolding members_of_opening
+opening-back tables keep records sound few_kept few_records =
+    let back = tables-back tables sound in
+    let keep_fits : keep < 2 ^ 64 = omega arith in
+    let records_fit : records < 2 ^ 64 = omega arith in
+    let version_fits : 2 < 2 ^ 64 = omega arith in
+    record {
+      prints = object-prints (opening_tree tables keep records) (declared_members tables keep records)
+          (refl, number-prints (decimal 2), (refl, back.prints, (refl, number-prints (decimal keep), (refl, number-prints (decimal records), tt))));
+      utf8 = IsUtf8-object (declared_members tables keep records) (
+          (IsUtf8-are_ascii (codes "version") refl, digits-utf8 2 version_fits),
+          (
+            (IsUtf8-are_ascii (codes "tables") refl, back.utf8),
+            ((IsUtf8-are_ascii (codes "keep") refl, digits-utf8 keep keep_fits), ((IsUtf8-are_ascii (codes "records") refl, digits-utf8 records records_fit), tt)),
+          ),
+      );
+      numbers = (IsNumber-decimal 2 version_fits, (back.numbers, (IsNumber-decimal keep keep_fits, (IsNumber-decimal records records_fit, tt))));
+      shallow = let flat = back.shallow in omega arith;
+      stands = simp (number_of-decimal 2 version_fits, back.stands, number_of-decimal keep keep_fits, number_of-decimal records records_fit);
+      once = simp back.once;
+      decoded = simp (back.decoded, count-within max_keep keep few_kept, count-within max_records records few_records);
+    }
+
+pub printed_tables_open : PrintedTablesOpen
+printed_tables_open tables keep records sound few_kept few_records short =
+    let line : List ℕ = opening_line tables keep records in
+    let opening : Opening = record { catalog = tables; keep = keep; records = records } in
+    let back = opening-back tables keep records sound few_kept few_records in
+    let read : read_with members_of_opening line ≡ Ok opening =
+        read-back 5 (json.object (opening_tree tables keep records)) line (opening_data tables keep records) members_of_opening opening back (omega arith) in
+    ap opening_of (line-read line short) ∙ ap (with_path document_path) read

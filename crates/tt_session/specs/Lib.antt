@@ -14,3 +14,4 @@ pub mod Commands
 pub mod Run
 pub mod Ends
 pub mod Invariants
+pub mod ReadBack

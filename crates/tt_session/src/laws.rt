@@ -1,9 +1,22 @@
 //! Laws of the definitions that the contracts of this crate speak by. Each is the contract of a
 //! function with an empty body.
 ghost use Rattle.tt_session.specs.Invariants.{RepairsCanEnd};
+ghost use Rattle.tt_session.specs.ReadBack.{PrintedActionsReplace, PrintedTablesOpen};
 
 /// A repair that is under way can be finished, with none of its steps refused, and can be given up.
 #[tactic(auto, using(crate::proofs::LawLemmas::repairs_can_end))]
 pub fn repairs_can_end()
     ensures { RepairsCanEnd }
+{}
+
+/// An action that can be carried out, put under `by` as it is printed, replaces the action of a
+/// slot by the same action.
+pub fn printed_actions_replace()
+    ensures { PrintedActionsReplace }
+{}
+
+/// The members that tell the tables and how much is kept, as they are printed, open a session with
+/// the same.
+pub fn printed_tables_open()
+    ensures { PrintedTablesOpen }
 {}
