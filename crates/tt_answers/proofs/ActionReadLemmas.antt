@@ -1,5 +1,5 @@
 -- Actions that are printed are read back as the same.
-use Rattle.std.proofs.Common.{◌≡◌, ℕ, ◌≤◌, Bool, true, false, nat_lt, List, [], ◌∷◌, length, Option, Some, None, if◌then◌else◌, Ok, IsUtf8, codes, refl, ap, ◌∙◌, arith, All}
+use Rattle.std.proofs.Common.{◌≡◌, Bool, true, false, nat_lt, List, [], ◌∷◌, length, Option, Some, None, if◌then◌else◌, Ok, codes, refl, ap, ◌∙◌, arith, All}
 use Rattle.std.specs.Option.{option_or}
 use Rattle.json.specs.Json as json
 use Rattle.json.proofs.Printed.Utf8.{IsUtf8-are_ascii}
@@ -54,7 +54,7 @@ pub action-back : (tables : Tables) (ws : List Write) → IsCatalog tables → a
 action-back tables ws catalog sound storable =
     let parts = few_writes (nat_lt max_writes (length ws)) (first_write_fault tables ws) sound in
     let items = every-both (λ w. write_fault tables w ≡ None) (λ w. All IsStorable (values_of_write w)) _ ws (λ w none all. write-back tables w catalog none all)
-        (no_write_fault tables ws parts.1) (every _ ws storable) in
+    (no_write_fault tables ws parts.1) (every _ ws storable) in
     let back = array-back 3 (json_of_write tables) (write_text tables) (data_of_write tables) (item_of_action tables) ws items in
     let ds : List Data = list_of (meanings (data_of_write tables) ws) in
     let few : nat_lt max_writes (length ds) ≡ false = ap (nat_lt max_writes) (length-meanings (data_of_write tables) ws) ∙ parts.0 in

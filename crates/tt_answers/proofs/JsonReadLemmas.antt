@@ -1,5 +1,5 @@
 -- A JSON value that is printed is read as what it stands for.
-use Rattle.std.proofs.Common.{◌≡◌, ℕ, ◌≤◌, ◌<◌, ◌/◌, ◌%◌, Bool, true, false, List, [], ◌∷◌, ◌++◌, map, None, Some, if◌then◌else◌, IsUtf8, inl, inr, ◌⊎◌, refl, sym, ap, subst, ◌∙◌, codes, append_assoc, append-nil, option_and_then}
+use Rattle.std.proofs.Common.{◌≡◌, ℕ, ◌≤◌, Bool, true, false, List, [], ◌∷◌, ◌++◌, map, None, Some, if◌then◌else◌, IsUtf8, inl, inr, ◌⊎◌, refl, sym, ap, subst, ◌∙◌, codes, append_assoc, append-nil, option_and_then}
 use Rattle.std.proofs.lemmas.Bool.{cases_eq, ne_eqb}
 use Rattle.std.proofs.lemmas.Str.{is_utf8-from_IsUtf8}
 use Rattle.std.specs.List.{flat_map}
@@ -109,7 +109,7 @@ pub array-prints : (js : json.Items) (texts : List (List ℕ)) → ItemsPrint js
 unfolding print_from
 array-prints js texts h = λ later ts.
     let inner : print_from false (items_tokens js ++ ts) ≡ (items_text texts ++ codes "]") ++ print_from true ts =
-        items-print js texts h ts ∙ sym (append_assoc (items_text texts) (codes "]") (print_from true ts)) in
+    items-print js texts h ts ∙ sym (append_assoc (items_text texts) (codes "]") (print_from true ts)) in
     elim later as (λ b. print_from b (Token.begin_array ∷ (items_tokens js ++ ts)) ≡ comma_if b ++ (array_text texts ++ print_from true ts)) [
       | true ↦ ap (λ s. 44 ∷ 91 ∷ s) inner
       | false ↦ ap (λ s. 91 ∷ s) inner
@@ -154,7 +154,7 @@ pub object-prints : (js : json.Members) (ms : List Member) → MembersPrint js m
 unfolding print_from
 object-prints js ms h = λ later ts.
     let inner : print_from false (members_tokens js ++ ts) ≡ (members_text ms ++ codes "}") ++ print_from true ts =
-        members-print js ms h ts ∙ sym (append_assoc (members_text ms) (codes "}") (print_from true ts)) in
+    members-print js ms h ts ∙ sym (append_assoc (members_text ms) (codes "}") (print_from true ts)) in
     elim later as (λ b. print_from b (Token.begin_object ∷ (members_tokens js ++ ts)) ≡ comma_if b ++ (object_text ms ++ print_from true ts)) [
       | true ↦ ap (λ s. 44 ∷ 123 ∷ s) inner
       | false ↦ ap (λ s. 123 ∷ s) inner

@@ -1,11 +1,11 @@
 -- Tables and columns are found by their names, which differ.
-use Rattle.std.proofs.Common.{◌≡◌, ℕ, zero, suc, ◌+◌, ◌<◌, Bool, true, false, cond, not, nat_lt, ◌||◌, List, [], ◌∷◌, length, Option, Some, None, slice_get, position, refl, sym, ap, subst, ◌∙◌, arith, lt-ltb, bytes_eq, option_map, option_and_then, unwrap_or}
+use Rattle.std.proofs.Common.{◌≡◌, ℕ, zero, suc, ◌<◌, Bool, true, false, cond, not, nat_lt, ◌||◌, List, [], ◌∷◌, length, Some, None, slice_get, position, refl, sym, ap, subst, ◌∙◌, arith, lt-ltb, bytes_eq}
 use Rattle.std.proofs.lemmas.Bool.{or_parts, false_from_ne_true}
 use Rattle.std.proofs.lemmas.Slice.Eq.{bytes_eq-Decides}
 use Rattle.std.specs.List.{prefix_len, list_any}
 use Rattle.tt_values.specs.declared.table.Column.{Column}
 use Rattle.tt_values.specs.declared.table.TableDef.{TableDef}
-use Rattle.tt_values.specs.Tables.{Tables, IsCatalog, IsTable, table_position, column_position, columns_at, has_same_name, has_same_table}
+use Rattle.tt_values.specs.Tables.{Tables, table_position, column_position, has_same_name, has_same_table}
 
 -- whether two items have the same name
 abbrev has_same : {X : Type 0} → (X → List ℕ) → List X → Bool

@@ -1,5 +1,5 @@
 -- Conditions and changes that are printed are read back as the same.
-use Rattle.std.proofs.Common.{◌≡◌, ℕ, ◌≤◌, true, false, List, [], ◌∷◌, Option, Some, None, slice_get, unwrap_or, option_map, option_and_then, Ok, IsUtf8, codes, refl, sym, ap, subst, ◌∙◌, arith}
+use Rattle.std.proofs.Common.{◌≡◌, ℕ, true, List, [], ◌∷◌, Some, slice_get, IsUtf8, codes, refl, sym, ap, subst, ◌∙◌, arith}
 use Rattle.std.specs.Fmt.{signed_decimal}
 use Rattle.json.specs.Json as json
 use Rattle.json.proofs.Printed.Utf8.{IsUtf8-are_ascii}
@@ -13,7 +13,7 @@ use Rattle.tt_values.specs.declared.statement.Change.{Change}
 use Rattle.tt_values.specs.declared.statement.Change.TheVariants.{Set, Add}
 use Rattle.tt_values.specs.declared.statement.Equal.{Equal}
 use Rattle.tt_values.specs.Change.{column_of}
-use Rattle.tt_values.specs.Tables.{Tables, IsTable, is_name, column_position, columns_at}
+use Rattle.tt_values.specs.Tables.{Tables, IsTable, is_name, column_position}
 use Rattle.tt_document.specs.Quoting.{quoted}
 use Rattle.tt_document.proofs.QuotingLemmas.{IsUtf8-quoted}
 use Rattle.tt_workload.specs.Printing.{value_text}

@@ -1,9 +1,9 @@
 -- Tables that are printed are read back as the same.
-use Rattle.std.proofs.Common.{◌≡◌, ℕ, suc, ◌+◌, ◌≤◌, ◌<◌, ◌==◌, Bool, true, false, not, ◌&&◌, ◌||◌, nat_le, nat_lt, List, [], ◌∷◌, ◌++◌, length, map, None, Result, Ok, IsUtf8, codes, refl, sym, ap, subst, ◌∙◌, arith, append_assoc, append-nil, length-append, bytes_eq}
+use Rattle.std.proofs.Common.{◌≡◌, ℕ, suc, ◌≤◌, ◌<◌, ◌==◌, Bool, true, false, ◌||◌, nat_le, nat_lt, List, [], ◌∷◌, ◌++◌, length, map, None, Result, Ok, IsUtf8, codes, refl, sym, ap, subst, ◌∙◌, arith, append_assoc, append-nil, length-append, bytes_eq}
 use Rattle.std.proofs.lemmas.Bool.{or_parts}
 use Rattle.std.proofs.lemmas.Bool.Decides.{nat_tests}
 use Rattle.std.proofs.lemmas.List.Folds.{list_any-append}
-use Rattle.std.specs.List.{list_all, list_any}
+use Rattle.std.specs.List.{list_any}
 use Rattle.json.specs.Json as json
 use Rattle.json.proofs.Printed.Utf8.{IsUtf8-are_ascii}
 use Rattle.serde_json.specs.Data.{Data, boolean, string, member, no_members}
@@ -12,9 +12,9 @@ use Rattle.tt_values.specs.declared.value.Kind.{Kind}
 use Rattle.tt_values.specs.declared.value.Kind.TheVariants as kinds
 use Rattle.tt_values.specs.declared.table.Column.{Column}
 use Rattle.tt_values.specs.declared.table.TableDef.{TableDef}
-use Rattle.tt_values.specs.Catalog.{table_fault, has_no_room}
+use Rattle.tt_values.specs.Catalog.{table_fault}
 use Rattle.tt_values.specs.Limits.{max_tables, max_columns}
-use Rattle.tt_values.specs.Tables.{Tables, IsTable, IsCatalog, is_name, is_key_int, has_same_name, has_same_table}
+use Rattle.tt_values.specs.Tables.{Tables, IsTable, IsCatalog, is_name, is_key_int, has_same_table}
 use Rattle.tt_json.specs.Value.{list_of}
 use Rattle.tt_document.specs.declared.fault.DocFault.{DocFault}
 use Rattle.tt_document.specs.Fault.{◌>>=◌}
@@ -68,11 +68,11 @@ column-back c named =
     record {
       prints = object-prints (members_of_column c) (column_members c) (refl, string-prints c.name, (refl, string-prints kind_text, (refl, flag-prints c.partition, tt)));
       utf8 = IsUtf8-object (column_members c) (
-          (IsUtf8-are_ascii (codes "name") refl, IsUtf8-quoted c.name (IsUtf8-name c.name named)),
-          (
-            (IsUtf8-are_ascii (codes "kind") refl, IsUtf8-quoted kind_text (kind-utf8 c.kind)),
-            ((IsUtf8-are_ascii (codes "partition") refl, flag-utf8 c.partition), tt),
-          ),
+        (IsUtf8-are_ascii (codes "name") refl, IsUtf8-quoted c.name (IsUtf8-name c.name named)),
+        (
+          (IsUtf8-are_ascii (codes "kind") refl, IsUtf8-quoted kind_text (kind-utf8 c.kind)),
+          ((IsUtf8-are_ascii (codes "partition") refl, flag-utf8 c.partition), tt),
+        ),
       );
       numbers = (tt, (tt, (tt, tt)));
       shallow = omega arith;

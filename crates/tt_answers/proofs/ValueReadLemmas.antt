@@ -1,13 +1,12 @@
 -- A printed value is read back as the same value.
-use Rattle.std.proofs.Common.{◌≡◌, ℕ, ◌<◌, ◌≤◌, ◌^◌, ℤ, pos, negsuc, None, Some, option_map, Ok, IsUtf8, refl, ap, ◌∙◌, arith, lt-ltb}
+use Rattle.std.proofs.Common.{◌≡◌, ◌<◌, ◌≤◌, ◌^◌, ℤ, pos, negsuc, None, Some, option_map, Ok, IsUtf8, refl, ap, arith, lt-ltb}
 use Rattle.std.proofs.lemmas.Fmt.{IsAscii-signed}
 use Rattle.std.proofs.lemmas.Str.{IsUtf8-from_ascii}
-use Rattle.std.specs.Int.{w64}
 use Rattle.std.specs.Fmt.{signed_decimal}
 use Rattle.json.specs.Json as json
 use Rattle.json.specs.Tree.{HasNumbers, depth}
 use Rattle.json.proofs.Printed.Decimals.{IsNumber-signed_decimal}
-use Rattle.serde_json.specs.Data.{Data, unsigned, negative, number, string}
+use Rattle.serde_json.specs.Data.{Data, number, string}
 use Rattle.serde_json.specs.Find.{of_integer}
 use Rattle.serde_json.specs.Read.{of_json}
 use Rattle.serde_json.proofs.Numbers.{number_of-decimal, number_of-negative}

@@ -1,5 +1,5 @@
 -- Writes that are printed are read back as the same.
-use Rattle.std.proofs.Common.{◌≡◌, ℕ, suc, ◌≤◌, Bool, true, false, if◌then◌else◌, nat_le, List, [], ◌∷◌, ◌++◌, length, map, Option, Some, None, slice_get, option_map, Result, Ok, Err, IsUtf8, codes, refl, sym, ap, subst, ◌∙◌, arith, All}
+use Rattle.std.proofs.Common.{◌≡◌, ℕ, Bool, true, false, if◌then◌else◌, nat_le, List, [], ◌∷◌, ◌++◌, length, map, Option, Some, None, slice_get, option_map, Result, Ok, Err, IsUtf8, codes, refl, sym, ap, subst, ◌∙◌, arith, All}
 use Rattle.std.specs.Prelude.{⊤}
 use Rattle.std.proofs.lemmas.Bool.{or_parts, leb-false}
 use Rattle.std.specs.List.{flat_map, list_any}
@@ -90,8 +90,8 @@ columns-named tables table t column xs catalog e h =
     let sound : IsTable t.1 = every-at (λ u. IsTable u.1) tables table t (every (λ u. IsTable u.1) tables catalog.sound) e in
     every-then _ _ xs
     (λ x past.
-        let c = some-at t.1.columns (column x) (leb-false (length t.1.columns) (column x) past) in
-        column-named tables table t (column x) c.0 sound e c.1)
+    let c = some-at t.1.columns (column x) (leb-false (length t.1.columns) (column x) past) in
+    column-named tables table t (column x) c.0 sound e c.1)
     (every-fails (λ x. nat_le (length t.1.columns) (column x)) xs h)
 
 -- ---- the tree of a write, and what it stands for
@@ -181,8 +181,8 @@ update-back tables table changes equals catalog sound storable_changes storable_
     record {
       prints = object-prints (members_of_write tables w) (write_members tables w) (refl, string-prints name, (refl, of_changes.prints, (refl, of_equals.prints, tt)));
       utf8 = IsUtf8-object (write_members tables w) (
-          (IsUtf8-are_ascii (codes "update") refl, IsUtf8-quoted name named.1),
-          ((IsUtf8-are_ascii (codes "change") refl, of_changes.utf8), ((IsUtf8-are_ascii (codes "where") refl, of_equals.utf8), tt)),
+        (IsUtf8-are_ascii (codes "update") refl, IsUtf8-quoted name named.1),
+        ((IsUtf8-are_ascii (codes "change") refl, of_changes.utf8), ((IsUtf8-are_ascii (codes "where") refl, of_equals.utf8), tt)),
       );
       numbers = (tt, (of_changes.numbers, (of_equals.numbers, tt)));
       shallow = let flat = of_changes.shallow in let level = of_equals.shallow in omega arith;

@@ -1,5 +1,5 @@
 -- What is printed is read as the same: a write among the writes of an action and as a replacement, an action, and tables.
-use Rattle.std.specs.Prelude.{◌≡◌, ℕ, FitsSigned, List, [], ◌∷◌, ◌++◌, map, All, None, Some, Result, Ok, IsUtf8, codes}
+use Rattle.std.specs.Prelude.{◌≡◌, ℕ, FitsSigned, List, [], ◌∷◌, ◌++◌, map, All, None, Result, Ok, IsUtf8, codes}
 use Rattle.std.specs.Int.{w64}
 use Rattle.serde_json.specs.Data.{Data}
 use Rattle.tt_values.specs.declared.value.Value.{Value}

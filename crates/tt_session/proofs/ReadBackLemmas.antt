@@ -1,5 +1,5 @@
 -- A printed action, put under `by`, is read as the same action, and printed tables open a session with the same tables.
-use Rattle.std.proofs.Common.{◌≡◌, ℕ, ◌^◌, ◌<◌, ◌≤◌, nat_lt, Bool, true, false, if◌then◌else◌, List, [], ◌∷◌, None, Ok, IsUtf8, codes, decimal, option_map, refl, ap, ◌∙◌, arith, All}
+use Rattle.std.proofs.Common.{◌≡◌, ℕ, ◌^◌, ◌<◌, ◌≤◌, nat_lt, false, List, [], ◌∷◌, None, Ok, IsUtf8, codes, decimal, refl, ap, ◌∙◌, arith}
 use Rattle.std.proofs.lemmas.Bool.Decides.{nat_tests}
 use Rattle.std.proofs.lemmas.Fmt.{IsAscii-decimal}
 use Rattle.std.proofs.lemmas.Str.{IsUtf8-from_ascii}
@@ -10,11 +10,9 @@ use Rattle.serde_json.specs.Data.{Data, unsigned, number, member, no_members, no
 use Rattle.serde_json.specs.Data as spec
 use Rattle.serde_json.proofs.Numbers.{number_of-decimal}
 use Rattle.tt_values.specs.declared.statement.Write.{Write}
-use Rattle.tt_values.specs.Check.{action_fault}
 use Rattle.tt_values.specs.Tables.{Tables, IsCatalog}
-use Rattle.tt_repair_laws.specs.declared.edit.Edit.{Edit}
 use Rattle.tt_repair_laws.specs.declared.edit.Edit.TheVariants.{Replace}
-use Rattle.tt_document.specs.Fault.{◌>>=◌, with_path, document_path}
+use Rattle.tt_document.specs.Fault.{with_path, document_path}
 use Rattle.tt_document.specs.Decoder.{count_within}
 use Rattle.tt_document.specs.Repair.{replacement}
 use Rattle.tt_document.specs.TextValue.{json_of_bytes, value_of_found}
@@ -22,15 +20,15 @@ use Rattle.tt_document.specs.Version.{version_of_sessions}
 use Rattle.tt_requests.specs.declared.request.Command.TheVariants as commands
 use Rattle.tt_requests.specs.declared.request.Request.{Request}
 use Rattle.tt_requests.specs.declared.opening.Opening.{Opening}
-use Rattle.tt_requests.specs.Edits.{replace, edit, edits}
-use Rattle.tt_requests.specs.LineValue.{fits_line, value_of_line}
+use Rattle.tt_requests.specs.Edits.{replace, edit}
+use Rattle.tt_requests.specs.LineValue.{value_of_line}
 use Rattle.tt_requests.specs.Lines.{is_too_long}
 use Rattle.tt_requests.specs.Opening.{max_keep, max_records, members_of_opening, opening_of}
 use Rattle.tt_requests.specs.Requests.{begin, members_of_request, usual_worker, request_of}
 use Rattle.tt_answers.specs.JsonText.{Member, array_text, number_member, object_text}
 use Rattle.tt_answers.specs.WriteText.{action_text}
 use Rattle.tt_answers.specs.AnswerText.{declared_members}
-use Rattle.tt_answers.specs.ReadBack.{IsStorable, values_of_write, read_with}
+use Rattle.tt_answers.specs.ReadBack.{read_with}
 use Rattle.tt_answers.proofs.Utf8Lemmas.{IsUtf8-array, IsUtf8-object}
 use Rattle.tt_answers.proofs.JsonReadLemmas.{object-prints, array-prints, number-prints}
 use Rattle.tt_answers.proofs.ItemReadLemmas.{IsReadBack, read-back}
@@ -112,7 +110,7 @@ printed_actions_replace tables slot ws catalog fits sound storable short =
     let line : List ℕ = replacing_line tables slot ws in
     let back = line-back tables slot ws (edit-back tables slot ws fits (do-back tables ws (action-back tables ws catalog sound storable))) in
     let read : read_with (members_of_request tables) line ≡ Ok (the_request slot ws) =
-        read-back 8 (json.object (line_tree tables slot ws)) line (line_data tables slot ws) (members_of_request tables) (the_request slot ws) back (omega arith) in
+    read-back 8 (json.object (line_tree tables slot ws)) line (line_data tables slot ws) (members_of_request tables) (the_request slot ws) back (omega arith) in
     ap (request_of tables) (line-read line short) ∙ ap (with_path document_path) read
 
 -- ---- an opening
@@ -136,7 +134,7 @@ count-within max n h =
 
 opening-back : (tables : Tables) (keep records : ℕ) → IsCatalog tables → keep ≤ max_keep → records ≤ max_records
     → IsReadBack 5 (json.object (opening_tree tables keep records)) (opening_line tables keep records) (opening_data tables keep records) members_of_opening
-        (record { catalog = tables; keep = keep; records = records })
+    (record { catalog = tables; keep = keep; records = records })
 unfolding members_of_opening
 opening-back tables keep records sound few_kept few_records =
     let back = tables-back tables sound in
@@ -147,11 +145,11 @@ opening-back tables keep records sound few_kept few_records =
       prints = object-prints (opening_tree tables keep records) (declared_members tables keep records)
           (refl, number-prints (decimal 2), (refl, back.prints, (refl, number-prints (decimal keep), (refl, number-prints (decimal records), tt))));
       utf8 = IsUtf8-object (declared_members tables keep records) (
-          (IsUtf8-are_ascii (codes "version") refl, digits-utf8 2 version_fits),
-          (
-            (IsUtf8-are_ascii (codes "tables") refl, back.utf8),
-            ((IsUtf8-are_ascii (codes "keep") refl, digits-utf8 keep keep_fits), ((IsUtf8-are_ascii (codes "records") refl, digits-utf8 records records_fit), tt)),
-          ),
+        (IsUtf8-are_ascii (codes "version") refl, digits-utf8 2 version_fits),
+        (
+          (IsUtf8-are_ascii (codes "tables") refl, back.utf8),
+          ((IsUtf8-are_ascii (codes "keep") refl, digits-utf8 keep keep_fits), ((IsUtf8-are_ascii (codes "records") refl, digits-utf8 records records_fit), tt)),
+        ),
       );
       numbers = (IsNumber-decimal 2 version_fits, (back.numbers, (IsNumber-decimal keep keep_fits, (IsNumber-decimal records records_fit, tt))));
       shallow = let flat = back.shallow in omega arith;
@@ -166,5 +164,5 @@ printed_tables_open tables keep records sound few_kept few_records short =
     let opening : Opening = record { catalog = tables; keep = keep; records = records } in
     let back = opening-back tables keep records sound few_kept few_records in
     let read : read_with members_of_opening line ≡ Ok opening =
-        read-back 5 (json.object (opening_tree tables keep records)) line (opening_data tables keep records) members_of_opening opening back (omega arith) in
+    read-back 5 (json.object (opening_tree tables keep records)) line (opening_data tables keep records) members_of_opening opening back (omega arith) in
     ap opening_of (line-read line short) ∙ ap (with_path document_path) read
