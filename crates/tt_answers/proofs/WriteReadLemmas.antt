@@ -236,13 +236,18 @@ item-replaces : (tables : Tables) (d : Data) (w : Write) → item_of_action tabl
 unfolding item_of_action replacement
 item-replaces tables d w e = replaced tables d _ _ _ w e
 
+pub replacing-back : (tables : Tables) (w : Write) → IsWriteBack tables w
+    → IsReadBack 3 (json_of_write tables w) (write_text tables w) (data_of_write tables w) (replacement version_of_sessions tables) (w ∷ [])
+replacing-back tables w back =
+    let d : Data = data_of_write tables w in
+    also-back 3 (json_of_write tables w) (write_text tables w) d (item_of_action tables) w (replacement version_of_sessions tables) (w ∷ []) back (item-replaces tables d w back.decoded)
+
 -- a write that can be carried out is read back
 pub writes_are_read_back : WritesAreReadBack
 writes_are_read_back tables w catalog sound storable =
     let j = json_of_write tables w in
     let d = data_of_write tables w in
-    let back = write-back tables w catalog sound storable in
-    let replaces = also-back 3 j (write_text tables w) d (item_of_action tables) w (replacement version_of_sessions tables) (w ∷ []) back (item-replaces tables d w back.decoded) in (
+    let back = write-back tables w catalog sound storable in (
       read-back 3 j (write_text tables w) d (item_of_action tables) w back (omega arith),
-      read-back 3 j (write_text tables w) d (replacement version_of_sessions tables) (w ∷ []) replaces (omega arith),
+      read-back 3 j (write_text tables w) d (replacement version_of_sessions tables) (w ∷ []) (replacing-back tables w back) (omega arith),
     )

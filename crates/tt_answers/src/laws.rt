@@ -1,6 +1,7 @@
 //! Laws of the definitions that the contracts of this crate speak by. Each is the contract of a
 //! function with an empty body.
-ghost use Rattle.tt_answers.specs.ReadBack.{WritesAreReadBack, ActionsAreReadBack, TablesAreReadBack};
+ghost use Rattle.tt_answers.specs.ReadBack.{WritesAreReadBack, ActionsAreReadBack};
+ghost use Rattle.tt_answers.specs.ReadBack.{TablesAreReadBack};
 
 /// A write that can be carried out is printed as JSON that is read as the same write: among the
 /// writes of an action, and where it replaces the action of a slot.

@@ -1,5 +1,5 @@
--- A printed action, put under `by`, is read as the same action, and printed tables open a session with the same tables.
-use Rattle.std.proofs.Common.{◌≡◌, ℕ, ◌^◌, ◌<◌, ◌≤◌, nat_lt, false, List, [], ◌∷◌, None, Ok, IsUtf8, codes, decimal, refl, ap, ◌∙◌, arith}
+-- A printed write or action, put under `by`, is read as the same, and printed tables open a session with the same tables.
+use Rattle.std.proofs.Common.{◌≡◌, ℕ, suc, ◌+◌, ◌^◌, ◌<◌, ◌≤◌, nat_lt, false, List, [], ◌∷◌, None, Ok, IsUtf8, codes, decimal, refl, ap, ◌∙◌, arith}
 use Rattle.std.proofs.lemmas.Bool.Decides.{nat_tests}
 use Rattle.std.proofs.lemmas.Fmt.{IsAscii-decimal}
 use Rattle.std.proofs.lemmas.Str.{IsUtf8-from_ascii}
@@ -26,73 +26,69 @@ use Rattle.tt_requests.specs.Lines.{is_too_long}
 use Rattle.tt_requests.specs.Opening.{max_keep, max_records, members_of_opening, opening_of}
 use Rattle.tt_requests.specs.Requests.{begin, members_of_request, usual_worker, request_of}
 use Rattle.tt_answers.specs.JsonText.{Member, array_text, number_member, object_text}
-use Rattle.tt_answers.specs.WriteText.{action_text}
+use Rattle.tt_answers.specs.WriteText.{write_text, action_text}
 use Rattle.tt_answers.specs.AnswerText.{declared_members}
 use Rattle.tt_answers.specs.ReadBack.{read_with}
 use Rattle.tt_answers.proofs.Utf8Lemmas.{IsUtf8-array, IsUtf8-object}
 use Rattle.tt_answers.proofs.JsonReadLemmas.{object-prints, array-prints, number-prints}
 use Rattle.tt_answers.proofs.ItemReadLemmas.{IsReadBack, read-back}
+use Rattle.tt_answers.proofs.WriteReadLemmas.{json_of_write, data_of_write, write-back, replacing-back}
 use Rattle.tt_answers.proofs.ActionReadLemmas.{do_tree, do_data, action-back, do-back}
 use Rattle.tt_answers.proofs.TableReadLemmas.{json_of_tables, data_of_tables, tables-back}
-use Rattle.tt_session.specs.ReadBack.{opening_line, PrintedTablesOpen, replacing_text, replacing_line, PrintedActionsReplace}
+use Rattle.tt_session.specs.ReadBack.{opening_line, PrintedTablesOpen, Replaces, PrintedWritesReplace, replacing_text, replacing_line, PrintedActionsReplace}
 
 digits-utf8 : (n : ℕ) → n < 2 ^ 64 → IsUtf8 (decimal n)
 digits-utf8 n fits = IsUtf8-from_ascii (decimal n) (IsAscii-decimal n fits)
 
--- ---- an edit
+-- ---- an edit, and the line that begins a repair with it, with the tree of what stands under `by`, its text, and what it stands for
 
-abbrev edit_tree : Tables → ℕ → List Write → json.Members
-edit_tree tables slot ws = json.member (codes "replace") (json.number (decimal slot)) (json.member (codes "by") (do_tree tables ws) json.no_members)
+abbrev edit_tree : ℕ → json.Json → json.Members
+edit_tree slot by = json.member (codes "replace") (json.number (decimal slot)) (json.member (codes "by") by json.no_members)
 
-abbrev edit_data : Tables → ℕ → List Write → Data
-edit_data tables slot ws = spec.object (member (codes "by") (do_data tables ws) (member (codes "replace") (number (unsigned slot)) no_members))
+abbrev edit_data : ℕ → Data → Data
+edit_data slot by = spec.object (member (codes "by") by (member (codes "replace") (number (unsigned slot)) no_members))
 
-abbrev edit_members : Tables → ℕ → List Write → List Member
-edit_members tables slot ws = number_member (codes "replace") slot ∷ (codes "by", object_text ((codes "do", action_text tables ws) ∷ [])) ∷ []
+abbrev edit_members : ℕ → List ℕ → List Member
+edit_members slot text = number_member (codes "replace") slot ∷ (codes "by", text) ∷ []
 
-abbrev IsDoBack : Tables → List Write → Type 0
-IsDoBack tables ws = IsReadBack 5 (do_tree tables ws) (object_text ((codes "do", action_text tables ws) ∷ [])) (do_data tables ws) (replacement version_of_sessions tables) ws
-
-edit-back : (tables : Tables) (slot : ℕ) (ws : List Write) → slot < 2 ^ 64 → IsDoBack tables ws
-    → IsReadBack 6 (json.object (edit_tree tables slot ws)) (replacing_text tables slot ws) (edit_data tables slot ws) (edit tables) (Replace slot ws)
+edit-back : (tables : Tables) (slot nested : ℕ) (by : json.Json) (text : List ℕ) (d : Data) (ws : List Write) → slot < 2 ^ 64
+    → IsReadBack nested by text d (replacement version_of_sessions tables) ws
+    → IsReadBack (suc nested) (json.object (edit_tree slot by)) (replacing_text slot text) (edit_data slot d) (edit tables) (Replace slot ws)
 unfolding edit replace
-edit-back tables slot ws fits back =
-    record {
-      prints = object-prints (edit_tree tables slot ws) (edit_members tables slot ws) (refl, number-prints (decimal slot), (refl, back.prints, tt));
-      utf8 = IsUtf8-object (edit_members tables slot ws) ((IsUtf8-are_ascii (codes "replace") refl, digits-utf8 slot fits), ((IsUtf8-are_ascii (codes "by") refl, back.utf8), tt));
-      numbers = (IsNumber-decimal slot fits, (back.numbers, tt));
-      shallow = let flat = back.shallow in omega arith;
-      stands = simp (number_of-decimal slot fits, back.stands);
-      once = simp back.once;
-      decoded = simp back.decoded;
-    }
+edit-back tables slot nested by text d ws fits back = record {
+  prints = object-prints (edit_tree slot by) (edit_members slot text) (refl, number-prints (decimal slot), (refl, back.prints, tt));
+  utf8 = IsUtf8-object (edit_members slot text) ((IsUtf8-are_ascii (codes "replace") refl, digits-utf8 slot fits), ((IsUtf8-are_ascii (codes "by") refl, back.utf8), tt));
+  numbers = (IsNumber-decimal slot fits, (back.numbers, tt));
+  shallow = let flat = back.shallow in omega arith;
+  stands = simp (number_of-decimal slot fits, back.stands);
+  once = simp back.once;
+  decoded = simp back.decoded;
+}
 
--- ---- a line
+abbrev line_items : ℕ → json.Json → json.Items
+line_items slot by = json.item (json.object (edit_tree slot by)) json.no_items
 
-abbrev line_items : Tables → ℕ → List Write → json.Items
-line_items tables slot ws = json.item (json.object (edit_tree tables slot ws)) json.no_items
+abbrev line_tree : ℕ → json.Json → json.Members
+line_tree slot by = json.member (codes "begin") (json.array (line_items slot by)) json.no_members
 
-abbrev line_tree : Tables → ℕ → List Write → json.Members
-line_tree tables slot ws = json.member (codes "begin") (json.array (line_items tables slot ws)) json.no_members
+abbrev line_data : ℕ → Data → Data
+line_data slot d = spec.object (member (codes "begin") (spec.array (item (edit_data slot d) no_items)) no_members)
 
-abbrev line_data : Tables → ℕ → List Write → Data
-line_data tables slot ws = spec.object (member (codes "begin") (spec.array (item (edit_data tables slot ws) no_items)) no_members)
-
-abbrev line_members : Tables → ℕ → List Write → List Member
-line_members tables slot ws = (codes "begin", array_text (replacing_text tables slot ws ∷ [])) ∷ []
+abbrev line_members : ℕ → List ℕ → List Member
+line_members slot text = (codes "begin", array_text (replacing_text slot text ∷ [])) ∷ []
 
 abbrev the_request : ℕ → List Write → Request
 the_request slot ws = record { worker = usual_worker; expected = None; command = commands.Begin (Replace slot ws ∷ []) }
 
-line-back : (tables : Tables) (slot : ℕ) (ws : List Write)
-    → IsReadBack 6 (json.object (edit_tree tables slot ws)) (replacing_text tables slot ws) (edit_data tables slot ws) (edit tables) (Replace slot ws)
-    → IsReadBack 8 (json.object (line_tree tables slot ws)) (replacing_line tables slot ws) (line_data tables slot ws) (members_of_request tables) (the_request slot ws)
+line-back : (tables : Tables) (slot nested : ℕ) (by : json.Json) (text : List ℕ) (d : Data) (ws : List Write)
+    → IsReadBack nested (json.object (edit_tree slot by)) (replacing_text slot text) (edit_data slot d) (edit tables) (Replace slot ws)
+    → IsReadBack (nested + 2) (json.object (line_tree slot by)) (replacing_line slot text) (line_data slot d) (members_of_request tables) (the_request slot ws)
 unfolding members_of_request begin
-line-back tables slot ws back =
-    let printed = array-prints (line_items tables slot ws) (replacing_text tables slot ws ∷ []) (back.prints, tt) in
+line-back tables slot nested by text d ws back =
+    let printed = array-prints (line_items slot by) (replacing_text slot text ∷ []) (back.prints, tt) in
     record {
-      prints = object-prints (line_tree tables slot ws) (line_members tables slot ws) (refl, printed, tt);
-      utf8 = IsUtf8-object (line_members tables slot ws) ((IsUtf8-are_ascii (codes "begin") refl, IsUtf8-array (replacing_text tables slot ws ∷ []) (back.utf8, tt)), tt);
+      prints = object-prints (line_tree slot by) (line_members slot text) (refl, printed, tt);
+      utf8 = IsUtf8-object (line_members slot text) ((IsUtf8-are_ascii (codes "begin") refl, IsUtf8-array (replacing_text slot text ∷ []) (back.utf8, tt)), tt);
       numbers = ((back.numbers, tt), tt);
       shallow = let flat = back.shallow in omega arith;
       stands = simp back.stands;
@@ -105,13 +101,22 @@ line-read : (line : List ℕ) → is_too_long line ≡ false → value_of_line l
 unfolding value_of_line
 line-read line short = rw short refl
 
-pub printed_actions_replace : PrintedActionsReplace
-printed_actions_replace tables slot ws catalog fits sound storable short =
-    let line : List ℕ = replacing_line tables slot ws in
-    let back = line-back tables slot ws (edit-back tables slot ws fits (do-back tables ws (action-back tables ws catalog sound storable))) in
+replaces : (tables : Tables) (nested : ℕ) (by : json.Json) (text : List ℕ) (d : Data) (ws : List Write) → IsReadBack nested by text d (replacement version_of_sessions tables) ws
+    → nested ≤ 100 → Replaces tables text ws
+replaces tables nested by text d ws back flat slot fits short =
+    let line : List ℕ = replacing_line slot text in
+    let whole = line-back tables slot (suc nested) by text d ws (edit-back tables slot nested by text d ws fits back) in
     let read : read_with (members_of_request tables) line ≡ Ok (the_request slot ws) =
-    read-back 8 (json.object (line_tree tables slot ws)) line (line_data tables slot ws) (members_of_request tables) (the_request slot ws) back (omega arith) in
+    read-back (suc nested + 2) (json.object (line_tree slot by)) line (line_data slot d) (members_of_request tables) (the_request slot ws) whole (omega arith) in
     ap (request_of tables) (line-read line short) ∙ ap (with_path document_path) read
+
+pub printed_writes_replace : PrintedWritesReplace
+printed_writes_replace tables w catalog sound storable =
+    replaces tables 3 (json_of_write tables w) (write_text tables w) (data_of_write tables w) (w ∷ []) (replacing-back tables w (write-back tables w catalog sound storable)) (omega arith)
+
+pub printed_actions_replace : PrintedActionsReplace
+printed_actions_replace tables ws catalog sound storable =
+    replaces tables 5 (do_tree tables ws) (object_text ((codes "do", action_text tables ws) ∷ [])) (do_data tables ws) ws (do-back tables ws (action-back tables ws catalog sound storable)) (omega arith)
 
 -- ---- an opening
 

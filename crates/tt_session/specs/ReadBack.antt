@@ -1,9 +1,9 @@
--- What a session prints can be put into the lines that it reads: an action, in place of the action of a slot; and its tables, in an
--- opening.
+-- What a session prints can be put into the lines that it reads: writes and actions, in place of the action of a slot; and tables, in
+-- an opening.
 use Rattle.std.specs.Prelude.{◌≡◌, ℕ, ◌^◌, ◌<◌, ◌≤◌, false, List, [], ◌∷◌, All, None, Ok, codes}
 use Rattle.tt_values.specs.declared.statement.Write.{Write}
 use Rattle.tt_values.specs.Tables.{Tables, IsCatalog}
-use Rattle.tt_values.specs.Check.{action_fault}
+use Rattle.tt_values.specs.Check.{write_fault, action_fault}
 use Rattle.tt_repair_laws.specs.declared.edit.Edit.TheVariants.{Replace}
 use Rattle.tt_requests.specs.declared.request.Command.TheVariants as commands
 use Rattle.tt_requests.specs.Lines.{is_too_long}
@@ -11,24 +11,31 @@ use Rattle.tt_requests.specs.LineValue.{value_of_line}
 use Rattle.tt_requests.specs.Opening.{max_keep, max_records, opening_of}
 use Rattle.tt_requests.specs.Requests.{usual_worker, request_of}
 use Rattle.tt_answers.specs.JsonText.{array_text, number_member, object_text}
-use Rattle.tt_answers.specs.WriteText.{action_text}
+use Rattle.tt_answers.specs.WriteText.{write_text, action_text}
 use Rattle.tt_answers.specs.AnswerText.{declared_members}
 use Rattle.tt_answers.specs.ReadBack.{IsStorable, values_of_write}
 
--- an edit that replaces the action of a slot: the action as it is printed, under `do`
-abbrev pub replacing_text : Tables → ℕ → List Write → List ℕ
-replacing_text tables slot ws = object_text (number_member (codes "replace") slot ∷ (codes "by", object_text ((codes "do", action_text tables ws) ∷ [])) ∷ [])
+-- an edit that replaces the action of a slot by what a text spells
+abbrev pub replacing_text : ℕ → List ℕ → List ℕ
+replacing_text slot text = object_text (number_member (codes "replace") slot ∷ (codes "by", text) ∷ [])
 
 -- a line that begins a repair with this edit alone
-abbrev pub replacing_line : Tables → ℕ → List Write → List ℕ
-replacing_line tables slot ws = object_text ((codes "begin", array_text (replacing_text tables slot ws ∷ [])) ∷ [])
+abbrev pub replacing_line : ℕ → List ℕ → List ℕ
+replacing_line slot text = object_text ((codes "begin", array_text (replacing_text slot text ∷ [])) ∷ [])
 
--- an action that can be carried out, put under `by` as it is printed, replaces the action of a slot by the same action, unless the
--- line gets too long
+-- a text, put under `by`, replaces the action of any slot by this action, unless the line gets too long
+abbrev pub Replaces : Tables → List ℕ → List Write → Type 0
+Replaces tables text action = (slot : ℕ) → slot < 2 ^ 64 → is_too_long (replacing_line slot text) ≡ false →
+    request_of tables (value_of_line (replacing_line slot text)) ≡ Ok (record { worker = usual_worker; expected = None; command = commands.Begin (Replace slot action ∷ []) })
+
+-- a write that can be carried out, as it is printed, replaces an action by this write
+abbrev pub PrintedWritesReplace : Type 0
+PrintedWritesReplace = (tables : Tables) (w : Write) → IsCatalog tables → write_fault tables w ≡ None → All IsStorable (values_of_write w) → Replaces tables (write_text tables w) (w ∷ [])
+
+-- an action that can be carried out, as it is printed, under `do` replaces an action by the same action
 abbrev pub PrintedActionsReplace : Type 0
-PrintedActionsReplace = (tables : Tables) (slot : ℕ) (ws : List Write) → IsCatalog tables → slot < 2 ^ 64 → action_fault tables ws ≡ None → All (λ w. All IsStorable (values_of_write w)) ws →
-    is_too_long (replacing_line tables slot ws) ≡ false →
-    request_of tables (value_of_line (replacing_line tables slot ws)) ≡ Ok (record { worker = usual_worker; expected = None; command = commands.Begin (Replace slot ws ∷ []) })
+PrintedActionsReplace = (tables : Tables) (ws : List Write) → IsCatalog tables → action_fault tables ws ≡ None → All (λ w. All IsStorable (values_of_write w)) ws →
+    Replaces tables (object_text ((codes "do", action_text tables ws) ∷ [])) ws
 
 -- a line with the members that a question about the tables is answered by
 abbrev pub opening_line : Tables → ℕ → ℕ → List ℕ

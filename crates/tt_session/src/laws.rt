@@ -1,7 +1,8 @@
 //! Laws of the definitions that the contracts of this crate speak by. Each is the contract of a
 //! function with an empty body.
 ghost use Rattle.tt_session.specs.Invariants.{RepairsCanEnd};
-ghost use Rattle.tt_session.specs.ReadBack.{PrintedActionsReplace, PrintedTablesOpen};
+ghost use Rattle.tt_session.specs.ReadBack.{PrintedWritesReplace, PrintedActionsReplace};
+ghost use Rattle.tt_session.specs.ReadBack.{PrintedTablesOpen};
 
 /// A repair that is under way can be finished, with none of its steps refused, and can be given up.
 #[tactic(auto, using(crate::proofs::LawLemmas::repairs_can_end))]
@@ -9,8 +10,14 @@ pub fn repairs_can_end()
     ensures { RepairsCanEnd }
 {}
 
-/// An action that can be carried out, put under `by` as it is printed, replaces the action of a
-/// slot by the same action.
+/// A write that can be carried out, put under `by` as it is printed, replaces the action of a slot
+/// by this write.
+pub fn printed_writes_replace()
+    ensures { PrintedWritesReplace }
+{}
+
+/// An action that can be carried out, put under `do` and `by` as it is printed, replaces the action
+/// of a slot by the same action.
 pub fn printed_actions_replace()
     ensures { PrintedActionsReplace }
 {}
