@@ -29,7 +29,7 @@ use Rattle.tt_answers.proofs.WriteReadLemmas.{json_of_write, data_of_write, writ
 
 -- ---- an action that has no fault
 
-few_writes : (many : Bool) (rest : Option CheckError) → (if many then Some errors.TooManyWrites else rest) ≡ None → (many ≡ false) × (rest ≡ None)
+pub few_writes : (many : Bool) (rest : Option CheckError) → (if many then Some errors.TooManyWrites else rest) ≡ None → (many ≡ false) × (rest ≡ None)
 few_writes true rest h = cc
 few_writes false rest h = (refl, h)
 
@@ -37,7 +37,7 @@ both_none : (o p : Option CheckError) → option_or o p ≡ None → (o ≡ None
 both_none None p h = (refl, h)
 both_none (Some fault) p h = cc
 
-no_write_fault : (tables : Tables) (ws : List Write) → first_write_fault tables ws ≡ None → Every (λ w. write_fault tables w ≡ None) ws
+pub no_write_fault : (tables : Tables) (ws : List Write) → first_write_fault tables ws ≡ None → Every (λ w. write_fault tables w ≡ None) ws
 no_write_fault tables [] h = tt
 no_write_fault tables (w ∷ ws) h = let both = both_none (write_fault tables w) (first_write_fault tables ws) h in (both.0, no_write_fault tables ws both.1)
 

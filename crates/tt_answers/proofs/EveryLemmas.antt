@@ -16,6 +16,10 @@ pub every-map : {X Y : Type 0} → (P : Y → Type 0) (f : X → Y) (xs : List X
 every-map P f [] h = tt
 every-map P f (x ∷ xs) h = (h.0, every-map P f xs h.1)
 
+pub every-mapped : {X Y : Type 0} → (P : Y → Type 0) (f : X → Y) (xs : List X) → Every (λ x. P (f x)) xs → Every P (map f xs)
+every-mapped P f [] h = tt
+every-mapped P f (x ∷ xs) h = (h.0, every-mapped P f xs h.1)
+
 pub every-left : {X : Type 0} → (P : X → Type 0) (xs ys : List X) → Every P (xs ++ ys) → Every P xs
 every-left P [] ys h = tt
 every-left P (x ∷ xs) ys h = (h.0, every-left P xs ys h.1)

@@ -11,4 +11,5 @@ pub mod StatementReadLemmas
 pub mod WriteReadLemmas
 pub mod ActionReadLemmas
 pub mod TableReadLemmas
+pub mod LengthLemmas
 mod worked_answers

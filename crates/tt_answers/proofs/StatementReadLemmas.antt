@@ -1,5 +1,5 @@
 -- Conditions and changes that are printed are read back as the same.
-use Rattle.std.proofs.Common.{◌≡◌, ℕ, true, List, [], ◌∷◌, Some, slice_get, IsUtf8, codes, refl, sym, ap, subst, ◌∙◌, arith}
+use Rattle.std.proofs.Common.{◌≡◌, ℕ, ◌≤◌, true, List, [], ◌∷◌, length, Some, slice_get, IsUtf8, codes, refl, sym, ap, subst, ◌∙◌, arith}
 use Rattle.std.specs.Fmt.{signed_decimal}
 use Rattle.json.specs.Json as json
 use Rattle.json.proofs.Printed.Utf8.{IsUtf8-are_ascii}
@@ -13,6 +13,7 @@ use Rattle.tt_values.specs.declared.statement.Change.{Change}
 use Rattle.tt_values.specs.declared.statement.Change.TheVariants.{Set, Add}
 use Rattle.tt_values.specs.declared.statement.Equal.{Equal}
 use Rattle.tt_values.specs.Change.{column_of}
+use Rattle.tt_values.specs.Limits.{max_name_bytes}
 use Rattle.tt_values.specs.Tables.{Tables, IsTable, is_name, column_position}
 use Rattle.tt_document.specs.Quoting.{quoted}
 use Rattle.tt_document.proofs.QuotingLemmas.{IsUtf8-quoted}
@@ -23,25 +24,28 @@ use Rattle.tt_answers.specs.WriteText.{column_name, equal_text, column_change_te
 use Rattle.tt_answers.specs.ReadBack.{IsStorable, value_of_change}
 use Rattle.tt_answers.proofs.JsonReadLemmas.{array-prints, string-prints}
 use Rattle.tt_answers.proofs.ValueReadLemmas.{json_of_value, data_of_value, value-back, int-decoded}
-use Rattle.tt_answers.proofs.Utf8Lemmas.{IsUtf8-name, IsUtf8-array}
+use Rattle.tt_answers.proofs.Utf8Lemmas.{IsUtf8-name, short-name, IsUtf8-array}
 use Rattle.tt_answers.proofs.EveryLemmas.{Every, every-holds, every-at}
 use Rattle.tt_answers.proofs.NameLemmas.{column-found}
 use Rattle.tt_answers.proofs.ItemReadLemmas.{IsReadBack}
 
--- a column of a table is found by its name, which is UTF-8
+-- a column of a table is found by its name, which is UTF-8 and short
 pub record IsNamed (tables : Tables) (table column : ℕ) : Type 0 where
   pub found : column_with tables table (column_name tables table column) ≡ Some column
   pub utf8 : IsUtf8 (column_name tables table column)
+  pub short : length (column_name tables table column) ≤ max_name_bytes
 
 pub column-named : (tables : Tables) (table : ℕ) (t : List ℕ × TableDef) (column : ℕ) (c : Column) → IsTable t.1 → slice_get tables table ≡ Some t
     → slice_get t.1.columns column ≡ Some c → IsNamed tables table column
 column-named tables table t column c sound at_table at_column =
     let name : column_name tables table column ≡ c.name = simp (at_table, at_column) in
     let here : column_with tables table c.name ≡ column_position t.1.columns c.name = simp at_table in
-    let named : Every (λ d. is_name d.name ≡ true) t.1.columns = every-holds (λ d. is_name d.name) t.1.columns sound.columns_are_named in
+    let all_named : Every (λ d. is_name d.name ≡ true) t.1.columns = every-holds (λ d. is_name d.name) t.1.columns sound.columns_are_named in
+    let named : is_name c.name ≡ true = every-at (λ d. is_name d.name ≡ true) t.1.columns column c all_named at_column in
     record {
       found = ap (column_with tables table) name ∙ here ∙ column-found t.1.columns column c sound.names_differ at_column;
-      utf8 = subst IsUtf8 (sym name) (IsUtf8-name c.name (every-at (λ d. is_name d.name ≡ true) t.1.columns column c named at_column));
+      utf8 = subst IsUtf8 (sym name) (IsUtf8-name c.name named);
+      short = subst (λ n. length n ≤ max_name_bytes) (sym name) (short-name c.name named);
     }
 
 -- the tree of an equality, and what it stands for

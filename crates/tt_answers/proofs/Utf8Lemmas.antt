@@ -1,6 +1,6 @@
 -- What is printed is UTF-8: names, arrays and objects.
-use Rattle.std.proofs.Common.{◌≡◌, ℕ, Bool, true, ◌&&◌, nat_lt, nat_le, List, [], ◌∷◌, ◌++◌, length, map, codes, IsUtf8, refl, arith}
-use Rattle.std.proofs.lemmas.Bool.{and_parts}
+use Rattle.std.proofs.Common.{◌≡◌, ℕ, ◌≤◌, Bool, true, ◌&&◌, nat_lt, nat_le, List, [], ◌∷◌, ◌++◌, length, map, codes, IsUtf8, refl, arith}
+use Rattle.std.proofs.lemmas.Bool.{and_parts, leb-true}
 use Rattle.std.proofs.lemmas.Bool.Decides.{nat_tests}
 use Rattle.std.proofs.lemmas.Str.{IsUtf8-append, IsUtf8-nil}
 use Rattle.std.specs.List.{flat_map, list_all}
@@ -12,7 +12,7 @@ use Rattle.tt_document.proofs.QuotingLemmas.{IsUtf8-quoted}
 use Rattle.tt_answers.specs.JsonText.{further_item, items_text, array_text, Member, member_text, members_text, object_text}
 use Rattle.tt_answers.proofs.EveryLemmas.{Every}
 
--- names
+-- names, which are short too
 name_byte-ascii : (b : ℕ) → is_name_byte b ≡ true → nat_lt b 128 ≡ true
 name_byte-ascii b h = grind (arith, nat_tests)
 
@@ -26,6 +26,12 @@ pub IsUtf8-name : (name : List ℕ) → is_name name ≡ true → IsUtf8 name
 IsUtf8-name name h =
     let short : Bool = nat_le 1 (length name) && nat_le (length name) max_name_bytes in
     IsUtf8-are_ascii name (name_bytes-ascii name (and_parts short (list_all is_name_byte name) h).1)
+
+pub short-name : (name : List ℕ) → is_name name ≡ true → length name ≤ max_name_bytes
+short-name name h =
+    let short : Bool = nat_le 1 (length name) && nat_le (length name) max_name_bytes in
+    let both = and_parts (nat_le 1 (length name)) (nat_le (length name) max_name_bytes) (and_parts short (list_all is_name_byte name) h).0 in
+    leb-true (length name) max_name_bytes both.1
 
 -- items of an array
 further_items-utf8 : (items : List (List ℕ)) → Every IsUtf8 items → IsUtf8 (flat_map further_item items)

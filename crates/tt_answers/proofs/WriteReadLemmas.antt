@@ -1,5 +1,5 @@
 -- Writes that are printed are read back as the same.
-use Rattle.std.proofs.Common.{◌≡◌, ℕ, Bool, true, false, if◌then◌else◌, nat_le, List, [], ◌∷◌, ◌++◌, length, map, Option, Some, None, slice_get, option_map, Result, Ok, Err, IsUtf8, codes, refl, sym, ap, subst, ◌∙◌, arith, All}
+use Rattle.std.proofs.Common.{◌≡◌, ℕ, ◌≤◌, Bool, true, false, if◌then◌else◌, nat_le, List, [], ◌∷◌, ◌++◌, length, map, Option, Some, None, slice_get, option_map, Result, Ok, Err, IsUtf8, codes, refl, sym, ap, subst, ◌∙◌, arith, All}
 use Rattle.std.specs.Prelude.{⊤}
 use Rattle.std.proofs.lemmas.Bool.{or_parts, leb-false}
 use Rattle.std.specs.List.{flat_map, list_any}
@@ -19,6 +19,7 @@ use Rattle.tt_values.specs.declared.checking.CheckError.{CheckError}
 use Rattle.tt_values.specs.Faults.{first_fault}
 use Rattle.tt_values.specs.Change.{column_of}
 use Rattle.tt_values.specs.Check.{write_fault, fault_on, row_tests, update_tests, equals_tests, changes_no_column, has_no_column}
+use Rattle.tt_values.specs.Limits.{max_name_bytes}
 use Rattle.tt_values.specs.Tables.{Tables, IsTable, IsCatalog, is_name, table_position}
 use Rattle.tt_document.specs.declared.fault.DocFault.{DocFault}
 use Rattle.tt_document.specs.Fault.{◌>>=◌, or_refuse}
@@ -35,7 +36,7 @@ use Rattle.tt_answers.specs.JsonText.{further_item, items_text, array_text}
 use Rattle.tt_answers.specs.WriteText.{table_name, equal_text, column_change_text, write_members, write_text}
 use Rattle.tt_answers.specs.ReadBack.{IsStorable, value_of_change, values_of_equals, values_of_write, WritesAreReadBack}
 use Rattle.tt_answers.proofs.EveryLemmas.{Every, every, every-map, every-left, every-right, every-both, every-then, every-fails, every-at, some-at}
-use Rattle.tt_answers.proofs.Utf8Lemmas.{IsUtf8-name, IsUtf8-object}
+use Rattle.tt_answers.proofs.Utf8Lemmas.{IsUtf8-name, short-name, IsUtf8-object}
 use Rattle.tt_answers.proofs.JsonReadLemmas.{Prints, object-prints, string-prints}
 use Rattle.tt_answers.proofs.ItemReadLemmas.{IsReadBack, read-back, also-back, trees, meanings, array-back}
 use Rattle.tt_answers.proofs.ValueReadLemmas.{json_of_value, data_of_value, value-back}
@@ -48,7 +49,7 @@ further_values-are_items : (vs : List Value) → flat_map further_value vs ≡ f
 further_values-are_items [] = refl
 further_values-are_items (v ∷ vs) = ap (λ s. (codes "," ++ value_text v) ++ s) (further_values-are_items vs)
 
-row-is_array : (row : Row) → array_text (map value_text row.values) ≡ row_text row
+pub row-is_array : (row : Row) → array_text (map value_text row.values) ≡ row_text row
 row-is_array row = ap (λ s. codes "[" ++ (s ++ codes "]")) (by row.values)
   where
     by : (vs : List Value) → items_text (map value_text vs) ≡ values_text vs
@@ -61,30 +62,33 @@ no_first_fault : {E : Type 0} → (b : Bool) (e : E) (rest : Option E) → (if b
 no_first_fault true e rest h = cc
 no_first_fault false e rest h = (refl, h)
 
-no_fault : {E : Type 0} → (tests : List (Bool × E)) → first_fault tests ≡ None → Every (λ test. test.0 ≡ false) tests
+pub no_fault : {E : Type 0} → (tests : List (Bool × E)) → first_fault tests ≡ None → Every (λ test. test.0 ≡ false) tests
 no_fault [] h = tt
 no_fault (test ∷ tests) h = let both = no_first_fault test.0 test.1 (first_fault tests) h in (both.0, no_fault tests both.1)
 
 -- its table is there, and it has no fault on this table's columns
-on_table : (o : Option (List ℕ × TableDef)) (tests : List Column → List (Bool × CheckError)) → fault_on (option_map (λ t. t.1.columns) o) tests ≡ None
+pub on_table : (o : Option (List ℕ × TableDef)) (tests : List Column → List (Bool × CheckError)) → fault_on (option_map (λ t. t.1.columns) o) tests ≡ None
     → (t : List ℕ × TableDef) × (o ≡ Some t) × (first_fault (tests t.1.columns) ≡ None)
 on_table None tests h = cc
 on_table (Some t) tests h = (t, refl, h)
 
-all_are_columns : (columns : List Column) (changes : List Change) (equals : List Equal) → first_fault (update_tests columns changes equals) ≡ None
+pub all_are_columns : (columns : List Column) (changes : List Change) (equals : List Equal) → first_fault (update_tests columns changes equals) ≡ None
     → (changes_no_column columns changes ≡ false) × (has_no_column columns equals ≡ false)
 all_are_columns columns changes equals h = or_parts (changes_no_column columns changes) (has_no_column columns equals) (no_fault (update_tests columns changes equals) h).0
 
--- a table is found by its name, which is UTF-8
-table-named : (tables : Tables) (table : ℕ) (t : List ℕ × TableDef) → IsCatalog tables → slice_get tables table ≡ Some t
-    → (table_position tables (table_name tables table) ≡ Some table) × IsUtf8 (table_name tables table)
+-- a table is found by its name, which is UTF-8 and short
+pub table-named : (tables : Tables) (table : ℕ) (t : List ℕ × TableDef) → IsCatalog tables → slice_get tables table ≡ Some t
+    → (table_position tables (table_name tables table) ≡ Some table) × IsUtf8 (table_name tables table) × (length (table_name tables table) ≤ max_name_bytes)
 table-named tables table t catalog e =
     let name : table_name tables table ≡ t.0 = simp e in
-    let valid : is_name t.0 ≡ true = every-at (λ u. is_name u.0 ≡ true) tables table t (every (λ u. is_name u.0 ≡ true) tables catalog.tables_are_named) e in
-    (ap (table_position tables) name ∙ table-found tables table t catalog.names_differ e, subst IsUtf8 (sym name) (IsUtf8-name t.0 valid))
+    let valid : is_name t.0 ≡ true = every-at (λ u. is_name u.0 ≡ true) tables table t (every (λ u. is_name u.0 ≡ true) tables catalog.tables_are_named) e in (
+      ap (table_position tables) name ∙ table-found tables table t catalog.names_differ e,
+      subst IsUtf8 (sym name) (IsUtf8-name t.0 valid),
+      subst (λ n. length n ≤ max_name_bytes) (sym name) (short-name t.0 valid),
+    )
 
 -- the columns of items that are columns of a table
-columns-named : {X : Type 0} → (tables : Tables) (table : ℕ) (t : List ℕ × TableDef) (column : X → ℕ) (xs : List X) → IsCatalog tables → slice_get tables table ≡ Some t
+pub columns-named : {X : Type 0} → (tables : Tables) (table : ℕ) (t : List ℕ × TableDef) (column : X → ℕ) (xs : List X) → IsCatalog tables → slice_get tables table ≡ Some t
     → list_any (λ x. nat_le (length t.1.columns) (column x)) xs ≡ false → Every (λ x. IsNamed tables table (column x)) xs
 columns-named tables table t column xs catalog e h =
     let sound : IsTable t.1 = every-at (λ u. IsTable u.1) tables table t (every (λ u. IsTable u.1) tables catalog.sound) e in

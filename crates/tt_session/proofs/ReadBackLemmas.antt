@@ -1,7 +1,8 @@
 -- A printed write or action, put under `by`, is read as the same, and printed tables open a session with the same tables.
-use Rattle.std.proofs.Common.{◌≡◌, ℕ, suc, ◌+◌, ◌^◌, ◌<◌, ◌≤◌, nat_lt, false, List, [], ◌∷◌, None, Ok, IsUtf8, codes, decimal, refl, ap, ◌∙◌, arith}
+use Rattle.std.proofs.Common.{◌≡◌, ℕ, suc, ◌+◌, ◌^◌, ◌<◌, ◌≤◌, nat_lt, false, List, [], ◌∷◌, length, None, Ok, IsUtf8, codes, decimal, refl, ap, ◌∙◌, arith, length-append}
 use Rattle.std.proofs.lemmas.Bool.Decides.{nat_tests}
-use Rattle.std.proofs.lemmas.Fmt.{IsAscii-decimal}
+use Rattle.std.proofs.lemmas.Bool.{le-ltb}
+use Rattle.std.proofs.lemmas.Fmt.{IsAscii-decimal, length-decimal-le}
 use Rattle.std.proofs.lemmas.Str.{IsUtf8-from_ascii}
 use Rattle.json.specs.Json as json
 use Rattle.json.proofs.Printed.Decimals.{IsNumber-decimal}
@@ -22,7 +23,7 @@ use Rattle.tt_requests.specs.declared.request.Request.{Request}
 use Rattle.tt_requests.specs.declared.opening.Opening.{Opening}
 use Rattle.tt_requests.specs.Edits.{replace, edit}
 use Rattle.tt_requests.specs.LineValue.{value_of_line}
-use Rattle.tt_requests.specs.Lines.{is_too_long}
+use Rattle.tt_requests.specs.Lines.{max_line_bytes, is_too_long}
 use Rattle.tt_requests.specs.Opening.{max_keep, max_records, members_of_opening, opening_of}
 use Rattle.tt_requests.specs.Requests.{begin, members_of_request, usual_worker, request_of}
 use Rattle.tt_answers.specs.JsonText.{Member, array_text, number_member, object_text}
@@ -35,6 +36,7 @@ use Rattle.tt_answers.proofs.ItemReadLemmas.{IsReadBack, read-back}
 use Rattle.tt_answers.proofs.WriteReadLemmas.{json_of_write, data_of_write, write-back, replacing-back}
 use Rattle.tt_answers.proofs.ActionReadLemmas.{do_tree, do_data, action-back, do-back}
 use Rattle.tt_answers.proofs.TableReadLemmas.{json_of_tables, data_of_tables, tables-back}
+use Rattle.tt_answers.proofs.LengthLemmas.{length-write, length-action, length-tables}
 use Rattle.tt_session.specs.ReadBack.{opening_line, PrintedTablesOpen, Replaces, PrintedWritesReplace, replacing_text, replacing_line, PrintedActionsReplace}
 
 digits-utf8 : (n : ℕ) → n < 2 ^ 64 → IsUtf8 (decimal n)
@@ -101,22 +103,32 @@ line-read : (line : List ℕ) → is_too_long line ≡ false → value_of_line l
 unfolding value_of_line
 line-read line short = rw short refl
 
+short_line : (slot : ℕ) (text : List ℕ) → slot < 2 ^ 64 → length text ≤ 8000000 → is_too_long (replacing_line slot text) ≡ false
+short_line slot text fits short =
+    let digits = length-decimal-le 20 slot (omega arith) (omega arith) fits in
+    let within : length (replacing_line slot text) ≤ max_line_bytes = simp length-append (omega (arith, length-append {A = ℕ})) in
+    le-ltb max_line_bytes (length (replacing_line slot text)) within
+
 replaces : (tables : Tables) (nested : ℕ) (by : json.Json) (text : List ℕ) (d : Data) (ws : List Write) → IsReadBack nested by text d (replacement version_of_sessions tables) ws
-    → nested ≤ 100 → Replaces tables text ws
-replaces tables nested by text d ws back flat slot fits short =
+    → nested ≤ 100 → length text ≤ 8000000 → Replaces tables text ws
+replaces tables nested by text d ws back flat short slot fits =
     let line : List ℕ = replacing_line slot text in
     let whole = line-back tables slot (suc nested) by text d ws (edit-back tables slot nested by text d ws fits back) in
     let read : read_with (members_of_request tables) line ≡ Ok (the_request slot ws) =
     read-back (suc nested + 2) (json.object (line_tree slot by)) line (line_data slot d) (members_of_request tables) (the_request slot ws) whole (omega arith) in
-    ap (request_of tables) (line-read line short) ∙ ap (with_path document_path) read
+    ap (request_of tables) (line-read line (short_line slot text fits short)) ∙ ap (with_path document_path) read
 
 pub printed_writes_replace : PrintedWritesReplace
 printed_writes_replace tables w catalog sound storable =
-    replaces tables 3 (json_of_write tables w) (write_text tables w) (data_of_write tables w) (w ∷ []) (replacing-back tables w (write-back tables w catalog sound storable)) (omega arith)
+    let short = length-write tables w catalog sound storable in
+    replaces tables 3 (json_of_write tables w) (write_text tables w) (data_of_write tables w) (w ∷ []) (replacing-back tables w (write-back tables w catalog sound storable)) (omega arith) (omega arith)
 
 pub printed_actions_replace : PrintedActionsReplace
 printed_actions_replace tables ws catalog sound storable =
-    replaces tables 5 (do_tree tables ws) (object_text ((codes "do", action_text tables ws) ∷ [])) (do_data tables ws) ws (do-back tables ws (action-back tables ws catalog sound storable)) (omega arith)
+    let text : List ℕ = object_text ((codes "do", action_text tables ws) ∷ []) in
+    let action = length-action tables ws catalog sound storable in
+    let short : length text ≤ 8000000 = simp length-append (omega (arith, length-append {A = ℕ})) in
+    replaces tables 5 (do_tree tables ws) text (do_data tables ws) ws (do-back tables ws (action-back tables ws catalog sound storable)) (omega arith) short
 
 -- ---- an opening
 
@@ -163,11 +175,20 @@ opening-back tables keep records sound few_kept few_records =
       decoded = simp (back.decoded, count-within max_keep keep few_kept, count-within max_records records few_records);
     }
 
+short_opening : (tables : Tables) (keep records : ℕ) → IsCatalog tables → keep ≤ max_keep → records ≤ max_records → is_too_long (opening_line tables keep records) ≡ false
+short_opening tables keep records sound few_kept few_records =
+    let all = length-tables tables sound in
+    let version_digits = length-decimal-le 20 2 (omega arith) (omega arith) (omega arith) in
+    let keep_digits = length-decimal-le 20 keep (omega arith) (omega arith) (omega arith) in
+    let records_digits = length-decimal-le 20 records (omega arith) (omega arith) (omega arith) in
+    let within : length (opening_line tables keep records) ≤ max_line_bytes = simp length-append (omega (arith, length-append {A = ℕ})) in
+    le-ltb max_line_bytes (length (opening_line tables keep records)) within
+
 pub printed_tables_open : PrintedTablesOpen
-printed_tables_open tables keep records sound few_kept few_records short =
+printed_tables_open tables keep records sound few_kept few_records =
     let line : List ℕ = opening_line tables keep records in
     let opening : Opening = record { catalog = tables; keep = keep; records = records } in
     let back = opening-back tables keep records sound few_kept few_records in
     let read : read_with members_of_opening line ≡ Ok opening =
     read-back 5 (json.object (opening_tree tables keep records)) line (opening_data tables keep records) members_of_opening opening back (omega arith) in
-    ap opening_of (line-read line short) ∙ ap (with_path document_path) read
+    ap opening_of (line-read line (short_opening tables keep records sound few_kept few_records)) ∙ ap (with_path document_path) read

@@ -1,12 +1,11 @@
 -- What a session prints can be put into the lines that it reads: writes and actions, in place of the action of a slot; and tables, in
 -- an opening.
-use Rattle.std.specs.Prelude.{◌≡◌, ℕ, ◌^◌, ◌<◌, ◌≤◌, false, List, [], ◌∷◌, All, None, Ok, codes}
+use Rattle.std.specs.Prelude.{◌≡◌, ℕ, ◌^◌, ◌<◌, ◌≤◌, List, [], ◌∷◌, All, None, Ok, codes}
 use Rattle.tt_values.specs.declared.statement.Write.{Write}
 use Rattle.tt_values.specs.Tables.{Tables, IsCatalog}
 use Rattle.tt_values.specs.Check.{write_fault, action_fault}
 use Rattle.tt_repair_laws.specs.declared.edit.Edit.TheVariants.{Replace}
 use Rattle.tt_requests.specs.declared.request.Command.TheVariants as commands
-use Rattle.tt_requests.specs.Lines.{is_too_long}
 use Rattle.tt_requests.specs.LineValue.{value_of_line}
 use Rattle.tt_requests.specs.Opening.{max_keep, max_records, opening_of}
 use Rattle.tt_requests.specs.Requests.{usual_worker, request_of}
@@ -23,9 +22,9 @@ replacing_text slot text = object_text (number_member (codes "replace") slot ∷
 abbrev pub replacing_line : ℕ → List ℕ → List ℕ
 replacing_line slot text = object_text ((codes "begin", array_text (replacing_text slot text ∷ [])) ∷ [])
 
--- a text, put under `by`, replaces the action of any slot by this action, unless the line gets too long
+-- a text, put under `by`, replaces the action of any slot by this action
 abbrev pub Replaces : Tables → List ℕ → List Write → Type 0
-Replaces tables text action = (slot : ℕ) → slot < 2 ^ 64 → is_too_long (replacing_line slot text) ≡ false →
+Replaces tables text action = (slot : ℕ) → slot < 2 ^ 64 →
     request_of tables (value_of_line (replacing_line slot text)) ≡ Ok (record { worker = usual_worker; expected = None; command = commands.Begin (Replace slot action ∷ []) })
 
 -- a write that can be carried out, as it is printed, replaces an action by this write
@@ -41,8 +40,7 @@ PrintedActionsReplace = (tables : Tables) (ws : List Write) → IsCatalog tables
 abbrev pub opening_line : Tables → ℕ → ℕ → List ℕ
 opening_line tables keep records = object_text (declared_members tables keep records)
 
--- the members that tell the tables and how much is kept, as they are printed, open a session with the same, unless the line gets too
--- long
+-- the members that tell the tables and how much is kept, as they are printed, open a session with the same
 abbrev pub PrintedTablesOpen : Type 0
-PrintedTablesOpen = (tables : Tables) (keep records : ℕ) → IsCatalog tables → keep ≤ max_keep → records ≤ max_records → is_too_long (opening_line tables keep records) ≡ false →
+PrintedTablesOpen = (tables : Tables) (keep records : ℕ) → IsCatalog tables → keep ≤ max_keep → records ≤ max_records →
     opening_of (value_of_line (opening_line tables keep records)) ≡ Ok (record { catalog = tables; keep = keep; records = records })
