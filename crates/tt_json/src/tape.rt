@@ -236,12 +236,7 @@ impl<'t, 'a> JsonValue for TapeValue<'t, 'a> {
     }
 
     #[inline(always)]
-    fn find_two(
-        &self,
-        first: &str,
-        second: &str,
-        known: &[&str],
-    ) -> Found<'_, TapeValue<'t, 'a>> {
+    fn find_two(&self, first: &str, second: &str, known: &[&str]) -> Found<'_, TapeValue<'t, 'a>> {
         match self.element.members() {
             Some(members) => find_two(members, first, second, known),
             None => Found {

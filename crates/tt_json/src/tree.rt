@@ -116,7 +116,9 @@ fn first_other<'a>(
         (keys members.now) }
     ensures ordered { IsOrdered string_cmp members.now }
 {
-    members.keys().find(|name| !is_either(name.as_str(), first, second, known))
+    members
+        .keys()
+        .find(|name| !is_either(name.as_str(), first, second, known))
 }
 
 fn first_unknown<'a>(members: &'a Map<String, Value>, known: &[&str]) -> Option<&'a String>
