@@ -2,3 +2,4 @@ pub mod DecoderLemmas
 pub mod DocumentLemmas
 pub mod QuotingLemmas
 pub mod RepeatedLemmas
+pub mod StatementLemmas

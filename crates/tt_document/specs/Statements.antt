@@ -37,6 +37,12 @@ no_members_at contexts.Call names v = no_members_but (is_one_of (codes "worker" 
 no_members_at contexts.Request names v = no_members_but (is_one_of (codes "if" ∷ codes "worker" ∷ names)) v
 no_members_at contexts.Nested names v = no_members_but (is_one_of names) v
 
+-- the members that an object of a write may have beside those of the write
+abbrev pub members_at : Context → List (List ℕ)
+members_at contexts.Call = codes "worker" ∷ []
+members_at contexts.Request = codes "if" ∷ codes "worker" ∷ []
+members_at contexts.Nested = []
+
 -- where the commands of a session stand
 abbrev pub in_request : Context
 in_request = contexts.Request

@@ -1,9 +1,9 @@
 //! Reading of JSON values.
-ghost use Rattle.std.specs.Prelude.{◌≡◌, ◌++◌, Result, codes};
+ghost use Rattle.std.specs.Prelude.{◌≡◌, ◌++◌, Result, codes, option_map};
 ghost use Rattle.serde_json.specs.Data.{Data};
 ghost use Rattle.tt_document.specs.declared.fault.DocFault.{DocFault};
 ghost use Rattle.tt_document.specs.Fault.{Gives, GivesViewed, IsFault, fault_here, with_path, member_path, item_path};
-ghost use Rattle.tt_document.specs.Decoder.{object, text, int, flag, count, count_within, array, has, member, optional};
+ghost use Rattle.tt_document.specs.Decoder.{object, text, int, flag, count, count_within, array, has, member, read_member, optional};
 
 use crate::fault::DocFault;
 use std::alloc::Global;
@@ -85,7 +85,20 @@ pub fn member<D: Decoder, V: JsonValue>(
 ) -> Result<D::Output, DocFault>
     ensures { Gives result (member name.now (D.meaning decoder.now) (V.json object.now)) }
 {
-    match object.get(name) {
+    found_member(alloc, object.get(name), name, decoder)
+}
+
+/// The meaning of a member that must be there, once it has been looked for.
+pub(crate) fn found_member<D: Decoder, V: JsonValue>(
+    alloc: Global,
+    found: Option<V>,
+    name: &str,
+    decoder: &D,
+) -> Result<D::Output, DocFault>
+    ensures { Gives result
+        (read_member name.now (D.meaning decoder.now) (option_map V.json found)) }
+{
+    match found {
         Some(value) => member_value(alloc, &value, name, decoder),
         None => Err(missing(alloc, name)),
     }

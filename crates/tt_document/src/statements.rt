@@ -1,19 +1,26 @@
 //! Reading of statements.
-ghost use Rattle.std.specs.Prelude.{[], ◌∷◌, codes};
+ghost use Rattle.std.specs.Prelude.{◌≡◌, [], ◌∷◌, codes, false, map, option_map};
 ghost use Rattle.tt_values.specs.Check.{write_fault, select_fault};
 ghost use Rattle.tt_document.specs.Fault.{Gives};
-ghost use Rattle.tt_document.specs.Statements.{checked_statement, conditions, no_members_at, insert, update, delete, select, preview};
+ghost use Rattle.std.specs.Option.{option_copied};
+ghost use Rattle.std.specs.Str.{bytes_eq};
+ghost use Rattle.serde_json.specs.Find.{get};
+ghost use Rattle.tt_document.specs.Decoder.{read_member};
+ghost use Rattle.tt_document.specs.Members.{refuse_member};
+ghost use Rattle.tt_document.specs.Arrays.{array_of};
+ghost use Rattle.tt_document.specs.Conditions.{condition};
+ghost use Rattle.tt_document.specs.Statements.{checked_statement, members_at, conditions, no_members_at, insert, update, delete, select, preview};
 
 use crate::arrays::ArrayDecoder;
 use crate::causes::cause_of_check;
 use crate::changes::ChangeDecoder;
 use crate::conditions::{ConditionDecoder, TableNameDecoder, ValueDecoder};
-use crate::decoder::{AnyCountDecoder, member, optional};
+use crate::decoder::{AnyCountDecoder, found_member, member, optional};
 use crate::document::Ask;
 use crate::fault::DocFault;
-use crate::members::no_members_but;
+use crate::members::{no_members_but, no_unknown_member};
 use std::alloc::Global;
-use tt_json::JsonValue;
+use tt_json::{Found, JsonValue};
 use tt_values::{Catalog, Equal, Items, Row, Select, Write, check, check_select};
 
 /// Where a write or an action stands: in a call, which has a worker; in a request of a session,
@@ -36,12 +43,13 @@ pub fn insert<V: JsonValue>(
 ) -> Result<Write, DocFault>
     ensures { Gives result (insert catalog.now context (V.json value.now)) }
 {
-    let table = member(alloc, value, "insert", &TableNameDecoder { catalog })?;
+    let found = find_in(context, value, "insert", "row");
+    let table = found_member(alloc, found.first, "insert", &TableNameDecoder { catalog })?;
     let decoder = ArrayDecoder {
         decoder: ValueDecoder,
     };
-    let values = member(alloc, value, "row", &decoder)?;
-    no_members_but_insert(alloc, context, value)?;
+    let values = found_member(alloc, found.second, "row", &decoder)?;
+    no_unknown_member(alloc, found.unknown)?;
     let row = Row { values };
     checked_write(alloc, catalog, Write::Insert { table, row })
 }
@@ -56,13 +64,14 @@ pub fn update<V: JsonValue>(
 ) -> Result<Write, DocFault>
     ensures { Gives result (update catalog.now context (V.json value.now)) }
 {
-    let table = member(alloc, value, "update", &TableNameDecoder { catalog })?;
+    let found = find_in_update(context, value);
+    let table = found_member(alloc, found.first, "update", &TableNameDecoder { catalog })?;
     let decoder = ArrayDecoder {
         decoder: ChangeDecoder { catalog, table },
     };
     let changes = member(alloc, value, "change", &decoder)?;
-    let equals = conditions(alloc, catalog, table, value)?;
-    no_members_but_update(alloc, context, value)?;
+    let equals = found_conditions(alloc, catalog, table, found.second)?;
+    no_unknown_member(alloc, found.unknown)?;
     let write = Write::Update {
         table,
         changes,
@@ -81,9 +90,10 @@ pub fn delete<V: JsonValue>(
 ) -> Result<Write, DocFault>
     ensures { Gives result (delete catalog.now context (V.json value.now)) }
 {
-    let table = member(alloc, value, "delete", &TableNameDecoder { catalog })?;
-    let equals = conditions(alloc, catalog, table, value)?;
-    no_members_but_delete(alloc, context, value)?;
+    let found = find_in(context, value, "delete", "where");
+    let table = found_member(alloc, found.first, "delete", &TableNameDecoder { catalog })?;
+    let equals = found_conditions(alloc, catalog, table, found.second)?;
+    no_unknown_member(alloc, found.unknown)?;
     checked_write(alloc, catalog, Write::Delete { table, equals })
 }
 
@@ -120,52 +130,53 @@ pub(crate) fn preview<V: JsonValue>(
     Ok(Ask::Preview(select))
 }
 
-fn no_members_but_insert<V: JsonValue>(
-    alloc: Global,
+/// The two members of an insert or a delete, and the least name of another member that it may not
+/// have in its context.
+#[inline(always)]
+#[tactic(auto, using(crate::proofs::StatementLemmas::unknown_in))]
+fn find_in<'v, V: JsonValue>(
     context: Context,
-    value: &V,
-) -> Result<(), DocFault>
-    ensures { Gives result
-        (no_members_at context (codes "insert" ∷ codes "row" ∷ []) (V.json value.now)) }
+    value: &'v V,
+    first: &str,
+    second: &str,
+) -> Found<'v, V>
+    requires { bytes_eq first.now second.now ≡ false }
+    ensures first { option_map V.json result.first ≡ get first.now (V.json value.now) }
+    ensures second { option_map V.json result.second ≡ get second.now (V.json value.now) }
+    ensures unknown { refuse_member (option_copied result.unknown)
+        ≡ no_members_at context (first.now ∷ second.now ∷ []) (V.json value.now) }
+{
+    value.find_two(first, second, members_at(context))
+}
+
+/// The members that an object of a write may have beside those of the write.
+fn members_at(context: Context) -> &'static [&'static str]
+    ensures { map (λ name. name.now) result.now ≡ members_at context }
 {
     match context {
-        Context::Call => no_members_but(alloc, value, &["worker", "insert", "row"]),
-        Context::Request => no_members_but(alloc, value, &["if", "worker", "insert", "row"]),
-        Context::Nested => no_members_but(alloc, value, &["insert", "row"]),
+        Context::Call => &["worker"],
+        Context::Request => &["if", "worker"],
+        Context::Nested => &[],
     }
 }
 
-fn no_members_but_update<V: JsonValue>(
-    alloc: Global,
-    context: Context,
-    value: &V,
-) -> Result<(), DocFault>
-    ensures { Gives result
-        (no_members_at context (codes "change" ∷ codes "update" ∷ codes "where" ∷ [])
-        (V.json value.now)) }
+/// The members `update` and `where` of an update, and the least name of another member that it may
+/// not have in its context.
+#[inline(always)]
+#[tactic(auto, using(crate::proofs::StatementLemmas::unknown_beside))]
+fn find_in_update<V: JsonValue>(context: Context, value: &V) -> Found<'_, V>
+    ensures first { option_map V.json result.first ≡ get (codes "update") (V.json value.now) }
+    ensures second { option_map V.json result.second ≡ get (codes "where") (V.json value.now) }
+    ensures unknown { refuse_member (option_copied result.unknown)
+        ≡ no_members_at context (codes "change" ∷ codes "update" ∷ codes "where" ∷ [])
+        (V.json value.now) }
 {
-    match context {
-        Context::Call => no_members_but(alloc, value, &["worker", "change", "update", "where"]),
-        Context::Request => {
-            no_members_but(alloc, value, &["if", "worker", "change", "update", "where"])
-        }
-        Context::Nested => no_members_but(alloc, value, &["change", "update", "where"]),
-    }
-}
-
-fn no_members_but_delete<V: JsonValue>(
-    alloc: Global,
-    context: Context,
-    value: &V,
-) -> Result<(), DocFault>
-    ensures { Gives result
-        (no_members_at context (codes "delete" ∷ codes "where" ∷ []) (V.json value.now)) }
-{
-    match context {
-        Context::Call => no_members_but(alloc, value, &["worker", "delete", "where"]),
-        Context::Request => no_members_but(alloc, value, &["if", "worker", "delete", "where"]),
-        Context::Nested => no_members_but(alloc, value, &["delete", "where"]),
-    }
+    let known: &[&str] = match context {
+        Context::Call => &["worker", "change"],
+        Context::Request => &["if", "worker", "change"],
+        Context::Nested => &["change"],
+    };
+    value.find_two("update", "where", known)
 }
 
 /// The conditions of a statement on a table, from its member `where`.
@@ -177,10 +188,24 @@ pub fn conditions<V: JsonValue>(
 ) -> Result<Items<Equal>, DocFault>
     ensures { Gives result (conditions catalog.now table (V.json statement.now)) }
 {
+    found_conditions(alloc, catalog, table, statement.get("where"))
+}
+
+/// As [`conditions`], once the member has been looked for.
+fn found_conditions<V: JsonValue>(
+    alloc: Global,
+    catalog: &Catalog,
+    table: u16,
+    found: Option<V>,
+) -> Result<Items<Equal>, DocFault>
+    ensures { Gives result
+        (read_member (codes "where") (array_of (condition catalog.now table))
+        (option_map V.json found)) }
+{
     let decoder = ArrayDecoder {
         decoder: ConditionDecoder { catalog, table },
     };
-    let equals = member(alloc, statement, "where", &decoder)?;
+    let equals = found_member(alloc, found, "where", &decoder)?;
     Ok(equals)
 }
 

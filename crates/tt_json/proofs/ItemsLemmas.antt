@@ -220,7 +220,9 @@ members-object ts None (j, begins, small, (shallow, d, is)) h =
 members-object ts (Some rest) (j, begins, small, (shallow, d, is)) h =
     let a = h j begins in
     let m = mapped object (of_members a.0 no_members) d (ap of_json (sym a.1) ∙ is) in
-    (m.0, (a.0, a.2, m.1), ap sfind.as_object (value_at-is ts j d begins shallow is ∙ m.2))
+    let less : tree.members_depth a.0 ≤ max_depth = omega (arith, subst (λ x. tree.depth x ≤ max_depth) a.1 shallow) in
+    let fewer : length (members_tokens a.0) < 2 ^ 64 = omega (arith, subst (λ x. length (json_tokens x) < 2 ^ 64) a.1 small) in
+    (m.0, (a.0, a.2, fewer, less, m.1), ap sfind.as_object (value_at-is ts j d begins shallow is ∙ m.2))
 
 -- ---- leaves
 

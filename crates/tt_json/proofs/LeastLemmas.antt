@@ -1,5 +1,5 @@
 -- The least name of members that are put one after another.
-use Rattle.std.proofs.Common.{◌≡◌, ℕ, Bool, true, false, not, cond, List, [], ◌∷◌, filter, Option, Some, None, Ordering, Less, Equal, Greater, nat_cmp, refl, sym, ap, ◌∙◌}
+use Rattle.std.proofs.Common.{◌≡◌, ℕ, ◌^◌, ◌<◌, ◌≤◌, length, length-append, subst, arith, Bool, true, false, not, cond, List, [], ◌∷◌, filter, Option, Some, None, Ordering, Less, Equal, Greater, nat_cmp, refl, sym, ap, ◌∙◌}
 use Rattle.std.specs.Prelude.{MatchOption}
 use Rattle.std.specs.Ordering.{match_ordering, ordering_reverse}
 use Rattle.std.specs.Cmp.Lexicographic.{slice_cmp}
@@ -9,10 +9,12 @@ use Rattle.json.specs.Token.{Token}
 use Rattle.json.specs.Find.{NextMember}
 use Rattle.json.proofs.Found.{Some_inj}
 use Rattle.serde_json.specs.Data.{Data, Members, no_members, member, put}
-use Rattle.serde_json.specs.Read.{of_json, of_members}
+use Rattle.serde_json.specs.Read.{of_json, of_members, max_depth}
+use Rattle.json.specs.Tree as tree
+use Rattle.json.specs.Tree.{json_tokens, members_tokens}
 use Rattle.tt_json.specs.Value.{member_names, lesser, least}
-use Rattle.tt_json.specs.Tape.{AreMembers}
-use Rattle.tt_json.proofs.DataLemmas.{chained}
+use Rattle.tt_json.specs.Tape.{IsValue, AreMembers, value_at}
+use Rattle.tt_json.proofs.DataLemmas.{chained, value_at-is}
 
 at_less : (a b : List ℕ) → slice_cmp nat_cmp a b ≡ Less → lesser a (Some b) ≡ a
 at_less a b e = rw e refl
@@ -85,14 +87,20 @@ least-put q k d (member l e ms) =
           ∙ ap (with_name (q k) k) (sym (least_kept (q l) l (filter q (member_names ms))))
     ] refl
 
--- the members that are left, after one of them
+-- the members that are left, after one of them, and its value
 pub members-next : (old new : List Token) (r : Option (List ℕ × List Token)) (found all : Members) → AreMembers old found all → NextMember old r new
-    → MatchOption r (found ≡ all) (λ m. (d : Data) × AreMembers new (put m.0 d found) all)
-members-next old new None found all (ms, within, is) h = Some_inj _ _ (ap (λ x. of_members x found) (sym (h ms within)) ∙ is)
-members-next old new (Some m) found all (ms, within, is) h =
+    → MatchOption r (found ≡ all) (λ m. (d : Data) × AreMembers new (put m.0 d found) all × IsValue m.1 × (value_at m.1 ≡ d))
+members-next old new None found all (ms, within, small, shallow, is) h = Some_inj _ _ (ap (λ x. of_members x found) (sym (h ms within)) ∙ is)
+members-next old new (Some m) found all (ms, within, small, shallow, is) h =
     let f = h ms within in
     let c = chained (λ d. of_members f.1 (put m.0 d found)) (of_json f.0) all (ap (λ x. of_members x found) (sym f.2) ∙ is) in
-    (c.0, (f.1, f.4, c.2))
+    let deep = subst (λ x. tree.members_depth x ≤ max_depth) f.2 shallow in
+    let first : tree.depth f.0 ≤ max_depth = omega (arith, deep) in
+    let rest : tree.members_depth f.1 ≤ max_depth = omega (arith, deep) in
+    let whole = subst (λ x. length (members_tokens x) < 2 ^ 64) f.2 small in
+    let first_small : length (json_tokens f.0) < 2 ^ 64 = omega (arith, whole, length-append (json_tokens f.0) (members_tokens f.1)) in
+    let rest_small : length (members_tokens f.1) < 2 ^ 64 = omega (arith, whole, length-append (json_tokens f.0) (members_tokens f.1)) in
+    (c.0, (f.1, f.4, rest_small, rest, c.2), (f.0, f.3, first_small, (first, c.0, c.1)), value_at-is m.1 f.0 c.0 f.3 first c.1)
 
 -- ---- the search for an unknown name
 

@@ -1,5 +1,7 @@
 -- Values, as serde_json's definitions have them: the items of an array as a list, and the names of an object's members.
 use Rattle.std.specs.Prelude.{ℕ, Bool, not, List, [], ◌∷◌, filter, Option, Some, None}
+use Rattle.std.specs.List.{list_any}
+use Rattle.std.specs.Str.{bytes_eq}
 use Rattle.std.specs.Ordering.{nat_cmp, match_ordering}
 use Rattle.std.specs.Cmp.Lexicographic.{slice_cmp}
 use Rattle.serde_json.specs.Data.{Data, Items, no_items, item, Members, no_members, member}
@@ -37,6 +39,10 @@ lesser name (Some other) = match_ordering (slice_cmp nat_cmp name other) name na
 abbrev pub least : List (List ℕ) → Option (List ℕ)
 least [] = None
 least (name ∷ names) = Some (lesser name (least names))
+
+-- whether a name is one of these
+abbrev pub is_among : List (List ℕ) → List ℕ → Bool
+is_among names name = list_any (λ known. bytes_eq name known) names
 
 -- the least name of an object's members that the test doesn't know
 abbrev pub least_unknown : (List ℕ → Bool) → Data → Option (List ℕ)

@@ -10,4 +10,4 @@ mod value;
 pub use json::{Error, Scratch};
 pub use tape::{TapeItems, TapeValue, parse, parse_strict, root};
 pub use tree::TreeItems;
-pub use value::JsonValue;
+pub use value::{Found, JsonValue};

@@ -1,5 +1,5 @@
 //! A text on a tape, read as serde_json reads it.
-ghost use Rattle.std.specs.Prelude.{◌≡◌, ◌<◌, [], ◌∷◌, false, not, filter, map, length, Some, None, Err, IfOk, OnOk, IsSomeAnd, OnSome, MatchOption, option_map, option_and_then, List, is_some};
+ghost use Rattle.std.specs.Prelude.{◌≡◌, ◌<◌, [], ◌∷◌, ◌++◌, false, not, filter, map, length, Some, None, Err, IfOk, OnOk, IsSomeAnd, OnSome, MatchOption, option_map, option_and_then, List, is_some};
 ghost use Rattle.std.specs.List.{list_any};
 ghost use Rattle.std.specs.Option.{option_copied};
 ghost use Rattle.std.specs.Str.{bytes_eq};
@@ -9,16 +9,16 @@ ghost use Rattle.json.specs.Tape.{node_token};
 ghost use Rattle.json.specs.Token.{Token};
 ghost use Rattle.serde_json.specs.Read.{read};
 ghost use Rattle.serde_json.specs.Data as serde;
-ghost use Rattle.serde_json.specs.Find.{as_number};
+ghost use Rattle.serde_json.specs.Find.{as_number, get_member};
 ghost use Rattle.tt_json.specs.Fit.{tokens_fit};
 ghost use Rattle.tt_json.specs.Number.{number_view};
-ghost use Rattle.tt_json.specs.Value.{items_in, member_names, lesser, least};
-ghost use Rattle.tt_json.specs.Tape.{value_at, items_at, IsValue, AreItems, AreMembers};
+ghost use Rattle.tt_json.specs.Value.{items_in, is_among, member_names, lesser, least};
+ghost use Rattle.tt_json.specs.Tape.{value_at, items_at, IsValue, AreItems, AreMembers, AreAllMembers};
 ghost use Rattle.tt_json.specs.Text.{json_of_text};
 
 use crate::names::is_known;
 use crate::number::{Number, number_of};
-use crate::value::JsonValue;
+use crate::value::{Found, JsonValue};
 use json::{Element, Error, MAX_LEN, Members, Node, Scratch, Tape};
 use std::alloc::Allocator;
 use std::marker::Model;
@@ -234,6 +234,18 @@ impl<'t, 'a> JsonValue for TapeValue<'t, 'a> {
             None => None,
         }
     }
+
+    #[inline(always)]
+    fn find_two(&self, first: &str, second: &str, known: &[&str]) -> Found<'_, TapeValue<'t, 'a>> {
+        match self.element.members() {
+            Some(members) => find_two(members, first, second, known),
+            None => Found {
+                first: None,
+                second: None,
+                unknown: None,
+            },
+        }
+    }
 }
 
 impl<'t, 'a> TapeValue<'t, 'a> {
@@ -307,6 +319,49 @@ fn least_unknown<'a>(members: Members<'_, 'a>, known: &[&str]) -> Option<&'a str
         }
     }
     least
+}
+
+/// Two of these members, each the last of its name, and the least name that's neither one of these
+/// two nor one of the known ones.
+#[inline(always)]
+fn find_two<'t, 'a>(
+    members: Members<'t, 'a>,
+    first: &str,
+    second: &str,
+    known: &[&str],
+) -> Found<'a, TapeValue<'t, 'a>>
+    requires are { AreAllMembers members }
+    requires apart { bytes_eq first.now second.now ≡ false }
+    ensures first { (ms : serde.Members) → AreMembers members.entry serde.no_members ms
+        → option_map value_at result.first ≡ get_member first.now ms }
+    ensures second { (ms : serde.Members) → AreMembers members.entry serde.no_members ms
+        → option_map value_at result.second ≡ get_member second.now ms }
+    ensures unknown { (ms : serde.Members) → AreMembers members.entry serde.no_members ms
+        → option_copied result.unknown
+        ≡ least (filter
+        (λ name. not (is_among
+        (map (λ k. k.now) known.now ++ first.now ∷ second.now ∷ [])
+        name))
+        (member_names ms)) }
+{
+    let mut members = members;
+    let mut found_first = None;
+    let mut found_second = None;
+    let mut unknown = None;
+    while let Some((name, element)) = members.next() {
+        if name == first {
+            found_first = Some(TapeValue { element });
+        } else if name == second {
+            found_second = Some(TapeValue { element });
+        } else if !is_known(known, name) {
+            unknown = Some(lesser(name, unknown));
+        }
+    }
+    Found {
+        first: found_first,
+        second: found_second,
+        unknown,
+    }
 }
 
 /// The lesser of two names, by their bytes.
