@@ -1,5 +1,5 @@
 -- Pages of the rows that match, found by one key, by a set of keys, or among all.
-use Rattle.std.proofs.Common.{◌≡◌, ℕ, suc, ◌+◌, ◌<◌, ◌≤◌, ℤ, int_lt, nat_lt, Bool, true, false, cond, if◌then◌else◌, List, [], ◌∷◌, ◌++◌, length, take, filter, Option, None, Some, IsTrue, Less, Equal, Greater, refl, sym, ap, subst, ◌∙◌, arith, length-append}
+use Rattle.std.proofs.Common.{◌≡◌, ℕ, ◌<◌, ◌≤◌, ℤ, int_lt, nat_lt, Bool, true, false, cond, List, [], ◌∷◌, ◌++◌, length, take, filter, Option, None, Some, IsTrue, Less, Equal, Greater, refl, sym, ap, subst, ◌∙◌, arith, length-append}
 use Rattle.std.proofs.lemmas.Bool.Decides.{nat_tests}
 use Rattle.std.proofs.lemmas.List.{take_all, take_at}
 use Rattle.std.specs.Ordering.{int_cmp, is_lt}
@@ -8,7 +8,6 @@ use Rattle.tt_pages.specs.MapWalk.{entries_after}
 use Rattle.tt_values.specs.declared.row.Row.{Row}
 use Rattle.tt_values.specs.declared.statement.Equal.{Equal as Equality}
 use Rattle.tt_values.specs.Content.{RowsByKey}
-use Rattle.tt_values.specs.Effect.{matching_rows}
 use Rattle.tt_versions.specs.declared.side.Side.{Side}
 use Rattle.tt_versions.specs.declared.lineage.Lineage.{Lineage}
 use Rattle.tt_versions.specs.Versions.{visible_row}

@@ -1,5 +1,5 @@
 -- The page has the one row, if it's there, matches and comes after the key.
-use Rattle.std.proofs.Common.{◌≡◌, w64, ◌<◌, ℤ, true, [], ◌∷◌, sym, ap, ◌∙◌, arith}
+use Rattle.std.proofs.Common.{w64, ℤ, sym, ap, ◌∙◌, arith}
 use Rattle.std.proofs.lemmas.Int.{to_z-of_z}
 use Rattle.std.proofs.lemmas.Grind.{common_steps}
 use Rattle.tt_versions.specs.Matching.{if_matching}
