@@ -7,4 +7,3 @@ pub mod Database
 pub mod Transition
 pub mod Run
 pub mod Laws
-pub mod Pages

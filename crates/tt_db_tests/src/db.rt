@@ -5,7 +5,6 @@ mod closed;
 mod history;
 mod incident;
 mod limits;
-mod pages;
 mod printed;
 mod random;
 mod random_repairs;
