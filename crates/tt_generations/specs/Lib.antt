@@ -10,3 +10,4 @@ pub mod KeptSlots
 pub mod EditsByNumber
 pub mod Repair
 pub mod Generations
+pub mod Pages

@@ -13,6 +13,8 @@ ghost use Rattle.tt_generations.specs.Repair.{repair_with_slot, next_slots};
 ghost use Rattle.tt_generations.specs.TwoGenerations.{no_slots, with_action, with_repair, after_step, after_switch, after_abort, is_repairing, done_of, left_of, reexecuted_of, is_next_due, is_due_in, phase_after_step, next_content_of, next_content_at, next_slot_at, rows_on, AnswersOn, IsWithin, progress_of, next_side_of, dirty_rows_of, NamesSlot, HasNoFault, Phase};
 ghost use Rattle.tt_generations.specs.Generations.{phase_of, AreGenerations};
 
+mod page;
+
 use crate::action_run::ActionRun;
 use crate::boxed_repair::BoxedRepair;
 use crate::effect::copies_of;

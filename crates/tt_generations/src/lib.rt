@@ -7,6 +7,7 @@ mod affected;
 mod boxed_repair;
 mod edits;
 mod effect;
+mod first_rows;
 mod generations;
 mod progress;
 mod reexecution;
@@ -15,6 +16,7 @@ mod row_ids;
 mod rows;
 mod slot;
 
+pub use first_rows::FirstRows;
 pub use generations::Generations;
 pub use progress::Progress;
 pub use slot::Slot;

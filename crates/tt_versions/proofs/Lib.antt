@@ -5,6 +5,7 @@ pub mod RowsByWritesLemmas
 pub mod RowsAtLemmas
 pub mod UnsplitLemmas
 pub mod MatchingLemmas
+pub mod PageLemmas
 pub mod IndexLemmas
 pub mod LawProofs
 mod worked_rows

@@ -4,5 +4,6 @@ pub mod Lineage
 pub mod Sides
 pub mod RowsByWrites
 pub mod Matching
+pub mod Pages
 pub mod Index
 pub mod Laws

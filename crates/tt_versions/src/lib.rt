@@ -19,6 +19,7 @@ mod taking;
 mod version;
 mod version_chain;
 mod version_log;
+mod walk;
 
 pub use side::Side;
 pub use table::Table;

@@ -6,6 +6,7 @@ ghost use Rattle.std.specs.FinMap.Entries.{find, put, is_sorted};
 ghost use Rattle.tt_versions.specs.declared.lineage.Lineage.{Lineage};
 ghost use Rattle.tt_versions.specs.Lineage.{with_write_on, split_back};
 ghost use Rattle.tt_versions.specs.Index.{IsStored, ListsRow, KeepsRows, LineageHas, ListsTableBut, HaveKey, HaveKeysIn};
+ghost use Rattle.tt_versions.specs.Pages.{those_after};
 ghost use Rattle.tt_versions.specs.Sides.{lineage_at, is_split, with_writes, StaysSplit, HasSplitKeysBut, MarksKey, UnsplitsKeys, UnsplitsRow};
 
 use crate::index::Index;
@@ -15,6 +16,7 @@ use crate::row_write::RowWrite;
 use crate::side::Side;
 use crate::split_back::SplitBack;
 use crate::taking::{put_value, take_value};
+use crate::walk::iter_after;
 use std::alloc::{AllocError, Global};
 use std::marker::Model;
 use tt_pages::{MapIter, PagedMap};
@@ -72,6 +74,14 @@ impl Lineages {
         ensures sorted { IsTrue (is_sorted int_cmp self.now) }
     {
         self.entries.iter()
+    }
+
+    /// The entries whose keys are greater than `after`, if that is given, by rising key.
+    pub(crate) fn iter_after(&self, after: Option<i64>) -> MapIter<'_, Lineage>
+        ensures all { result ≡ those_after after self.now }
+        ensures sorted { IsTrue (is_sorted int_cmp self.now) }
+    {
+        iter_after(&self.entries, after)
     }
 
     /// A further owner of the same pages.

@@ -4,6 +4,8 @@ ghost use Rattle.std.specs.Option.{option_copied, unwrap_or};
 ghost use Rattle.std.specs.Ordering.{int_cmp};
 ghost use Rattle.std.specs.FinMap.Entries as sorted;
 
+mod page;
+
 use crate::indexed_column::{IndexedColumn, KeySet};
 use crate::lineage::Lineage;
 use crate::lineages::Lineages;

@@ -1,0 +1,12 @@
+-- the rows so far, no more than are asked for, and those of the keys that are left are all after the key
+use Rattle.std.proofs.Common.{◌≡◌, ◌≤◌, ◌++◌, length}
+use Rattle.tt_versions.specs.Sides.{side_of, rows_behind}
+use Rattle.tt_versions.specs.Pages.{those_after}
+use Rattle.tt_versions.proofs.MatchingLemmas.{matching_among}
+use Rattle.tt_versions.proofs.table.Table.page_among.Given as goal
+
+abbrev pub invariant-loop-key : goal.invariant-loop-key
+invariant-loop-key l = record {
+  rows : rows_behind l.rows.items ++ matching_among l.equals (λ k. side_of l.self l.fn.side k l.time) l.key-iterator ≡ matching_among l.equals (λ k. side_of l.self l.fn.side k l.time) (those_after l.fn.after l.keys);
+  few : length (rows_behind l.rows.items) ≤ l.most;
+}
