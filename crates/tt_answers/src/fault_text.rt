@@ -1,12 +1,9 @@
-//! Faults as they are printed. Of these the two that are due when memory is short have functions of
-//! their own, which make no value.
-ghost use Rattle.std.specs.Prelude.{◌≡◌, [], ◌++◌, OnOk};
+//! Faults as they are printed.
+ghost use Rattle.std.specs.Prelude.{◌≡◌, ◌++◌, OnOk};
 ghost use Rattle.tt_answers.specs.JsonText.{members_text};
-ghost use Rattle.tt_answers.specs.RefusalText.{out_of_memory, fault_members_at, fault_members, too_long};
-ghost use Rattle.tt_answers.specs.AnswerText.{opening_text, call_text};
+ghost use Rattle.tt_answers.specs.RefusalText.{out_of_memory, fault_members_at, fault_members};
 
-use crate::answer::Answer;
-use crate::json_text::{push_labelled, push_named};
+use crate::json_text::push_named;
 use std::alloc::AllocError;
 use tt_document::DocFault;
 
@@ -39,46 +36,5 @@ pub(crate) fn push_out_of_memory(out: &mut Vec<u8>) -> Result<(), AllocError>
     ensures { OnOk result (out.new.items ≡ out.old.items ++ members_text out_of_memory) }
 {
     out.extend_from_slice(b"\"refused\":\"memory\"")?;
-    Ok(())
-}
-
-/// Pushes the line of a call for which there was no memory.
-pub fn push_call_memory(out: &mut Vec<u8>, call: u64) -> Result<(), AllocError>
-    ensures { OnOk result (out.new.items
-        ≡ out.old.items ++ call_text [] call Answer.OutOfMemory) }
-{
-    push_labelled(out, b"{\"call\":", call)?;
-    out.extend_from_slice(b",\"refused\":\"memory\"}\n")?;
-    Ok(())
-}
-
-/// Pushes the line of an opening for which there was no memory.
-pub fn push_opening_memory(out: &mut Vec<u8>) -> Result<(), AllocError>
-    ensures { OnOk result (out.new.items ≡ out.old.items ++ opening_text Answer.OutOfMemory) }
-{
-    out.extend_from_slice(b"{\"refused\":\"memory\"}\n")?;
-    Ok(())
-}
-
-/// Pushes the line of a call that is longer than lines may be.
-pub fn push_call_too_long(out: &mut Vec<u8>, call: u64) -> Result<(), AllocError>
-    ensures { OnOk result (out.new.items
-        ≡ out.old.items ++ call_text [] call (Answer.Faulty too_long)) }
-{
-    push_labelled(out, b"{\"call\":", call)?;
-    out.extend_from_slice(
-        b",\"fault\":{\"path\":\"$\",\"cause\":\"longer than 16777216 bytes\"}}\n",
-    )?;
-    Ok(())
-}
-
-/// Pushes the line of an opening that is longer than lines may be.
-pub fn push_opening_too_long(out: &mut Vec<u8>) -> Result<(), AllocError>
-    ensures { OnOk result (out.new.items
-        ≡ out.old.items ++ opening_text (Answer.Faulty too_long)) }
-{
-    out.extend_from_slice(
-        b"{\"fault\":{\"path\":\"$\",\"cause\":\"longer than 16777216 bytes\"}}\n",
-    )?;
     Ok(())
 }

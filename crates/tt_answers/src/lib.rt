@@ -14,6 +14,3 @@ mod write_text;
 
 pub use answer::{Answer, ChangeEntry, Place, Refusal, RowPage, SlotEntry, Status};
 pub use answer_text::{push_call, push_opening};
-pub use fault_text::{
-    push_call_memory, push_call_too_long, push_opening_memory, push_opening_too_long,
-};

@@ -11,7 +11,7 @@ mod questions;
 mod reads;
 mod request;
 
-pub use lines::is_passed_over;
+pub use lines::{is_blank, is_passed_over};
 pub use opening::Opening;
 pub use request::{Command, Page, Request};
 

@@ -18,7 +18,8 @@ pub(crate) fn is_too_long(line: &[u8]) -> bool
     line.len() > MAX_LINE_BYTES
 }
 
-fn is_blank(line: &[u8]) -> bool
+/// Whether a line has no byte but tabs, carriage returns and spaces.
+pub fn is_blank(line: &[u8]) -> bool
     ensures { result ≡ is_blank line.now }
 {
     line.iter().all(|byte| is_blank_byte(*byte))

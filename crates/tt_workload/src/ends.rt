@@ -17,7 +17,7 @@ const MAX_DOCUMENT_BYTES: usize = 16_777_216;
 const MAX_BYTES_READ: usize = MAX_DOCUMENT_BYTES + 1;
 
 /// The largest number of interrupted reads, or writes, that a call survives.
-const MAX_RETRIES: u32 = 1_000;
+pub const MAX_RETRIES: u32 = 1_000;
 
 const BUFFER_BYTES: usize = 65_536;
 
@@ -87,8 +87,9 @@ fn read_bytes<R: Read>(alloc: Global, reader: &mut R) -> Result<Vec<u8>, RunFaul
     Ok(bytes)
 }
 
-/// One read, tried again where it's interrupted, as long as there are retries.
-fn read_once<R: Read>(
+/// One read, tried again where it's interrupted, as long as there are retries. Answers how many bytes
+/// it has put at the front of the buffer: none at the end of the input.
+pub fn read_once<R: Read>(
     reader: &mut R,
     buffer: &mut [u8],
     retries: &mut u32,

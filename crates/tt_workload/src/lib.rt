@@ -13,7 +13,7 @@ mod report;
 mod run;
 mod run_fault;
 
-pub use ends::{read_document, write_text};
+pub use ends::{MAX_RETRIES, read_document, read_once, write_text};
 pub use options::Options;
 pub use printing::{push_decimal, push_int, push_row, push_value};
 pub use record_text::{push_changes, push_records, text_of, text_of_change};
