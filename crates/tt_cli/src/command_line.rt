@@ -58,6 +58,7 @@ request, and is answered by one line on standard output before another is waited
   {"select":"acct","where":[["id",1]]}
   {"select":"acct","where":[["id",1]],"at":1}
   {"begin":[{"cancel":2}]}
+  {"step":2}
   {"preview":"acct","where":[]}
   {"finish":true}
   {"changes":"now"}
@@ -65,8 +66,8 @@ request, and is answered by one line on standard output before another is waited
 
 The members of a write or a select are those of a document. A write is answered with the number of
 its slot, and edits name slots: here the repair cancels slot 2, the update, and `changes` then lists
-the answers that would be others now. There are also requests of the kinds delete, do, step, abort,
-slots and tables: see docs/SESSION.md.
+the answers that would be others now. There are also requests of the kinds delete, do, abort, slots
+and tables: see docs/SESSION.md.
 The database ends with the input."#;
 
 /// What the command line asks for.
