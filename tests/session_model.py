@@ -5,7 +5,8 @@ docs/SESSION.md says, by lists that it walks from the front, and shares no code 
   tests/session_model.py < LINES          prints the answers
   tests/session_model.py --random SEED    prints the lines of a random session
 
-It has memory for everything, and knows nothing of the limits of slots and entries.
+It has memory for everything, and knows nothing of the limits of slots and entries. The tests of
+tests/hostile.py tell it of each line that was answered by `memory` (`Session.lose`).
 """
 import json
 import random
@@ -541,6 +542,10 @@ def parts_of(table, row):
 
 # The session
 
+def is_passed_over(line):
+    return len(line) <= LONGEST and BLANK.match(line) is not None
+
+
 class Session:
     def __init__(self):
         self.grammar = None
@@ -548,12 +553,20 @@ class Session:
 
     def answer(self, line):
         """The answer to a line, or None where it is passed over."""
-        if len(line) <= LONGEST and BLANK.match(line):
+        if is_passed_over(line):
             return None
         if self.grammar is None:
             return self.answer_opening(line)
         self.calls += 1
         return {'call': self.calls, **self.answer_request(line)}
+
+    def without_memory(self):
+        """The answer to the next line where there is no memory for it."""
+        return {**({} if self.grammar is None else {'call': self.calls + 1}), 'refused': 'memory'}
+
+    def lose(self):
+        """Counts a line for which there is no memory."""
+        self.calls += self.grammar is not None
 
     def answer_opening(self, line):
         try:
@@ -721,15 +734,6 @@ class Session:
         return {'from': first, 'changed': changes}
 
 
-def answers(text):
-    """The text that answers the lines of a text, both as bytes."""
-    session, lines = Session(), text.split(b'\n')
-    if not lines[-1]:
-        del lines[-1]
-    found = [session.answer(line) for line in lines]
-    return b''.join(text_of(answer).encode() + b'\n' for answer in found if answer is not None)
-
-
 # Random sessions
 
 class Random:
@@ -837,7 +841,12 @@ def main():
         print(__doc__, file=sys.stderr)
         return 2
     else:
-        sys.stdout.buffer.write(answers(sys.stdin.buffer.read()))
+        session = Session()
+        for line in sys.stdin.buffer:
+            answer = session.answer(line.removesuffix(b'\n'))
+            if answer is not None:
+                sys.stdout.buffer.write(text_of(answer).encode() + b'\n')
+                sys.stdout.buffer.flush()
     return 0
 
 
