@@ -1,5 +1,6 @@
 # shellcheck shell=bash disable=SC2154
-# The documents and command lines that the program is tested on, for ./test, which reads this file.
+# The documents, sessions and command lines that the program is tested on, for ./test, which reads
+# this file.
 # Each is a case: what the program is given, and the status, standard output and standard error
 # that it has to answer with. `collect_cases` writes them into the folder `cases`:
 #
@@ -116,8 +117,119 @@ collect_documents_of_manual() {
   done
   for command in replay run; do
     reports tests/help.report "$command" < <(
-      sed -n '/^  {"version"/,/^$/p' crates/tt_cli/src/command_line.rt)
+      sed -n '/^  {"version":2,$/,/^$/p' crates/tt_cli/src/command_line.rt)
   done
+}
+
+# Sessions with their answers: those of tests/sessions/, that of the manual, and the one that help
+# shows.
+collect_sessions() {
+  local lines
+  for lines in tests/sessions/*.lines; do
+    reports "${lines%.lines}.answers" session <"$lines"
+  done
+  blocks_of_session '' docs/SESSION.md >"$cases/report"
+  reports "$cases/report" session < <(blocks_of_session json docs/SESSION.md)
+  reports tests/help.answers session < <(
+    sed -n '/^  {"version":2,"tables"/,/^$/p' crates/tt_cli/src/command_line.rt)
+}
+
+# The blocks of code of a kind, up to the chapter on ends.
+blocks_of_session() {
+  awk -v kind="$1" '/^## Ends/ { exit }
+    /^```/ { inside = !inside; is_wanted = inside && substr($0, 4) == kind; next } is_wanted' "$2"
+}
+
+# Prints the lines of a file of faults, each with a tab and a line of a session, or, where a second
+# argument is given, their answers; calls are then counted from it, unless it is 0.
+faulty_lines() {
+  awk -v call="${2-none}" '
+    /^(#|$)/ { next }
+    {
+      cut = index($0, "\t")
+      if (call == "none") { print substr($0, cut + 1); next }
+      fault = substr($0, 1, cut - 1)
+      path = substr(fault, 1, index(fault, ": ") - 1)
+      cause = substr(fault, index(fault, ": ") + 2)
+      gsub(/["\\]/, "\\\\&", cause)
+      printf "{%s\"fault\":{\"path\":\"%s\",\"cause\":\"%s\"}}\n", \
+        call ? "\"call\":" call++ "," : "", path, cause
+    }' "tests/sessions/$1"
+}
+
+# Openings and requests with a fault each, of which none opens a session or changes anything.
+OPENED='{"time":0,"generation":0,"oldest":0,"entries":0,"repair":null}'
+collect_faulty_lines() {
+  local opening status count text
+  opening='{"version":2,"tables":['"$1"']}'
+  status='{"status":true}'
+  { faulty_lines faulty_openings 0; echo "$OPENED"; echo '{"call":1,'"${OPENED:1}"; } >"$cases/report"
+  reports "$cases/report" session < <(faulty_lines faulty_openings; echo "$opening"; echo "$status")
+  count=$(faulty_lines faulty_requests | wc -l)
+  {
+    echo "$OPENED"
+    faulty_lines faulty_requests 1
+    echo '{"call":'$((count + 1))','"${OPENED:1}"
+  } >"$cases/report"
+  reports "$cases/report" session < <(echo "$opening"; faulty_lines faulty_requests; echo "$status")
+
+  # Bytes that are no text or no white space of JSON, before the session is open and then.
+  text=$cases/odd
+  printf '%b\n' '\0' ' \0' '{"status":true}\0' '\0{"status":true}' '\0357\0273\0277{"status":true}' \
+    '\0357\0273\0277' '{"x":"\0377"}' '\0377' '{"x":"\0355\0240\0200"}' '{"status":true}\f' '\v' \
+    '\0302\0240' '{\0,s\0,' '{"status":\rtrue}\r}' >"$text"
+  {
+    awk '{ print "{\"fault\":{\"path\":\"$\",\"cause\":\"not JSON\"}}" }' "$text"
+    echo "$OPENED"
+    awk '{ print "{\"call\":" NR ",\"fault\":{\"path\":\"$\",\"cause\":\"not JSON\"}}" }' "$text"
+  } >"$cases/report"
+  reports "$cases/report" session < <(cat "$text"; echo "$opening"; cat "$text")
+  rm "$text"
+
+  # As long and as deep as may be, and one more.
+  sevens() {
+    awk -v count="$1" 'BEGIN { for (i = 1; i < count; i++) printf "7,"; print 7 }'
+  }
+  nested() {
+    head -c "$1" /dev/zero | tr '\0' '['
+    head -c "$1" /dev/zero | tr '\0' ']'
+    echo
+  }
+  text=$(head -c 1024 /dev/zero | tr '\0' x)
+  reports tests/sessions/limits session < <(
+    echo '{"version":2,"tables":['"$(copies 0 63 '{"name":"t#","columns":[{"name":"id","kind":"int"}]}')$1"']}'
+    echo '{"version":2,"tables":[{"name":"wide","columns":['"$(copies 0 31 '{"name":"c#","kind":"int"}')"'{"name":"c","kind":"int"}]}]}'
+    echo '{"version":2,"tables":['"$(copies 0 62 '{"name":"t#","columns":[{"name":"id","kind":"int"}]}')$1"']}'
+    nested 127
+    nested 128
+    echo '{"begin":['"$(sevens 10000)"']}'
+    echo '{"begin":['"$(sevens 10001)"']}'
+    echo '{"do":['"$(copies 1 15 '{"delete":"acct","where":[["id",#]]}')"'{"delete":"acct","where":[]}]}'
+    echo '{"do":['"$(copies 1 16 '{"delete":"acct","where":[["id",#]]}')"'{"delete":"acct","where":[]}]}'
+    echo '{"insert":"acct","row":[1,"'"$text"'",0]}'
+    echo '{"insert":"acct","row":[2,"'"$text"'x",0]}'
+    echo '{"update":"acct","change":[["set","owner","'"$text"'x"],["set","id",1]],"where":[]}'
+    echo '{"select":"acct","where":[["owner","'"$text"'x"]]}'
+    echo '{"select":"acct","where":['"$(copies 1 31 '["id",#]')"'["id",1]]}'
+    echo '{"select":"acct","where":['"$(copies 1 32 '["id",#]')"'["id",1]]}'
+  )
+
+  # A thousand blank lines, before the session is open and then.
+  { echo "$OPENED"; echo '{"call":1,'"${OPENED:1}"; } >"$cases/report"
+  text=$(awk 'BEGIN { for (i = 0; i < 1000; i++) printf "%s\n", substr(" \t\r \t\r", 1, i % 7) }')
+  reports "$cases/report" session < <(echo "$text"; echo "$opening"; echo "$text"; echo "$status"; echo "$text")
+}
+
+# A session of so many inserts, which are sent at once: its lines, or its answers.
+long_session() {
+  awk -v count="$1" -v print_answers="$2" 'BEGIN {
+    if (!print_answers) print "{\"version\":2,\"tables\":[{\"name\":\"t\",\"columns\":[{\"name\":\"k\",\"kind\":\"int\"}]}],\"records\":0}"
+    else print "{\"time\":0,\"generation\":0,\"oldest\":0,\"entries\":0,\"repair\":null}"
+    for (i = 1; i <= count; i++) {
+      if (!print_answers) print "{\"insert\":\"t\",\"row\":[" i "]}"
+      else print "{\"call\":" i ",\"slot\":" i ",\"replies\":[\"inserted\"]}"
+    }
+  }'
 }
 
 # Long runs are answered with the reports that awk writes of them: of 5,000 inserts, and of 100,000
@@ -164,6 +276,10 @@ collect_long_runs() {
     for command in replay run; do
       reports "$cases/report" "$command" <"$cases/document"
     done
+  done
+  for run in 10000 100000; do
+    long_session "$run" 1 >"$cases/report"
+    reports "$cases/report" session < <(long_session "$run" 0)
   done
 }
 
@@ -232,6 +348,7 @@ collect_faulty_documents() {
   local accounts calls
   accounts='{"name":"acct","columns":[{"name":"id","kind":"int"},{"name":"owner","kind":"text","partition":true},{"name":"bal","kind":"int"}]}'
   refuses_each documents '' ''
+  collect_faulty_lines "$accounts"
   refuses_each tables '{"version":1,"workers":1,"calls":[],"tables":[' ']}'
   refuses_each calls '{"version":1,"workers":1,"tables":['"$accounts"'],"calls":[' ']}'
   calls='{"worker":1,"insert":"acct","row":[1,"ann",10]},{"worker":1,"select":"acct","where":[]},{"worker":1,"update":"acct","change":[["add","bal",1]],"where":[["id",1]]},{"worker":1,"preview":"acct","where":[]}'
@@ -253,6 +370,7 @@ collect_command_lines() {
   answers_help --help
   answers_help replay --help
   answers_help run --help
+  answers_help session --help
   answers_version --version
   refuses_usage
   refuses_usage fly
@@ -290,6 +408,16 @@ collect_command_lines() {
   refuses_usage replay --rounds 1
   refuses_usage replay run
   refuses_usage run replay
+  refuses_usage session --quick
+  refuses_usage session now
+  refuses_usage session $'\xff'
+  refuses_usage session --batch 16
+  refuses_usage session --rounds 8
+  refuses_usage session --closed
+  refuses_usage session --version
+  refuses_usage session session
+  refuses_usage session replay
+  refuses_usage replay session
 }
 
 collect_cases() {
@@ -297,6 +425,7 @@ collect_cases() {
   collect_documents
   collect_options
   collect_documents_of_manual
+  collect_sessions
   collect_long_runs
   collect_faulty_documents
   collect_command_lines

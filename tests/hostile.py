@@ -1,6 +1,7 @@
 #!/usr/bin/env python3
 """Hostile use of the built program and libraries: documents that are cut off, the largest document,
-the widest object, and memory that runs out at each growth, of a run or of a call.
+the longest line, the widest object, and memory that runs out at each growth, of a run, a session or
+a call.
 
   tests/hostile.py PROGRAM [SCENARIOS..]
 
@@ -19,11 +20,13 @@ import sys
 import tempfile
 from concurrent.futures import ThreadPoolExecutor
 
+from session_model import Session, is_passed_over, text_of
+
 ROOT = os.path.dirname(os.path.dirname(os.path.realpath(__file__)))
 SECONDS = 60  # that a run may take
 NOT_JSON = (1, b'', b'timetravel: $: not JSON\n')
 WANT_OF_MEMORY = (3, b'', b'timetravel: want of memory\n')
-LONGEST = 16_777_216  # bytes of a document
+LONGEST = 16_777_216  # bytes of a document, and of a line
 
 # Those of which every proper prefix is tried.
 SMALL = ['examples/first', 'examples/empty', 'examples/transfer',
@@ -38,6 +41,10 @@ SMALL = ['examples/first', 'examples/empty', 'examples/transfer',
 RUN = ['examples/first', 'examples/transfer', 'examples/two_workers', 'examples/incident',
        'examples/intruder']
 OF_ONE_WORKER = RUN[:2]
+
+# Sessions that are held with too little memory.
+HELD = ['tests/sessions/incident_in_short', 'tests/sessions/repairs', 'tests/sessions/slots',
+        'tests/sessions/closed_generations', 'tests/sessions/texts_and_numbers']
 
 # The status of a test that grows where it shouldn't, and of one that keeps a block.
 TOLD = {'memory::marks::a_growth_is_told': 90, 'memory::marks::a_kept_block_is_told': 91}
@@ -97,6 +104,16 @@ class Hostile:
             answer = self.run([command], document.ljust(LONGEST + 1))
             self.check(answer == refusal, f'{command} of {LONGEST + 1} bytes', answer)
 
+    def longest_lines(self):
+        """A line may have as many bytes, also a blank one, and no more; a longer one is answered."""
+        lines = []
+        for line in (b'{"version":2,"tables":[]}', b'{"status":true}'):
+            lines += [line.ljust(LONGEST + 1), line.ljust(LONGEST + 70_000, b'\t'),
+                      b' ' * (LONGEST + 1), b'\r' * LONGEST, line.ljust(LONGEST)]
+        answer = self.run(['session'], b'\n'.join(lines))
+        is_lawful = answer[0] == 0 and answers_lines(lines, answer[1]) == 0 and answer[2] == b''
+        self.check(is_lawful, f'lines of {LONGEST} bytes and more', answer)
+
     def widest(self):
         """A member named twice is found among very many, the last one as well as the first."""
         members = b','.join(b'"%d":0' % number for number in range(1_000_000))
@@ -131,9 +148,9 @@ class Hostile:
             os.remove(mark)
         return was_met, answer
 
-    def each_growth(self, library, words, name, is_report, all_behind):
-        """Refuses each growth of a run in turn, or all from it on, until a run meets none."""
-        document, refused = read(f'{name}.json'), 0
+    def each_growth(self, library, words, name, is_lawful, all_behind):
+        """Refuses each growth of a run or a session in turn, or all from it on, until none is met."""
+        document, refused = read(name), 0
         numbers = itertools.count(1)
 
         def one(number):
@@ -146,13 +163,9 @@ class Hostile:
                 if not was_met:
                     continue
                 refused += 1
-                status, output, error = answer
-                is_lawful = (answer == WANT_OF_MEMORY
-                             or status == 0 and is_report(output) and error == b''
-                             or words[0] == 'run' and status == 4 and output == b''
-                             and error.startswith(b'timetravel: store: '))
                 which = f'from growth {number} on' if all_behind else f'at growth {number}'
-                self.check(is_lawful, f'{" ".join(words)} of {name}, {which}', answer)
+                self.check(answer == WANT_OF_MEMORY or is_lawful(*answer),
+                           f'{" ".join(words)} of {name}, {which}', answer)
             if not was_met:
                 return refused
 
@@ -207,10 +220,28 @@ class Hostile:
             is_report = report.__eq__
             if words[0] == 'run' and name not in OF_ONE_WORKER:
                 is_report = looks_like(report)
-            one_by_one = self.each_growth(library, words, name, is_report, False)
-            from_it_on = self.each_growth(library, words, name, is_report, True)
-            print(f'{" ".join(words)} of {name}: {one_by_one} growths refused one at a time, '
-                  f'{from_it_on} with all after them')
+
+            def is_lawful(status, output, error):
+                return (status == 0 and is_report(output) and error == b''
+                        or words[0] == 'run' and status == 4 and output == b''
+                        and error.startswith(b'timetravel: store: '))
+            self.growths(library, words, f'{name}.json', is_lawful, is_lawful)
+
+    def sessions(self, library):
+        """Whole sessions. A line that meets a refusal is answered by `memory`, and changes nothing."""
+        for name in HELD:
+            lines = read(f'{name}.lines').split(b'\n')
+
+            def is_lawful(most):
+                return lambda status, output, error: (
+                    status == 0 and error == b'' and answers_lines(lines, output) in range(most + 1))
+            self.growths(library, ['session'], f'{name}.lines', is_lawful(1), is_lawful(len(lines)))
+
+    def growths(self, library, words, name, is_lawful_once, is_lawful):
+        one_by_one = self.each_growth(library, words, name, is_lawful_once, False)
+        from_it_on = self.each_growth(library, words, name, is_lawful, True)
+        print(f'{" ".join(words)} of {name}: {one_by_one} growths refused one at a time, '
+              f'{from_it_on} with all after them')
 
 
 class Untestable(Exception):
@@ -220,6 +251,25 @@ class Untestable(Exception):
 def read(path):
     with open(f'{ROOT}/{path}', 'rb') as file:
         return file.read()
+
+
+def answers_lines(lines, output):
+    """How many of the lines of a session are answered by `memory`, where the others are answered as
+    if these had changed nothing; None where some answer is another one."""
+    session, answers, lost = Session(), output.split(b'\n'), 0
+    if answers.pop():
+        return None
+    answers = iter(answers)
+    for line in lines:
+        if is_passed_over(line):
+            continue
+        found, without = next(answers, None), session.without_memory()
+        if found == text_of(without).encode():
+            session.lose()
+            lost += 1
+        elif found != text_of(session.answer(line)).encode():
+            return None
+    return lost if next(answers, None) is None else None
 
 
 def looks_like(report):
@@ -253,9 +303,11 @@ def main():
             print(f'{tried} prefixes of {len(SMALL)} documents')
             hostile.no_text()
             hostile.longest()
+            hostile.longest_lines()
             hostile.widest()
             library = hostile.library()
             hostile.runs(library)
+            hostile.sessions(library)
             for scenarios in sys.argv[2:]:
                 hostile.calls(library, os.path.abspath(scenarios))
         except Untestable as why:

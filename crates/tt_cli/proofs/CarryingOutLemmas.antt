@@ -6,29 +6,29 @@ use Rattle.clap.specs.declared.error.Error.{Error}
 use Rattle.clap.specs.Words.{Text, FailsBy, fault_of, kind_of}
 use Rattle.tt_cli.specs.declared.command_line.Cli.{Cli}
 use Rattle.tt_cli.specs.declared.ending.Ending.{Ending}
-use Rattle.tt_cli.specs.CommandLine.{command_line, IsBatchOf, IsRoundsOf, IsClosedOf, IsThreadsOf}
+use Rattle.tt_cli.specs.CommandLine.{command_line, options_of, IsCommandOf, IsBatchOf, IsRoundsOf, IsClosedOf}
 use Rattle.tt_cli.specs.Ending.{IsEndingOfUsage}
 use Rattle.tt_cli.specs.CarryingOut.{EndsBy, IsEndingBy, CarriesOut}
 
 pub carries_out : (words : List Text) (asked : Result Cli Error) (unread left old new : Option (List ℕ)) (ending : Ending)
     → FailsBy (fault_of command_line words) asked
-    → IfOk asked (λ cli. IsBatchOf words cli.options.batch)
-    → IfOk asked (λ cli. IsClosedOf words cli.options.closed)
-    → IfOk asked (λ cli. IsRoundsOf words cli.options.rounds)
-    → IfOk asked (λ cli. IsThreadsOf words cli.threads)
-    → IfOk asked (λ cli. IfSome unread (λ xs. EndsBy cli xs old new ending))
+    → IfOk asked (IsCommandOf words)
+    → IfOk asked (λ cli. IfSome (options_of cli) (λ options. IsBatchOf words options.batch))
+    → IfOk asked (λ cli. IfSome (options_of cli) (λ options. IsClosedOf words options.closed))
+    → IfOk asked (λ cli. IfSome (options_of cli) (λ options. IsRoundsOf words options.rounds))
+    → IfOk asked (λ cli. EndsBy cli unread left old new ending)
     → IfOk asked (λ cli. IsEndingBy cli ending)
     → OnErr asked (Keeps unread left)
     → OnErr asked (Keeps old new)
     → IfErr asked (λ error. IsEndingOfUsage (kind_of error) ending)
     → CarriesOut words unread left old new ending
-carries_out words (Ok cli) unread left old new ending kinds batch closed rounds threads ends kind keeps unwritten usage = inl (record {
+carries_out words (Ok cli) unread left old new ending kinds command batch closed rounds ends kind keeps unwritten usage = inl (record {
   cli = cli;
-  asked = record { faultless = kinds; threads = threads; batch = batch; rounds = rounds; closed = closed };
+  asked = record { faultless = kinds; command = command; batch = batch; rounds = rounds; closed = closed };
   ends = ends;
   kind = kind;
 })
-carries_out words (Err error) unread left old new ending kinds batch closed rounds threads ends kind keeps unwritten usage = inr (record {
+carries_out words (Err error) unread left old new ending kinds command batch closed rounds ends kind keeps unwritten usage = inr (record {
   error = error;
   fault = kinds;
   usage = usage;

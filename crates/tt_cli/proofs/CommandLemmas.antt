@@ -1,5 +1,5 @@
 -- What a parse of the command line that succeeds has found.
-use Rattle.std.proofs.Common.{◌≡◌, ◌∙◌, ◌↔◌, [], ap, ℕ, Bool, Box, IsSomeAnd, IsTrue, List, Option, Some, None, codes, false, option_map, refl, subst, sym, true, unwrap_or}
+use Rattle.std.proofs.Common.{◌≡◌, ◌∙◌, ◌≢◌, [], ap, ℕ, Bool, Box, IsSomeAnd, List, Option, Some, None, codes, false, inl, inr, option_map, refl, subst, sym, true, unwrap_or}
 use Rattle.std.specs.Box.{box_value}
 use Rattle.clap.specs.Words.{App, HasMatchesOf, Row, Text, fault_of, found_of, is_simple_and_free, one_of, one_text, rows_of, subcommand_name_of, subcommand_of, subcommand_rows, subcommand_rows_of}
 use Rattle.clap.specs.Matches.{ReadsOne}
@@ -10,10 +10,11 @@ use Rattle.clap.specs.declared.parser.matches.ArgMatches.TheViews.{out-ArgMatche
 use Rattle.clap.specs.declared.parser.matches.SubCommand.{SubCommand}
 use Rattle.clap.proofs.OnLiterals.{clap_on_literals}
 use Rattle.clap.proofs.WalkLemmas.{both, one_text-rows}
-use Rattle.tt_cli.specs.CommandLine.{IsBatchOf, IsClosedOf, IsNumberOr, IsRoundsOf, IsSignedOr, IsThreadsOf, command_line, given_text}
+use Rattle.tt_cli.specs.declared.command_line.Cli.{Cli}
+use Rattle.tt_cli.specs.CommandLine.{IsBatchOf, IsClosedOf, IsCommandOf, IsNumberOr, IsRoundsOf, IsSignedOr, command_line, given_text, name_of}
 use Rattle.tt_cli.proofs.NumberLemmas.{ReadsBatch, ReadsNumber, ReadsRounds, reads_batch, reads_rounds}
 use Rattle.tt_cli.proofs.ClosedLemmas.{reads_closed}
-use Rattle.tt_cli.proofs.SubcommandLemmas.{HasOptions, batch_of, closed_of, rounds_of, takes_one}
+use Rattle.tt_cli.proofs.SubcommandLemmas.{HasCommand, HasOptions, batch_of, closed_of, rounds_of, takes_one}
 
 is_simple_line : is_simple_and_free command_line ≡ true
 unfolding clap_on_literals
@@ -26,7 +27,7 @@ is_simple_command a is = ap is_simple_and_free is ∙ is_simple_line
 -- the parse entered a subcommand, with the rows of its options
 abbrev pub Enters : List Text → ArgMatches → Type 0
 Enters words m = (name : Text) × (rows : List Row) × (subcommand_of command_line words ≡ Some (name, rows))
-    × (subcommand_rows_of m ≡ Some (name, rows)) × HasOptions name rows
+    × (subcommand_rows_of m ≡ Some (name, rows)) × HasCommand name rows
 
 pub enters_one : (a : App) (words : List Text) (m : ArgMatches) → a ≡ command_line → fault_of a words ≡ [] → HasMatchesOf a words m → Enters words m
 enters_one a words m is passes matches =
@@ -49,16 +50,28 @@ module _ (words : List Text) (m : ArgMatches) (enters : Enters words m) where
       absurd (cc)
 
   -- the subcommand that was entered
-  pub threads_is : (name : Text) (threads : Bool) → Some name ≡ subcommand_name_of m → (IsTrue threads ↔ (name ≡ codes "run")) → IsThreadsOf words threads
-  unfolding IsThreadsOf
-  threads_is name threads found is =
-      let given : Some name ≡ Some enters.0 = found ∙ (name_in (out-ArgMatches m).subcommand ∙ ap (option_map (λ sub. sub.0)) enters.3) in
-      let same : name ≡ enters.0 = cc in
-      let named = subst (λ (n : Text). IsTrue threads ↔ (n ≡ codes "run")) same is in
-      subst (λ (sub : Option (Text × List Row)). IsSomeAnd sub (λ s. IsTrue threads ↔ (s.0 ≡ codes "run"))) (sym enters.2) named
+  module _ (name : Text) (found : Some name ≡ subcommand_name_of m) where
+    name_is : name ≡ enters.0
+    name_is =
+        let given : Some name ≡ Some enters.0 = found ∙ (name_in (out-ArgMatches m).subcommand ∙ ap (option_map (λ sub. sub.0)) enters.3) in
+        cc
+
+    pub command_is : (cli : Cli) → name ≡ name_of cli → IsCommandOf words cli
+    unfolding IsCommandOf
+    command_is cli is =
+        subst (λ (sub : Option (Text × List Row)). IsSomeAnd sub (λ s. s.0 ≡ name_of cli)) (sym enters.2) (sym name_is ∙ is)
+
+    pub has_options : name ≢ codes "session" → HasOptions enters.0 enters.1
+    has_options other = elim enters.4 [ inl options ↦ options | inr session ↦ absurd (other (name_is ∙ session)) ]
+
+    pub is_replay : name ≢ codes "session" → name ≢ codes "run" → name ≡ codes "replay"
+    is_replay other not_run = elim (has_options other) [
+      | inl replay ↦ name_is ∙ replay.0
+      | inr run ↦ absurd (not_run (name_is ∙ run.0))
+    ]
 
   -- what is read of an option
-  module _ (inner : ArgMatches) (found : Some (rows_of (found_of inner)) ≡ rows_in (subcommand_rows_of m)) where
+  module _ (has : HasOptions enters.0 enters.1) (inner : ArgMatches) (found : Some (rows_of (found_of inner)) ≡ rows_in (subcommand_rows_of m)) where
     one_is : (id : Text) → one_text (found_of inner) id ≡ one_of id enters.1
     one_is id =
         let given : Some (rows_of (found_of inner)) ≡ Some enters.1 = found ∙ ap rows_in enters.3 in
@@ -67,21 +80,21 @@ module _ (words : List Text) (m : ArgMatches) (enters : Enters words m) where
 
     pub batch_read : (read : Option ℕ) → ((text : Text) → one_text (found_of inner) (codes "batch") ≡ Some text → ReadsOne ReadsNumber text read)
         → ReadsBatch enters.1 read
-    batch_read read reads = reads_batch enters.1 read (batch_of enters.0 enters.1 enters.4) (λ text e. reads text (one_is (codes "batch") ∙ e))
+    batch_read read reads = reads_batch enters.1 read (batch_of enters.0 enters.1 has) (λ text e. reads text (one_is (codes "batch") ∙ e))
 
     pub rounds_read : (read : Option ℕ) → (one_text (found_of inner) (codes "rounds") ≡ None → read ≡ None)
         → ((text : Text) → one_text (found_of inner) (codes "rounds") ≡ Some text → ReadsOne ReadsNumber text read)
         → ReadsRounds enters.1 (unwrap_or read 8)
     rounds_read read none reads =
         let one = one_is (codes "rounds") in
-        reads_rounds enters.1 read (rounds_of enters.0 enters.1 enters.4) (λ e. none (one ∙ e)) (λ text e. reads text (one ∙ e))
+        reads_rounds enters.1 read (rounds_of enters.0 enters.1 has) (λ e. none (one ∙ e)) (λ text e. reads text (one ∙ e))
 
     pub closed_is : (read : Bool) → (one_text (found_of inner) (codes "closed") ≡ Some (codes "true") → read ≡ true)
         → (one_text (found_of inner) (codes "closed") ≡ Some (codes "false") → read ≡ false) → IsClosedOf words read
     unfolding IsClosedOf
     closed_is read when_true when_false =
         let one = one_is (codes "closed") in
-        let is = reads_closed enters.1 read (closed_of enters.0 enters.1 enters.4) (λ e. when_true (one ∙ e)) (λ e. when_false (one ∙ e)) in
+        let is = reads_closed enters.1 read (closed_of enters.0 enters.1 has) (λ e. when_true (one ∙ e)) (λ e. when_false (one ∙ e)) in
         subst (λ (sub : Option (Text × List Row)). IsSomeAnd sub (λ s. read ≡ is_given (codes "closed") s.1)) (sym enters.2) is
 
   -- the numbers that were read

@@ -47,11 +47,18 @@ abbrev second_shape : List Shape → Shape
 second_shape [] = top
 second_shape (s ∷ ss) = first_shape ss
 
+abbrev third_shape : List Shape → Shape
+third_shape [] = top
+third_shape (s ∷ ss) = second_shape ss
+
 abbrev replay_leaf : Shape
 replay_leaf = first_shape (built command_line).subs
 
 abbrev run_leaf : Shape
 run_leaf = second_shape (built command_line).subs
+
+abbrev session_leaf : Shape
+session_leaf = third_shape (built command_line).subs
 
 replay_rules : replay_leaf.rules ≡ batch_rule ∷ closed_rule ∷ help_rule ∷ []
 replay_rules = refl
@@ -231,9 +238,13 @@ HasReplay name rows = (name ≡ codes "replay") × HasBatch rows × HasClosed ro
 abbrev pub HasRun : Text → List Row → Type 0
 HasRun name rows = (name ≡ codes "run") × HasBatch rows × HasClosed rows × HasRounds rows
 
--- one of the subcommands was entered, and has a row for each of its options
+-- `replay` or `run` was entered, and has a row for each of its options
 abbrev pub HasOptions : Text → List Row → Type 0
 HasOptions name rows = HasReplay name rows ⊎ HasRun name rows
+
+-- the same, or `session` was entered
+abbrev pub HasCommand : Text → List Row → Type 0
+HasCommand name rows = HasOptions name rows ⊎ (name ≡ codes "session")
 
 pub batch_of : (name : Text) (rows : List Row) → HasOptions name rows → HasBatch rows
 batch_of name rows has = elim has [ inl replay ↦ replay.1 | inr run ↦ run.1 ]
@@ -292,23 +303,25 @@ abbrev label : Text → Text × List Text
 label text = (text, [])
 
 abbrev IsSubcommand : Text → Type 0
-IsSubcommand name = (name ≡ codes "replay") ⊎ (name ≡ codes "run")
+IsSubcommand name = (name ≡ codes "replay") ⊎ ((name ≡ codes "run") ⊎ (name ≡ codes "session"))
 
 enters_one : (waiting : Waiting) (word name : Text) (h : Held) → subcommand_met (names_of (built command_line)) waiting word ≡ Some name
     → other_fault top (Some name) word h ≡ [] → IsSubcommand name
 enters_one idle word name h met e =
-    go (answers_to word (label (codes "replay"))) (answers_to word (label (codes "run"))) (answers_to word (label (codes "help"))) met
+    go (answers_to word (label (codes "replay"))) (answers_to word (label (codes "run"))) (answers_to word (label (codes "session")))
+    (answers_to word (label (codes "help"))) met
   where
-    go : (b c d : Bool)
-        → option_map (λ s. s.0) (cond b (Some (label (codes "replay"))) (cond c (Some (label (codes "run"))) (cond d (Some (label (codes "help"))) None))) ≡ Some name
+    go : (b c d f : Bool)
+        → option_map (λ s. s.0) (cond b (Some (label (codes "replay"))) (cond c (Some (label (codes "run"))) (cond d (Some (label (codes "session"))) (cond f (Some (label (codes "help"))) None)))) ≡ Some name
         → IsSubcommand name
-    go true c d f = inl (cc)
-    go false true d f = inr (cc)
-    go false false true f =
+    go true c d f g = inl (cc)
+    go false true d f g = inr (inl (cc))
+    go false false true f g = inr (inr (cc))
+    go false false false true g =
         let same : name ≡ codes "help" = cc in
         let bad : kind.DisplayHelp ∷ kind.InvalidSubcommand ∷ [] ≡ [] = subst (λ (x : Text). other_fault top (Some x) word h ≡ []) same e in
         absurd (cc)
-    go false false false f = absurd (cc)
+    go false false false false g = absurd (cc)
 enters_one (option waits) word name h met e = absurd (cc)
 enters_one positional word name h met e = absurd (cc)
 
@@ -317,7 +330,7 @@ needs_subcommand rows true e = refl
 needs_subcommand rows false e = absurd (cc)
 
 abbrev Takes : Option (Text × List Row) → Type 0
-Takes sub = (name : Text) × (rows : List Row) × (sub ≡ Some (name, rows)) × HasOptions name rows
+Takes sub = (name : Text) × (rows : List Row) × (sub ≡ Some (name, rows)) × HasCommand name rows
 
 abbrev TakesAt : Text → List Text → Type 0
 TakesAt name rest = entered_fault (built command_line) (Some (name, rest)) ≡ [] → Takes (entered (built command_line) (Some (name, rest)))
@@ -325,9 +338,11 @@ TakesAt name rest = entered_fault (built command_line) (Some (name, rest)) ≡ [
 takes_at : (name : Text) (rest : List Text) → IsSubcommand name → TakesAt name rest
 takes_at name rest is = elim is [
   | inl replay ↦
-      subst (λ (x : Text). TakesAt x rest) (sym replay) (λ e. (codes "replay", rows_after replay_leaf.rules [] rest, refl, at_replay rest e))
-  | inr run ↦
-      subst (λ (x : Text). TakesAt x rest) (sym run) (λ e. (codes "run", rows_after run_leaf.rules [] rest, refl, at_run rest e))
+      subst (λ (x : Text). TakesAt x rest) (sym replay) (λ e. (codes "replay", rows_after replay_leaf.rules [] rest, refl, inl (at_replay rest e)))
+  | inr (inl run) ↦
+      subst (λ (x : Text). TakesAt x rest) (sym run) (λ e. (codes "run", rows_after run_leaf.rules [] rest, refl, inl (at_run rest e)))
+  | inr (inr session) ↦
+      subst (λ (x : Text). TakesAt x rest) (sym session) (λ e. (codes "session", rows_after session_leaf.rules [] rest, refl, inr refl))
 ]
 
 at_stop : (stop : Option (Text × List Text)) → StopsAt IsSubcommand stop → is_some (entered (built command_line) stop) ≡ true

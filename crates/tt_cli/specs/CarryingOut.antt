@@ -7,7 +7,7 @@ use Rattle.tt_workload.specs.declared.run_fault.RunFault.{RunFault}
 use Rattle.tt_cli.specs.declared.command_line.Cli.{Cli}
 use Rattle.tt_cli.specs.declared.ending.Ending.{Ending}
 use Rattle.tt_cli.specs.declared.ending.Ending.TheVariants as endings
-use Rattle.tt_cli.specs.CommandLine.{command_line, IsBatchOf, IsRoundsOf, IsClosedOf, IsThreadsOf}
+use Rattle.tt_cli.specs.CommandLine.{command_line, options_of, IsCommandOf, IsBatchOf, IsRoundsOf, IsClosedOf}
 use Rattle.tt_cli.specs.Ending.{IsEndingOfUsage}
 use Rattle.tt_cli.specs.Status.{has_text}
 use Rattle.tt_cli.specs.Running.{WritesBy, EndsEarlyBy, IsFaultBy}
@@ -15,23 +15,23 @@ use Rattle.tt_cli.specs.Running.{WritesBy, EndsEarlyBy, IsFaultBy}
 -- the words of a command line have no fault, and ask for this command with these options
 pub record AskFor (words : List Text) (cli : Cli) : Type 0 where
   pub faultless : fault_of command_line words ≡ []
-  pub threads : IsThreadsOf words cli.threads
-  pub batch : IsBatchOf words cli.options.batch
-  pub rounds : IsRoundsOf words cli.options.rounds
-  pub closed : IsClosedOf words cli.options.closed
+  pub command : IsCommandOf words cli
+  pub batch : IfSome (options_of cli) (λ options. IsBatchOf words options.batch)
+  pub rounds : IfSome (options_of cli) (λ options. IsRoundsOf words options.rounds)
+  pub closed : IfSome (options_of cli) (λ options. IsClosedOf words options.closed)
 
--- the run that a command asks for has failed, and there was no memory for the line of its fault
-pub record EndsWithoutLine (cli : Cli) (remaining : List ℕ) (old new : Option (List ℕ)) : Type 0 where
+-- what a command asks for has failed, and there was no memory for the line of its fault
+pub record EndsWithoutLine (cli : Cli) (unread left old new : Option (List ℕ)) : Type 0 where
   pub fault : RunFault
-  pub early : EndsEarlyBy cli fault remaining old new
+  pub early : EndsEarlyBy cli fault unread left old new
   pub with_text : has_text fault ≡ true
 
--- the ending of the run that a command asks for: done where the report was written, and otherwise the run's fault
-abbrev pub EndsBy : Cli → List ℕ → Option (List ℕ) → Option (List ℕ) → Ending → Type 0
-EndsBy cli remaining old new endings.Done = WritesBy cli remaining old new
-EndsBy cli remaining old new (endings.Fault fault) = EndsEarlyBy cli fault remaining old new
-EndsBy cli remaining old new endings.OutOfMemory = EndsWithoutLine cli remaining old new
-EndsBy cli remaining old new _ = ⊥
+-- the ending of what a command asks for: done where the report or the answers were written, and otherwise the fault
+abbrev pub EndsBy : Cli → Option (List ℕ) → Option (List ℕ) → Option (List ℕ) → Option (List ℕ) → Ending → Type 0
+EndsBy cli unread left old new endings.Done = WritesBy cli unread left old new
+EndsBy cli unread left old new (endings.Fault fault) = EndsEarlyBy cli fault unread left old new
+EndsBy cli unread left old new endings.OutOfMemory = EndsWithoutLine cli unread left old new
+EndsBy cli unread left old new _ = ⊥
 
 -- the same, whatever was read
 abbrev pub IsEndingBy : Cli → Ending → Type 0
@@ -40,14 +40,14 @@ IsEndingBy cli (endings.Fault fault) = IsFaultBy cli fault
 IsEndingBy cli endings.OutOfMemory = ⊤
 IsEndingBy cli _ = ⊥
 
--- the words ask for a command, and the ending is that of its run
-pub record RunsWords (words : List Text) (unread old new : Option (List ℕ)) (ending : Ending) : Type 0 where
+-- the words ask for a command, and the ending is that of what it does
+pub record RunsWords (words : List Text) (unread left old new : Option (List ℕ)) (ending : Ending) : Type 0 where
   pub cli : Cli
   pub asked : AskFor words cli
-  pub ends : IfSome unread (λ remaining. EndsBy cli remaining old new ending)
+  pub ends : EndsBy cli unread left old new ending
   pub kind : IsEndingBy cli ending
 
--- the words are faulty or ask for help, or there was no memory to read them: this is printed, and nothing is run
+-- the words are faulty or ask for help, or there was no memory to read them: this is printed, and nothing is read
 pub record PrintsUsage (words : List Text) (unread left old new : Option (List ℕ)) (ending : Ending) : Type 0 where
   pub error : Error
   pub fault : HasKind (fault_of command_line words) error
@@ -57,4 +57,4 @@ pub record PrintsUsage (words : List Text) (unread left old new : Option (List �
 
 -- the words of a command line are carried out
 abbrev pub CarriesOut : List Text → Option (List ℕ) → Option (List ℕ) → Option (List ℕ) → Option (List ℕ) → Ending → Type 0
-CarriesOut words unread left old new ending = RunsWords words unread old new ending ⊎ PrintsUsage words unread left old new ending
+CarriesOut words unread left old new ending = RunsWords words unread left old new ending ⊎ PrintsUsage words unread left old new ending

@@ -1,7 +1,7 @@
--- The command line: `timetravel`, with its version and two subcommands. `replay` takes `--batch` and
--- `--closed`; `run` takes `--rounds`, too.
+-- The command line: `timetravel`, with its version and three subcommands. `replay` takes `--batch` and
+-- `--closed`; `run` takes `--rounds`, too; `session` takes no option.
 use Rattle.std.specs.Prelude.{◌≡◌, ℕ, ◌∷◌, [], List, Option, Some, None, Ok, IsSomeAnd, codes, pos}
-use Rattle.std.specs.Prelude.{Bool, if◌then◌else◌, true, IsTrue, ◌↔◌}
+use Rattle.std.specs.Prelude.{Bool, if◌then◌else◌, true}
 use Rattle.std.specs.Int.{w64}
 use Rattle.std.specs.Str.Parse.{ParsesSigned, ParsesUnsigned}
 use Rattle.std.specs.declared.num.ParseIntError.{ParseIntError}
@@ -10,6 +10,9 @@ use Rattle.clap.specs.Words.{with_rule, with_subcommand}
 use Rattle.clap.specs.Takes.{is_given}
 use Rattle.clap.specs.declared.builder.action.ArgAction.TheVariants.{Set, SetTrue}
 use Rattle.clap.specs.declared.builder.value_parser.ValueParser.TheVariants as parser
+use Rattle.tt_workload.specs.declared.options.Options.{Options}
+use Rattle.tt_cli.specs.declared.command_line.Cli.{Cli}
+use Rattle.tt_cli.specs.declared.command_line.Cli.TheVariants as commands
 
 abbrev pub requiring_subcommand : App → App
 requiring_subcommand app = record app { top = record app.top { subcommand_required = true } }
@@ -47,12 +50,31 @@ replay = with_rule (with_rule (new_app (codes "replay")) batch) closed
 abbrev pub run : App
 run = with_rule (with_rule (with_rule (new_app (codes "run")) batch) rounds) closed
 
+abbrev pub session : App
+session = new_app (codes "session")
+
 -- the command without its subcommands
 abbrev pub program : App
 program = requiring_subcommand (with_version (new_app (codes "timetravel")))
 
 abbrev pub command_line : App
-command_line = with_subcommand (with_subcommand program replay.top) run.top
+command_line = with_subcommand (with_subcommand (with_subcommand program replay.top) run.top) session.top
+
+-- the name of the subcommand that asks for a command
+abbrev pub name_of : Cli → Text
+name_of (commands.Replay options) = codes "replay"
+name_of (commands.Run options) = codes "run"
+name_of commands.Session = codes "session"
+
+-- the options of a command, where it has some
+abbrev pub options_of : Cli → Option Options
+options_of (commands.Replay options) = Some options
+options_of (commands.Run options) = Some options
+options_of commands.Session = None
+
+-- the words give the subcommand that asks for this command
+unfoldable pub IsCommandOf : List Text → Cli → Type 0
+IsCommandOf words cli = IsSomeAnd (subcommand_of command_line words) (λ sub. sub.0 ≡ name_of cli)
 
 -- the text that the words give for an option; a default is none
 abbrev pub given_text : Text → List Row → Option Text
@@ -77,11 +99,6 @@ IsBatchOf words n = IsSomeAnd (subcommand_of command_line words) (λ sub.
 unfoldable pub IsRoundsOf : List Text → ℕ → Type 0
 IsRoundsOf words n = IsSomeAnd (subcommand_of command_line words) (λ sub.
     IsSignedOr 8 (given_text (codes "rounds") sub.1) n)
-
--- whether the words give the subcommand `run`
-unfoldable pub IsThreadsOf : List Text → Bool → Type 0
-IsThreadsOf words threads = IsSomeAnd (subcommand_of command_line words) (λ sub.
-    IsTrue threads ↔ (sub.0 ≡ codes "run"))
 
 -- whether the words give `--closed`
 unfoldable pub IsClosedOf : List Text → Bool → Type 0

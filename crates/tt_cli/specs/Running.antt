@@ -1,7 +1,10 @@
--- The two runs of a document, and what they write. A run in threads writes one of the reports that are right for the document.
-use Rattle.std.specs.Prelude.{◌≡◌, ℕ, Bool, List, Option, MatchBool}
+-- What the commands do: the two runs of a document, and what they write, and a session. A run in threads writes one of the reports that are right for the document.
+use Rattle.std.specs.Prelude.{◌≡◌, ℕ, Bool, List, Option, IfSome}
 use Rattle.std.specs.Io.KnownBytes.{Appends, Keeps}
 use Rattle.tt_document.specs.declared.document.Document.{Document}
+use Rattle.tt_session.specs.declared.run.SessionFault.{SessionFault}
+use Rattle.tt_session.specs.declared.run.SessionFault.TheVariants as session_faults
+use Rattle.tt_session.specs.Ends as session
 use Rattle.tt_workload.specs.declared.run_fault.RunFault.{RunFault}
 use Rattle.tt_workload.specs.declared.run_fault.RunFault.TheVariants as faults
 use Rattle.tt_workload.specs.Ends.{AppendsPrefix, ReadsDocument, EndsReading, IsReadingFault}
@@ -9,6 +12,7 @@ use Rattle.tt_workload.specs.Run.{WritesReport, EndsEarly, IsFaultOfRun}
 use Rattle.tt_workers.specs.declared.report.Report.{Report}
 use Rattle.tt_workers.specs.Report.{IsReportOf, text_of_report}
 use Rattle.tt_cli.specs.declared.command_line.Cli.{Cli}
+use Rattle.tt_cli.specs.declared.command_line.Cli.TheVariants as commands
 
 -- the text of a report that is right for the document, with the lines of closed generations where these are asked for
 pub record IsTextOfRun (closed : Bool) (document : Document) (text : List ℕ) : Type 0 where
@@ -53,18 +57,37 @@ IsFaultOfThreads (faults.Document fault) = IsReadingFault (faults.Document fault
 IsFaultOfThreads (faults.Store text) = Unit {0}
 IsFaultOfThreads faults.Memory = Unit {0}
 
--- the report was written that the command asks for: with its options, of a run in threads or of one in one thread
-abbrev pub WritesBy : Cli → List ℕ → Option (List ℕ) → Option (List ℕ) → Type 0
-WritesBy cli remaining old new = MatchBool cli.threads
-    (WritesSomeReport cli.options.closed remaining old new)
-    (WritesReport cli.options remaining old new)
+-- the fault of a session, as that of a run
+abbrev pub fault_of_session : SessionFault → RunFault
+fault_of_session session_faults.Read = faults.Read
+fault_of_session session_faults.Write = faults.Write
+fault_of_session session_faults.Memory = faults.Memory
 
--- after a fault of the run that the command asks for
-abbrev pub EndsEarlyBy : Cli → RunFault → List ℕ → Option (List ℕ) → Option (List ℕ) → Type 0
-EndsEarlyBy cli fault remaining old new = MatchBool cli.threads
-    (EndsRunEarly cli.options.closed fault remaining old new)
-    (EndsEarly cli.options fault remaining old new)
+-- this is the fault of a session, which has ended in it
+pub record EndsSessionEarly (fault : RunFault) (unread left old new : Option (List ℕ)) : Type 0 where
+  pub ended : SessionFault
+  pub same : fault ≡ fault_of_session ended
+  pub early : session.EndsEarly ended unread left old new
+
+-- the same, whatever was read
+pub record IsFaultOfSession (fault : RunFault) : Type 0 where
+  pub ended : SessionFault
+  pub same : fault ≡ fault_of_session ended
+
+-- what the command asks for was written: the report, with its options, of a run in one thread or of one in threads, or the answers to all lines that the reader had
+abbrev pub WritesBy : Cli → Option (List ℕ) → Option (List ℕ) → Option (List ℕ) → Option (List ℕ) → Type 0
+WritesBy (commands.Replay options) unread left old new = IfSome unread (λ remaining. WritesReport options remaining old new)
+WritesBy (commands.Run options) unread left old new = IfSome unread (λ remaining. WritesSomeReport options.closed remaining old new)
+WritesBy commands.Session unread left old new = session.AnswersAll unread left old new
+
+-- after a fault of what the command asks for
+abbrev pub EndsEarlyBy : Cli → RunFault → Option (List ℕ) → Option (List ℕ) → Option (List ℕ) → Option (List ℕ) → Type 0
+EndsEarlyBy (commands.Replay options) fault unread left old new = IfSome unread (λ remaining. EndsEarly options fault remaining old new)
+EndsEarlyBy (commands.Run options) fault unread left old new = IfSome unread (λ remaining. EndsRunEarly options.closed fault remaining old new)
+EndsEarlyBy commands.Session fault unread left old new = EndsSessionEarly fault unread left old new
 
 -- the same, whatever was read
 abbrev pub IsFaultBy : Cli → RunFault → Type 0
-IsFaultBy cli fault = MatchBool cli.threads (IsFaultOfThreads fault) (IsFaultOfRun fault)
+IsFaultBy (commands.Replay options) fault = IsFaultOfRun fault
+IsFaultBy (commands.Run options) fault = IsFaultOfThreads fault
+IsFaultBy commands.Session fault = IsFaultOfSession fault

@@ -1,8 +1,9 @@
 //! The command line.
-ghost use Rattle.std.specs.Prelude.{◌≡◌, IfOk, map, string_bytes};
+ghost use Rattle.std.specs.Prelude.{◌≡◌, IfOk, IfSome, map, string_bytes};
 ghost use Rattle.clap.specs.Words.{FailsBy, app_of, fault_of, rule_of};
-ghost use Rattle.tt_cli.specs.CommandLine.{IsBatchOf, IsRoundsOf, IsClosedOf, IsThreadsOf};
-ghost use Rattle.tt_cli.specs.CommandLine.{batch, rounds, closed, replay, run, program, command_line};
+ghost use Rattle.tt_cli.specs.CommandLine.{IsCommandOf, IsBatchOf, IsRoundsOf, IsClosedOf};
+ghost use Rattle.tt_cli.specs.CommandLine.{batch, rounds, closed, replay, run, session};
+ghost use Rattle.tt_cli.specs.CommandLine.{program, command_line, options_of};
 ghost use Rattle.tt_workload.specs.Options.{AreWithin};
 
 use clap::{Arg, ArgAction, Command, Error};
@@ -11,7 +12,8 @@ use tt_workload::Options;
 
 const VERSION: &str = "0.1.0";
 
-const ABOUT: &str = "A time-travel database: runs a workload and prints its report";
+const ABOUT: &str =
+    "A time-travel database: runs a workload and prints its report, or answers line by line";
 
 const DOCUMENT: &str =
     r#"The workload is a JSON document on standard input. It declares tables and lists the calls
@@ -43,35 +45,63 @@ repair beside the calls of its member "meanwhile".
 The report goes to standard output: a line for each call, one for the repair and for each reply
 that it has changed, one for each table, and a last line. With --closed, one for each table of each
 closed generation that is kept follows the changed replies: its rows at that generation's last
-time."#;
+time.
+`session` reads no such document, but requests: see `timetravel session --help`."#;
+
+const LINES: &str =
+    r#"Standard input is JSON, one text a line. The first line opens a database; each further line is a
+request, and is answered by one line on standard output before another is waited for:
+
+  {"version":2,"tables":[{"name":"acct","columns":[{"name":"id","kind":"int"},{"name":"bal","kind":"int"}]}]}
+  {"insert":"acct","row":[1,100]}
+  {"update":"acct","change":[["set","bal",0]],"where":[]}
+  {"select":"acct","where":[["id",1]]}
+  {"select":"acct","where":[["id",1]],"at":1}
+  {"begin":[{"cancel":2}]}
+  {"step":2}
+  {"preview":"acct","where":[]}
+  {"finish":true}
+  {"changes":"now"}
+  {"status":true}
+
+The members of a write or a select are those of a document. A write is answered with the number of
+its slot, and edits name slots: here the repair cancels slot 2, the update, and `changes` then lists
+the answers that would be others now. There are also requests of the kinds delete, do, abort, slots
+and tables: see docs/SESSION.md.
+The database ends with the input."#;
 
 /// What the command line asks for.
 #[derive(Clone, Copy)]
-pub struct Cli {
-    /// Whether each worker makes its calls in a thread of its own.
-    pub threads: bool,
-    pub options: Options,
+pub enum Cli {
+    /// A run of the document in one thread.
+    Replay(Options),
+    /// A run of the document with each worker in a thread of its own.
+    Run(Options),
+    /// A session, which answers line by line.
+    Session,
 }
 
 /// Reads the words of the command line, the program's name first. An error is a fault of usage,
 /// help or the version that was asked for, or out of memory.
 pub fn command_of<'a>(alloc: Global, words: &'a [String]) -> Result<Cli, Error>
     ensures kinds { FailsBy (fault_of command_line (map string_bytes words.entry.now)) result }
-    ensures within { IfOk result (λ cli. AreWithin cli.options) }
-    ensures batch { IfOk result (λ cli.
-        IsBatchOf (map string_bytes words.entry.now) cli.options.batch) }
-    ensures closed { IfOk result (λ cli.
-        IsClosedOf (map string_bytes words.entry.now) cli.options.closed) }
-    ensures rounds { IfOk result (λ cli.
-        IsRoundsOf (map string_bytes words.entry.now) cli.options.rounds) }
-    ensures threads { IfOk result (λ cli.
-        IsThreadsOf (map string_bytes words.entry.now) cli.threads) }
+    ensures command { IfOk result (IsCommandOf (map string_bytes words.entry.now)) }
+    ensures within { IfOk result (λ cli. IfSome (options_of cli) AreWithin) }
+    ensures batch { IfOk result (λ cli. IfSome (options_of cli) (λ options.
+        IsBatchOf (map string_bytes words.entry.now) options.batch)) }
+    ensures closed { IfOk result (λ cli. IfSome (options_of cli) (λ options.
+        IsClosedOf (map string_bytes words.entry.now) options.closed)) }
+    ensures rounds { IfOk result (λ cli. IfSome (options_of cli) (λ options.
+        IsRoundsOf (map string_bytes words.entry.now) options.rounds)) }
 {
     let command = command(alloc)?;
     let matches = command.try_get_matches_from(words)?;
     let Some((name, given)) = matches.subcommand() else {
         unreachable!()
     };
+    if name == "session" {
+        return Ok(Cli::Session);
+    }
     let Some(batch) = given.get_one::<u32>("batch") else {
         unreachable!()
     };
@@ -79,14 +109,15 @@ pub fn command_of<'a>(alloc: Global, words: &'a [String]) -> Result<Cli, Error>
         .get_one::<u32>("rounds")
         .unwrap_or(Options::usual().rounds);
     let closed = given.get_flag("closed");
-    Ok(Cli {
-        threads: name == "run",
-        options: Options {
-            batch,
-            rounds,
-            closed,
-        },
-    })
+    let options = Options {
+        batch,
+        rounds,
+        closed,
+    };
+    if name == "run" {
+        return Ok(Cli::Run(options));
+    }
+    Ok(Cli::Replay(options))
 }
 
 /// The program's command, with its subcommands.
@@ -95,7 +126,8 @@ fn command<'a>(alloc: Global) -> Result<Command<'a>, AllocError>
 {
     program(alloc)?
         .subcommand(replay(alloc)?)?
-        .subcommand(run(alloc)?)
+        .subcommand(run(alloc)?)?
+        .subcommand(session(alloc))
 }
 
 /// The program's command, without its subcommands.
@@ -133,6 +165,15 @@ fn run<'a>(alloc: Global) -> Result<Command<'a>, AllocError>
         .arg(batch(alloc))?
         .arg(rounds(alloc))?
         .arg(closed(alloc))
+}
+
+/// The subcommand that answers line by line.
+fn session<'a>(alloc: Global) -> Command<'a>
+    ensures { app_of result ≡ session }
+{
+    Command::new(alloc, "session")
+        .about("Holds a live database, and answers each line of standard input")
+        .after_help(LINES)
 }
 
 /// The option `--batch`.

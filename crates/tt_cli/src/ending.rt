@@ -9,7 +9,7 @@ use tt_workload::RunFault;
 /// How the program ends.
 #[derive(Drop)]
 pub enum Ending {
-    /// The report is printed.
+    /// The report is printed, or all lines of the input are answered.
     Done,
     /// Help was asked for, and is printed.
     Help,
@@ -17,7 +17,7 @@ pub enum Ending {
     Usage,
     /// A word of the command line isn't UTF-8.
     WordNotText,
-    /// The run failed.
+    /// The run or the session failed.
     Fault(RunFault),
     /// No memory was left to read the command line or to build the line of a fault.
     OutOfMemory,

@@ -1,4 +1,4 @@
-//! What the program prints when it ends without a report.
+//! What the program prints when it ends otherwise than done.
 ghost use Rattle.std.specs.Prelude.{◌≡◌, OnOk, OnErr, IfErr};
 ghost use Rattle.std.specs.IoError.{error_kind};
 ghost use Rattle.clap.specs.Values.{kind_of};
@@ -11,7 +11,7 @@ use std::borrow::CowStr;
 use std::io;
 use tt_workload::RunFault;
 
-/// Prints the line of a run's fault, if it had one.
+/// Prints the line of the fault of a run or a session, if it had one.
 pub fn print_outcome(rt: &(impl Eprint + AllocGlobal), outcome: Result<(), RunFault>) -> Ending
     ensures done { OnOk outcome (result ≡ Ending.Done) }
     ensures fault { IfErr outcome (λ fault. IsEndingOfFault fault result) }

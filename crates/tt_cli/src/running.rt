@@ -1,25 +1,29 @@
-//! The two runs of a document: in threads, and in one thread.
+//! What the commands do: the two runs of a document, in threads and in one thread, and a session.
 ghost use Rattle.std.specs.Prelude.{◌≡◌, ◌≢◌, IfOk, IfErr, IfSome, OnOk};
 ghost use Rattle.std.specs.Io.KnownBytes.{Keeps};
 ghost use Rattle.tt_document.specs.Document.{IsValidDocument};
+ghost use Rattle.tt_session.specs.Ends.{AnswersAll};
 ghost use Rattle.tt_workload.specs.Ends.{max_bytes_read, ConsumesAtMost};
 ghost use Rattle.tt_workload.specs.Options.{AreWithin};
 ghost use Rattle.tt_workload.specs.Run.{WritesReport, EndsEarly, IsFaultOfRun};
 ghost use Rattle.tt_workers.specs.Faults.{IsStoreFault};
+ghost use Rattle.tt_cli.specs.CommandLine.{options_of};
 ghost use Rattle.tt_cli.specs.Running.{IsTextOfRun, WritesSomeReport, EndsRunEarly};
-ghost use Rattle.tt_cli.specs.Running.{IsFaultOfThreads, WritesBy, EndsEarlyBy, IsFaultBy};
+ghost use Rattle.tt_cli.specs.Running.{EndsSessionEarly, fault_of_session, IsFaultOfThreads};
+ghost use Rattle.tt_cli.specs.Running.{WritesBy, EndsEarlyBy, IsFaultBy};
 
 use crate::command_line::Cli;
 use std::alloc::Global;
 use std::io::{Read, Write};
 use std::sync::Wait;
 use std::thread::Threads;
+use tt_session::{SessionFault, run_session};
 use tt_store::NoGate;
 use tt_workers::{run_workers, text_of_report};
 use tt_workload::{Document, Options, RunEnd, RunFault, read_document, run_to_end, write_text};
 
-/// Runs the document of a reader by the command that is asked for, with its options, and writes the
-/// report. Nothing is written before the whole report is known.
+/// Does what is asked for: runs the document of a reader, with the options, and writes the report,
+/// nothing of it before the whole report is known; or answers the reader's lines.
 pub fn run_by<R: Read, W: Write>(
     rt: &(impl Threads + Wait + Sync),
     alloc: Global,
@@ -27,25 +31,24 @@ pub fn run_by<R: Read, W: Write>(
     writer: &mut W,
     cli: &Cli,
 ) -> Result<(), RunFault>
-    requires options { AreWithin cli.now.options }
-
-    // Of a reader and a writer whose bytes are known.
-    ensures ok { OnOk result (IfSome (R.remaining reader.old) (λ xs.
-        WritesBy cli.now xs (W.contents writer.old) (W.contents writer.new))) }
-    ensures err { IfErr result (λ e. IfSome (R.remaining reader.old) (λ xs.
-        EndsEarlyBy cli.now e xs (W.contents writer.old) (W.contents writer.new))) }
-    ensures unchanged { IfErr result (λ e.
-        e ≢ RunFault.Write → Keeps (W.contents writer.old) (W.contents writer.new)) }
-    ensures limit { ConsumesAtMost max_bytes_read
-        (R.remaining reader.old) (R.remaining reader.new) }
-
-    // Of any reader and writer.
+    requires options { IfSome (options_of cli.now) AreWithin }
+    ensures ok { OnOk result (WritesBy cli.now (R.remaining reader.old) (R.remaining reader.new)
+        (W.contents writer.old) (W.contents writer.new)) }
+    ensures err { IfErr result (λ e.
+        EndsEarlyBy cli.now e (R.remaining reader.old) (R.remaining reader.new)
+        (W.contents writer.old) (W.contents writer.new)) }
     ensures kind { IfErr result (IsFaultBy cli.now) }
+
+    // Of a document.
+    ensures unchanged { cli.now ≢ Cli.Session → IfErr result (λ e.
+        e ≢ RunFault.Write → Keeps (W.contents writer.old) (W.contents writer.new)) }
+    ensures limit { cli.now ≢ Cli.Session → ConsumesAtMost max_bytes_read
+        (R.remaining reader.old) (R.remaining reader.new) }
 {
-    if cli.threads {
-        run_in_threads(rt, alloc, reader, writer, &cli.options)
-    } else {
-        replay(alloc, reader, writer, &cli.options)
+    match cli {
+        Cli::Replay(options) => replay(alloc, reader, writer, options),
+        Cli::Run(options) => run_in_threads(rt, alloc, reader, writer, options),
+        Cli::Session => answer_lines(alloc, reader, writer),
     }
 }
 
@@ -126,5 +129,34 @@ pub fn replay<R: Read, W: Write>(
 fn leak(alloc: Global, end: RunEnd) {
     if let Ok(last) = Box::new(alloc, end) {
         let _ = Box::leak(last);
+    }
+}
+
+/// Answers the lines of a reader, until its end.
+pub fn answer_lines<R: Read, W: Write>(
+    alloc: Global,
+    reader: &mut R,
+    writer: &mut W,
+) -> Result<(), RunFault>
+    ensures ok { OnOk result (AnswersAll (R.remaining reader.old) (R.remaining reader.new)
+        (W.contents writer.old) (W.contents writer.new)) }
+    ensures err { IfErr result (λ e.
+        EndsSessionEarly e (R.remaining reader.old) (R.remaining reader.new)
+        (W.contents writer.old) (W.contents writer.new)) }
+{
+    match run_session(alloc, reader, writer) {
+        Ok(()) => Ok(()),
+        Err(fault) => Err(fault_of_session(fault)),
+    }
+}
+
+/// The fault of a session, as that of a run.
+fn fault_of_session(fault: SessionFault) -> RunFault
+    ensures { result ≡ fault_of_session fault }
+{
+    match fault {
+        SessionFault::Read => RunFault::Read,
+        SessionFault::Write => RunFault::Write,
+        SessionFault::Memory => RunFault::Memory,
     }
 }

@@ -1,7 +1,7 @@
 use Rattle.std.proofs.Common.{ap, ap₂, ◌≡◌, ◌∙◌}
 use Rattle.std.proofs.lemmas.Result.{IfOk-weaker}
 use Rattle.clap.specs.Words.{App, app_of, with_subcommand}
-use Rattle.tt_cli.specs.CommandLine.{program, replay}
+use Rattle.tt_cli.specs.CommandLine.{program, replay, run}
 use Rattle.tt_cli.proofs.BuildLemmas.{plain_is_local}
 use Rattle.tt_cli.proofs.command_line.command.Goals as goal
 
@@ -12,7 +12,10 @@ returns c =
     let replay_is : app_of c.in_ok-subcommand.field-0 ≡ with_subcommand program replay.top =
     c.in_ok-subcommand.ensures.shape (plain_is_local first (ap (λ (a : App). a.top.is_plain) c.in_ok-replay.ensures))
     ∙ ap₂ with_subcommand c.in_ok-program.ensures (ap (λ (a : App). a.top) c.in_ok-replay.ensures) in
-    IfOk-weaker c.subcommand-2.result _ _
-    (λ r h. h.shape (plain_is_local second (ap (λ (a : App). a.top.is_plain) c.in_ok-run.ensures))
-    ∙ ap₂ with_subcommand replay_is (ap (λ (a : App). a.top) c.in_ok-run.ensures))
-    c.subcommand-2.ensures
+    let run_is : app_of c.in_ok-subcommand-2.field-0 ≡ with_subcommand (with_subcommand program replay.top) run.top =
+    c.in_ok-subcommand-2.ensures.shape (plain_is_local second (ap (λ (a : App). a.top.is_plain) c.in_ok-run.ensures))
+    ∙ ap₂ with_subcommand replay_is (ap (λ (a : App). a.top) c.in_ok-run.ensures) in
+    IfOk-weaker c.subcommand-3.result _ _
+    (λ r h. h.shape (plain_is_local c.session.result (ap (λ (a : App). a.top.is_plain) c.session.ensures))
+    ∙ ap₂ with_subcommand run_is (ap (λ (a : App). a.top) c.session.ensures))
+    c.subcommand-3.ensures

@@ -1,7 +1,8 @@
-use Rattle.std.proofs.Common.{◌≡◌, ◌∙◌, ap, arith, map, refl, rules, string_bytes, subst, sym, unwrap_or}
+use Rattle.std.proofs.Common.{◌≡◌, ◌≢◌, ◌∙◌, ap, arith, codes, map, refl, rules, string_bytes, subst, sym, unwrap_or}
 use Rattle.clap.specs.Words.{App, HasKind, app_of, fault_of}
+use Rattle.tt_cli.specs.declared.command_line.Cli.TheVariants as commands
 use Rattle.tt_cli.specs.CommandLine.{command_line}
-use Rattle.tt_cli.proofs.CommandLemmas.{batch_is, batch_read, closed_is, enters_one, is_simple_command, never_none, rounds_are, rounds_read, threads_is}
+use Rattle.tt_cli.proofs.CommandLemmas.{batch_is, batch_read, closed_is, command_is, enters_one, has_options, is_replay, is_simple_command, never_none, rounds_are, rounds_read}
 use Rattle.tt_cli.proofs.NumberLemmas.{ReadsRounds}
 use Rattle.tt_cli.proofs.command_line.command_of.Goals as goal
 
@@ -20,16 +21,57 @@ unreachable-requires c =
     let enters = enters_one (app_of c.in_ok-command.command) words c.in_ok-matches.matches line_is passes c.in_ok-matches.ensures.matches in
     never_none words c.in_ok-matches.matches enters c.in_default.ensures.rows
 
+pub returns-then-eq-clause-command : goal.returns-then-eq-clause-command
+returns-then-eq-clause-command c =
+    let line_is : app_of c.in_ok-command.command ≡ command_line = c.in_ok-command.ensures in
+    let words = map string_bytes c.args.words.now in
+    let passes = c.in_ok-matches.ensures.kinds (is_simple_command (app_of c.in_ok-command.command) line_is) in
+    let enters = enters_one (app_of c.in_ok-command.command) words c.in_ok-matches.matches line_is passes c.in_ok-matches.ensures.matches in
+    let name = c.in-Some.name.now in
+    let is : name ≡ codes "session" = search rules in
+    command_is words c.in_ok-matches.matches enters name c.in-Some.ensures.name commands.Session is
+
 pub unreachable-requires-in_default-get_one : goal.unreachable-requires-in_default-get_one
 unreachable-requires-in_default-get_one c =
     let line_is : app_of c.in_ok-command.command ≡ command_line = c.in_ok-command.ensures in
     let words = map string_bytes c.args.words.now in
     let passes = c.in_ok-matches.ensures.kinds (is_simple_command (app_of c.in_ok-command.command) line_is) in
     let enters = enters_one (app_of c.in_ok-command.command) words c.in_ok-matches.matches line_is passes c.in_ok-matches.ensures.matches in
-    let reads = batch_read words c.in_ok-matches.matches enters c.in-Some.given.now c.in-Some.ensures.rows c.get_one.result c.get_one.ensures.value in
+    let other : c.in-Some.name.now ≢ codes "session" = search rules in
+    let has = has_options words c.in_ok-matches.matches enters c.in-Some.name.now c.in-Some.ensures.name other in
+    let reads = batch_read words c.in_ok-matches.matches enters has c.in-Some.given.now c.in-Some.ensures.rows c.get_one.result c.get_one.ensures.value in
     let is = c.in_default-get_one.is in
     let number = reads.1 in
     cc
+
+pub returns-then-eq-2 : goal.returns-then-eq-2
+returns-then-eq-2 c =
+    let line_is : app_of c.in_ok-command.command ≡ command_line = c.in_ok-command.ensures in
+    let words = map string_bytes c.args.words.now in
+    let passes = c.in_ok-matches.ensures.kinds (is_simple_command (app_of c.in_ok-command.command) line_is) in
+    let enters = enters_one (app_of c.in_ok-command.command) words c.in_ok-matches.matches line_is passes c.in_ok-matches.ensures.matches in
+    let name = c.in-Some.name.now in
+    let is_run : name ≡ codes "run" = search rules in
+    let other : name ≢ codes "session" = search rules in
+    let has = has_options words c.in_ok-matches.matches enters name c.in-Some.ensures.name other in
+    let inner = c.in-Some.given.now in
+    let found = c.in-Some.ensures.rows in
+    let batch = batch_read words c.in_ok-matches.matches enters has inner found c.get_one.result c.get_one.ensures.value in
+    let number = batch.1 in
+    let is = c.in-Some-get_one.is in
+    let same : batch.0 ≡ c.in-Some-get_one.batch = cc in
+    let usual : c.usual.result.rounds ≡ 8 = rw c.usual.ensures refl in
+    let read_is : c.unwrap_or-rounds.result ≡ unwrap_or c.get_one-2.result 8 = c.unwrap_or-rounds.ensures ∙ ap (unwrap_or c.get_one-2.result) usual in
+    let rounds = subst (ReadsRounds enters.1) (sym read_is) (rounds_read words c.in_ok-matches.matches enters has inner found c.get_one-2.result c.get_one-2.ensures.none c.get_one-2.ensures.value) in
+    let most = rounds.0 in
+    record {
+      kinds = sym (ap (λ (a : App). fault_of a words) line_is) ∙ passes;
+      command = command_is words c.in_ok-matches.matches enters name c.in-Some.ensures.name (commands.Run _) is_run;
+      within = record { some_batch = omega arith; batch = omega arith; rounds = most };
+      batch = batch_is words c.in_ok-matches.matches enters c.get_one.result c.in-Some-get_one.batch batch is;
+      closed = closed_is words c.in_ok-matches.matches enters has inner found c.get_flag-closed.result c.get_flag-closed.ensures.value c.get_flag-closed.ensures.other;
+      rounds = rounds_are words c.in_ok-matches.matches enters c.unwrap_or-rounds.result rounds;
+    }
 
 pub returns : goal.returns
 returns c =
@@ -37,21 +79,26 @@ returns c =
     let words = map string_bytes c.args.words.now in
     let passes = c.in_ok-matches.ensures.kinds (is_simple_command (app_of c.in_ok-command.command) line_is) in
     let enters = enters_one (app_of c.in_ok-command.command) words c.in_ok-matches.matches line_is passes c.in_ok-matches.ensures.matches in
+    let name = c.in-Some.name.now in
+    let not_run : name ≢ codes "run" = search rules in
+    let other : name ≢ codes "session" = search rules in
+    let has = has_options words c.in_ok-matches.matches enters name c.in-Some.ensures.name other in
+    let is_replay = is_replay words c.in_ok-matches.matches enters name c.in-Some.ensures.name other not_run in
     let inner = c.in-Some.given.now in
     let found = c.in-Some.ensures.rows in
-    let batch = batch_read words c.in_ok-matches.matches enters inner found c.get_one.result c.get_one.ensures.value in
+    let batch = batch_read words c.in_ok-matches.matches enters has inner found c.get_one.result c.get_one.ensures.value in
     let number = batch.1 in
     let is = c.in-Some-get_one.is in
     let same : batch.0 ≡ c.in-Some-get_one.batch = cc in
     let usual : c.usual.result.rounds ≡ 8 = rw c.usual.ensures refl in
     let read_is : c.unwrap_or-rounds.result ≡ unwrap_or c.get_one-2.result 8 = c.unwrap_or-rounds.ensures ∙ ap (unwrap_or c.get_one-2.result) usual in
-    let rounds = subst (ReadsRounds enters.1) (sym read_is) (rounds_read words c.in_ok-matches.matches enters inner found c.get_one-2.result c.get_one-2.ensures.none c.get_one-2.ensures.value) in
+    let rounds = subst (ReadsRounds enters.1) (sym read_is) (rounds_read words c.in_ok-matches.matches enters has inner found c.get_one-2.result c.get_one-2.ensures.none c.get_one-2.ensures.value) in
     let most = rounds.0 in
     record {
       kinds = sym (ap (λ (a : App). fault_of a words) line_is) ∙ passes;
+      command = command_is words c.in_ok-matches.matches enters name c.in-Some.ensures.name (commands.Replay _) is_replay;
       within = record { some_batch = omega arith; batch = omega arith; rounds = most };
       batch = batch_is words c.in_ok-matches.matches enters c.get_one.result c.in-Some-get_one.batch batch is;
-      closed = closed_is words c.in_ok-matches.matches enters inner found c.get_flag-closed.result c.get_flag-closed.ensures.value c.get_flag-closed.ensures.other;
+      closed = closed_is words c.in_ok-matches.matches enters has inner found c.get_flag-closed.result c.get_flag-closed.ensures.value c.get_flag-closed.ensures.other;
       rounds = rounds_are words c.in_ok-matches.matches enters c.unwrap_or-rounds.result rounds;
-      threads = threads_is words c.in_ok-matches.matches enters c.in-Some.name.now c.eq.result c.in-Some.ensures.name (search rules);
     }

@@ -1,0 +1,854 @@
+#!/usr/bin/env python3
+"""A small model of `timetravel session`, for tests: it answers the lines of standard input as
+docs/SESSION.md says, by lists that it walks from the front, and shares no code with the program.
+
+  tests/session_model.py < LINES          prints the answers
+  tests/session_model.py --random SEED    prints the lines of a random session
+
+It has memory for everything, and knows nothing of the limits of slots and entries. The tests of
+tests/hostile.py tell it of each line that was answered by `memory` (`Session.lose`).
+"""
+import json
+import random
+import re
+import sys
+
+LONGEST = 16_777_216
+DEEPEST = 127
+BLANK = re.compile(rb'[\t\r ]*\Z')
+WRITES = ['insert', 'update', 'delete']
+KINDS = ['insert', 'update', 'delete', 'select', 'preview', 'do', 'begin', 'step', 'finish',
+         'abort', 'status', 'slots', 'changes', 'tables']
+
+
+class Fault(Exception):
+    def __init__(self, path, cause):
+        super().__init__(path, cause)
+        self.path, self.cause = path, cause
+
+
+class Refusal(Exception):
+    def __init__(self, cause, **members):
+        super().__init__(cause)
+        self.members = {'refused': cause, **members}
+
+
+class Other:
+    """A number that is neither a count nor an Int."""
+
+
+def text_of(value):
+    return json.dumps(value, ensure_ascii=False, separators=(',', ':'))
+
+
+# JSON
+
+def number(text):
+    if text == '-0' or not -2 ** 63 <= int(text) < 2 ** 64:
+        return Other()
+    return int(text)
+
+
+def real(text):
+    if float(text) in (float('inf'), float('-inf')):
+        raise ValueError
+    return Other()
+
+
+def refuse(text):
+    raise ValueError
+
+
+class Pairs(list):
+    """An object as it stands in the text, a name perhaps twice."""
+
+
+def depth_of(text):
+    depth = deepest = 0
+    for mark in re.findall(r'"(?:[^"\\]|\\.)*"|[][{}]', text, re.DOTALL):
+        depth += (mark in '[{') - (mark in ']}')
+        deepest = max(deepest, depth)
+    return deepest
+
+
+def value_of(line):
+    if len(line) > LONGEST:
+        raise Fault('$', f'longer than {LONGEST} bytes')
+    try:
+        text = line.decode()
+        if text.startswith('\ufeff') or depth_of(text) > DEEPEST:
+            raise ValueError
+        value = json.loads(text, parse_int=number, parse_float=real, parse_constant=refuse,
+                           object_pairs_hook=Pairs)
+        json.dumps(flat(value), ensure_ascii=False).encode()  # a lone surrogate is no text
+    except (ValueError, RecursionError):
+        raise Fault('$', 'not JSON') from None
+    return without_pairs('$', value)
+
+
+def flat(value):
+    if isinstance(value, Pairs):
+        return [[name, flat(item)] for name, item in value]
+    if isinstance(value, list):
+        return [flat(item) for item in value]
+    return None if isinstance(value, Other) else value
+
+
+def without_pairs(path, value):
+    """The value with objects as dictionaries. The first repeated name of the text is a fault."""
+    if isinstance(value, Pairs):
+        found = {}
+        for name, item in value:
+            if name in found:
+                raise Fault(path, f'member {text_of(name)} named twice')
+            found[name] = without_pairs(f'{path}.{name}', item)
+        return found
+    if isinstance(value, list):
+        return [without_pairs(f'{path}[{at}]', item) for at, item in enumerate(value)]
+    return value
+
+
+# Values by their types
+
+def wrong(path):
+    return Fault(path, 'wrong type')
+
+
+def out_of_range(path):
+    return Fault(path, 'out of range')
+
+
+def is_int(value):
+    return isinstance(value, int) and not isinstance(value, bool) and value < 2 ** 63
+
+
+def an_int(path, value):
+    if not is_int(value):
+        raise wrong(path)
+    return value
+
+
+def a_count(path, value, low=0, high=2 ** 64 - 1):
+    if not isinstance(value, int) or isinstance(value, bool) or value < 0:
+        raise wrong(path)
+    if not low <= value <= high:
+        raise out_of_range(path)
+    return value
+
+
+def a_text(path, value):
+    if not isinstance(value, str):
+        raise wrong(path)
+    return value
+
+
+def a_value(path, value):
+    if not is_int(value) and not isinstance(value, str):
+        raise wrong(path)
+    return value
+
+
+def true(path, value):
+    if not isinstance(value, bool):
+        raise wrong(path)
+    if not value:
+        raise out_of_range(path)
+    return True
+
+
+def items(path, value, read, most=None, exactly=None):
+    if not isinstance(value, list) or exactly is not None and len(value) != exactly:
+        raise wrong(path)
+    if most is not None and len(value) > most:
+        raise out_of_range(path)
+    return [read(f'{path}[{at}]', item) for at, item in enumerate(value)]
+
+
+class Members:
+    """An object whose members are read one after another."""
+
+    def __init__(self, path, value):
+        if not isinstance(value, dict):
+            raise wrong(path)
+        self.path, self.left = path, dict(value)
+
+    def take(self, name, read):
+        if name not in self.left:
+            raise Fault(self.path, f'missing member {name}')
+        return read(f'{self.path}.{name}', self.left.pop(name))
+
+    def perhaps(self, name, read, usual=None):
+        return self.take(name, read) if name in self.left else usual
+
+    def kind(self, kinds):
+        for kind in kinds:
+            if kind in self.left:
+                return kind
+        raise Fault(self.path, 'missing one of ' + ', '.join(kinds))
+
+    def end(self):
+        if self.left:
+            name = min(self.left, key=str.encode)
+            raise Fault(self.path, f'unknown member {text_of(name)}')
+
+
+# The grammar
+
+def is_name(name):
+    return re.fullmatch('[A-Za-z0-9_]{1,64}', name) is not None
+
+
+def a_column(path, value):
+    column = Members(path, value)
+    name = column.take('name', a_text)
+    kind = column.take('kind', a_text)
+    if kind not in ('int', 'text'):
+        raise out_of_range(f'{path}.kind')
+
+    def flag(path, value):
+        if not isinstance(value, bool):
+            raise wrong(path)
+        return value
+    partition = column.perhaps('partition', flag, False)
+    column.end()
+    return {'name': name, 'kind': kind, 'partition': partition}
+
+
+def tables_of(path, value):
+    found = []
+
+    def read(path, value):
+        table = Members(path, value)
+        name = table.take('name', a_text)
+        columns = table.take('columns', lambda path, value: items(path, value, a_column))
+        table.end()
+        names = [column['name'] for column in columns]
+        for cause, is_met in [
+                ('bad name', not all(map(is_name, [name, *names]))),
+                ('table named twice', any(name == other['name'] for other in found)),
+                ('no columns', not columns),
+                ('first column is not int', columns and columns[0]['kind'] != 'int'),
+                ('column named twice', len(set(names)) < len(names)),
+                ('too many tables or columns', len(found) == 64 or len(columns) > 32)]:
+            if is_met:
+                raise Fault(path, cause)
+        found.append({'name': name, 'columns': columns})
+    items(path, value, read)
+    return found
+
+
+def opening_of(value):
+    opening = Members('$', value)
+    opening.take('version', lambda path, value: a_count(path, value, 2, 2))
+    tables = opening.take('tables', tables_of)
+    keep = opening.perhaps('keep', lambda path, value: a_count(path, value, 0, 16), 4)
+    records = opening.perhaps('records', lambda path, value: a_count(path, value, 0, 1_000_000),
+                              100_000)
+    opening.end()
+    return tables, keep, records
+
+
+class Grammar:
+    """The grammar of requests over declared tables."""
+
+    def __init__(self, tables):
+        self.tables = tables
+
+    def table(self, path, value):
+        for table in self.tables:
+            if table['name'] == a_text(path, value):
+                return table
+        raise Fault(path, 'no such table')
+
+    def column(self, table):
+        def read(path, value):
+            names = [column['name'] for column in table['columns']]
+            if a_text(path, value) not in names:
+                raise Fault(path, 'no such column')
+            return value
+        return read
+
+    def where(self, table):
+        def one(path, value):
+            if not isinstance(value, list) or len(value) != 2:
+                raise wrong(path)
+            return [self.column(table)(f'{path}[0]', value[0]), a_value(f'{path}[1]', value[1])]
+        return lambda path, value: items(path, value, one)
+
+    def change(self, table):
+        def one(path, value):
+            if not isinstance(value, list) or len(value) != 3:
+                raise wrong(path)
+            word = a_text(f'{path}[0]', value[0])
+            if word not in ('set', 'add'):
+                raise out_of_range(f'{path}[0]')
+            name = self.column(table)(f'{path}[1]', value[1])
+            read = an_int if word == 'add' else a_value
+            return [word, name, read(f'{path}[2]', value[2])]
+        return lambda path, value: items(path, value, one)
+
+    def write_of(self, members, kind):
+        table = members.take(kind, self.table)
+        write = {kind: table['name']}
+        if kind == 'insert':
+            write['row'] = members.take('row', lambda path, value: items(path, value, a_value))
+        if kind == 'update':
+            write['change'] = members.take('change', self.change(table))
+        if kind != 'insert':
+            write['where'] = members.take('where', self.where(table))
+        return table, write
+
+    def whole(self, path, table, statement):
+        kinds = {column['name']: column['kind'] for column in table['columns']}
+        row = statement.get('row', [])
+        changes, where = statement.get('change', []), statement.get('where', [])
+        pairs = list(zip(kinds, row)) if 'row' in statement else []
+        pairs += [(name, value) for _, name, value in changes] + where
+        changed = [name for _, name, _ in changes]
+        for cause, is_met in [
+                ('value of the wrong kind',
+                 any((kinds[name] == 'int') != is_int(value) for name, value in pairs)),
+                ('row of the wrong width', 'row' in statement and len(row) != len(kinds)),
+                ('text too long', any(isinstance(value, str) and len(value.encode()) > 1024
+                                      for value in [*row, *(value for _, value in pairs)])),
+                ('key set by an update', next(iter(kinds)) in changed),
+                ('column changed twice', len(set(changed)) < len(changed)),
+                ('too many equalities', len(where) > 32)]:
+            if is_met:
+                raise Fault(path, cause)
+
+    def do(self, path, value):
+        def one(path, value):
+            members = Members(path, value)
+            table, write = self.write_of(members, members.kind(WRITES))
+            members.end()
+            self.whole(path, table, write)
+            return write
+        return items(path, value, one, most=16)
+
+    def action_of(self, members, kind):
+        if kind == 'do':
+            return members.take('do', self.do), lambda: None
+        table, write = self.write_of(members, kind)
+        return [write], lambda: self.whole(members.path, table, write)
+
+    def edit(self, path, value):
+        edit = Members(path, value)
+        kind = edit.kind(['cancel', 'replace'])
+        slot, action = edit.take(kind, a_count), None
+
+        def by(path, value):
+            members = Members(path, value)
+            action, whole = self.action_of(members, members.kind([*WRITES, 'do']))
+            members.end()
+            whole()
+            return action
+        if kind == 'replace':
+            action = edit.take('by', by)
+        edit.end()
+        return slot, action
+
+    def request_of(self, value):
+        members = Members('$', value)
+        asked = {'worker': members.perhaps(
+            'worker', lambda path, value: a_count(path, value, 1, 2 ** 32 - 1), 1)}
+        asked['if'] = members.perhaps('if', a_count)
+        kind = asked['kind'] = members.kind(KINDS)
+        whole = None
+        if kind in [*WRITES, 'do']:
+            asked['action'], whole = self.action_of(members, kind)
+        elif kind in ('select', 'preview'):
+            table = asked['table'] = members.take(kind, self.table)
+            asked['where'] = members.take('where', self.where(table))
+            if kind == 'select':
+                asked['at'] = members.perhaps('at', a_count)
+                asked['in'] = members.perhaps('in', a_count)
+            asked['after'] = members.perhaps('after', an_int)
+            asked['most'] = members.perhaps(
+                'most', lambda path, value: a_count(path, value, 1, 100_000))
+
+            def whole():
+                self.whole('$', table, {'where': asked['where']})
+        elif kind == 'begin':
+            asked['edits'] = members.take(
+                'begin', lambda path, value: items(path, value, self.edit, most=10_000))
+        elif kind == 'step':
+            asked['step'] = members.take('step', lambda path, value: a_count(path, value, 1, 10_000))
+        elif kind == 'slots':
+            first, last = members.take(
+                'slots', lambda path, value: items(path, value, a_count, exactly=2))
+            if last > first + 9_999:
+                raise out_of_range('$.slots')
+            asked['slots'] = first, last
+            asked['of'] = members.perhaps(
+                'of', lambda path, value: a_count(path, value, 1, 2 ** 32 - 1))
+
+            def row(path, value):
+                if not isinstance(value, list) or len(value) != 2:
+                    raise wrong(path)
+                table = self.table(f'{path}[0]', value[0])
+                return table['name'], an_int(f'{path}[1]', value[1])
+            asked['row'] = members.perhaps('row', row)
+        elif kind == 'changes':
+            asked['changes'] = members.take('changes', a_text)
+            if asked['changes'] not in ('now', 'next'):
+                raise out_of_range('$.changes')
+        else:
+            members.take(kind, true)
+        members.end()
+        if whole:
+            whole()
+        return asked
+
+
+# The database: a generation is a list of slots, each an action, or None where it is cancelled
+
+class Generation:
+    """Slots with their contents: contents[t] is {(table, key): row} after slot t."""
+
+    def __init__(self, tables, slots=()):
+        self.tables, self.slots, self.replies, self.contents = tables, [], [], [{}]
+        for action in slots:
+            self.push(action)
+
+    def push(self, action):
+        content, replies, _ = carried_out(self.tables, action or [], self.contents[-1])
+        self.slots.append(action)
+        self.contents.append(content)
+        self.replies.append(None if action is None else replies)
+
+    def rows(self, table, where, time):
+        found = [row for (name, _), row in sorted(self.contents[time].items())
+                 if name == table['name'] and is_match(table, where, row)]
+        return found
+
+
+def is_match(table, where, row):
+    names = [column['name'] for column in table['columns']]
+    return all(row[names.index(name)] == value for name, value in where)
+
+
+def carried_out(tables, action, content):
+    """The content after an action, its replies, and the keys that its writes wrote."""
+    content, replies, wrote = dict(content), [], set()
+    for write in action:
+        table = table_of(tables, write)
+        name, matched = table['name'], matched_by(tables, write, content)
+        if 'insert' in write:
+            key = (name, write['row'][0])
+            replies.append('duplicate' if key in content else 'inserted')
+            if key not in content:
+                content[key] = write['row']
+                wrote.add(key)
+            continue
+        for key in matched:
+            if 'delete' in write:
+                del content[key]
+            else:
+                content[key] = changed(table, write['change'], content[key])
+        replies.append({'deleted' if 'delete' in write else 'updated': len(matched)})
+        wrote |= set(matched)
+    return content, replies, wrote
+
+
+def table_of(tables, write):
+    name = next(write[kind] for kind in WRITES if kind in write)
+    return next(table for table in tables if table['name'] == name)
+
+
+def matched_by(tables, write, content):
+    """The keys that a write matches; an insert matches that of its row."""
+    table = table_of(tables, write)
+    if 'insert' in write:
+        return [(table['name'], write['row'][0])]
+    return [key for key, row in content.items()
+            if key[0] == table['name'] and is_match(table, write['where'], row)]
+
+
+def changed(table, changes, row):
+    names, row = [column['name'] for column in table['columns']], list(row)
+    for word, name, value in changes:
+        at = names.index(name)
+        if word == 'add':
+            value = max(-2 ** 63, min(2 ** 63 - 1, row[at] + value))
+        row[at] = value
+    return row
+
+
+class Repair:
+    def __init__(self, current, edits):
+        self.current, self.edits = current, dict(edits)
+        self.next = Generation(current.tables)
+        self.rows, self.parts, self.rerun = set(), set(), 0
+
+    def done(self):
+        return len(self.next.slots)
+
+    def left(self):
+        return len(self.current.slots) - self.done()
+
+    def standing(self):
+        return {'done': self.done(), 'left': self.left(), 'rerun': self.rerun}
+
+    def step(self):
+        at, tables = self.done(), self.current.tables
+        old, action = self.current.slots[at], self.current.slots[at]
+        if at + 1 in self.edits:
+            action = self.edits[at + 1]
+        wrote = carried_out(tables, old or [], self.current.contents[at])[2]
+        before = self.next.contents[-1]
+        self.next.push(action)
+        if not self.is_due(at + 1, old, wrote):
+            return
+        self.rerun += 1
+        content, keys = before, set(wrote)
+        for write in action or []:
+            keys |= set(matched_by(tables, write, content))
+            content = carried_out(tables, [write], content)[0]
+        for key in keys:
+            self.rows.add(key)
+            table = next(table for table in tables if table['name'] == key[0])
+            self.parts.add((key[0], table['columns'][0]['name'], key[1]))
+            for rows in before, self.next.contents[-1]:
+                if key in rows:
+                    self.parts |= parts_of(table, rows[key])
+
+    def is_due(self, slot, action, wrote):
+        if slot in self.edits:
+            return True
+        if action is None:
+            return False
+        return bool(wrote & self.rows) or any(self.meets(write) for write in action)
+
+    def meets(self, write):
+        table = table_of(self.current.tables, write)
+        first, name = table['columns'][0]['name'], table['name']
+        split = {first} | {column['name'] for column in table['columns'] if column['partition']}
+        if 'insert' in write:
+            reads = [(name, first, write['row'][0])]
+        else:
+            reads = [(name, column, value) for column, value in write['where'] if column in split]
+        if any(column == first and (name, value) in self.rows for _, column, value in reads):
+            return True
+        if not reads:
+            return any(key[0] == name for key in self.rows)
+        return all(read in self.parts for read in reads)
+
+
+def parts_of(table, row):
+    return {(table['name'], column['name'], row[at]) for at, column in enumerate(table['columns'])
+            if at == 0 or column['partition']}
+
+
+# The session
+
+def is_passed_over(line):
+    return len(line) <= LONGEST and BLANK.match(line) is not None
+
+
+class Session:
+    def __init__(self):
+        self.grammar = None
+        self.calls = 0
+
+    def answer(self, line):
+        """The answer to a line, or None where it is passed over."""
+        if is_passed_over(line):
+            return None
+        if self.grammar is None:
+            return self.answer_opening(line)
+        self.calls += 1
+        return {'call': self.calls, **self.answer_request(line)}
+
+    def without_memory(self):
+        """The answer to the next line where there is no memory for it."""
+        return {**({} if self.grammar is None else {'call': self.calls + 1}), 'refused': 'memory'}
+
+    def lose(self):
+        """Counts a line for which there is no memory."""
+        self.calls += self.grammar is not None
+
+    def answer_opening(self, line):
+        try:
+            self.tables, self.keep, self.most_records = opening_of(value_of(line))
+        except Fault as fault:
+            return {'fault': {'path': fault.path, 'cause': fault.cause}}
+        self.grammar = Grammar(self.tables)
+        self.generations, self.repair, self.entries = [Generation(self.tables)], None, 0
+        self.workers, self.asked, self.records = [], [], []
+        return self.status()
+
+    def answer_request(self, line):
+        try:
+            asked = self.grammar.request_of(value_of(line))
+        except Fault as fault:
+            return {'fault': {'path': fault.path, 'cause': fault.cause}}
+        try:
+            if asked['if'] is not None and asked['if'] != self.now():
+                raise Refusal('moved', now=self.now())
+            kind = 'write' if 'action' in asked else asked['kind']
+            return getattr(self, f'do_{kind}')(asked)
+        except Refusal as refusal:
+            return refusal.members
+
+    def current(self):
+        return self.generations[-1]
+
+    def now(self):
+        return len(self.current().slots)
+
+    def oldest(self):
+        return max(0, len(self.generations) - 1 - self.keep)
+
+    def status(self):
+        return {'time': self.now(), 'generation': len(self.generations) - 1,
+                'oldest': self.oldest(), 'entries': self.entries,
+                'repair': self.repair.standing() if self.repair else None}
+
+    def repairing(self):
+        if self.repair is None:
+            raise Refusal('not repairing')
+        return self.repair
+
+    def record(self, **record):
+        self.records.append({'call': self.calls, **record})
+        if len(self.records) > self.most_records:
+            del self.records[0]
+
+    def do_write(self, asked):
+        self.current().push(asked['action'])
+        self.entries += 1
+        self.workers.append(asked['worker'])
+        self.asked.append(asked['action'])
+        replies = self.current().replies[-1]
+        self.record(slot=self.now(), before=replies)
+        return {'slot': self.now(), 'replies': replies}
+
+    def page(self, asked, rows):
+        if asked['after'] is not None:
+            rows = [row for row in rows if row[0] > asked['after']]
+        if asked['most'] is None:
+            return {'rows': rows}
+        return {'rows': rows[:asked['most']], 'more': len(rows) > asked['most']}
+
+    def do_select(self, asked):
+        newest = len(self.generations) - 1
+        number = newest if asked['in'] is None else asked['in']
+        if not self.oldest() <= number <= newest:
+            raise Refusal('no generation', oldest=self.oldest(), newest=newest)
+        generation = self.generations[number]
+        last = len(generation.slots)
+        time = last if asked['at'] is None else asked['at']
+        if time > last:
+            raise Refusal('later', now=last)
+        rows = generation.rows(asked['table'], asked['where'], time)
+        if asked['in'] is None and asked['after'] is None and asked['most'] is None:
+            self.record(time=time, before=rows, table=asked['table'], where=asked['where'])
+        return {'time': time, **self.page(asked, rows)}
+
+    def do_preview(self, asked):
+        repair = self.repairing()
+        done = repair.done()
+        rows = repair.next.rows(asked['table'], asked['where'], done)
+        return {'done': done, **self.page(asked, rows)}
+
+    def do_begin(self, asked):
+        if self.repair is not None:
+            raise Refusal('repairing')
+        slots = [slot for slot, _ in asked['edits']]
+        for slot in slots:
+            if not 1 <= slot <= self.now():
+                raise Refusal('no slot', slot=slot)
+        for at, slot in enumerate(slots):
+            if slot in slots[:at]:
+                raise Refusal('edited twice', slot=slot)
+        self.repair = Repair(self.current(), asked['edits'])
+        self.entries += 1
+        return self.repair.standing()
+
+    def steps(self, count):
+        for _ in range(min(count, self.repair.left())):
+            self.repair.step()
+            self.entries += 1
+
+    def do_step(self, asked):
+        self.repairing()
+        self.steps(asked['step'])
+        return self.repair.standing()
+
+    def do_finish(self, asked):
+        repair = self.repairing()
+        self.steps(repair.left())
+        self.entries += 1
+        self.generations.append(repair.next)
+        self.repair = None
+        return {'generation': len(self.generations) - 1, 'slots': self.now(), 'rerun': repair.rerun}
+
+    def do_abort(self, asked):
+        self.repairing()
+        self.repair = None
+        self.entries += 1
+        return self.status()
+
+    def do_status(self, asked):
+        return self.status()
+
+    def do_tables(self, asked):
+        return {'version': 2, 'tables': self.tables, 'keep': self.keep, 'records': self.most_records}
+
+    def do_slots(self, asked):
+        current, found = self.current(), []
+        first, last = asked['slots']
+        for slot in range(max(first, 1), min(last, self.now()) + 1):
+            before, after = current.contents[slot - 1], current.contents[slot]
+            row = asked['row']
+            if asked['of'] not in (None, self.workers[slot - 1]):
+                continue
+            if row is not None and before.get(row) == after.get(row):
+                continue
+            action = current.slots[slot - 1]
+            entry = {'slot': slot, 'worker': self.workers[slot - 1], 'do': action,
+                     'replies': current.replies[slot - 1]}
+            if action != self.asked[slot - 1]:
+                entry['asked'] = self.asked[slot - 1]
+            found.append(entry)
+        return {'time': self.now(), 'slots': found}
+
+    def do_changes(self, asked):
+        generation, changes = self.current(), []
+        if asked['changes'] == 'next':
+            generation = self.repairing().next
+        for record in self.records:
+            place = 'slot' if 'slot' in record else 'time'
+            if record[place] > len(generation.slots):
+                continue
+            if place == 'slot':
+                after = generation.replies[record['slot'] - 1]
+                after = 'cancelled' if after is None else after
+            else:
+                after = generation.rows(record['table'], record['where'], record['time'])
+            if after != record['before']:
+                changes.append({'call': record['call'], place: record[place],
+                                'before': record['before'], 'after': after})
+        first = self.records[0]['call'] if self.records else self.calls
+        return {'from': first, 'changed': changes}
+
+
+# Random sessions
+
+class Random:
+    def __init__(self, seed):
+        self.random = random.Random(seed)
+        self.time = 0
+
+    def one_of(self, *values):
+        return self.random.choice(values)
+
+    def key(self):
+        return self.random.randint(1, 6)
+
+    def owner(self):
+        return self.one_of('ann', 'bob', 'eve', 'a"b\n')
+
+    def where(self):
+        conditions = [['id', self.key()], ['owner', self.owner()], ['bal', self.one_of(0, 5)],
+                      ['kind', self.one_of(1, 2)]]
+        return self.random.sample(conditions, self.one_of(0, 0, 1, 1, 1, 2))
+
+    def write(self):
+        kind = self.one_of('insert', 'insert', 'update', 'update', 'update', 'delete')
+        table = self.one_of('acct', 'acct', 'acct', 'note')
+        if table == 'note':
+            where = self.one_of([], [['n', self.key()]])
+            return {'insert': {'insert': 'note', 'row': [self.key()]},
+                    'update': {'update': 'note', 'change': [], 'where': where},
+                    'delete': {'delete': 'note', 'where': where}}[kind]
+        if kind == 'insert':
+            return {'insert': 'acct', 'row': [self.key(), self.owner(), self.one_of(0, 5, 7),
+                                              self.one_of(1, 2)]}
+        if kind == 'delete':
+            return {'delete': 'acct', 'where': self.where()}
+        change = [['set', 'owner', self.owner()], [self.one_of('set', 'add'), 'bal',
+                  self.one_of(0, 5, -3, 2 ** 63 - 1)], ['set', 'kind', self.one_of(1, 2)]]
+        return {'update': 'acct', 'change': self.random.sample(change, self.one_of(0, 1, 1, 2)),
+                'where': self.where()}
+
+    def action(self):
+        if self.one_of(True, True, False):
+            return self.write()
+        return {'do': [self.write() for _ in range(self.one_of(0, 1, 2, 3))]}
+
+    def edit(self):
+        slot = self.random.randint(0 if self.one_of(*[False] * 9, True) else 1,
+                                   self.time + self.one_of(0, 0, 0, 1) or 1)
+        return self.one_of({'cancel': slot}, {'replace': slot, 'by': self.action()})
+
+    def page(self):
+        return {**self.one_of({}, {}, {'after': self.key() - 1}),
+                **self.one_of({}, {}, {'most': self.one_of(1, 2, 9)})}
+
+    def request(self):
+        kind = self.one_of(*['write'] * 6, 'select', 'select', 'preview', 'begin', 'begin',
+                           *['step'] * 3, 'finish', 'abort', 'status', 'slots', 'slots',
+                           'changes', 'changes', 'tables', 'fault')
+        table, where = 'acct', self.where()
+        if self.one_of(*[False] * 5, True):
+            table, where = 'note', self.one_of([], [['n', self.key()]])
+        first = self.random.randint(0, self.time + 1)
+        if kind == 'write':
+            self.time += 1
+            return self.action()
+        if kind == 'select':
+            return {'select': table, 'where': where,
+                    **self.one_of({}, {}, {'at': self.random.randint(0, self.time + 1)}),
+                    **self.one_of({}, {}, {'in': self.one_of(0, 1, 2, 3)}), **self.page()}
+        return {
+            'preview': {'preview': table, 'where': where, **self.page()},
+            'begin': {'begin': [self.edit() for _ in range(self.one_of(0, 1, 1, 2))]},
+            'step': {'step': self.one_of(1, 2, 5, 10_000)},
+            'finish': {'finish': True},
+            'abort': {self.one_of('abort', 'status', 'status'): True},
+            'status': {'status': True},
+            'slots': {'slots': [first, first + self.one_of(0, 3, 9_999)],
+                      **self.one_of({}, {'of': self.one_of(1, 2)}),
+                      **self.one_of({}, {'row': ['acct', self.key()]})},
+            'changes': {'changes': self.one_of('now', 'next')},
+            'tables': {'tables': True},
+            'fault': self.one_of({'step': 0}, {'insert': 'acct', 'row': [1]}, {}, [], {'x': 1}),
+        }[kind]
+
+    def lines(self, count):
+        flags = [self.one_of(True, False) for _ in range(2)]
+        acct = [{'name': 'id', 'kind': 'int'}, {'name': 'owner', 'kind': 'text',
+                'partition': flags[0]}, {'name': 'bal', 'kind': 'int'},
+                {'name': 'kind', 'kind': 'int', 'partition': flags[1]}]
+        yield {'version': 2, 'tables': [{'name': 'acct', 'columns': acct},
+                                        {'name': 'note', 'columns': [{'name': 'n', 'kind': 'int'}]}],
+               'keep': self.one_of(0, 1, 4), 'records': self.one_of(0, 3, 100_000)}
+        for _ in range(count):
+            request = self.request()
+            if isinstance(request, dict):
+                request.update(self.one_of({}, {}, {'worker': 2}))
+                request.update(self.one_of(*[{}] * 8, {'if': self.time}))
+            yield request
+
+
+def main():
+    if sys.argv[1:2] == ['--random']:
+        for line in Random(int(sys.argv[2])).lines(300):
+            print(text_of(line))
+    elif len(sys.argv) > 1:
+        print(__doc__, file=sys.stderr)
+        return 2
+    else:
+        session = Session()
+        for line in sys.stdin.buffer:
+            answer = session.answer(line.removesuffix(b'\n'))
+            if answer is not None:
+                sys.stdout.buffer.write(text_of(answer).encode() + b'\n')
+                sys.stdout.buffer.flush()
+    return 0
+
+
+if __name__ == '__main__':
+    sys.exit(main())
