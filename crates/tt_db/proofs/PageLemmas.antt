@@ -1,5 +1,5 @@
 -- Pages of rows that are stored under their keys.
-use Rattle.std.proofs.Common.{◌≡◌, ℕ, zero, suc, nat_lt, ℤ, pos, Bool, true, false, cond, if◌then◌else◌, List, [], ◌∷◌, length, take, map, filter, Option, refl, sym, ap, ◌∙◌}
+use Rattle.std.proofs.Common.{◌≡◌, ℕ, zero, suc, nat_lt, ℤ, pos, Bool, true, false, cond, List, [], ◌∷◌, length, take, map, filter, Option, refl, sym, ap, ◌∙◌}
 use Rattle.std.specs.Option.{unwrap_or}
 use Rattle.tt_values.specs.declared.row.Row.{Row}
 use Rattle.tt_values.specs.declared.statement.Select.{Select}
@@ -8,7 +8,6 @@ use Rattle.tt_values.specs.Matches.{matches}
 use Rattle.tt_values.specs.Content.{RowsByKey, Content}
 use Rattle.tt_values.specs.Effect.{answer_of}
 use Rattle.tt_versions.specs.Pages.{is_after, those_after}
-use Rattle.tt_generations.specs.declared.first_rows.FirstRows.{FirstRows}
 use Rattle.tt_generations.specs.Pages.{page_of_rows, page_of_select}
 use Rattle.tt_db.specs.Pages.{rows_after, first_rows, rows_in}
 use Rattle.tt_db.proofs.KeyLemmas.{AllKeyed, AllKeyed-filter, IsKeyedContent}

@@ -1,5 +1,5 @@
 -- The rows of each generation that can be read are stored under their keys.
-use Rattle.std.proofs.Common.{◌≡◌, Some, Ok, rules, arith, sym, ap, subst, ◌∙◌}
+use Rattle.std.proofs.Common.{◌≡◌, Some, Ok, rules, arith, sym, ap, ◌∙◌}
 use Rattle.std.proofs.lemmas.Grind.{common_steps}
 use Rattle.std.specs.Option.{option_copied, option_map}
 use Rattle.tt_values.specs.RowWrites.{content_of}
