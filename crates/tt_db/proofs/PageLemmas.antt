@@ -1,5 +1,6 @@
 -- Pages of rows that are stored under their keys.
-use Rattle.std.proofs.Common.{◌≡◌, ℕ, zero, suc, nat_lt, ℤ, pos, Bool, true, false, cond, List, [], ◌∷◌, length, take, map, filter, Option, refl, sym, ap, ◌∙◌}
+use Rattle.std.proofs.Common.{◌≡◌, ℕ, nat_lt, ℤ, pos, Bool, true, false, cond, [], ◌∷◌, length, take, map, filter, Option, refl, sym, ap, ◌∙◌}
+use Rattle.std.proofs.lemmas.List.{length-map, take-map}
 use Rattle.std.specs.Option.{unwrap_or}
 use Rattle.tt_values.specs.declared.row.Row.{Row}
 use Rattle.tt_values.specs.declared.statement.Select.{Select}
@@ -25,20 +26,11 @@ rows_after-keyed low (e ∷ es) keyed = by (is_after low e.0) (rows_after-keyed 
     by true h = ap (λ rest. e.1 ∷ rest) h
     by false h = h
 
-map-take : {X Y : Type 0} (f : X → Y) (n : ℕ) (xs : List X) → map f (take n xs) ≡ take n (map f xs)
-map-take f zero xs = refl
-map-take f (suc n) [] = refl
-map-take f (suc n) (x ∷ xs) = ap (λ rest. f x ∷ rest) (map-take f n xs)
-
-length-map : {X Y : Type 0} (f : X → Y) (xs : List X) → length (map f xs) ≡ length xs
-length-map f [] = refl
-length-map f (x ∷ xs) = ap suc (length-map f xs)
-
 page_of_rows-keyed : (low : Option ℤ) (most : ℕ) (es : RowsByKey) → AllKeyed es → page_of_rows low most es ≡ first_rows low most (map (λ e. e.1) es)
 page_of_rows-keyed low most es keyed =
     let same = rows_after-keyed low es keyed in
-    let rows = map-take (λ (e : ℤ × Row). e.1) most (those_after low es) ∙ ap (take most) same in
-    let more = ap (nat_lt most) (sym (length-map (λ (e : ℤ × Row). e.1) (those_after low es)) ∙ ap length same) in
+    let rows = sym (take-map (λ (e : ℤ × Row). e.1) most (those_after low es)) ∙ ap (take most) same in
+    let more = ap (nat_lt most) (sym (length-map (those_after low es) (λ (e : ℤ × Row). e.1)) ∙ ap length same) in
     λ i. record { rows = rows i; more = more i }
 
 -- where each row of a content has its key, a page of a select is one of the rows of its reply
