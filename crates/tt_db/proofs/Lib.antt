@@ -4,5 +4,6 @@ pub mod DatabaseLemmas
 pub mod HistoryLemmas
 pub mod CurrentLemmas
 pub mod KeyLemmas
+pub mod PageLemmas
 pub mod LawProofs
 mod worked_rows

@@ -7,3 +7,4 @@ pub mod Database
 pub mod Transition
 pub mod Run
 pub mod Laws
+pub mod Pages

@@ -9,6 +9,8 @@ ghost use Rattle.tt_db.specs.Database.{state_of, now_in, oldest_in, with_entry, 
 ghost use Rattle.tt_db.specs.RightAnswers.{Answers, RowsHaveRisingKeys};
 ghost use Rattle.tt_db.specs.Run.{IsRun};
 
+mod page;
+
 use crate::closed::{ClosedGeneration, closed_of, oldest_of, with_closed};
 use crate::errors::{DbError, ReadError};
 use crate::event::{Entry, Event};

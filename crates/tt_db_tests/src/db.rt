@@ -5,6 +5,7 @@ mod closed;
 mod history;
 mod incident;
 mod limits;
+mod pages;
 mod printed;
 mod random;
 mod random_repairs;

@@ -1,20 +1,24 @@
 -- One page of the rows that a select or a preview has.
-use Rattle.std.specs.Prelude.{ℕ, ℤ, int_lt, nat_lt, Bool, true, List, [], length, take, filter, Option, None, Some}
+use Rattle.std.specs.Prelude.{ℕ, ℤ, nat_lt, Bool, List, length, take, filter, Option, None, Some}
 use Rattle.tt_values.specs.declared.row.Row.{Row}
 use Rattle.tt_values.specs.declared.reply.Reply.{Reply}
-use Rattle.tt_values.specs.declared.reply.Reply.TheVariants as replies
 use Rattle.tt_values.specs.Row.{key_of}
+use Rattle.tt_versions.specs.Pages as keys
+use Rattle.tt_db.specs.Pages.{rows_in}
 use Rattle.tt_requests.specs.declared.request.Page.{Page}
 use Rattle.tt_answers.specs.declared.answer.RowPage.{RowPage}
 
 -- whether a row has a greater key than this one, if one is given
 abbrev pub is_after : Option ℤ → Row → Bool
-is_after None row = true
-is_after (Some key) row = int_lt key (key_of row)
+is_after key row = keys.is_after key (key_of row)
 
 -- the rows with greater keys than this one, if one is given
 abbrev pub rows_after : Option ℤ → List Row → List Row
 rows_after key rows = filter (is_after key) rows
+
+-- the page of the first rows with greater keys than this one, if one is given
+abbrev pub first_page : Option ℤ → ℕ → Page
+first_page key most = record { after = key; most = Some most }
 
 -- the first rows, at most so many, and whether more follow; all rows, where no number is given
 abbrev pub first_rows : Option ℕ → List Row → RowPage
@@ -24,14 +28,6 @@ first_rows (Some most) rows = record { rows = take most rows; more = Some (nat_l
 -- the rows that a page asks for
 abbrev pub page_of_rows : Page → List Row → RowPage
 page_of_rows page rows = first_rows page.most (rows_after page.after rows)
-
--- the rows of a reply
-abbrev pub rows_in : Reply → List Row
-rows_in replies.Inserted = []
-rows_in replies.Duplicate = []
-rows_in (replies.Updated count) = []
-rows_in (replies.Deleted count) = []
-rows_in (replies.Rows rows) = rows
 
 -- the rows of a reply that a page asks for
 abbrev pub page_of_reply : Page → Reply → RowPage

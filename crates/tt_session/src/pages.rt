@@ -5,6 +5,7 @@ ghost use Rattle.tt_session.specs.Pages.{is_after, rows_after, page_of_rows, pag
 
 use std::alloc::{AllocError, Global};
 use tt_answers::RowPage;
+use tt_db::FirstRows;
 use tt_requests::Page;
 use tt_values::{Items, Reply, Row, Value};
 
@@ -98,5 +99,15 @@ pub(crate) fn page_of_reply(alloc: Global, page: Page, reply: &Reply) -> Result<
     match reply {
         Reply::Rows(rows) => page_of_rows(alloc, page, rows),
         _ => page_of_rows(alloc, page, &Items::new(alloc, Vec::new(alloc))?),
+    }
+}
+
+/// The first rows of a select or a preview, as a page.
+pub(crate) fn row_page(first: FirstRows) -> RowPage
+    ensures { result ≡ record { rows = first.rows; more = Some first.more } }
+{
+    RowPage {
+        rows: first.rows,
+        more: Some(first.more),
     }
 }

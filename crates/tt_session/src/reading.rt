@@ -1,15 +1,15 @@
 //! Selects and previews.
-ghost use Rattle.std.specs.Prelude.{◌≡◌, None, IfOk, unwrap_or};
+ghost use Rattle.std.specs.Prelude.{◌≡◌, ℕ, Option, None, IfOk, unwrap_or};
 ghost use Rattle.tt_generations.specs.TwoGenerations.{done_of};
 ghost use Rattle.tt_db.specs.Database.{state_of, right_answer_in};
 ghost use Rattle.tt_session.specs.Answers.{Becomes};
 ghost use Rattle.tt_session.specs.Reading.{last_time_in, asks_for_all, latest_if, selected_by, read, preview};
-ghost use Rattle.tt_session.specs.Pages.{page_of_reply};
+ghost use Rattle.tt_session.specs.Pages.{page_of_reply, first_page};
 
 use crate::carried_out::CarriedOut;
 use crate::failure::Failure;
 use crate::open_session::OpenSession;
-use crate::pages::page_of_reply;
+use crate::pages::{page_of_reply, row_page};
 use std::alloc::AllocError;
 use tt_answers::Answer;
 use tt_db::Db;
@@ -101,6 +101,28 @@ fn selected(
     })
 }
 
+/// The first rows of a select of a generation at a time. No select of a page is recorded.
+fn read_page(
+    session: &OpenSession,
+    select: &Select,
+    number: u64,
+    time: u64,
+    after: Option<i64>,
+    most: u32,
+) -> Result<CarriedOut, Failure>
+    ensures { (worker : ℕ) (generation : Option ℕ) → Becomes session.now result
+        (selected_by session.now worker select.now generation (first_page after most) time
+        (right_answer_in session.now.database number select.now time)) }
+{
+    match session.db().page_in(number, select, time, after, most as usize) {
+        Ok(first) => {
+            let page = row_page(first);
+            Ok(CarriedOut::telling(Answer::Selected { time, page }))
+        }
+        Err(error) => Err(Failure::from(error)),
+    }
+}
+
 /// A select of a generation at a time, which `generation` may leave out.
 fn read_at(
     session: &OpenSession,
@@ -114,6 +136,10 @@ fn read_at(
     ensures { Becomes session.now result (selected_by session.now worker select generation page time
         (right_answer_in session.now.database number select time)) }
 {
+    if let Some(most) = page.most {
+        let read = read_page(session, &select, number, time, page.after, most)?;
+        return Ok(read);
+    }
     match session.db().select_in(number, &select, time) {
         Ok(reply) => {
             let is_recorded = asks_for_all(generation, page);
@@ -141,6 +167,27 @@ pub(crate) fn read(
     read_at(session, worker, select, generation, number, time, page)
 }
 
+/// The first rows of a select of the next generation.
+fn preview_page(
+    session: &OpenSession,
+    select: &Select,
+    after: Option<i64>,
+    most: u32,
+) -> Result<CarriedOut, Failure>
+    ensures { Becomes session.now result
+        (preview session.now select.now (first_page after most)) }
+{
+    let db = session.db();
+    match db.preview_page(select, after, most as usize) {
+        Ok(first) => {
+            let page = row_page(first);
+            let done = slots_done(db);
+            Ok(CarriedOut::telling(Answer::Previewed { done, page }))
+        }
+        Err(error) => Err(Failure::from(error)),
+    }
+}
+
 /// A select of the next generation, at the last slot that the repair has done.
 pub(crate) fn preview(
     session: &OpenSession,
@@ -149,6 +196,10 @@ pub(crate) fn preview(
 ) -> Result<CarriedOut, Failure>
     ensures { Becomes session.now result (preview session.now select.now page) }
 {
+    if let Some(most) = page.most {
+        let previewed = preview_page(session, select, page.after, most)?;
+        return Ok(previewed);
+    }
     let db = session.db();
     match db.preview(select) {
         Ok(reply) => {
