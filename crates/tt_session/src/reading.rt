@@ -114,7 +114,10 @@ fn read_page(
         (selected_by session.now worker select.now generation (first_page after most) time
         (right_answer_in session.now.database number select.now time)) }
 {
-    match session.db().page_in(number, select, time, after, most as usize) {
+    match session
+        .db()
+        .page_in(number, select, time, after, most as usize)
+    {
         Ok(first) => {
             let page = row_page(first);
             Ok(CarriedOut::telling(Answer::Selected { time, page }))

@@ -55,7 +55,12 @@ fn had_page(
 /// Asserts pages of the accounts by their balance, which no index lists.
 fn had_pages_by_balance(rt: &impl Abort, alloc: Global, db: &Db) {
     let ones = balance_is(rt, alloc, 1);
-    let first = [(103, "bob", 1), (106, "bob", 1), (109, "bob", 1), (112, "ann", 1)];
+    let first = [
+        (103, "bob", 1),
+        (106, "bob", 1),
+        (109, "bob", 1),
+        (112, "ann", 1),
+    ];
     had_page(rt, alloc, db, ones, (100, 4), &first, true);
     let last = [(343, "bob", 1), (346, "bob", 1), (349, "bob", 1)];
     let ones = balance_is(rt, alloc, 1);
@@ -67,11 +72,35 @@ fn had_pages_by_balance(rt: &impl Abort, alloc: Global, db: &Db) {
 /// Asserts pages of the accounts by their owner, which an index lists.
 fn had_pages_by_owner(rt: &impl Abort, alloc: Global, db: &Db) {
     let ann = owner_is(rt, alloc, "ann");
-    had_page(rt, alloc, db, ann, (101, 2), &[(104, "ann", 2), (108, "ann", 0)], true);
+    had_page(
+        rt,
+        alloc,
+        db,
+        ann,
+        (101, 2),
+        &[(104, "ann", 2), (108, "ann", 0)],
+        true,
+    );
     let ann = owner_is(rt, alloc, "ann");
-    had_page(rt, alloc, db, ann, (340, 2), &[(344, "ann", 2), (348, "ann", 0)], false);
+    had_page(
+        rt,
+        alloc,
+        db,
+        ann,
+        (340, 2),
+        &[(344, "ann", 2), (348, "ann", 0)],
+        false,
+    );
     let bob = owner_is(rt, alloc, "bob");
-    had_page(rt, alloc, db, bob, (347, 9), &[(349, "bob", 1), (350, "bob", 2)], false);
+    had_page(
+        rt,
+        alloc,
+        db,
+        bob,
+        (347, 9),
+        &[(349, "bob", 1), (350, "bob", 2)],
+        false,
+    );
 }
 
 /// Asserts pages of the one account with a key.
@@ -90,7 +119,15 @@ fn a_page_has_the_first_rows_after_a_key(rt: HostRuntime) {
     had_pages_by_balance(&rt, alloc, &db);
     had_pages_by_owner(&rt, alloc, &db);
     had_pages_by_key(&rt, alloc, &db);
-    had_page(&rt, alloc, &db, any_account(&rt, alloc), (i64::MAX, 0), &[], false);
+    had_page(
+        &rt,
+        alloc,
+        &db,
+        any_account(&rt, alloc),
+        (i64::MAX, 0),
+        &[],
+        false,
+    );
     let all = select_all(&rt, alloc, ACCT);
     let first = db.page_in(0, &all, 400, None, 1).expect(&rt, "a page");
     has_page(&rt, alloc, first, &[(1, "bob", 1)], true);

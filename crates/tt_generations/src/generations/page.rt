@@ -57,8 +57,7 @@ impl Generations {
             (rows_on side self.now select.now.table) time) }
     {
         let table = self.table(select.table);
-        let (found, more) =
-            table.page_matching(select.equals.as_slice(), time, side, after, most)?;
+        let (found, more) = table.page_matching(select.equals.as_slice(), time, side, after, most)?;
         let rows = copies_of(self.state.alloc, &found)?;
         let rows = Items::new(self.state.alloc, rows)?;
         Ok(FirstRows { rows, more })
