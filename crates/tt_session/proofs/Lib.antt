@@ -3,7 +3,6 @@ pub mod GoingOnLemmas
 pub mod LawLemmas
 pub mod OpeningLemmas
 pub mod PageLemmas
-pub mod ReadLemmas
 pub mod RoomLemmas
 pub mod SlotLemmas
 pub mod StepLemmas

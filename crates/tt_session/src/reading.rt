@@ -132,7 +132,8 @@ fn read_first(
         (selected_by session.now worker select.now generation (first_page after most) time
         (right_answer_in session.now.database number select.now time)) }
 {
-    match session.db().page_in(number, select, time, after, most as usize) {
+    let db = session.db();
+    match db.page_in(number, select, time, after, most as usize) {
         Ok(first) => {
             let page = first_page(first);
             Ok(CarriedOut::telling(Answer::Selected { time, page }))
@@ -156,7 +157,9 @@ fn read_at(
 {
     match page.most {
         Some(most) => read_first(session, &select, number, time, page.after, most),
-        None => read_all(session, worker, select, generation, number, time, page.after),
+        None => read_all(
+            session, worker, select, generation, number, time, page.after,
+        ),
     }
 }
 
