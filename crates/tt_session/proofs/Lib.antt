@@ -4,8 +4,11 @@ pub mod LawLemmas
 pub mod OpeningLemmas
 pub mod PageLemmas
 pub mod ReadBackLemmas
-pub mod ReadLemmas
 pub mod RoomLemmas
 pub mod SlotLemmas
 pub mod StepLemmas
+pub mod LineLemmas
+pub mod TurnLemmas
+pub mod AnsweringLemmas
+pub mod EndingLemmas
 mod worked_sessions

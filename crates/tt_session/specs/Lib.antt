@@ -12,6 +12,9 @@ pub mod Moments
 pub mod ChangeEntries
 pub mod Commands
 pub mod Run
+pub mod Lines
+pub mod ShortAnswers
+pub mod Answering
 pub mod Ends
 pub mod Invariants
 pub mod ReadBack

@@ -1,22 +1,16 @@
 -- One page of the rows that a select or a preview has.
-use Rattle.std.specs.Prelude.{ℕ, ℤ, nat_lt, Bool, List, length, take, filter, Option, None, Some}
+use Rattle.std.specs.Prelude.{ℕ, ℤ, nat_lt, List, length, take, Option, None, Some}
 use Rattle.tt_values.specs.declared.row.Row.{Row}
 use Rattle.tt_values.specs.declared.reply.Reply.{Reply}
-use Rattle.tt_values.specs.Row.{key_of}
-use Rattle.tt_versions.specs.Pages as keys
-use Rattle.tt_db.specs.Pages.{rows_in}
+use Rattle.tt_db.specs.Pages.{rows_after, rows_in}
 use Rattle.tt_requests.specs.declared.request.Page.{Page}
 use Rattle.tt_answers.specs.declared.answer.RowPage.{RowPage}
 
--- whether a row has a greater key than this one, if one is given
-abbrev pub is_after : Option ℤ → Row → Bool
-is_after key row = keys.is_after key (key_of row)
+-- the page of all rows with greater keys than this one, if one is given
+abbrev pub page_after : Option ℤ → Page
+page_after key = record { after = key; most = None }
 
--- the rows with greater keys than this one, if one is given
-abbrev pub rows_after : Option ℤ → List Row → List Row
-rows_after key rows = filter (is_after key) rows
-
--- the page of the first rows with greater keys than this one, if one is given
+-- the page of the first rows with greater keys than this one, if one is given, at most so many
 abbrev pub first_page : Option ℤ → ℕ → Page
 first_page key most = record { after = key; most = Some most }
 

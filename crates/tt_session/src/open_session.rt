@@ -1,12 +1,11 @@
 //! A session that is open.
-ghost use Rattle.std.specs.Prelude.{◌≡◌, ◌<◌, ◌≤◌, ◌-◌, ◌^◌, ◌++◌, ◌∷◌, [], false, length, Ok, OnOk, OnErr, IfOk, unwrap_or};
+ghost use Rattle.std.specs.Prelude.{◌≡◌, ◌+◌, ◌<◌, ◌≤◌, ◌-◌, ◌^◌, ◌++◌, ◌∷◌, [], false, length, Ok, OnOk, OnErr, IfOk, unwrap_or};
 ghost use Rattle.tt_db.specs.State.{last_items};
 ghost use Rattle.tt_db.specs.Database.{state_of};
 ghost use Rattle.tt_requests.specs.LineValue.{value_of_line};
 ghost use Rattle.tt_requests.specs.Opening.{max_keep, max_records};
 ghost use Rattle.tt_requests.specs.Requests.{request_of};
 ghost use Rattle.tt_answers.specs.AnswerText.{call_text};
-ghost use Rattle.tt_answers.specs.RefusalText.{too_long};
 ghost use Rattle.tt_session.specs.declared.session.Session.TheVariants.{Open};
 ghost use Rattle.tt_session.specs.Answers.{answered_by};
 ghost use Rattle.tt_session.specs.Session.{counted, opened, records_with};
@@ -20,7 +19,7 @@ use crate::failure::Failure;
 use crate::records::Records;
 use std::alloc::{AllocError, Global};
 use std::marker::Model;
-use tt_answers::{Answer, push_call, push_call_memory, push_call_too_long};
+use tt_answers::{Answer, push_call};
 use tt_db::{Db, Limits};
 use tt_document::DocFault;
 use tt_records::Record;
@@ -147,6 +146,7 @@ impl OpenSession {
             (request_of self.old.database.catalog (value_of_line line.now))).text) }
         ensures session { OnOk result (Open self.new ≡ (turn_by_request (counted self.old)
             (request_of self.old.database.catalog (value_of_line line.now))).session) }
+        ensures calls { OnOk result (self.new.calls ≡ self.old.calls + 1) }
         ensures text_stays { OnErr result (out.new.items ≡ out.old.items) }
         ensures session_stays { OnErr result (self.new ≡ self.old) }
     {
@@ -167,6 +167,7 @@ impl OpenSession {
             (request_of self.old.database.catalog (value_of_line line.now))).text) }
         ensures session { OnOk result (Open self.new ≡ (turn_by_request self.old
             (request_of self.old.database.catalog (value_of_line line.now))).session) }
+        ensures calls { OnOk result (self.new.calls ≡ self.old.calls) }
         ensures text_stays { OnErr result (out.new.items ≡ out.old.items) }
         ensures session_stays { OnErr result (self.new ≡ self.old) }
     {
@@ -183,6 +184,7 @@ impl OpenSession {
             ++ (turn_by_request self.old (Ok request)).text) }
         ensures session { OnOk result
             (Open self.new ≡ (turn_by_request self.old (Ok request)).session) }
+        ensures calls { OnOk result (self.new.calls ≡ self.old.calls) }
         ensures text_stays { OnErr result (out.new.items ≡ out.old.items) }
         ensures session_stays { OnErr result (self.new ≡ self.old) }
     {
@@ -222,6 +224,7 @@ impl OpenSession {
         ensures text { OnOk result (out.new.items ≡ out.old.items
             ++ call_text self.old.database.catalog self.old.calls done.answer) }
         ensures session { OnOk result (self.new ≡ (answered_by self.old done).session) }
+        ensures calls { OnOk result (self.new.calls ≡ self.old.calls) }
         ensures text_stays { OnErr result (out.new.items ≡ out.old.items) }
         ensures session_stays { OnErr result (self.new ≡ self.old) }
     {
@@ -233,32 +236,14 @@ impl OpenSession {
         Ok(())
     }
 
-    /// Answers a line for which there is no memory, and counts its call. The text needs little
-    /// memory; where there is none for it either, the session is as before.
-    pub(crate) fn answer_without_memory(&mut self, out: &mut Vec<u8>) -> Result<(), AllocError>
+    /// Counts a call, and answers its number. Takes no memory.
+    pub(crate) fn count_call(&mut self) -> u64
         requires { self.old.calls < 2 ^ 64 - 1 }
-        ensures text { OnOk result (out.new.items ≡ out.old.items
-            ++ (turn_of_answer (counted self.old) Answer.OutOfMemory).text) }
-        ensures session { OnOk result (self.new ≡ counted self.old) }
-        ensures session_stays { OnErr result (self.new ≡ self.old) }
+        ensures call { result ≡ self.old.calls + 1 }
+        ensures session { self.new ≡ counted self.old }
     {
-        push_call_memory(out, self.calls + 1)?;
         self.calls += 1;
-        Ok(())
-    }
-
-    /// Answers a line that is longer than lines may be, of which nothing is kept, and counts its
-    /// call. Where there is no memory for the text, the session is as before.
-    pub(crate) fn answer_too_long(&mut self, out: &mut Vec<u8>) -> Result<(), AllocError>
-        requires { self.old.calls < 2 ^ 64 - 1 }
-        ensures text { OnOk result (out.new.items ≡ out.old.items
-            ++ (turn_of_answer (counted self.old) (Answer.Faulty too_long)).text) }
-        ensures session { OnOk result (self.new ≡ counted self.old) }
-        ensures session_stays { OnErr result (self.new ≡ self.old) }
-    {
-        push_call_too_long(out, self.calls + 1)?;
-        self.calls += 1;
-        Ok(())
+        self.calls
     }
 }
 

@@ -3,13 +3,13 @@ ghost use Rattle.std.specs.Prelude.{◌≡◌, ℕ, Option, None, IfOk, unwrap_o
 ghost use Rattle.tt_generations.specs.TwoGenerations.{done_of};
 ghost use Rattle.tt_db.specs.Database.{state_of, right_answer_in};
 ghost use Rattle.tt_session.specs.Answers.{Becomes};
-ghost use Rattle.tt_session.specs.Reading.{last_time_in, asks_for_all, latest_if, selected_by, read, preview};
-ghost use Rattle.tt_session.specs.Pages.{page_of_reply, first_page};
+ghost use Rattle.tt_session.specs.Reading.{last_time_in, latest_if, selected_by, read, preview};
+ghost use Rattle.tt_session.specs.Pages.{page_after, first_page, page_of_reply};
 
 use crate::carried_out::CarriedOut;
 use crate::failure::Failure;
 use crate::open_session::OpenSession;
-use crate::pages::{page_of_reply, row_page};
+use crate::pages::{first_page, page_after};
 use std::alloc::AllocError;
 use tt_answers::Answer;
 use tt_db::Db;
@@ -25,13 +25,6 @@ fn last_time_in(db: &Db, number: u64) -> u64
         Some(time) => time,
         None => 0,
     }
-}
-
-/// Whether a select asks for all its rows in the current generation.
-fn asks_for_all(generation: Option<u64>, page: Page) -> bool
-    ensures { result ≡ asks_for_all generation page }
-{
-    generation.is_none() && page.after.is_none() && page.most.is_none()
 }
 
 /// How many slots the repair has done: 0 where none is under way.
@@ -71,16 +64,16 @@ fn selected(
     select: Select,
     is_recorded: bool,
     time: u64,
-    page: Page,
+    after: Option<i64>,
     reply: Reply,
 ) -> Result<CarriedOut, AllocError>
     ensures answer { IfOk result (λ done.
-        done.answer ≡ Answer.Selected time (page_of_reply page reply)) }
+        done.answer ≡ Answer.Selected time (page_of_reply (page_after after) reply)) }
     ensures db { IfOk result (λ done. done.db ≡ None) }
     ensures latest { IfOk result (λ done. done.latest
         ≡ latest_if is_recorded session.now worker (What.Read select time reply)) }
 {
-    let page = page_of_reply(session.alloc(), page, &reply)?;
+    let page = page_after(session.alloc(), after, &reply)?;
     let answer = Answer::Selected { time, page };
     if !is_recorded {
         return Ok(CarriedOut::telling(answer));
@@ -101,8 +94,33 @@ fn selected(
     })
 }
 
-/// The first rows of a select of a generation at a time. No select of a page is recorded.
-fn read_page(
+/// The rows of a select of a generation at a time, which `generation` may leave out: those with
+/// greater keys than `after`, if that is given.
+fn read_all(
+    session: &OpenSession,
+    worker: u32,
+    select: Select,
+    generation: Option<u64>,
+    number: u64,
+    time: u64,
+    after: Option<i64>,
+) -> Result<CarriedOut, Failure>
+    ensures { Becomes session.now result
+        (selected_by session.now worker select generation (page_after after) time
+        (right_answer_in session.now.database number select time)) }
+{
+    match session.db().select_in(number, &select, time) {
+        Ok(reply) => {
+            let is_recorded = generation.is_none() && after.is_none();
+            let done = selected(session, worker, select, is_recorded, time, after, reply)?;
+            Ok(done)
+        }
+        Err(error) => Err(Failure::from(error)),
+    }
+}
+
+/// The first rows of a select of a generation at a time. They aren't recorded.
+fn read_first(
     session: &OpenSession,
     select: &Select,
     number: u64,
@@ -114,12 +132,10 @@ fn read_page(
         (selected_by session.now worker select.now generation (first_page after most) time
         (right_answer_in session.now.database number select.now time)) }
 {
-    match session
-        .db()
-        .page_in(number, select, time, after, most as usize)
-    {
+    let db = session.db();
+    match db.page_in(number, select, time, after, most as usize) {
         Ok(first) => {
-            let page = row_page(first);
+            let page = first_page(first);
             Ok(CarriedOut::telling(Answer::Selected { time, page }))
         }
         Err(error) => Err(Failure::from(error)),
@@ -139,17 +155,11 @@ fn read_at(
     ensures { Becomes session.now result (selected_by session.now worker select generation page time
         (right_answer_in session.now.database number select time)) }
 {
-    if let Some(most) = page.most {
-        let read = read_page(session, &select, number, time, page.after, most)?;
-        return Ok(read);
-    }
-    match session.db().select_in(number, &select, time) {
-        Ok(reply) => {
-            let is_recorded = asks_for_all(generation, page);
-            let done = selected(session, worker, select, is_recorded, time, page, reply)?;
-            Ok(done)
-        }
-        Err(error) => Err(Failure::from(error)),
+    match page.most {
+        Some(most) => read_first(session, &select, number, time, page.after, most),
+        None => read_all(
+            session, worker, select, generation, number, time, page.after,
+        ),
     }
 }
 
@@ -170,20 +180,39 @@ pub(crate) fn read(
     read_at(session, worker, select, generation, number, time, page)
 }
 
+/// The rows of a select of the next generation: those with greater keys than `after`, if that is
+/// given.
+fn preview_all(
+    session: &OpenSession,
+    select: &Select,
+    after: Option<i64>,
+) -> Result<CarriedOut, Failure>
+    ensures { Becomes session.now result (preview session.now select.now (page_after after)) }
+{
+    let db = session.db();
+    match db.preview(select) {
+        Ok(reply) => {
+            let page = page_after(session.alloc(), after, &reply)?;
+            let done = slots_done(db);
+            Ok(CarriedOut::telling(Answer::Previewed { done, page }))
+        }
+        Err(error) => Err(Failure::from(error)),
+    }
+}
+
 /// The first rows of a select of the next generation.
-fn preview_page(
+fn preview_first(
     session: &OpenSession,
     select: &Select,
     after: Option<i64>,
     most: u32,
 ) -> Result<CarriedOut, Failure>
-    ensures { Becomes session.now result
-        (preview session.now select.now (first_page after most)) }
+    ensures { Becomes session.now result (preview session.now select.now (first_page after most)) }
 {
     let db = session.db();
     match db.preview_page(select, after, most as usize) {
         Ok(first) => {
-            let page = row_page(first);
+            let page = first_page(first);
             let done = slots_done(db);
             Ok(CarriedOut::telling(Answer::Previewed { done, page }))
         }
@@ -199,17 +228,8 @@ pub(crate) fn preview(
 ) -> Result<CarriedOut, Failure>
     ensures { Becomes session.now result (preview session.now select.now page) }
 {
-    if let Some(most) = page.most {
-        let previewed = preview_page(session, select, page.after, most)?;
-        return Ok(previewed);
-    }
-    let db = session.db();
-    match db.preview(select) {
-        Ok(reply) => {
-            let page = page_of_reply(session.alloc(), page, &reply)?;
-            let done = slots_done(db);
-            Ok(CarriedOut::telling(Answer::Previewed { done, page }))
-        }
-        Err(error) => Err(Failure::from(error)),
+    match page.most {
+        Some(most) => preview_first(session, select, page.after, most),
+        None => preview_all(session, select, page.after),
     }
 }

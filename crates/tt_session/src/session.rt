@@ -1,13 +1,14 @@
 //! A session, from its opening on.
-ghost use Rattle.std.specs.Prelude.{◌≡◌, ◌<◌, ◌-◌, ◌^◌, ◌++◌, OnOk, OnErr, IfOk};
+ghost use Rattle.std.specs.Prelude.{◌≡◌, ◌+◌, ◌<◌, ◌≤◌, ◌-◌, ◌^◌, ◌++◌, OnOk, OnErr, IfOk};
 ghost use Rattle.tt_requests.specs.LineValue.{value_of_line};
 ghost use Rattle.tt_requests.specs.Opening.{opening_of};
 ghost use Rattle.tt_answers.specs.AnswerText.{opening_text};
 
 use crate::open_session::OpenSession;
 use crate::repairing::status_of;
+use crate::short_answer::ShortAnswer;
 use std::alloc::{AllocError, Global};
-use tt_answers::{Answer, push_opening, push_opening_memory, push_opening_too_long};
+use tt_answers::{Answer, push_opening};
 use tt_document::DocFault;
 use tt_requests::{Opening, is_passed_over};
 
@@ -22,6 +23,7 @@ pub enum Session {
 
 impl Session {
     ghost use Rattle.tt_session.specs.Run.{turn_with_memory, turn_without_memory, turn_of_long_line, calls_of};
+    ghost use Rattle.tt_session.specs.ShortAnswers.{short_text};
 
     /// How many calls there were: lines, after the one that opened the session, that weren't passed
     /// over.
@@ -48,6 +50,7 @@ impl Session {
             ≡ out.old.items ++ (turn_with_memory self.old line.now).text) }
         ensures session { OnOk result
             (self.new ≡ (turn_with_memory self.old line.now).session) }
+        ensures calls { calls_of self.new ≤ calls_of self.old + 1 }
         ensures text_stays { OnErr result (out.new.items ≡ out.old.items) }
         ensures session_stays { OnErr result (self.new ≡ self.old) }
     {
@@ -61,38 +64,36 @@ impl Session {
         Ok(())
     }
 
-    /// Answers a line for which there is no memory: a call is counted. Where there is no memory for
-    /// the text of the answer either, the session is as before.
-    pub fn answer_without_memory(&mut self, out: &mut Vec<u8>) -> Result<(), AllocError>
+    /// Counts a line for which there is no memory as a call, where the session is open, and tells its
+    /// answer. Takes no memory.
+    pub fn answer_without_memory(&mut self) -> ShortAnswer
         requires { calls_of self.old < 2 ^ 64 - 1 }
-        ensures text { OnOk result (out.new.items
-            ≡ out.old.items ++ (turn_without_memory self.old).text) }
-        ensures session { OnOk result (self.new ≡ (turn_without_memory self.old).session) }
-        ensures session_stays { OnErr result (self.new ≡ self.old) }
+        ensures text { short_text result ≡ (turn_without_memory self.old).text }
+        ensures session { self.new ≡ (turn_without_memory self.old).session }
+        ensures calls { calls_of self.new ≤ calls_of self.old + 1 }
     {
         match self {
-            Session::NotOpen => push_opening_memory(out),
-            Session::Open(session) => session.answer_without_memory(out),
+            Session::NotOpen => ShortAnswer::OpeningOutOfMemory,
+            Session::Open(session) => ShortAnswer::CallOutOfMemory(session.count_call()),
         }
     }
 
-    /// Answers a line that is longer than lines may be, of which nothing is kept: a call is counted.
-    /// Where there is no memory for the text of the answer, the session is as before.
-    pub fn answer_too_long(&mut self, out: &mut Vec<u8>) -> Result<(), AllocError>
+    /// Counts a line that is longer than lines may be as a call, where the session is open, and
+    /// tells its answer. Takes no memory.
+    pub fn answer_too_long(&mut self) -> ShortAnswer
         requires { calls_of self.old < 2 ^ 64 - 1 }
-        ensures text { OnOk result (out.new.items
-            ≡ out.old.items ++ (turn_of_long_line self.old).text) }
-        ensures session { OnOk result (self.new ≡ (turn_of_long_line self.old).session) }
-        ensures session_stays { OnErr result (self.new ≡ self.old) }
+        ensures text { short_text result ≡ (turn_of_long_line self.old).text }
+        ensures session { self.new ≡ (turn_of_long_line self.old).session }
+        ensures calls { calls_of self.new ≤ calls_of self.old + 1 }
     {
         match self {
-            Session::NotOpen => push_opening_too_long(out),
-            Session::Open(session) => session.answer_too_long(out),
+            Session::NotOpen => ShortAnswer::OpeningTooLong,
+            Session::Open(session) => ShortAnswer::CallTooLong(session.count_call()),
         }
     }
 }
 
-ghost use Rattle.tt_session.specs.Run.{turn_by_opening};
+ghost use Rattle.tt_session.specs.Run.{turn_by_opening, calls_of};
 
 /// Answers a line that is an opening. Answers the session after it, which isn't open after a fault.
 fn open(alloc: Global, out: &mut Vec<u8>, line: &[u8]) -> Result<Session, AllocError>
@@ -100,6 +101,7 @@ fn open(alloc: Global, out: &mut Vec<u8>, line: &[u8]) -> Result<Session, AllocE
         ++ (turn_by_opening (opening_of (value_of_line line.now))).text) }
     ensures session { IfOk result (λ s.
         s ≡ (turn_by_opening (opening_of (value_of_line line.now))).session) }
+    ensures calls { IfOk result (λ s. calls_of s ≡ 0) }
     ensures text_stays { OnErr result (out.new.items ≡ out.old.items) }
 {
     match Opening::from_line(alloc, line) {

@@ -1,0 +1,9 @@
+-- The answers so far were written before the short one.
+use Rattle.tt_session.proofs.AnsweringLemmas.{prefix-after}
+use Rattle.tt_session.proofs.run.Run.write_short.Goals as goal
+
+pub returns-then-is_err-clause-prefix : goal.returns-then-is_err-clause-prefix
+returns-then-is_err-clause-prefix g c = prefix-after _ _ _ _ _ c.in_ok-hand_over.ensures.ok c.write_to.ensures.prefix
+
+pub returns-clause-prefix : goal.returns-clause-prefix
+returns-clause-prefix g c = prefix-after _ _ _ _ _ c.in_ok-hand_over.ensures.ok c.write_to.ensures.prefix

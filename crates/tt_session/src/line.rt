@@ -1,0 +1,95 @@
+//! The line that is being read.
+ghost use Rattle.std.specs.Prelude.{◌≡◌, ◌↔◌, ◌++◌, [], ℕ, List, IfSome, IsTrue, false};
+ghost use Rattle.tt_requests.specs.Lines.{is_too_long, is_passed_over};
+ghost use Rattle.tt_session.specs.Lines.{HasBytes};
+
+use std::alloc::Global;
+use tt_requests::{MAX_LINE_BYTES, is_blank};
+
+/// The most bytes of a line that are kept: one more than a line may have.
+const MAX_BYTES_KEPT: usize = MAX_LINE_BYTES + 1;
+
+/// The line that is being read.
+#[derive(Drop)]
+pub(crate) struct Line {
+    /// Its first bytes, unless they are lost.
+    kept: Vec<u8>,
+    /// Whether there was no memory for one of them.
+    is_lost: bool,
+    /// How many first bytes there are, also where they are lost.
+    len: usize,
+    /// Whether each byte so far is a tab, a carriage return or a space.
+    is_blank: bool,
+}
+
+impl Line {
+    /// A line without bytes. Takes no memory.
+    pub(crate) fn new(alloc: Global) -> Line
+        ensures { HasBytes result [] }
+    {
+        Line {
+            kept: Vec::new(alloc),
+            is_lost: false,
+            len: 0,
+            is_blank: true,
+        }
+    }
+
+    /// Begins the next line.
+    pub(crate) fn clear(&mut self)
+        ensures { HasBytes self.new [] }
+    {
+        self.kept.clear();
+        self.is_lost = false;
+        self.len = 0;
+        self.is_blank = true;
+    }
+
+    /// Adds further bytes of the line.
+    pub(crate) fn extend(&mut self, more: &[u8])
+        ensures { (bytes : List ℕ) → HasBytes self.old bytes
+            → HasBytes self.new (bytes ++ more.now) }
+    {
+        self.is_blank &= is_blank(more);
+        let count = more.len().min(MAX_BYTES_KEPT.saturating_sub(self.len));
+        self.len += count;
+        self.keep(&more[..count]);
+    }
+
+    /// Keeps further first bytes, unless there is no memory for them.
+    fn keep(&mut self, more: &[u8])
+        ensures kept { self.new.is_lost ≡ false
+            → (self.old.is_lost ≡ false) × (self.new.kept.items ≡ self.old.kept.items ++ more.now) }
+        ensures len { self.new.len ≡ self.old.len }
+        ensures blank { self.new.is_blank ≡ self.old.is_blank }
+    {
+        if !self.is_lost && self.kept.extend_from_slice(more).is_err() {
+            self.is_lost = true;
+        }
+    }
+
+    /// Whether the line is longer than a line may be.
+    pub(crate) fn is_too_long(&self) -> bool
+        ensures { (bytes : List ℕ) → HasBytes self.now bytes → (result ≡ is_too_long bytes) }
+    {
+        self.len > MAX_LINE_BYTES
+    }
+
+    /// Whether the line gets no answer.
+    pub(crate) fn is_passed_over(&self) -> bool
+        ensures { (bytes : List ℕ) → HasBytes self.now bytes → (result ≡ is_passed_over bytes) }
+    {
+        !self.is_too_long() && self.is_blank
+    }
+
+    /// The line, unless some of it is lost.
+    pub(crate) fn bytes(&self) -> Option<&[u8]>
+        ensures { (bytes : List ℕ) → HasBytes self.now bytes → is_too_long bytes ≡ false
+            → IfSome result (λ line. line.now ≡ bytes) }
+    {
+        if self.is_lost {
+            return None;
+        }
+        Some(self.kept.as_slice())
+    }
+}
