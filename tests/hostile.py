@@ -124,6 +124,25 @@ class Hostile:
 
     # Memory
 
+    def little_memory(self):
+        """A line of 4 MB in less and less memory is answered by its fault while there is enough, then
+        by `memory`, and the next line is answered all the same; down to what the program needs."""
+        lines = [b'{"version":2,"tables":[]}', b'{"%s":0}' % (b'x' * 4_000_000), b'{"status":true}']
+        met = set()
+        for megabytes in (64, 48, 32, 24, 20, 16, 14, 12, 10, 8, 6):
+            def within(words, given):
+                command = f'ulimit -v {megabytes * 1024}; exec "$0" "$@"'
+                return self.run(['-c', command, self.program, *words], given, program='/bin/sh')
+            if within(['--help'], b'')[0] != 0:
+                break
+            answer = within(['session'], b'\n'.join(lines))
+            status, output, error = answer
+            lost = answers_lines(lines, output) if status == 0 and error == b'' else None
+            self.check(answer == WANT_OF_MEMORY or lost in (0, 1),
+                       f'a line of 4 MB in {megabytes} MB', answer)
+            met.add(lost)
+        self.check({0, 1} <= met, 'a line of 4 MB: a fault, and then `memory`', (0, b'', b''))
+
     def build_refusal(self):
         """The shared object that refuses growths."""
         made = f'{self.folder}/refuse_growth.so'
@@ -308,6 +327,7 @@ def main():
             library = hostile.library()
             hostile.runs(library)
             hostile.sessions(library)
+            hostile.little_memory()
             for scenarios in sys.argv[2:]:
                 hostile.calls(library, os.path.abspath(scenarios))
         except Untestable as why:

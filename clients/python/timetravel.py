@@ -13,8 +13,7 @@ writes can be taken back while a service goes on.
         print(session.select("acct").rows)    # [[1, 'ann', 10]]
 
 A session starts the program and holds it through pipes. The database lives in the program, and ends
-with it. All methods may be called from several threads; docs/SESSION.md is the manual. The program
-doesn't have the command yet.
+with it. All methods may be called from several threads; docs/SESSION.md is the manual.
 """
 
 from __future__ import annotations
