@@ -263,6 +263,10 @@ pub on_ok : {A E P Q : Type 0} (r : Result A E) → (P → Q) → OnOk r P → O
 on_ok (Ok a) f p = f p
 on_ok (Err e) f p = tt
 
+pub err_of : {A E P Q : Type 0} (r : Result A E) → (P → Q) → OnErr r P → OnErr r Q
+err_of (Ok a) f p = tt
+err_of (Err e) f p = f p
+
 pub and_result : {A E P Q R : Type 0} (r : Result A E) → OnOk r P → OnOk r Q → (P → Q → R) → OnOk r R
 and_result (Ok a) p q f = f p q
 and_result (Err e) p q f = tt
@@ -432,4 +436,19 @@ takes-unwritten pending bytes old mid a b c written p = record {
   written =
       subst (λ t. AppendsPrefix a c (old.out.items ++ t)) (append-nil p.text)
       (gives-prefix a b c old.out.items mid.out.items p.text [] p.given (subst (AppendsPrefix b c) (sym (append-nil mid.out.items)) written));
+}
+
+pub gives-nothing : (before after : Option (List ℕ)) (kept left : List ℕ) → Appends before after kept → left ≡ [] → Gives before after kept left []
+gives-nothing before after kept left p e = gives-written before after kept left [] (subst (Appends before after) (sym (append-nil kept)) p) e
+
+pub takes-given : (pending bytes : List ℕ) (old mid new : Run) (a b c : Option (List ℕ)) → new.session ≡ mid.session → new.line ≡ mid.line → Gives b c mid.out.items new.out.items []
+    → Takes pending bytes old mid a b → Takes pending bytes old new a c
+takes-given pending bytes old mid new a b c session line given p = record {
+  lines = p.lines;
+  left = p.left;
+  text = p.text;
+  cuts = p.cuts;
+  line = subst (λ l. HasBytes l p.left) (sym line) p.line;
+  answered = subst (λ s. AnswersEach p.lines old.session s p.text) (sym session) p.answered;
+  given = subst (λ t. Gives a c old.out.items new.out.items t) (append-nil p.text) (gives-trans a b c old.out.items mid.out.items new.out.items p.text [] p.given given);
 }

@@ -7,7 +7,7 @@ ghost use Rattle.tt_requests.specs.Lines.{is_too_long};
 ghost use Rattle.tt_session.specs.Lines.{HasBytes, has_no_feed, HasFirstFeed};
 ghost use Rattle.tt_session.specs.Run.{calls_of, turn_with_memory};
 ghost use Rattle.tt_session.specs.ShortAnswers.{short_text};
-ghost use Rattle.tt_session.specs.Answering.{Takes, StopsIn, AnswersOne, StopsAt, AnswersLast, StopsInLast};
+ghost use Rattle.tt_session.specs.Answering.{Takes, StopsIn, AnswersOne, StopsAt, AnswersLast, StopsInLast, Gives};
 ghost use Rattle.tt_session.specs.Ends.{AnswersAll, EndsEarly};
 
 use crate::line::Line;
@@ -19,6 +19,9 @@ use std::io::{Read, Write};
 use tt_workload::{MAX_RETRIES, read_once, write_text};
 
 const BUFFER_BYTES: usize = 65_536;
+
+/// As many bytes of answers are handed over before a further line is answered.
+const MANY_BYTES: usize = 1_048_576;
 
 /// The largest number of bytes after which more are read, so that calls can be counted.
 const MAX_TOTAL: u64 = u64::MAX - 65_537;
@@ -200,7 +203,23 @@ impl Run {
     {
         self.answer_request(writer)?;
         self.begin_line();
-        Ok(())
+        self.hand_over_much(writer)
+    }
+
+    /// Hands over the answers so far, where they are many bytes.
+    fn hand_over_much<W: Write>(&mut self, writer: &mut W) -> Result<(), SessionFault>
+        ensures given { OnOk result (Gives (W.contents writer.old) (W.contents writer.new)
+            self.old.out.items self.new.out.items []) }
+        ensures prefix { OnErr result (AppendsPrefix
+            (W.contents writer.old) (W.contents writer.new) self.old.out.items) }
+        ensures session { self.new.session ≡ self.old.session }
+        ensures line { self.new.line ≡ self.old.line }
+        ensures fault { IfErr result (λ e. e ≡ SessionFault.Write) }
+    {
+        if self.out.len() < MANY_BYTES {
+            return Ok(());
+        }
+        self.hand_over(writer)
     }
 
     /// Begins the next line.
