@@ -25,17 +25,6 @@ impl Session {
     ghost use Rattle.tt_session.specs.Run.{turn_with_memory, turn_without_memory, turn_of_long_line, calls_of};
     ghost use Rattle.tt_session.specs.ShortAnswers.{short_text};
 
-    /// How many calls there were: lines, after the one that opened the session, that weren't passed
-    /// over.
-    pub fn calls(&self) -> u64
-        ensures { result ≡ calls_of self.now }
-    {
-        match self {
-            Session::NotOpen => 0,
-            Session::Open(session) => session.calls(),
-        }
-    }
-
     /// Answers a line: pushes the text of its answer, which is empty where the line is passed over,
     /// and becomes the session after it. Where memory runs out, the session and the text are as
     /// before; [`answer_without_memory`](Session::answer_without_memory) answers the line then.
