@@ -63,8 +63,8 @@ PARTS = [
         ('tt_values', 'RowWrites', 'Slots slot_after slot_writes slot_replies row_writes content_of',
          'Slot after slot, each on what those before it left: the content at every time'),
     ]),
-    ('One database. `Db::apply`, `advanced` and `apply_all` of `tt_db` make these states, and '
-     '`select`, `select_at`, `select_in`, `preview` and `preview_at` give these answers.', [
+    ('One database. `Db::apply`, `advanced`, `advance` and `apply_all` of `tt_db` make these '
+     'states, and `select`, `select_at`, `select_in`, `preview` and `preview_at` give these answers.', [
         ('tt_repair_laws', 'Edits', 'slot_number replacement_of edit_of slot_with_edit'
          ' edited_slots_from edited_slots', 'The slots as the edits of a repair leave them'),
         ('tt_generations', 'TwoGenerations', 'Phase phase_after_step slots_edited_by is_repairing'

@@ -220,7 +220,7 @@ collect_faulty_lines() {
   reports "$cases/report" session < <(echo "$text"; echo "$opening"; echo "$text"; echo "$status"; echo "$text")
 }
 
-# A session of so many inserts, which are sent at once: its lines, or its answers.
+# A session of this number of inserts, which are sent at once: its lines, or its answers.
 long_session() {
   awk -v count="$1" -v print_answers="$2" 'BEGIN {
     if (!print_answers) print "{\"version\":2,\"tables\":[{\"name\":\"t\",\"columns\":[{\"name\":\"k\",\"kind\":\"int\"}]}],\"records\":0}"

@@ -84,7 +84,7 @@ pub enum Answer {
         time: u64,
         page: RowPage,
     },
-    /// The rows of the next generation, with so many slots done.
+    /// The rows of the next generation, with this number of slots done.
     Previewed {
         done: u64,
         page: RowPage,

@@ -13,7 +13,7 @@ use Rattle.tt_db.specs.declared.errors.ReadError.TheVariants as read_errors
 abbrev pub rows_after : Option ℤ → List Row → List Row
 rows_after key rows = filter (λ r. is_after key (key_of r)) rows
 
--- the first rows with greater keys than this one, at most so many, and whether more follow
+-- the first rows with greater keys than this one, at most this number, and whether more follow
 abbrev pub first_rows : Option ℤ → ℕ → List Row → FirstRows
 first_rows key most rows = record { rows = take most (rows_after key rows); more = nat_lt most (length (rows_after key rows)) }
 

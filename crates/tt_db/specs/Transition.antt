@@ -7,7 +7,7 @@ use Rattle.tt_generations.specs.Limits.{max_slots}
 use Rattle.tt_generations.specs.TwoGenerations.{TwoGenerations, Idle, with_action, with_repair, after_step, after_switch, after_abort, left_of, NamesSlot, HasNoFault}
 use Rattle.tt_db.specs.declared.event.Event.{Event}
 use Rattle.tt_db.specs.declared.event.Event.TheVariants as events
-use Rattle.tt_db.specs.declared.transition.Transition.{Transition}
+use Rattle.tt_db.specs.declared.outcome.Outcome.{Outcome}
 use Rattle.tt_db.specs.State.{State, ClosedGeneration, with_closed, outcome_of}
 
 -- the tables of two generations after an event
@@ -43,8 +43,8 @@ Allows G events.Step = 0 < left_of G.phase G.slots
 Allows G events.Switch = left_of G.phase G.slots ≡ 0
 Allows G events.Abort = Unit {0}
 
--- what an event leaves of tables of two generations, whose current one has this number
-pub record IsTransition (G : TwoGenerations) (number : ℕ) (event : Event) (t : Transition) : Type 0 where
-  pub generations : t.generations ≡ generations_after G event
-  pub generation : t.generation ≡ number_after number event
-  pub outcome : t.outcome ≡ outcome_of G.catalog (state_with G number) event
+-- what an event leaves of tables of two generations, whose current one has this number, and its outcome
+pub record IsTransition (G : TwoGenerations) (number : ℕ) (event : Event) (next : TwoGenerations) (next_number : ℕ) (told : Outcome) : Type 0 where
+  pub generations : next ≡ generations_after G event
+  pub generation : next_number ≡ number_after number event
+  pub outcome : told ≡ outcome_of G.catalog (state_with G number) event

@@ -1,13 +1,14 @@
-ghost use Rattle.std.specs.Prelude.{◌≡◌, ◌<◌, ◌≤◌, ◌↔◌, IsSome, IsOk, IfSome, [], length, None, Some, OnOk, OnErr, IfOk, IfErr};
+ghost use Rattle.std.specs.Prelude.{◌≡◌, ◌≢◌, ◌<◌, ◌≤◌, ◌↔◌, IsSome, IsOk, IfSome, [], ◌∷◌, ◌++◌, length, None, Some, OnOk, OnErr, IfOk, IfErr};
 ghost use Rattle.std.specs.Option.{option_copied, option_map};
 ghost use Rattle.tt_versions.specs.Sides.{current_of, next_of, is_split};
 ghost use Rattle.tt_generations.specs.TwoGenerations.{done_of};
-ghost use Rattle.tt_db.specs.Limits.{Fits};
+ghost use Rattle.tt_db.specs.Limits.{Fits, max_limits};
 ghost use Rattle.tt_db.specs.Errors.{refusal_of_error};
 ghost use Rattle.tt_db.specs.State.{IsLegal, full_at, slots_in};
 ghost use Rattle.tt_db.specs.Database.{state_of, now_in, oldest_in, with_entry, refusal_of, outcome_for, right_answer, right_answer_at, right_answer_in, right_preview_of, right_preview_at_of, answer_for, preview_for, preview_at_for, slot_of, next_slot_of, repair_of, current_rows_of, ShowsNextRows, dirty_rows_in, MissesNoSlot, ShowsCurrent, nth_item, place_of};
 ghost use Rattle.tt_db.specs.RightAnswers.{Answers, RowsHaveRisingKeys};
 ghost use Rattle.tt_db.specs.Run.{IsRun};
+ghost use Rattle.tt_db.specs.Transition.{Allows, IsTransition, closed_after};
 
 mod page;
 
@@ -18,7 +19,7 @@ use crate::history::History;
 use crate::limits::Limits;
 use crate::outcome::Outcome;
 use crate::refusals::{edits_fault, missing_slot, slot_edited_twice};
-use crate::transition::Transition;
+use crate::transition::carry_out;
 use std::alloc::{AllocError, Global};
 use std::marker::Model;
 use std::sync::Arc;
@@ -222,8 +223,32 @@ impl Db {
         ensures outcome { IfOk result (λ r. IfOk r.1 (λ o. o ≡ outcome_for self entry.event)) }
         ensures accepted { IfOk result (λ r. IsOk r.1) }
     {
-        let (next, outcome) = self.apply_event(entry)?;
-        Ok((next, Ok(outcome)))
+        let mut db = self;
+        let outcome = db.apply_event(entry)?;
+        Ok((db, Ok(outcome)))
+    }
+
+    /// Applies an event in place: becomes the next database and answers the outcome, or stays and
+    /// answers why the event is refused. What no other database shares is changed where it lies.
+    /// Without memory for an event that isn't refused nothing is left of the database but its
+    /// catalog and its limits: use [`apply`](Db::apply) where it has to survive that.
+    pub fn advance(&mut self, entry: Entry) -> Result<Outcome, DbError>
+        ensures state { OnOk result (self.new ≡ with_entry self.old entry) }
+        ensures outcome { IfOk result (λ o. o ≡ outcome_for self.old entry.event) }
+        ensures accepted { OnOk result (refusal_of self.old entry.event ≡ None) }
+        ensures refused { IfErr result (λ e.
+            refusal_of self.old entry.event ≡ refusal_of_error e) }
+        ensures unchanged { IfErr result (λ e. e ≢ DbError.Memory → self.new ≡ self.old) }
+        ensures catalog { self.new.catalog ≡ self.old.catalog }
+        ensures limits { self.new.limits ≡ self.old.limits }
+    {
+        if let Some(refusal) = self.refusal(&entry.event) {
+            return Err(refusal);
+        }
+        match self.apply_event(entry) {
+            Ok(outcome) => Ok(outcome),
+            Err(AllocError) => Err(DbError::Memory),
+        }
     }
 
     /// Why the event is refused, memory aside.
@@ -331,9 +356,9 @@ impl Db {
         ensures state { IfOk result (λ r. r.0 ≡ with_entry self.now entry) }
         ensures outcome { IfOk result (λ r. r.1 ≡ outcome_for self.now entry.event) }
     {
-        let shared = self.share()?;
-        let next = shared.apply_event(entry)?;
-        Ok(next)
+        let mut next = self.share()?;
+        let outcome = next.apply_event(entry)?;
+        Ok((next, outcome))
     }
 
     /// A further owner of the same database.
@@ -353,40 +378,34 @@ impl Db {
         })
     }
 
-    /// The database after an event that isn't refused.
-    fn apply_event(self, entry: Entry) -> Result<(Db, Outcome), AllocError>
-        requires { refusal_of self entry.event ≡ None }
-        ensures state { IfOk result (λ r. r.0 ≡ with_entry self entry) }
-        ensures outcome { IfOk result (λ r. r.1 ≡ outcome_for self entry.event) }
+    /// Becomes the database after an event that isn't refused, and answers the outcome. Without
+    /// memory there is no entry afterwards.
+    fn apply_event(&mut self, entry: Entry) -> Result<Outcome, AllocError>
+        requires { refusal_of self.old entry.event ≡ None }
+        ensures state { OnOk result (self.new ≡ with_entry self.old entry) }
+        ensures outcome { IfOk result (λ o. o ≡ outcome_for self.old entry.event) }
+        ensures catalog { self.new.catalog ≡ self.old.catalog }
+        ensures limits { self.new.limits ≡ self.old.limits }
     {
-        let Db {
-            alloc,
-            limits,
-            history,
-            generations,
-            generation,
-            closed,
-        } = self;
-        let closed = match &entry.event {
-            Event::Switch => with_closed(alloc, limits.keep, &closed, generation, &generations)?,
-            _ => closed,
-        };
-        let transition = Transition::by_event(generations, generation, &entry.event)?;
-        let Transition {
-            generations,
-            generation,
-            outcome,
-        } = transition;
-        let history = history.into_pushed(entry)?;
-        let db = Db {
-            alloc,
-            limits,
-            history,
-            generations,
-            generation,
-            closed,
-        };
-        Ok((db, outcome))
+        let carried = carry_out_on(
+            self.alloc,
+            self.limits.keep,
+            &mut self.history,
+            &mut self.generations,
+            &mut self.generation,
+            &mut self.closed,
+            entry,
+        );
+        match carried {
+            Ok(outcome) => Ok(outcome),
+            Err(AllocError) => {
+                self.history = History::new(self.alloc);
+                self.generations.clear();
+                self.generation = 0;
+                self.closed = PagedLog::new(self.alloc);
+                Err(AllocError)
+            }
+        }
     }
 
     /// Applies entries in order, and answers each: one that is refused, or that runs out of memory,
@@ -405,7 +424,7 @@ impl Db {
     {
         let mut answers = Vec::with_capacity(self.alloc, entries.len())?;
         for entry in entries {
-            let answer = self.advance(entry);
+            let answer = self.try_entry(entry);
             answers.push_reserved(answer);
         }
         // For the proof: the invariant of the database is known where it is read.
@@ -414,7 +433,7 @@ impl Db {
     }
 
     /// Becomes the database after the entry, or stays as it is where the entry isn't accepted.
-    fn advance(&mut self, entry: &Entry) -> Result<Outcome, DbError>
+    fn try_entry(&mut self, entry: &Entry) -> Result<Outcome, DbError>
         ensures ok { OnOk result (self.new ≡ with_entry self.old entry.now) }
         ensures outcome { IfOk result (λ o. o ≡ outcome_for self.old entry.now.event) }
         ensures accepted { OnOk result (refusal_of self.old entry.now.event ≡ None) }
@@ -598,5 +617,52 @@ impl Db {
         } else {
             None
         }
+    }
+}
+
+/// Carries out an event that isn't refused on the parts of a database, adds its entry to the
+/// history, and answers the outcome.
+fn carry_out_on(
+    alloc: Global,
+    keep: u32,
+    history: &mut History,
+    generations: &mut Generations,
+    generation: &mut u64,
+    closed: &mut PagedLog<ClosedGeneration>,
+    entry: Entry,
+) -> Result<Outcome, AllocError>
+    requires allowed { Allows generations.old entry.event }
+    requires small { generation.old < max_limits.events }
+    ensures history { OnOk result (history.new ≡ history.old ++ entry ∷ []) }
+    ensures transition { IfOk result (IsTransition generations.old generation.old entry.event
+        generations.new generation.new) }
+    ensures closed { OnOk result (closed.new ≡ closed_after keep closed.old
+        generation.old generations.old.slots entry.event) }
+    ensures catalog { generations.new.catalog ≡ generations.old.catalog }
+{
+    close_by(alloc, keep, closed, *generation, generations, &entry.event)?;
+    let outcome = carry_out(generations, generation, &entry.event)?;
+    history.push(alloc, entry)?;
+    Ok(outcome)
+}
+
+/// Closes the current generation, which has this number, where the event is a switch.
+fn close_by(
+    alloc: Global,
+    keep: u32,
+    closed: &mut PagedLog<ClosedGeneration>,
+    number: u64,
+    generations: &Generations,
+    event: &Event,
+) -> Result<(), AllocError>
+    ensures { OnOk result
+        (closed.new ≡ closed_after keep closed.old number generations.now.slots event.now) }
+{
+    match event {
+        Event::Switch => {
+            *closed = with_closed(alloc, keep, closed, number, generations)?;
+            Ok(())
+        }
+        _ => Ok(()),
     }
 }

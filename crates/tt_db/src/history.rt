@@ -1,5 +1,5 @@
 //! The history: the accepted entries in order, and at which places the slots were made.
-ghost use Rattle.std.specs.Prelude.{◌≡◌, ◌<◌, ◌+◌, [], ◌++◌, ◌∷◌, length, slice_get, take, drop, IfOk, IsTrue, IsFalse};
+ghost use Rattle.std.specs.Prelude.{◌≡◌, ◌<◌, ◌+◌, [], ◌++◌, ◌∷◌, length, slice_get, take, drop, IfOk, OnOk, IsTrue, IsFalse};
 ghost use Rattle.std.specs.Option.{option_copied};
 ghost use Rattle.tt_db.specs.Database.{nth_item};
 ghost use Rattle.tt_db.specs.History.{is_write, write_places, writes_before_others, AllBelow, NoneBelow, IsCut};
@@ -66,23 +66,16 @@ impl History {
         })
     }
 
-    /// The history with one more entry.
-    pub(crate) fn into_pushed(self, entry: Entry) -> Result<History, AllocError>
-        ensures { IfOk result (λ h. h ≡ self ++ entry ∷ []) }
+    /// Adds an entry. Without memory there are no entries afterwards.
+    pub(crate) fn push(&mut self, alloc: Global, entry: Entry) -> Result<(), AllocError>
+        ensures { OnOk result (self.new ≡ self.old ++ entry ∷ []) }
     {
-        let History {
-            mut entries,
-            mut write_counts,
-        } = self;
-        if !is_write(&entry.event) {
-            let writes = entries.len() - write_counts.len();
-            write_counts.push(writes as u64)?;
+        let pushed = push_entry(&mut self.entries, &mut self.write_counts, entry);
+        if pushed.is_err() {
+            self.entries = PagedLog::new(alloc);
+            self.write_counts = PagedLog::new(alloc);
         }
-        entries.push(entry)?;
-        Ok(History {
-            entries,
-            write_counts,
-        })
+        pushed
     }
 
     /// The place, counted from 1, of the write of a number, counted from 1. Takes no memory, and
@@ -128,6 +121,25 @@ impl History {
             None => false,
         }
     }
+}
+
+/// Adds an entry to the entries, and the number of writes before it to the others' numbers, where
+/// it isn't a write.
+fn push_entry(
+    entries: &mut PagedLog<Entry>,
+    write_counts: &mut PagedLog<u64>,
+    entry: Entry,
+) -> Result<(), AllocError>
+    requires { write_counts.old ≡ writes_before_others 0 entries.old }
+    ensures entries { OnOk result (entries.new ≡ entries.old ++ entry ∷ []) }
+    ensures counts { OnOk result (write_counts.new ≡ writes_before_others 0 entries.new) }
+{
+    if !is_write(&entry.event) {
+        let writes = entries.len() - write_counts.len();
+        write_counts.push(writes as u64)?;
+    }
+    entries.push(entry)?;
+    Ok(())
 }
 
 /// Whether an event is a write.

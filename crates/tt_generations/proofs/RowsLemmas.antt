@@ -1,7 +1,8 @@
 -- Tables by position, and those that have the rows of row writes.
-use Rattle.std.proofs.Common.{◌≡◌, ℕ, zero, suc, ◌<◌, ℤ, Bool, true, false, cond, nat_le, ◌==◌, List, [], ◌∷◌, ◌++◌, fold, length, set, Option, if◌then◌else◌, refl, sym, ap, subst, ◌∙◌, arith, append-nil, append_assoc}
+use Rattle.std.proofs.Common.{◌≡◌, ℕ, zero, suc, ◌<◌, ℤ, Bool, true, false, cond, nat_le, ◌==◌, List, [], ◌∷◌, ◌++◌, fold, length, set, get_or, Option, if◌then◌else◌, refl, sym, ap, subst, ◌∙◌, arith, append-nil, append_assoc}
 use Rattle.std.proofs.lemmas.Bool.Decides.{nat_tests}
 use Rattle.std.proofs.lemmas.List.{get_or-set_same, get_or-set_other}
+use Rattle.std.proofs.lemmas.Option.{slice_get-get_or, get_or_from_slice_get}
 use Rattle.std.proofs.lemmas.List.Elements.{filter-append}
 use Rattle.std.proofs.lemmas.List.Sums.{fold-append}
 use Rattle.tt_values.specs.declared.row.Row.{Row}
@@ -81,6 +82,12 @@ PutsTable-set before between position table new same others room =
     by t true e = refl
     by t false e = others t e
 
+-- where empty tables are added, the table at a position is the one that was there
+pub found-added : (before added : TablesByPosition) (position : ℕ) (table : LineagesByKey) → versions_at added ≡ versions_at before → position < length added
+    → table ≡ get_or added position table → table ≡ versions_at before position
+found-added before added position table same room found =
+    found ∙ sym (get_or_from_slice_get added position (get_or added position table) no_lineages (slice_get-get_or added position table room)) ∙ (λ i. same i position)
+
 -- where one table gets an effect, all tables do
 pub AddsEffect-put : (before after : TablesByPosition) (table : ℕ) (new : LineagesByKey) (time : ℕ) (effect : List (ℤ × Option Row)) → PutsTable table new before after
     → AddsRowWritesOf (current_of (versions_at before table)) (current_of new) effect time → AddsEffect before after time table effect
@@ -104,6 +111,3 @@ WritesCurrent-put before after table new time effect puts written t = ap current
 
 -- what adding empty tables rests on
 pub ruleset adds_tables = (versions_at-push)
-
--- and setting one
-pub ruleset sets_table = (versions_at-set)

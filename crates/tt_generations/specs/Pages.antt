@@ -7,7 +7,7 @@ use Rattle.tt_versions.specs.Sides.{RowsOverTime, ListsRows}
 use Rattle.tt_versions.specs.Pages.{those_after}
 use Rattle.tt_generations.specs.declared.first_rows.FirstRows.{FirstRows}
 
--- of some rows, those with greater keys than this one, of these the first, at most so many, and whether more follow
+-- of some rows, the first with greater keys than this one, at most this number, and whether more follow
 abbrev pub page_of_rows : Option ℤ → ℕ → RowsByKey → FirstRows
 page_of_rows low most es = record { rows = map (λ e. e.1) (take most (those_after low es)); more = nat_lt most (length (those_after low es)) }
 

@@ -1,6 +1,7 @@
-ghost use Rattle.std.specs.Prelude.{◌≡◌, ◌<◌, ◌≤◌, ◌+◌, ◌++◌, [], ◌∷◌, length, None, Some, IfOk, OnOk};
+ghost use Rattle.std.specs.Prelude.{◌≡◌, ◌<◌, ◌≤◌, ◌+◌, ◌++◌, [], ◌∷◌, length, None, Some, IfOk, OnOk, OnErr};
 ghost use Rattle.std.specs.List.{All};
 ghost use Rattle.std.specs.Option.{option_copied};
+ghost use Rattle.tt_values.specs.Tables.{IsCatalog};
 ghost use Rattle.tt_values.specs.Check.{action_fault};
 ghost use Rattle.tt_values.specs.Effect.{answer_of};
 ghost use Rattle.tt_values.specs.Action.{replies_of};
@@ -252,65 +253,102 @@ impl Generations {
         Ok(Generations { state })
     }
 
-    /// The slots and one more, for this action, with the replies to its writes.
-    pub fn into_written(
-        self,
-        action: Items<Write>,
-    ) -> Result<(Generations, Items<Reply>), AllocError>
-        requires accepted { action_fault self.catalog action ≡ None }
-        requires room { length self.slots < max_slots }
-        ensures state { IfOk result (λ r. r.0 ≡ with_action self action) }
-        ensures replies { IfOk result (λ r. r.1 ≡ replies_of action (last_content self.slots)) }
+    /// Adds a slot for this action, and answers the replies to its writes. Without memory there are
+    /// no slots afterwards.
+    pub fn write(&mut self, action: Items<Write>) -> Result<Items<Reply>, AllocError>
+        requires accepted { action_fault self.old.catalog action ≡ None }
+        requires room { length self.old.slots < max_slots }
+        ensures state { OnOk result (self.new ≡ with_action self.old action) }
+        ensures replies { IfOk result
+            (λ r. r ≡ replies_of action (last_content self.old.slots)) }
+        ensures memory { OnErr result (self.new ≡ no_slots self.old.catalog) }
     {
-        let Generations { mut state } = self;
-        let replies = state.add_action(action)?;
-        Ok((Generations { state }, replies))
+        match self.state.add_action(action) {
+            Ok(replies) => Ok(replies),
+            Err(AllocError) => {
+                self.state.clear();
+                Err(AllocError)
+            }
+        }
     }
 
-    /// Begins a repair with these edits, where none is under way. It has done no slot yet.
-    pub fn into_repairing(self, edits: Items<Edit>) -> Result<Generations, AllocError>
-        requires idle { self.phase ≡ Phase.Idle }
-        requires named { All (NamesSlot self.slots) edits }
-        requires accepted { All (HasNoFault self.catalog) edits }
-        ensures { IfOk result (λ g. g ≡ with_repair self edits) }
+    /// Begins a repair with these edits, where none is under way. It has done no slot yet. Without
+    /// memory there are no slots afterwards.
+    pub fn begin(&mut self, edits: Items<Edit>) -> Result<(), AllocError>
+        requires idle { self.old.phase ≡ Phase.Idle }
+        requires named { All (NamesSlot self.old.slots) edits }
+        requires accepted { All (HasNoFault self.old.catalog) edits }
+        ensures state { OnOk result (self.new ≡ with_repair self.old edits) }
+        ensures memory { OnErr result (self.new ≡ no_slots self.old.catalog) }
     {
-        let Generations { mut state } = self;
-        let repair = Repair::new(state.alloc, &state.catalog, edits, &state.slots)?;
-        state.repair = Some(BoxedRepair::new(state.alloc, repair)?);
-        Ok(Generations { state })
+        match self.state.begin(edits) {
+            Ok(()) => Ok(()),
+            Err(AllocError) => {
+                self.state.clear();
+                Err(AllocError)
+            }
+        }
     }
 
     /// Does one slot of the repair: it is re-executed where it is due. Answers whether it was.
-    pub fn into_stepped(self) -> Result<(Generations, bool), AllocError>
-        requires { 0 < left_of self.phase self.slots }
-        ensures state { IfOk result (λ r. r.0 ≡ after_step self) }
-        ensures due { IfOk result (λ r. r.1 ≡ is_next_due self) }
+    /// Without memory there are no slots afterwards.
+    pub fn step(&mut self) -> Result<bool, AllocError>
+        requires { 0 < left_of self.old.phase self.old.slots }
+        ensures state { OnOk result (self.new ≡ after_step self.old) }
+        ensures due { IfOk result (λ due. due ≡ is_next_due self.old) }
+        ensures memory { OnErr result (self.new ≡ no_slots self.old.catalog) }
     {
-        let Generations { mut state } = self;
-        let is_due = state.step()?;
-        Ok((Generations { state }, is_due))
+        match self.state.step() {
+            Ok(is_due) => Ok(is_due),
+            Err(AllocError) => {
+                self.state.clear();
+                Err(AllocError)
+            }
+        }
     }
 
-    /// The next generation becomes the current one. Takes time for the split rows alone.
-    pub fn into_switched(self) -> Result<Generations, AllocError>
-        requires { left_of self.phase self.slots ≡ 0 }
-        ensures { IfOk result (λ g. g ≡ after_switch self) }
+    /// The next generation becomes the current one. Takes time for the split rows alone. Without
+    /// memory there are no slots afterwards.
+    pub fn switch(&mut self) -> Result<(), AllocError>
+        requires { left_of self.old.phase self.old.slots ≡ 0 }
+        ensures state { OnOk result (self.new ≡ after_switch self.old) }
+        ensures memory { OnErr result (self.new ≡ no_slots self.old.catalog) }
     {
-        let Generations { mut state } = self;
-        state.rows.unsplit(Side::Next)?;
-        let state = state.into_next();
-        Ok(Generations { state })
+        match self.state.rows.unsplit(Side::Next) {
+            Ok(()) => {
+                self.state.take_next_slots();
+                Ok(())
+            }
+            Err(AllocError) => {
+                self.state.clear();
+                Err(AllocError)
+            }
+        }
     }
 
     /// The next generation is given up, and the current one stays. Takes time for the split rows
-    /// alone.
-    pub fn into_aborted(self) -> Result<Generations, AllocError>
-        ensures { IfOk result (λ g. g ≡ after_abort self) }
+    /// alone. Without memory there are no slots afterwards.
+    pub fn abort(&mut self) -> Result<(), AllocError>
+        ensures state { OnOk result (self.new ≡ after_abort self.old) }
+        ensures memory { OnErr result (self.new ≡ no_slots self.old.catalog) }
     {
-        let Generations { mut state } = self;
-        state.rows.unsplit(Side::Current)?;
-        state.repair = None;
-        Ok(Generations { state })
+        match self.state.rows.unsplit(Side::Current) {
+            Ok(()) => {
+                self.state.repair = None;
+                Ok(())
+            }
+            Err(AllocError) => {
+                self.state.clear();
+                Err(AllocError)
+            }
+        }
+    }
+
+    /// Drops all slots, and the repair if one is under way. Takes no memory.
+    pub fn clear(&mut self)
+        ensures { self.new ≡ no_slots self.old.catalog }
+    {
+        self.state.clear();
     }
 }
 
@@ -332,27 +370,46 @@ impl State {
         })
     }
 
+    /// Drops the slots, the rows and the repair. Takes no memory.
+    fn clear(&mut self)
+        requires { IsCatalog self.old.catalog }
+        ensures parts { AreGenerations
+            self.new.catalog self.new.slots self.new.rows self.new.repair }
+        ensures nothing { self.new ≡ record self.old { slots = []; rows = []; repair = None } }
+    {
+        self.slots = PagedLog::new(self.alloc);
+        self.rows = Rows::new(self.alloc);
+        self.repair = None;
+    }
+
     /// The slots of the next generation become those of the current one, and there is no repair.
-    fn into_next(self) -> State
-        ensures { result ≡ record self {
-          slots = next_slots self.repair self.slots;
+    fn take_next_slots(&mut self)
+        ensures { self.new ≡ record self.old {
+          slots = next_slots self.old.repair self.old.slots;
           repair = None;
         } }
     {
-        let State {
-            alloc,
-            catalog,
-            slots,
-            rows,
-            repair,
-        } = self;
-        State {
-            alloc,
-            catalog,
-            slots: next_slots(repair, slots),
-            rows,
-            repair: None,
+        if let Some(repair) = self.repair.take() {
+            self.slots = repair.into_inner().into_slots();
         }
+    }
+
+    /// Begins a repair with these edits.
+    fn begin(&mut self, edits: Items<Edit>) -> Result<(), AllocError>
+        requires parts { AreGenerations
+            self.old.catalog self.old.slots self.old.rows self.old.repair }
+        requires idle { phase_of self.old.repair ≡ Phase.Idle }
+        requires named { All (NamesSlot (actions_of self.old.slots)) edits }
+        requires accepted { All (HasNoFault self.old.catalog) edits }
+        ensures parts { OnOk result
+            (AreGenerations self.new.catalog self.new.slots self.new.rows self.new.repair) }
+        ensures catalog { self.new.catalog ≡ self.old.catalog }
+        ensures slots { OnOk result (self.new.slots ≡ self.old.slots) }
+        ensures phase { OnOk result (phase_of self.new.repair ≡ Phase.Repairing edits 0) }
+    {
+        let repair = Repair::new(self.alloc, &self.catalog, edits, &self.slots)?;
+        self.repair = Some(BoxedRepair::new(self.alloc, repair)?);
+        Ok(())
     }
 
     /// Adds a slot of this action, and answers the replies to its writes.
@@ -363,7 +420,7 @@ impl State {
         requires room { length self.old.slots < max_slots }
         ensures parts { OnOk result
             (AreGenerations self.new.catalog self.new.slots self.new.rows self.new.repair) }
-        ensures catalog { OnOk result (self.new.catalog ≡ self.old.catalog) }
+        ensures catalog { self.new.catalog ≡ self.old.catalog }
         ensures slots { OnOk result
             (actions_of self.new.slots ≡ actions_of self.old.slots ++ Some action ∷ []) }
         ensures phase { OnOk result (phase_of self.new.repair ≡ phase_of self.old.repair) }
@@ -387,7 +444,7 @@ impl State {
         requires left { 0 < left_of (phase_of self.old.repair) (actions_of self.old.slots) }
         ensures parts { OnOk result
             (AreGenerations self.new.catalog self.new.slots self.new.rows self.new.repair) }
-        ensures catalog { OnOk result (self.new.catalog ≡ self.old.catalog) }
+        ensures catalog { self.new.catalog ≡ self.old.catalog }
         ensures slots { OnOk result (self.new.slots ≡ self.old.slots) }
         ensures phase { OnOk result
             (phase_of self.new.repair ≡ phase_after_step (phase_of self.old.repair)) }
@@ -428,15 +485,5 @@ fn add_to_repair(repair: &mut Option<BoxedRepair>, kept: &KeptSlot) -> Result<()
     match repair {
         Some(repair) => repair.add_slot(kept),
         None => Ok(()),
-    }
-}
-
-/// The slots of the next generation, or those of the current one where there is no repair.
-fn next_slots(repair: Option<BoxedRepair>, slots: PagedLog<KeptSlot>) -> PagedLog<KeptSlot>
-    ensures { result ≡ next_slots repair slots }
-{
-    match repair {
-        Some(repair) => repair.into_inner().into_slots(),
-        None => slots,
     }
 }

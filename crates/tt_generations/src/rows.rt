@@ -97,9 +97,8 @@ impl Rows {
         ensures split { OnOk result (KeepsSplitRows self.old self.new) }
     {
         let position = usize::from(table);
-        let old = take_table(self.alloc, catalog, &mut self.tables, position)?;
-        let new = old.into_all_written(effect, time)?;
-        self.tables[position] = new;
+        add_tables(self.alloc, catalog, &mut self.tables, position)?;
+        self.tables[position].write_all(effect, time)?;
         Ok(())
     }
 
@@ -126,9 +125,8 @@ impl Rows {
             return Ok(());
         }
         let position = usize::from(row.table);
-        let old = take_table(self.alloc, catalog, &mut self.tables, position)?;
-        let new = old.into_split_back(row.key, time)?;
-        self.tables[position] = new;
+        add_tables(self.alloc, catalog, &mut self.tables, position)?;
+        self.tables[position].split_row_back(row.key, time)?;
         Ok(())
     }
 
@@ -145,9 +143,8 @@ impl Rows {
         ensures { OnOk result (WritesNext self.old self.new time table effect) }
     {
         let position = usize::from(table);
-        let old = take_table(self.alloc, catalog, &mut self.tables, position)?;
-        let new = old.into_all_next_written(effect, time)?;
-        self.tables[position] = new;
+        add_tables(self.alloc, catalog, &mut self.tables, position)?;
+        self.tables[position].write_all_next(effect, time)?;
         Ok(())
     }
 
@@ -183,23 +180,6 @@ fn table_unsplit(table: Table, side: Side) -> Result<Table, AllocError>
         Side::Current => table.into_aborted(),
         Side::Next => table.into_switched(),
     }
-}
-
-/// Takes a table out, and leaves an empty one. There are tables up to its position then.
-#[tactic(auto, using(crate::proofs::RowsLemmas::sets_table))]
-fn take_table(
-    alloc: Global,
-    catalog: &Catalog,
-    tables: &mut Vec<Table>,
-    position: usize,
-) -> Result<Table, AllocError>
-    ensures table { IfOk result (λ table. table ≡ versions_at tables.old.items position) }
-    ensures room { OnOk result (position < length tables.new.items) }
-    ensures others { OnOk result (KeepsOthers position tables.old.items tables.new.items) }
-{
-    add_tables(alloc, catalog, tables, position)?;
-    let table = mem::replace(&mut tables[position], Table::new(alloc));
-    Ok(table)
 }
 
 /// Adds empty tables, until there is one at the position.

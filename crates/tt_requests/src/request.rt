@@ -90,7 +90,20 @@ impl Request {
         ensures { Gives result (request_of catalog.now (value_of_line line.now)) }
     {
         let mut scratch = Scratch::new(alloc);
-        match parse_line(alloc, line, &mut scratch) {
+        Request::from_line_with(alloc, catalog, line, &mut scratch)
+    }
+
+    /// As [`from_line`](Request::from_line), for a caller that keeps `scratch` from line to line.
+    /// What it held doesn't matter. It grows to the longest line.
+    pub fn from_line_with(
+        alloc: Global,
+        catalog: &Catalog,
+        line: &[u8],
+        scratch: &mut Scratch,
+    ) -> Result<Request, DocFault>
+        ensures { Gives result (request_of catalog.now (value_of_line line.now)) }
+    {
+        match parse_line(alloc, line, scratch) {
             Ok(tape) => from_json(alloc, catalog, &root(&tape)),
             Err(fault) => Err(fault.in_document(alloc)),
         }

@@ -1,7 +1,7 @@
 -- How a session on a reader and a writer goes on.
-use Rattle.std.proofs.Common.{◌≡◌, ℕ, ◌+◌, ◌-◌, ◌<◌, ◌≤◌, ◌==◌, Bool, true, false, not, ◌&&◌, min, List, [], ◌∷◌, ◌++◌, length, take, map, append-nil, append_assoc, length-append, length-take, Option, None, Some, IfSome, Result, Ok, Err, OnOk, OnErr, refl, sym, ap, ◌∙◌, subst, arith, if◌then◌else◌}
+use Rattle.std.proofs.Common.{◌≡◌, ℕ, ◌+◌, ◌≤◌, ◌==◌, Bool, true, false, not, min, List, [], ◌∷◌, ◌++◌, length, take, append-nil, append_assoc, Option, Result, Ok, Err, OnOk, OnErr, refl, sym, ap, ◌∙◌, subst, arith}
 use Rattle.std.proofs.Math.Seq.{take-append-add}
-use Rattle.std.proofs.lemmas.Bool.{and_from, and_parts, and_left, and_right}
+use Rattle.std.proofs.lemmas.Bool.{and_from, and_parts, and_right}
 use Rattle.std.proofs.lemmas.List.{map-append, take_min, take-append-le}
 use Rattle.std.proofs.lemmas.List.Folds.{list_all-append}
 use Rattle.std.specs.List.{list_all}
@@ -12,7 +12,7 @@ use Rattle.tt_requests.specs.Lines.{is_too_long, is_passed_over, lines_of, whole
 use Rattle.tt_session.specs.declared.session.Session.{Session}
 use Rattle.tt_session.specs.declared.run.Run.{Run}
 use Rattle.tt_session.specs.Lines.{HasBytes, has_no_feed, joined}
-use Rattle.tt_session.specs.Run.{Turn, turn_by_value, turn_with_memory, turn_without_memory, turn_of_long_line}
+use Rattle.tt_session.specs.Run.{Turn, turn_with_memory, turn_without_memory, turn_of_long_line}
 use Rattle.tt_session.specs.Answering.{LineRead, turn_of_read, turns_of, AnswersEach, Cuts, Gives, Takes, StopsIn, AnswersOne, StopsAt, AnswersLast, StopsInLast}
 use Rattle.tt_session.proofs.LineLemmas.{feed-more}
 use Rattle.tt_session.proofs.TurnLemmas.{turn-long}
@@ -315,7 +315,7 @@ stops-long bytes old short before after long text written = record {
 }
 
 -- a line for which there was memory
-read-kept : (session : Session) (bytes : List ℕ) → turn_of_read session (record { is_lost = false; line = bytes }) ≡ turn_with_memory session bytes
+pub read-kept : (session : Session) (bytes : List ℕ) → turn_of_read session (record { is_lost = false; line = bytes }) ≡ turn_with_memory session bytes
 read-kept session bytes = rw (and_right (not (is_too_long bytes)) false refl) refl
 
 pub one-kept : (bytes : List ℕ) (old new : Run) (writer : Option (List ℕ)) → new.session ≡ (turn_with_memory old.session bytes).session

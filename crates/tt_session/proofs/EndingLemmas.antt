@@ -1,20 +1,17 @@
 -- How a session on a reader and a writer ends.
-use Rattle.std.proofs.Common.{◌≡◌, ◌≢◌, ℕ, ◌+◌, ◌-◌, ◌<◌, ◌≤◌, ◌==◌, Bool, true, false, not, ◌&&◌, ◌||◌, min, List, [], ◌∷◌, ◌++◌, length, take, map, append-nil, append_assoc, length-append, length-take, Option, None, Some, IfSome, refl, sym, ap, ◌∙◌, subst, arith, if◌then◌else◌, eq-eqb, ne_eqb, inl, inr}
-use Rattle.std.proofs.lemmas.Bool.{and_from, or_from, or_right}
-use Rattle.std.proofs.lemmas.List.{map-append, take_min, take-append-le}
-use Rattle.std.proofs.lemmas.List.Folds.{list_any-append, list_any_none}
-use Rattle.std.proofs.lemmas.List.Elements.{All-append}
-use Rattle.std.specs.List.{list_any, All}
-use Rattle.std.specs.Io.KnownBytes.{Appends, Consumes, IsAtEnd, Keeps}
+use Rattle.std.proofs.Common.{◌≡◌, ℕ, ◌+◌, ◌<◌, ◌==◌, Bool, true, false, ◌||◌, List, [], ◌∷◌, ◌++◌, map, append-nil, append_assoc, Option, None, Some, IfSome, refl, sym, ap, ◌∙◌, subst, arith, if◌then◌else◌, eq-eqb, ne_eqb}
+use Rattle.std.proofs.lemmas.Bool.{or_from}
+use Rattle.std.specs.List.{list_any}
+use Rattle.std.specs.Io.KnownBytes.{Appends, Consumes, IsAtEnd}
 use Rattle.std.proofs.KnownBytes.{Appends-nil}
 use Rattle.tt_workload.specs.Ends.{AppendsPrefix}
-use Rattle.tt_requests.specs.Lines.{is_too_long, is_passed_over, lines_of, whole_lines_of}
+use Rattle.tt_requests.specs.Lines.{lines_of, whole_lines_of}
 use Rattle.tt_session.specs.declared.session.Session.{Session}
 use Rattle.tt_session.specs.declared.session.Session.TheVariants.{NotOpen}
 use Rattle.tt_session.specs.declared.run.Run.{Run}
-use Rattle.tt_session.specs.Lines.{has_no_feed, joined}
-use Rattle.tt_session.specs.Run.{Turn, turn_of_line, turn_of_lines, session_text, lacks_memory}
-use Rattle.tt_session.specs.Answering.{LineRead, turn_of_read, turns_of, AnswersEach, Cuts, Takes, StopsIn, AnswersLast, StopsInLast}
+use Rattle.tt_session.specs.Lines.{joined}
+use Rattle.tt_session.specs.Run.{Turn, turn_of_line, turn_of_lines, session_text}
+use Rattle.tt_session.specs.Answering.{LineRead, turn_of_read, turns_of, AnswersEach, Takes, StopsIn, AnswersLast, StopsInLast}
 use Rattle.tt_session.specs.Ends.{AnswersLines, AnswersPrefix, AnswersWholeLines, AnswersAll, FailsToRead, FailsToWrite}
 use Rattle.tt_session.proofs.AnsweringLemmas.{each-trans, lines_of-joined, whole_lines_of-joined, prefix-longer, gives-then, gives-all, gives-prefix}
 

@@ -11,4 +11,6 @@ pub mod LineLemmas
 pub mod TurnLemmas
 pub mod AnsweringLemmas
 pub mod EndingLemmas
+pub mod RecordLemmas
+pub mod BatchLemmas
 mod worked_sessions

@@ -1,15 +1,12 @@
 -- Lines that are read piece by piece.
-use Rattle.std.proofs.Common.{◌≡◌, ℕ, ◌+◌, ◌-◌, ◌<◌, ◌≤◌, ◌==◌, nat_lt, Bool, true, false, not, ◌&&◌, min, List, [], ◌∷◌, ◌++◌, length, take, drop, take_all, append-nil, length-append, refl, sym, ap, ◌∙◌, subst, arith, ltb-false, le-ltb, lt-ltb, eqb-true, get_or, get_or-take, length-take, slice_index, inl, inr, zero, suc, MatchOption, Option, None, Some, append_assoc}
-use Rattle.std.proofs.Math.Seq.{take-append-add, take-add}
-use Rattle.std.proofs.lemmas.Bool.{cases_lt, and_parts, and_from, not-true, not-false, true≢false}
-use Rattle.std.proofs.lemmas.List.{take-append-le, take_min, take-append-drop, take_rest, take_more, length-drop}
+use Rattle.std.proofs.Common.{◌≡◌, ℕ, ◌+◌, ◌-◌, ◌<◌, ◌≤◌, ◌==◌, Bool, true, false, not, ◌&&◌, min, List, [], ◌∷◌, ◌++◌, length, take, drop, take_all, append-nil, length-append, refl, sym, ap, ◌∙◌, arith, ltb-false, eqb-true, get_or-take, length-take, slice_index, inl, inr, suc, MatchOption, Option, None, Some}
+use Rattle.std.proofs.Math.Seq.{take-append-add}
+use Rattle.std.proofs.lemmas.Bool.{cases_lt, and_from}
+use Rattle.std.proofs.lemmas.List.{take-append-le, take_min, take-append-drop, take_rest, take_more}
 use Rattle.std.proofs.lemmas.List.Folds.{list_all-append}
-use Rattle.std.proofs.lemmas.List.Sums.{list_all-from_AllPass}
-use Rattle.std.specs.List.{list_all}
 use Rattle.memchr.specs.Find.{IsFirstByte, is_byte}
 use Rattle.tt_requests.specs.Lines.{is_blank, is_blank_byte, is_too_long}
-use Rattle.tt_session.specs.declared.line.Line.{Line}
-use Rattle.tt_session.specs.Lines.{HasBytes, HasFirstFeed, max_bytes_kept, has_no_feed}
+use Rattle.tt_session.specs.Lines.{HasFirstFeed, max_bytes_kept, has_no_feed}
 
 pub take-append : (n : ℕ) (xs ys : List ℕ) → take n (xs ++ ys) ≡ take n xs ++ take (n - length xs) ys
 take-append n xs ys = elim (cases_lt n (length xs)) [
@@ -71,26 +68,9 @@ first_feed-found bytes (Some n) found =
       feed = eqb-true _ _ found.1;
     }
 
--- the bytes up to the next line feed, and the bytes with it
-pub record IsNextLine (bytes : List ℕ) (from count : ℕ) (piece : List ℕ) : Type 0 where
-  pub within : from + (count + 1) ≤ length bytes
-  pub taken : take (from + (count + 1)) bytes ≡ (take from bytes ++ piece) ++ 10 ∷ []
-  pub none : has_no_feed piece ≡ true
-
-pub next_line : (bytes : List ℕ) (from count : ℕ) → from ≤ length bytes → HasFirstFeed (take (length bytes - from) (drop from bytes)) count
-    → IsNextLine bytes from count (take (from + count - from) (drop from bytes))
-next_line bytes from count some found =
-    let rest = drop from bytes in
-    let first : HasFirstFeed rest count = subst (λ r. HasFirstFeed r count) (take_rest bytes from) found in
-    let same : from + count - from ≡ count = omega arith in
-    let feed : take (count + 1) rest ≡ take count rest ++ 10 ∷ [] = take_more rest count 0 first.within ∙ ap (λ b. take count rest ++ b ∷ []) first.feed in
-    record {
-      within = omega (arith, first.within, length-drop from bytes);
-      taken =
-          take-add from (count + 1) bytes ∙ ap (λ l. take from bytes ++ l) (feed ∙ ap (λ n. take n rest ++ 10 ∷ []) (sym same))
-          ∙ sym (append_assoc (take from bytes) (take (from + count - from) rest) (10 ∷ []));
-      none = ap (λ n. has_no_feed (take n rest)) same ∙ first.before;
-    }
+-- the bytes up to the first line feed, and the bytes with it
+pub first_line : (bytes : List ℕ) (count : ℕ) → HasFirstFeed bytes count → take (count + 1) bytes ≡ take count bytes ++ 10 ∷ []
+first_line bytes count first = take_more bytes count 0 first.within ∙ ap (λ b. take count bytes ++ b ∷ []) first.feed
 
 pub rest_of : (bytes : List ℕ) (from : ℕ) → take from bytes ++ take (length bytes - from) (drop from bytes) ≡ bytes
 rest_of bytes from = ap (λ l. take from bytes ++ l) (take_rest bytes from) ∙ take-append-drop from bytes

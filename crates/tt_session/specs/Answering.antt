@@ -15,14 +15,14 @@ pub record LineRead : Type 0 where
   pub is_lost : Bool
   pub line : List ℕ
 
--- such a line is passed over or answered
+-- a line that was read is passed over or answered
 abbrev pub turn_of_read : Session → LineRead → Turn
 turn_of_read session read =
     if is_passed_over read.line then record { text = []; session = session } else (
     if not (is_too_long read.line) && read.is_lost then turn_without_memory session else
     turn_by_value session (value_of_line read.line))
 
--- such lines are answered one after another
+-- lines that were read are answered one after another
 abbrev pub turns_of : Session → List LineRead → Turn
 turns_of session [] = record { text = []; session = session }
 turns_of session (read ∷ reads) =

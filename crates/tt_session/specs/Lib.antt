@@ -15,6 +15,7 @@ pub mod Run
 pub mod Lines
 pub mod ShortAnswers
 pub mod Answering
+pub mod Batch
 pub mod Ends
 pub mod Invariants
 pub mod ReadBack

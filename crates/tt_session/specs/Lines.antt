@@ -23,6 +23,10 @@ pub record HasBytes (line : Line) (bytes : List ℕ) : Type 0 where
   pub blank : line.is_blank ≡ is_blank bytes
   pub kept : line.is_lost ≡ false → line.kept.items ≡ take max_bytes_kept bytes
 
+-- this is what a definition says of the bytes of the line that is being read
+abbrev pub IsToldBy : (List ℕ → Bool) → Line → Bool → Type 0
+IsToldBy definition line told = (bytes : List ℕ) → HasBytes line bytes → told ≡ definition bytes
+
 -- the first line feed among these bytes is at this place
 pub record HasFirstFeed (bytes : List ℕ) (place : ℕ) : Type 0 where
   pub within : place < length bytes

@@ -10,11 +10,11 @@ use Rattle.tt_answers.specs.declared.answer.RowPage.{RowPage}
 abbrev pub page_after : Option ℤ → Page
 page_after key = record { after = key; most = None }
 
--- the page of the first rows with greater keys than this one, if one is given, at most so many
+-- the page of the first rows with greater keys than this one, if one is given, at most this number
 abbrev pub first_page : Option ℤ → ℕ → Page
 first_page key most = record { after = key; most = Some most }
 
--- the first rows, at most so many, and whether more follow; all rows, where no number is given
+-- the first rows, at most this number, and whether more follow; all rows, where no number is given
 abbrev pub first_rows : Option ℕ → List Row → RowPage
 first_rows None rows = record { rows = rows; more = None }
 first_rows (Some most) rows = record { rows = take most rows; more = Some (nat_lt most (length rows)) }

@@ -50,3 +50,7 @@ with_latest_if session latest = record session { records = records_with session.
 -- what the last call asked for and was answered, on record
 abbrev pub with_record : OpenSession → ℕ → What → OpenSession
 with_record session worker what = with_latest_if session (Some (record { call = session.calls; worker = worker; what = what }))
+
+-- a session with earlier records before its own: as many of the last ones as it keeps
+abbrev pub with_earlier_records : List Record → OpenSession → OpenSession
+with_earlier_records earlier session = record session { records = last_items session.most_records (earlier ++ session.records) }

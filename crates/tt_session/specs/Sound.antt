@@ -20,7 +20,7 @@ pub record IsSound (db : Database) (known : Limits) (kept : List Record) (most :
   pub few_records : length kept ≤ most
   pub few_kept : most ≤ max_records
 
--- a session goes on as another one, with the same tables and limits
+-- a session goes on as another, with the same tables and limits
 pub record GoesOn (before next : OpenSession) : Type 0 where
   pub catalog : next.database.catalog ≡ before.database.catalog
   pub limits : next.database.limits ≡ before.database.limits

@@ -63,7 +63,7 @@ fn carried_out(session: &OpenSession, worker: u32, command: Command) -> Result<C
 }
 
 /// The current time, if a request expects another one.
-fn moved_to(now: u64, expected: Option<u64>) -> Option<u64>
+pub(crate) fn moved_to(now: u64, expected: Option<u64>) -> Option<u64>
     ensures { result ≡ moved_to now expected }
 {
     match expected {

@@ -1,12 +1,15 @@
 //! A session: a database that is opened by a line, and answers each further line.
 #![tactic(auto)]
 
+mod ahead;
+mod batch;
 mod carried_out;
 mod change_entries;
 mod commands;
 mod failure;
 pub mod laws;
 mod line;
+mod line_request;
 mod open_session;
 mod pages;
 mod reading;

@@ -1,7 +1,7 @@
 //! The line that is being read.
 ghost use Rattle.std.specs.Prelude.{◌≡◌, ◌↔◌, ◌++◌, [], ℕ, List, IfSome, IsTrue, false};
 ghost use Rattle.tt_requests.specs.Lines.{is_too_long, is_passed_over};
-ghost use Rattle.tt_session.specs.Lines.{HasBytes};
+ghost use Rattle.tt_session.specs.Lines.{HasBytes, IsToldBy};
 
 use std::alloc::Global;
 use tt_requests::{MAX_LINE_BYTES, is_blank};
@@ -45,6 +45,14 @@ impl Line {
         self.is_blank = true;
     }
 
+    /// Whether the line has no bytes so far.
+    pub(crate) fn is_empty(&self) -> bool
+        ensures { IsTrue result → (bytes : List ℕ) → HasBytes self.now bytes
+            → bytes ≡ [] }
+    {
+        self.len == 0
+    }
+
     /// Adds further bytes of the line.
     pub(crate) fn extend(&mut self, more: &[u8])
         ensures { (bytes : List ℕ) → HasBytes self.old bytes
@@ -70,14 +78,14 @@ impl Line {
 
     /// Whether the line is longer than a line may be.
     pub(crate) fn is_too_long(&self) -> bool
-        ensures { (bytes : List ℕ) → HasBytes self.now bytes → (result ≡ is_too_long bytes) }
+        ensures { IsToldBy is_too_long self.now result }
     {
         self.len > MAX_LINE_BYTES
     }
 
     /// Whether the line gets no answer.
     pub(crate) fn is_passed_over(&self) -> bool
-        ensures { (bytes : List ℕ) → HasBytes self.now bytes → (result ≡ is_passed_over bytes) }
+        ensures { IsToldBy is_passed_over self.now result }
     {
         !self.is_too_long() && self.is_blank
     }

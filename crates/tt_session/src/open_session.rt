@@ -13,6 +13,8 @@ ghost use Rattle.tt_session.specs.Sound.{GoesOn};
 ghost use Rattle.tt_session.specs.Room.{has_no_room_to_end};
 ghost use Rattle.tt_session.specs.Run.{turn_of_answer, turn_by_request};
 
+mod in_place;
+
 use crate::carried_out::CarriedOut;
 use crate::commands::outcome_of_request;
 use crate::failure::Failure;
@@ -152,6 +154,32 @@ impl OpenSession {
     {
         self.calls += 1;
         match self.answer_counted(out, line) {
+            Ok(()) => Ok(()),
+            Err(AllocError) => {
+                self.calls -= 1;
+                Err(AllocError)
+            }
+        }
+    }
+
+    /// Answers a request, which is a call: pushes its text, and goes on as the call leaves the
+    /// session. Where memory runs out, the session and the text are as before.
+    pub(crate) fn answer_call(
+        &mut self,
+        out: &mut Vec<u8>,
+        request: Request,
+    ) -> Result<(), AllocError>
+        requires { self.old.calls < 2 ^ 64 - 1 }
+        ensures text { OnOk result (out.new.items ≡ out.old.items
+            ++ (turn_by_request (counted self.old) (Ok request)).text) }
+        ensures session { OnOk result
+            (Open self.new ≡ (turn_by_request (counted self.old) (Ok request)).session) }
+        ensures calls { OnOk result (self.new.calls ≡ self.old.calls + 1) }
+        ensures text_stays { OnErr result (out.new.items ≡ out.old.items) }
+        ensures session_stays { OnErr result (self.new ≡ self.old) }
+    {
+        self.calls += 1;
+        match self.answer_request(out, request) {
             Ok(()) => Ok(()),
             Err(AllocError) => {
                 self.calls -= 1;
@@ -301,5 +329,32 @@ fn replace_if(db: &mut Db, next: Option<Db>)
 {
     if let Some(next) = next {
         *db = next;
+    }
+}
+
+/// Adds the records of later calls, and pushes their text. Where memory runs out, neither is done.
+fn put_all_on_record(
+    records: &mut Records,
+    most: usize,
+    later: Records,
+    out: &mut Vec<u8>,
+    text: &[u8],
+) -> Result<(), AllocError>
+    ensures records { OnOk result (records.new ≡ last_items most (records.old ++ later)) }
+    ensures text { OnOk result (out.new.items ≡ out.old.items ++ text.now) }
+    ensures records_stay { OnErr result (records.new ≡ records.old) }
+    ensures text_stays { OnErr result (out.new.items ≡ out.old.items) }
+{
+    let before = out.len();
+    out.extend_from_slice(text)?;
+    match records.append(later) {
+        Ok(()) => {
+            records.keep_last(most);
+            Ok(())
+        }
+        Err(AllocError) => {
+            out.truncate(before);
+            Err(AllocError)
+        }
     }
 }

@@ -51,12 +51,30 @@ impl Records {
         let _latest = self.queue.pop_back();
     }
 
-    /// Keeps the latest records, at most this many. There is at most one record more.
+    /// Adds the record of the latest call, and keeps the latest records, at most this many. Where
+    /// memory runs out, the records stay as they are.
+    pub(crate) fn put(&mut self, latest: Record, most: usize) -> Result<(), AllocError>
+        ensures ok { OnOk result (self.new ≡ last_items most (self.old ++ latest ∷ [])) }
+        ensures err { OnErr result (self.new ≡ self.old) }
+    {
+        self.push(latest)?;
+        self.keep_last(most);
+        Ok(())
+    }
+
+    /// Adds the records of later calls. Where memory runs out, the records stay as they are.
+    pub(crate) fn append(&mut self, mut later: Records) -> Result<(), AllocError>
+        ensures ok { OnOk result (self.new ≡ self.old ++ later) }
+        ensures err { OnErr result (self.new ≡ self.old) }
+    {
+        self.queue.append(&mut later.queue)
+    }
+
+    /// Keeps the latest records, at most this many.
     pub(crate) fn keep_last(&mut self, most: usize)
-        requires { length self.old ≤ most + 1 }
         ensures { self.new ≡ last_items most self.old }
     {
-        if self.queue.len() > most {
+        while self.queue.len() > most {
             let _oldest = self.queue.pop_front();
         }
     }

@@ -1,5 +1,5 @@
 //! Events that leave room for the end of a repair.
-ghost use Rattle.std.specs.Prelude.{◌≡◌, None, IfOk, IfErr, OnOk};
+ghost use Rattle.std.specs.Prelude.{◌≡◌, None, Some, IfOk, IfErr, IfSome, OnOk, OnErr};
 ghost use Rattle.tt_db.specs.Database.{state_of, with_entry, refusal_of, outcome_for};
 ghost use Rattle.tt_session.specs.Failures.{IsRefusal};
 ghost use Rattle.tt_session.specs.Room.{has_no_room_to_end, refusal_in_session};
@@ -67,5 +67,35 @@ pub(crate) fn carry_out(db: Db, entry: Entry) -> Result<(Db, Outcome), AllocErro
     match answer {
         Ok(outcome) => Ok((next, outcome)),
         Err(_) => unreachable!(),
+    }
+}
+
+/// The database after an event, in place of this one, and the outcome; or this database, and why a
+/// session refuses the event. None where there is no memory, or where the event would leave no
+/// room for the end of a repair: the database is lost then.
+pub(crate) fn advance_with_room(
+    db: Db,
+    limits: Limits,
+    entry: Entry,
+) -> Option<(Db, Result<Outcome, DbError>)>
+    requires { limits ≡ db.limits }
+    ensures state { IfSome result (λ r. OnOk r.1 (r.0 ≡ with_entry db entry)) }
+    ensures outcome { IfSome result (λ r. IfOk r.1 (λ o. o ≡ outcome_for db entry.event)) }
+    ensures accepted { IfSome result (λ r. OnOk r.1 (refusal_in_session db entry.event ≡ None)) }
+    ensures refused { IfSome result (λ r. IfErr r.1 (λ e.
+        refusal_in_session db entry.event ≡ Some e)) }
+    ensures unchanged { IfSome result (λ r. OnErr r.1 (r.0 ≡ db)) }
+{
+    let Ok((after, answer)) = db.advanced(entry) else {
+        return None;
+    };
+    match answer {
+        Ok(outcome) => {
+            if has_no_room_to_end(&after, limits) {
+                return None;
+            }
+            Some((after, Ok(outcome)))
+        }
+        Err(error) => Some((after, Err(error))),
     }
 }

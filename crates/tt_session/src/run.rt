@@ -8,20 +8,23 @@ ghost use Rattle.tt_session.specs.Lines.{HasBytes, has_no_feed, HasFirstFeed};
 ghost use Rattle.tt_session.specs.Run.{calls_of, turn_with_memory};
 ghost use Rattle.tt_session.specs.ShortAnswers.{short_text};
 ghost use Rattle.tt_session.specs.Answering.{Takes, StopsIn, AnswersOne, StopsAt, AnswersLast, StopsInLast, Gives};
+ghost use Rattle.tt_session.specs.Batch.{AnswersFront};
 ghost use Rattle.tt_session.specs.Ends.{AnswersAll, EndsEarly};
 
+use crate::batch::Batch;
 use crate::line::Line;
 use crate::session::Session;
 use crate::short_answer::ShortAnswer;
 use memchr::memchr;
 use std::alloc::{AllocError, Global};
 use std::io::{Read, Write};
+use tt_json::Scratch;
 use tt_workload::{MAX_RETRIES, read_once, write_text};
 
 const BUFFER_BYTES: usize = 65_536;
 
 /// As many bytes of answers are handed over before a further line is answered.
-const MANY_BYTES: usize = 1_048_576;
+pub(crate) const MANY_BYTES: usize = 1_048_576;
 
 /// The largest number of bytes after which more are read, so that calls can be counted.
 const MAX_TOTAL: u64 = u64::MAX - 65_537;
@@ -56,7 +59,8 @@ pub fn run_session<R: Read, W: Write>(
 ) -> Result<(), SessionFault>
     ensures ok { OnOk result (AnswersAll (R.remaining reader.old) (R.remaining reader.new)
         (W.contents writer.old) (W.contents writer.new)) }
-    ensures fault { IfErr result (λ e. EndsEarly e (R.remaining reader.old) (R.remaining reader.new)
+    ensures fault { IfErr result (λ fault. EndsEarly fault
+        (R.remaining reader.old) (R.remaining reader.new)
         (W.contents writer.old) (W.contents writer.new)) }
 {
     let mut zeros = vec![in alloc; 0; BUFFER_BYTES]?;
@@ -66,6 +70,7 @@ pub fn run_session<R: Read, W: Write>(
         line: Line::new(alloc),
         out: Vec::new(alloc),
         retries: MAX_RETRIES,
+        scratch: Scratch::new(alloc),
     };
     run.serve(reader, writer, zeros.as_mut_slice())
 }
@@ -80,6 +85,8 @@ struct Run {
     out: Vec<u8>,
     /// How many interrupted reads the line still survives.
     retries: u32,
+    /// What reading lines that come together needs.
+    scratch: Scratch,
 }
 
 impl Run {
@@ -167,16 +174,117 @@ impl Run {
             → has_no_feed pending ≡ true → StopsIn pending bytes.now self.old
             (W.contents writer.old) (W.contents writer.new)) }
         ensures fault { IfErr result (λ e. e ≡ SessionFault.Write) }
-        ensures calls { calls_of self.new.session ≤ calls_of self.old.session + length bytes.now }
+        ensures calls { OnOk result
+            (calls_of self.new.session ≤ calls_of self.old.session + length bytes.now) }
     {
         let mut from = 0;
-        while let Some(end) = first_feed(&bytes[from..]) {
-            self.extend_line(&bytes[from..from + end]);
-            self.answer_line(writer)?;
-            from += end + 1;
+        let mut is_cut = false;
+        while from < bytes.len() {
+            let batch = self.take_some(writer, &bytes[from..], is_cut)?;
+            from += batch.taken;
+            is_cut = batch.is_cut;
         }
-        self.extend_line(&bytes[from..]);
         Ok(())
+    }
+
+    /// Takes the first of some bytes: lines that are answered together, unless a batch was cut
+    /// before, and then one line or the beginning of one.
+    fn take_some<W: Write>(
+        &mut self,
+        writer: &mut W,
+        bytes: &[u8],
+        is_cut: bool,
+    ) -> Result<Batch, SessionFault>
+        requires { calls_of self.old.session + length bytes.now < 2 ^ 64 - 1 }
+        ensures within { IfOk result (λ batch. batch.taken ≤ length bytes.now) }
+        ensures some { IfOk result (λ batch. 0 < length bytes.now → 0 < batch.taken) }
+        ensures ok { IfOk result (λ batch. (pending : List ℕ) → HasBytes self.old.line pending
+            → has_no_feed pending ≡ true → Takes pending (take batch.taken bytes.now)
+            self.old self.new (W.contents writer.old) (W.contents writer.new)) }
+        ensures err { OnErr result ((pending : List ℕ) → HasBytes self.old.line pending
+            → has_no_feed pending ≡ true → StopsIn pending bytes.now self.old
+            (W.contents writer.old) (W.contents writer.new)) }
+        ensures fault { IfErr result (λ e. e ≡ SessionFault.Write) }
+        ensures calls { IfOk result (λ batch.
+            calls_of self.new.session ≤ calls_of self.old.session + batch.taken) }
+    {
+        if is_cut {
+            let taken = self.take_line(writer, bytes)?;
+            return Ok(Batch { taken, is_cut });
+        }
+        let batch = self.take_together(writer, bytes)?;
+        let more = self.take_line(writer, &bytes[batch.taken..])?;
+        Ok(Batch {
+            taken: batch.taken + more,
+            is_cut: batch.is_cut,
+        })
+    }
+
+    /// Answers the lines that some bytes begin with together, where no line has begun before them.
+    fn take_together<W: Write>(
+        &mut self,
+        writer: &mut W,
+        bytes: &[u8],
+    ) -> Result<Batch, SessionFault>
+        requires { calls_of self.old.session + length bytes.now < 2 ^ 64 - 1 }
+        ensures within { IfOk result (λ batch. batch.taken ≤ length bytes.now) }
+        ensures ok { IfOk result (λ batch. (pending : List ℕ) → HasBytes self.old.line pending
+            → has_no_feed pending ≡ true → Takes pending (take batch.taken bytes.now)
+            self.old self.new (W.contents writer.old) (W.contents writer.new)) }
+        ensures err { OnErr result ((pending : List ℕ) → HasBytes self.old.line pending
+            → has_no_feed pending ≡ true → StopsIn pending bytes.now self.old
+            (W.contents writer.old) (W.contents writer.new)) }
+        ensures fault { IfErr result (λ e. e ≡ SessionFault.Write) }
+        ensures calls { IfOk result (λ batch.
+            calls_of self.new.session ≤ calls_of self.old.session + batch.taken) }
+    {
+        if !self.line.is_empty() {
+            return Ok(Batch::of(0));
+        }
+        let batch = self.answer_together(bytes);
+        self.hand_over_much(writer)?;
+        Ok(batch)
+    }
+
+    /// Answers the lines that some bytes begin with together.
+    fn answer_together(&mut self, bytes: &[u8]) -> Batch
+        requires { calls_of self.old.session + length bytes.now < 2 ^ 64 - 1 }
+        ensures answered { AnswersFront bytes.now result.taken self.old.session self.new.session
+            self.old.out.items self.new.out.items }
+        ensures line { self.new.line ≡ self.old.line }
+    {
+        let batch = self
+            .session
+            .answer_lines(&mut self.out, bytes, &mut self.scratch);
+        if batch.taken > 0 {
+            self.retries = MAX_RETRIES;
+        }
+        batch
+    }
+
+    /// Takes the bytes up to the first line feed, and answers the line that ends in it. Where there
+    /// is no line feed, the bytes are kept. Tells how many were taken.
+    fn take_line<W: Write>(&mut self, writer: &mut W, bytes: &[u8]) -> Result<usize, SessionFault>
+        requires { calls_of self.old.session + length bytes.now < 2 ^ 64 - 1 }
+        ensures within { IfOk result (λ n. n ≤ length bytes.now) }
+        ensures some { IfOk result (λ n. 0 < length bytes.now → 0 < n) }
+        ensures ok { IfOk result (λ n. (pending : List ℕ) → HasBytes self.old.line pending
+            → has_no_feed pending ≡ true → Takes pending (take n bytes.now) self.old self.new
+            (W.contents writer.old) (W.contents writer.new)) }
+        ensures err { OnErr result ((pending : List ℕ) → HasBytes self.old.line pending
+            → has_no_feed pending ≡ true → StopsIn pending bytes.now self.old
+            (W.contents writer.old) (W.contents writer.new)) }
+        ensures fault { IfErr result (λ e. e ≡ SessionFault.Write) }
+        ensures calls { IfOk result (λ n.
+            calls_of self.new.session ≤ calls_of self.old.session + n) }
+    {
+        let Some(end) = first_feed(bytes) else {
+            self.extend_line(bytes);
+            return Ok(bytes.len());
+        };
+        self.extend_line(&bytes[..end]);
+        self.answer_line(writer)?;
+        Ok(end + 1)
     }
 
     /// Adds further bytes of the line.
@@ -333,7 +441,7 @@ impl Run {
 }
 
 /// Where the first line feed is.
-fn first_feed(bytes: &[u8]) -> Option<usize>
+pub(crate) fn first_feed(bytes: &[u8]) -> Option<usize>
     ensures { MatchOption result (has_no_feed bytes.now ≡ true) (HasFirstFeed bytes.now) }
 {
     memchr(b'\n', bytes)

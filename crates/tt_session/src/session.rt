@@ -1,15 +1,17 @@
 //! A session, from its opening on.
-ghost use Rattle.std.specs.Prelude.{◌≡◌, ◌+◌, ◌<◌, ◌≤◌, ◌-◌, ◌^◌, ◌++◌, OnOk, OnErr, IfOk};
+ghost use Rattle.std.specs.Prelude.{◌≡◌, ◌+◌, ◌<◌, ◌≤◌, ◌-◌, ◌^◌, ◌++◌, length, OnOk, OnErr, IfOk};
 ghost use Rattle.tt_requests.specs.LineValue.{value_of_line};
 ghost use Rattle.tt_requests.specs.Opening.{opening_of};
 ghost use Rattle.tt_answers.specs.AnswerText.{opening_text};
 
+use crate::batch::Batch;
 use crate::open_session::OpenSession;
 use crate::repairing::status_of;
 use crate::short_answer::ShortAnswer;
 use std::alloc::{AllocError, Global};
 use tt_answers::{Answer, push_opening};
 use tt_document::DocFault;
+use tt_json::Scratch;
 use tt_requests::{Opening, is_passed_over};
 
 /// A session: a database that is opened by a line, and answers each further line.
@@ -24,6 +26,7 @@ pub enum Session {
 impl Session {
     ghost use Rattle.tt_session.specs.Run.{turn_with_memory, turn_without_memory, turn_of_long_line, calls_of};
     ghost use Rattle.tt_session.specs.ShortAnswers.{short_text};
+    ghost use Rattle.tt_session.specs.Batch.{AnswersFront};
 
     /// Answers a line: pushes the text of its answer, which is empty where the line is passed over,
     /// and becomes the session after it. Where memory runs out, the session and the text are as
@@ -51,6 +54,25 @@ impl Session {
         }
         *self = open(alloc, out, line)?;
         Ok(())
+    }
+
+    /// Answers the lines that some bytes begin with, together, where the session is open: pushes
+    /// their text, and becomes the session after them. What it doesn't take is to be answered line
+    /// by line.
+    pub(crate) fn answer_lines(
+        &mut self,
+        out: &mut Vec<u8>,
+        bytes: &[u8],
+        scratch: &mut Scratch,
+    ) -> Batch
+        requires { calls_of self.old + length bytes.now < 2 ^ 64 - 1 }
+        ensures { AnswersFront bytes.now result.taken self.old self.new
+            out.old.items out.new.items }
+    {
+        match self {
+            Session::NotOpen => Batch::of(0),
+            Session::Open(session) => session.answer_lines(out, bytes, scratch),
+        }
     }
 
     /// Counts a line for which there is no memory as a call, where the session is open, and tells its

@@ -142,7 +142,7 @@ fn slot_entries(
     let mut entries = Vec::new(alloc);
     let last = to.min(db.now());
     let Some(past) = last.checked_add(1) else {
-        // No database has so many slots.
+        // No database has 2^64 slots.
         return Err(AllocError);
     };
     for number in from..past {

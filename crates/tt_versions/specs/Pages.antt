@@ -15,7 +15,7 @@ is_after (Some low) key = int_lt low key
 abbrev pub those_after : {V : Type 0} → Option ℤ → List (ℤ × V) → List (ℤ × V)
 those_after low es = filter (λ e. is_after low e.0) es
 
--- of some rows, those with greater keys than this one, of these the first, at most so many, and whether more follow
+-- of some rows, the first with greater keys than this one, at most this number, and whether more follow
 pub record IsPage (es : RowsByKey) (follow : Bool) (low : Option ℤ) (most : ℕ) (whole : RowsByKey) : Type 0 where
   pub rows : es ≡ take most (those_after low whole)
   pub more : follow ≡ nat_lt most (length (those_after low whole))

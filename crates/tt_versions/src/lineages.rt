@@ -1,4 +1,4 @@
-ghost use Rattle.std.specs.Prelude.{◌≡◌, [], ℤ, IsTrue, IsSome, IfOk, IfSome, OnOk};
+ghost use Rattle.std.specs.Prelude.{◌≡◌, [], ℤ, true, IsTrue, IsSome, IfOk, IfSome, OnOk};
 ghost use Rattle.std.specs.List.{All};
 ghost use Rattle.std.specs.Option.{option_copied};
 ghost use Rattle.std.specs.Ordering.{int_cmp};
@@ -139,59 +139,56 @@ impl Lineages {
         with_lineage(alloc, entries, split_keys, index, key, taken)
     }
 
-    /// The rows with these keys, or none, are written at the time on that side. On the next side
-    /// they are split already.
-    pub(crate) fn with_writes(
-        self,
+    /// Writes rows with these keys, or none, at the time on that side. On the next side they are
+    /// split already. Without memory there are no lineages afterwards.
+    pub(crate) fn write(
+        &mut self,
         side: Side,
         rows: Few<(i64, Option<Row>)>,
         time: u64,
-    ) -> Result<Lineages, AllocError>
-        requires { All (λ e. StaysSplit side (is_split self) e.0) rows }
-        ensures { IfOk result (λ m. m ≡ with_writes side rows time self) }
+    ) -> Result<(), AllocError>
+        requires { All (λ e. StaysSplit side (is_split self.old) e.0) rows }
+        ensures { OnOk result (self.new ≡ with_writes side rows time self.old) }
     {
-        let Lineages {
-            alloc,
-            mut entries,
-            split_keys,
-            mut index,
-        } = self;
-        write_rows(
-            alloc,
+        let written = write_rows(
+            self.alloc,
             side,
-            &mut entries,
-            &split_keys,
-            &mut index,
+            &mut self.entries,
+            &self.split_keys,
+            &mut self.index,
             rows,
             time,
-        )?;
-        Ok(Lineages {
-            alloc,
-            entries,
-            split_keys,
-            index,
-        })
+        );
+        match written {
+            Ok(()) => Ok(()),
+            Err(AllocError) => {
+                self.entries = PagedMap::new(self.alloc);
+                self.split_keys = PagedMap::new(self.alloc);
+                Err(AllocError)
+            }
+        }
     }
 
-    /// The row with the key is split, and its next side is rolled back to before the time.
-    pub(crate) fn split_back(self, key: i64, time: u64) -> Result<Lineages, AllocError>
-        ensures { IfOk result (λ m.
-            m ≡ put int_cmp key (split_back time (lineage_at self key)) self) }
+    /// Splits the row with the key, and rolls its next side back to before the time. Without memory
+    /// there are no lineages afterwards.
+    pub(crate) fn split_back(&mut self, key: i64, time: u64) -> Result<(), AllocError>
+        ensures { OnOk result (self.new
+            ≡ put int_cmp key (split_back time (lineage_at self.old key)) self.old) }
     {
-        let Lineages {
-            alloc,
-            mut entries,
-            mut split_keys,
-            index,
-        } = self;
-        mark(&mut split_keys, key, true)?;
-        split_entry(alloc, &mut entries, key, time)?;
-        Ok(Lineages {
-            alloc,
-            entries,
-            split_keys,
-            index,
-        })
+        match split_row_back(
+            self.alloc,
+            &mut self.entries,
+            &mut self.split_keys,
+            key,
+            time,
+        ) {
+            Ok(()) => Ok(()),
+            Err(AllocError) => {
+                self.entries = PagedMap::new(self.alloc);
+                self.split_keys = PagedMap::new(self.alloc);
+                Err(AllocError)
+            }
+        }
     }
 
     /// Each lineage is unsplit: both sides show what this one shows.
@@ -390,6 +387,24 @@ fn mark(keys: &mut KeySet, key: i64, is_member: bool) -> Result<(), AllocError>
     } else {
         keys.remove(key)?;
     }
+    Ok(())
+}
+
+/// Lists the key as split, splits its lineage, and rolls the next side of that back to before the
+/// time.
+fn split_row_back(
+    alloc: Global,
+    entries: &mut PagedMap<Lineage>,
+    split_keys: &mut KeySet,
+    key: i64,
+    time: u64,
+) -> Result<(), AllocError>
+    ensures keys { OnOk result (MarksKey key true split_keys.old split_keys.new) }
+    ensures entries { OnOk result (entries.new
+        ≡ put int_cmp key (split_back time (lineage_at entries.old key)) entries.old) }
+{
+    mark(split_keys, key, true)?;
+    split_entry(alloc, entries, key, time)?;
     Ok(())
 }
 

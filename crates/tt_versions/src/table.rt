@@ -1,4 +1,4 @@
-ghost use Rattle.std.specs.Prelude.{◌≡◌, true, false, IsTrue, IfOk, if◌then◌else◌};
+ghost use Rattle.std.specs.Prelude.{◌≡◌, true, false, IsTrue, IfOk, OnOk, if◌then◌else◌};
 ghost use Rattle.std.specs.List.{All};
 ghost use Rattle.std.specs.Option.{option_copied, unwrap_or};
 ghost use Rattle.std.specs.Ordering.{int_cmp};
@@ -269,7 +269,6 @@ impl Table {
 
     /// Each of these keys has its row, or none, from the time on, as by one
     /// [`written`](Table::written) after another, of a table that isn't needed any more.
-    #[tactic(auto, using(crate::proofs::SidesLemmas::writes_all))]
     pub fn into_all_written(
         self,
         rows: Few<(i64, Option<Row>)>,
@@ -285,13 +284,12 @@ impl Table {
         ensures next_adds { IfOk result (λ t. AddsRowWritesOf (next_of self) (next_of t)
             (whole_among (is_split self) rows) time) }
     {
-        let Table { alloc, lineages } = self;
-        let lineages = lineages.with_writes(Side::Current, rows, time)?;
-        Ok(Table { alloc, lineages })
+        let mut table = self;
+        table.write_all(rows, time)?;
+        Ok(table)
     }
 
     /// As [`split_back`](Table::split_back), of a table that isn't needed any more.
-    #[tactic(auto, using(crate::proofs::SidesLemmas::writes))]
     pub fn into_split_back(self, key: i64, time: u64) -> Result<Table, AllocError>
         ensures current { IfOk result (λ t. current_of t ≡ current_of self) }
         ensures next { IfOk result (λ t. next_of t ≡ rolled_back_from key time (next_of self)) }
@@ -299,9 +297,9 @@ impl Table {
         ensures next_drops { IfOk result (λ t.
             DropsRowWrites (next_of self) (next_of t) key time) }
     {
-        let Table { alloc, lineages } = self;
-        let lineages = lineages.split_back(key, time)?;
-        Ok(Table { alloc, lineages })
+        let mut table = self;
+        table.split_row_back(key, time)?;
+        Ok(table)
     }
 
     /// As [`next_written`](Table::next_written), of a table that isn't needed any more.
@@ -326,7 +324,6 @@ impl Table {
     /// Each of these keys, whose rows are split, has its row, or none, from the time on, only on
     /// the next side, as by one [`next_written`](Table::next_written) after another, of a table
     /// that isn't needed any more.
-    #[tactic(auto, using(crate::proofs::SidesLemmas::writes_all_next))]
     pub fn into_all_next_written(
         self,
         rows: Few<(i64, Option<Row>)>,
@@ -340,9 +337,64 @@ impl Table {
         ensures next_adds { IfOk result (λ t.
             AddsRowWritesOf (next_of self) (next_of t) rows time) }
     {
-        let Table { alloc, lineages } = self;
-        let lineages = lineages.with_writes(Side::Next, rows, time)?;
-        Ok(Table { alloc, lineages })
+        let mut table = self;
+        table.write_all_next(rows, time)?;
+        Ok(table)
+    }
+
+    /// Gives each of these keys its row, or none, from the time on, in place: as
+    /// [`into_all_written`](Table::into_all_written). Without memory nothing is promised of the
+    /// rows.
+    #[tactic(auto, using(crate::proofs::SidesLemmas::writes_all))]
+    pub fn write_all(&mut self, rows: Few<(i64, Option<Row>)>, time: u64) -> Result<(), AllocError>
+        ensures current { OnOk result
+            (current_of self.new ≡ all_written_from rows time (current_of self.old)) }
+        ensures next { OnOk result (next_of self.new
+            ≡ all_written_from (whole_among (is_split self.old) rows) time (next_of self.old)) }
+        ensures split { OnOk result (is_split self.new ≡ is_split self.old) }
+        ensures current_adds { OnOk result
+            (AddsRowWritesOf (current_of self.old) (current_of self.new) rows time) }
+        ensures next_adds { OnOk result (AddsRowWritesOf (next_of self.old) (next_of self.new)
+            (whole_among (is_split self.old) rows) time) }
+    {
+        self.lineages.write(Side::Current, rows, time)?;
+        Ok(())
+    }
+
+    /// Splits a row, and rolls its next side back to before the time, in place: as
+    /// [`split_back`](Table::split_back). Without memory nothing is promised of the rows.
+    #[tactic(auto, using(crate::proofs::SidesLemmas::writes))]
+    pub fn split_row_back(&mut self, key: i64, time: u64) -> Result<(), AllocError>
+        ensures current { OnOk result (current_of self.new ≡ current_of self.old) }
+        ensures next { OnOk result
+            (next_of self.new ≡ rolled_back_from key time (next_of self.old)) }
+        ensures split { OnOk result (is_split self.new ≡ with_key key (is_split self.old)) }
+        ensures next_drops { OnOk result
+            (DropsRowWrites (next_of self.old) (next_of self.new) key time) }
+    {
+        self.lineages.split_back(key, time)?;
+        Ok(())
+    }
+
+    /// Gives each of these keys, whose rows are split, its row, or none, from the time on, only on
+    /// the next side, in place: as [`into_all_next_written`](Table::into_all_next_written). Without
+    /// memory nothing is promised of the rows.
+    #[tactic(auto, using(crate::proofs::SidesLemmas::writes_all_next))]
+    pub fn write_all_next(
+        &mut self,
+        rows: Few<(i64, Option<Row>)>,
+        time: u64,
+    ) -> Result<(), AllocError>
+        requires { All (λ e. is_split self.old e.0 ≡ true) rows }
+        ensures current { OnOk result (current_of self.new ≡ current_of self.old) }
+        ensures next { OnOk result
+            (next_of self.new ≡ all_written_from rows time (next_of self.old)) }
+        ensures split { OnOk result (is_split self.new ≡ is_split self.old) }
+        ensures next_adds { OnOk result
+            (AddsRowWritesOf (next_of self.old) (next_of self.new) rows time) }
+    {
+        self.lineages.write(Side::Next, rows, time)?;
+        Ok(())
     }
 
     /// As [`switched`](Table::switched), of a table that isn't needed any more.

@@ -17,36 +17,36 @@ use tt_document::{Ask, Call};
 use tt_records::{Record, What};
 use tt_values::{Items, Select, Write};
 
-/// Carries out an event that isn't refused. Answers the next database and the outcome.
-pub(crate) fn carry_out(db: Db, entry: Entry) -> Result<(Db, Outcome), RunFault>
-    requires { refusal_of db entry.event ≡ None }
-    ensures state { IfOk result (λ r. r.0 ≡ with_entry db entry) }
-    ensures outcome { IfOk result (λ r. r.1 ≡ outcome_for db entry.event) }
+/// Carries out an event that isn't refused, and answers its outcome.
+pub(crate) fn carry_out(db: &mut Db, entry: Entry) -> Result<Outcome, RunFault>
+    requires { refusal_of db.old entry.event ≡ None }
+    ensures state { OnOk result (db.new ≡ with_entry db.old entry) }
+    ensures outcome { IfOk result (λ outcome. outcome ≡ outcome_for db.old entry.event) }
     ensures err { IfErr result (λ e. e ≡ RunFault.Memory) }
 {
-    let (next, answer) = db.advanced(entry)?;
-    match answer {
-        Ok(outcome) => Ok((next, outcome)),
-        Err(_) => unreachable!(),
+    match db.advance(entry) {
+        Ok(outcome) => Ok(outcome),
+        // It isn't refused, so there is no memory.
+        Err(_) => Err(RunFault::Memory),
     }
 }
 
-/// Carries out an action. Answers the next database, and the slot with the replies.
-fn make_action(db: Db, worker: u32, action: Items<Write>) -> Result<(Db, What), RunFault>
-    requires accepted { action_fault db.catalog action ≡ None }
-    requires room { HasRoom db }
-    ensures state { IfOk result (λ r. r.0
-        ≡ with_entries db (entries_of_ask worker (Ask.Write action))) }
-    ensures answer { IfOk result (λ r. r.1 ≡ answer_in (state_of db) (Ask.Write action)) }
+/// Carries out an action. Answers the slot with the replies.
+fn make_action(db: &mut Db, worker: u32, action: Items<Write>) -> Result<What, RunFault>
+    requires accepted { action_fault db.old.catalog action ≡ None }
+    requires room { HasRoom db.old }
+    ensures state { OnOk result
+        (db.new ≡ with_entries db.old (entries_of_ask worker (Ask.Write action))) }
+    ensures answer { IfOk result (λ what.
+        what ≡ answer_in (state_of db.old) (Ask.Write action)) }
     ensures err { IfErr result (λ e. e ≡ RunFault.Memory) }
 {
     let entry = Entry {
         worker,
         event: Event::Write(action),
     };
-    let (next, outcome) = carry_out(db, entry)?;
-    match outcome {
-        Outcome::Written { slot, replies } => Ok((next, What::Write { slot, replies })),
+    match carry_out(db, entry)? {
+        Outcome::Written { slot, replies } => Ok(What::Write { slot, replies }),
         _ => unreachable!(),
     }
 }
@@ -126,72 +126,45 @@ fn slots_done(db: &Db) -> u64
     }
 }
 
-/// Answers what a call asks for. Answers the database after it, too.
-fn answer(alloc: Global, db: Db, worker: u32, ask: Ask) -> Result<(Db, What), RunFault>
-    requires accepted { ask_fault db.catalog ask ≡ None }
-    requires room { HasRoom db }
-    ensures state { IfOk result (λ r. r.0 ≡ with_entries db (entries_of_ask worker ask)) }
-    ensures answer { IfOk result (λ r. r.1 ≡ answer_in (state_of db) ask) }
+/// Answers what a call asks for, and carries it out.
+fn answer(alloc: Global, db: &mut Db, worker: u32, ask: Ask) -> Result<What, RunFault>
+    requires accepted { ask_fault db.old.catalog ask ≡ None }
+    requires room { HasRoom db.old }
+    ensures state { OnOk result (db.new ≡ with_entries db.old (entries_of_ask worker ask)) }
+    ensures answer { IfOk result (λ what. what ≡ answer_in (state_of db.old) ask) }
     ensures err { IfErr result (λ e. e ≡ RunFault.Memory) }
 {
     match ask {
         Ask::Write(action) => make_action(db, worker, action),
-        Ask::Read { select, at } => make_read(alloc, db, select, at),
-        Ask::Preview(select) => make_preview(alloc, db, select),
+        Ask::Read { select, at } => read(alloc, db, select, at),
+        Ask::Preview(select) => preview(alloc, db, &select),
     }
 }
 
-/// Answers a select. Answers the same database, too.
-fn make_read(alloc: Global, db: Db, select: Select, at: Option<u64>) -> Result<(Db, What), RunFault>
-    requires accepted { select_fault db.catalog select ≡ None }
-    ensures state { IfOk result (λ r. r.0 ≡ db) }
-    ensures answer { IfOk result (λ r. r.1 ≡ read_in (state_of db) select at) }
-    ensures err { IfErr result (λ e. e ≡ RunFault.Memory) }
-{
-    match read(alloc, &db, select, at) {
-        Ok(what) => Ok((db, what)),
-        Err(fault) => Err(fault),
-    }
-}
-
-/// Answers a preview. Answers the same database, too.
-fn make_preview(alloc: Global, db: Db, select: Select) -> Result<(Db, What), RunFault>
-    requires accepted { select_fault db.catalog select ≡ None }
-    ensures state { IfOk result (λ r. r.0 ≡ db) }
-    ensures answer { IfOk result (λ r. r.1 ≡ preview_in (state_of db) select) }
-    ensures err { IfErr result (λ e. e ≡ RunFault.Memory) }
-{
-    match preview(alloc, &db, &select) {
-        Ok(what) => Ok((db, what)),
-        Err(fault) => Err(fault),
-    }
-}
-
-/// Makes a call, and pushes its line. Answers the database after it, and the record.
+/// Makes a call, pushes its line, and answers its record.
 pub(crate) fn make_call(
     alloc: Global,
     out: &mut Vec<u8>,
-    db: Db,
+    db: &mut Db,
     number: u64,
     call: Call,
-) -> Result<(Db, Record), RunFault>
-    requires accepted { ask_fault db.catalog call.ask ≡ None }
-    requires room { HasRoom db }
+) -> Result<Record, RunFault>
+    requires accepted { ask_fault db.old.catalog call.ask ≡ None }
+    requires room { HasRoom db.old }
     ensures line { OnOk result (out.new.items
-        ≡ out.old.items ++ text_of_record (record_in number (state_of db) call)) }
-    ensures state { IfOk result (λ r. r.0 ≡ with_entries db (entries_of call)) }
-    ensures answer { IfOk result (λ r. r.1 ≡ record_in number (state_of db) call) }
+        ≡ out.old.items ++ text_of_record (record_in number (state_of db.old) call)) }
+    ensures state { OnOk result (db.new ≡ with_entries db.old (entries_of call)) }
+    ensures answer { IfOk result (λ made. made ≡ record_in number (state_of db.old) call) }
     ensures err { IfErr result (λ e. e ≡ RunFault.Memory) }
 {
     let Call { worker, ask } = call;
-    let (db, what) = answer(alloc, db, worker, ask)?;
     let record = Record {
         call: number,
         worker,
-        what,
+        what: answer(alloc, db, worker, ask)?,
     };
     push_record(out, &record)?;
-    Ok((db, record))
+    Ok(record)
 }
 
 /// Keeps a record, if records are kept.
@@ -232,8 +205,7 @@ pub(crate) fn make_calls(
     let mut number: u64 = 0;
     for call in calls {
         number += 1;
-        let (next, record) = make_call(alloc, out, db, number, call)?;
-        db = next;
+        let record = make_call(alloc, out, &mut db, number, call)?;
         keep(records, are_kept, record)?;
     }
     Ok(db)

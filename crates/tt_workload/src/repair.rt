@@ -80,20 +80,20 @@ pub fn edits_of_slots(
 }
 
 /// Carries out an entry of the repair that isn't refused.
-fn make_entry(db: Db, worker: u32, event: Event) -> Result<Db, RunFault>
-    requires { refusal_of db event ≡ None }
-    ensures state { IfOk result (λ next. next ≡ with_entry db (repair_entry worker event)) }
+fn make_entry(db: &mut Db, worker: u32, event: Event) -> Result<(), RunFault>
+    requires { refusal_of db.old event ≡ None }
+    ensures state { OnOk result (db.new ≡ with_entry db.old (repair_entry worker event)) }
     ensures err { IfErr result (λ e. e ≡ RunFault.Memory) }
 {
-    let (next, _) = carry_out(db, Entry { worker, event })?;
-    Ok(next)
+    carry_out(db, Entry { worker, event })?;
+    Ok(())
 }
 
 /// Begins the repair with these edits of slots.
-pub(crate) fn begin(db: Db, worker: u32, edits: Items<Edit>) -> Result<Db, RunFault>
-    requires { refusal_of db (Event.Begin edits) ≡ None }
-    ensures state { IfOk result (λ next. next
-        ≡ with_entry db (repair_entry worker (Event.Begin edits))) }
+pub(crate) fn begin(db: &mut Db, worker: u32, edits: Items<Edit>) -> Result<(), RunFault>
+    requires { refusal_of db.old (Event.Begin edits) ≡ None }
+    ensures state { OnOk result
+        (db.new ≡ with_entry db.old (repair_entry worker (Event.Begin edits))) }
     ensures err { IfErr result (λ e. e ≡ RunFault.Memory) }
 {
     make_entry(db, worker, Event::Begin(edits))
@@ -110,111 +110,110 @@ fn slots_left(db: &Db) -> u64
 }
 
 /// Makes `count` steps of the repair, which has at least as many left.
-fn make_steps(db: Db, worker: u32, count: u64, calls: u64) -> Result<Db, RunFault>
-    requires under_way { IsUnderWay calls db }
+fn make_steps(db: &mut Db, worker: u32, count: u64, calls: u64) -> Result<(), RunFault>
+    requires under_way { IsUnderWay calls db.old }
     requires few { calls ≤ 200000 }
-    requires left { count ≤ slots_left (state_of db) }
-    ensures state { IfOk result (λ last. last ≡ with_entries db (steps worker count)) }
-    ensures under_way { IfOk result (IsUnderWay calls) }
-    ensures left { IfOk result (λ last.
-        slots_left (state_of last) + count ≡ slots_left (state_of db)) }
+    requires left { count ≤ slots_left (state_of db.old) }
+    ensures state { OnOk result (db.new ≡ with_entries db.old (steps worker count)) }
+    ensures under_way { OnOk result (IsUnderWay calls db.new) }
+    ensures left { OnOk result
+        (slots_left (state_of db.new) + count ≡ slots_left (state_of db.old)) }
     ensures err { IfErr result (λ e. e ≡ RunFault.Memory) }
 {
-    let mut db = db;
     for _ in 0..count {
-        db = make_entry(db, worker, Event::Step)?;
+        make_entry(db, worker, Event::Step)?;
     }
-    Ok(db)
+    Ok(())
 }
 
 /// Makes a batch of steps, or as many as are left.
-fn make_batch(db: Db, administrator: Administrator, calls: u64) -> Result<Db, RunFault>
-    requires under_way { IsUnderWay calls db }
+fn make_batch(db: &mut Db, administrator: Administrator, calls: u64) -> Result<(), RunFault>
+    requires under_way { IsUnderWay calls db.old }
     requires few { calls ≤ 200000 }
-    ensures state { IfOk result (λ last.
-        last ≡ with_batch administrator.worker administrator.batch db) }
-    ensures under_way { IfOk result (IsUnderWay calls) }
+    ensures state { OnOk result
+        (db.new ≡ with_batch administrator.worker administrator.batch db.old) }
+    ensures under_way { OnOk result (IsUnderWay calls db.new) }
     ensures err { IfErr result (λ e. e ≡ RunFault.Memory) }
 {
-    let count = u64::from(administrator.batch).min(slots_left(&db));
+    let count = u64::from(administrator.batch).min(slots_left(db));
     make_steps(db, administrator.worker, count, calls)
 }
 
 /// Makes the calls of a document that are made while its repair is under way, with a batch of steps
-/// before each of them. Pushes their lines and their records. Answers the last database.
+/// before each of them. Pushes their lines and their records.
 pub(crate) fn make_meanwhile(
     alloc: Global,
     out: &mut Vec<u8>,
     records: &mut Vec<Record>,
-    db: Db,
+    db: &mut Db,
     administrator: Administrator,
     calls: Vec<Call>,
-) -> Result<Db, RunFault>
-    requires under_way { IsUnderWay (length records.old.items) db }
-    requires accepted { AreAccepted db.catalog calls.items }
+) -> Result<(), RunFault>
+    requires under_way { IsUnderWay (length records.old.items) db.old }
+    requires accepted { AreAccepted db.old.catalog calls.items }
     requires few { length records.old.items + length calls.items ≤ 200000 }
     ensures lines { OnOk result (out.new.items ≡ out.old.items
         ++ text_of_records (records_meanwhile administrator.worker administrator.batch
-        (length records.old.items + 1) db calls.items)) }
+        (length records.old.items + 1) db.old calls.items)) }
     ensures records { OnOk result (records.new.items ≡ records.old.items
         ++ records_meanwhile administrator.worker administrator.batch
-        (length records.old.items + 1) db calls.items) }
-    ensures state { IfOk result (λ last.
-        last ≡ with_meanwhile administrator.worker administrator.batch db calls.items) }
-    ensures under_way { IfOk result
-        (IsUnderWay (length records.old.items + length calls.items)) }
+        (length records.old.items + 1) db.old calls.items) }
+    ensures state { OnOk result
+        (db.new ≡ with_meanwhile administrator.worker administrator.batch db.old calls.items) }
+    ensures under_way { OnOk result
+        (IsUnderWay (length records.old.items + length calls.items) db.new) }
     ensures err { IfErr result (λ e. e ≡ RunFault.Memory) }
 {
-    let mut db = db;
     let mut number = records.len() as u64;
     for call in calls {
-        db = make_batch(db, administrator, number)?;
+        make_batch(db, administrator, number)?;
         number += 1;
-        let (next, record) = make_call(alloc, out, db, number, call)?;
-        db = next;
+        let record = make_call(alloc, out, db, number, call)?;
         records.push(record)?;
     }
-    Ok(db)
+    Ok(())
 }
 
 /// Makes the steps that are left.
-fn catch_up(db: Db, worker: u32, calls: u64) -> Result<Db, RunFault>
-    requires under_way { IsUnderWay calls db }
+fn catch_up(db: &mut Db, worker: u32, calls: u64) -> Result<(), RunFault>
+    requires under_way { IsUnderWay calls db.old }
     requires few { calls ≤ 200000 }
-    ensures state { IfOk result (λ last.
-        last ≡ with_steps_left worker db) }
-    ensures under_way { IfOk result (IsUnderWay calls) }
-    ensures none_left { IfOk result (λ last. slots_left (state_of last) ≡ 0) }
+    ensures state { OnOk result (db.new ≡ with_steps_left worker db.old) }
+    ensures under_way { OnOk result (IsUnderWay calls db.new) }
+    ensures none_left { OnOk result (slots_left (state_of db.new) ≡ 0) }
     ensures err { IfErr result (λ e. e ≡ RunFault.Memory) }
 {
-    let count = slots_left(&db);
+    let count = slots_left(db);
     make_steps(db, worker, count, calls)
 }
 
 /// Makes the steps that are left, switches to the repaired generation, and pushes the line of the
-/// repair. Answers the database after the switch.
-pub(crate) fn finish(out: &mut Vec<u8>, db: Db, worker: u32, calls: u64) -> Result<Db, RunFault>
-    requires under_way { IsUnderWay calls db }
+/// repair.
+pub(crate) fn finish(
+    out: &mut Vec<u8>,
+    db: &mut Db,
+    worker: u32,
+    calls: u64,
+) -> Result<(), RunFault>
+    requires under_way { IsUnderWay calls db.old }
     requires few { calls ≤ 200000 }
     ensures line { OnOk result (out.new.items
-        ≡ out.old.items ++ repair_line (with_steps_left worker db)) }
-    ensures state { IfOk result (λ last. last
-        ≡ with_entry (with_steps_left worker db) (repair_entry worker Event.Switch)) }
+        ≡ out.old.items ++ repair_line (with_steps_left worker db.old)) }
+    ensures state { OnOk result (db.new
+        ≡ with_entry (with_steps_left worker db.old) (repair_entry worker Event.Switch)) }
     ensures err { IfErr result (λ e. e ≡ RunFault.Memory) }
 {
-    let db = catch_up(db, worker, calls)?;
-    let (db, outcome) = switch(db, worker)?;
-    match push_outcome(out, &outcome) {
-        Ok(()) => Ok(db),
-        Err(AllocError) => Err(RunFault::Memory),
-    }
+    catch_up(db, worker, calls)?;
+    let outcome = switch(db, worker)?;
+    push_outcome(out, &outcome)?;
+    Ok(())
 }
 
-/// Switches to the repaired generation. Answers the database after the switch, and its outcome.
-fn switch(db: Db, worker: u32) -> Result<(Db, Outcome), RunFault>
-    requires { refusal_of db Event.Switch ≡ None }
-    ensures state { IfOk result (λ r. r.0 ≡ with_entry db (repair_entry worker Event.Switch)) }
-    ensures outcome { IfOk result (λ r. r.1 ≡ outcome_for db Event.Switch) }
+/// Switches to the repaired generation, and answers the outcome.
+fn switch(db: &mut Db, worker: u32) -> Result<Outcome, RunFault>
+    requires { refusal_of db.old Event.Switch ≡ None }
+    ensures state { OnOk result (db.new ≡ with_entry db.old (repair_entry worker Event.Switch)) }
+    ensures outcome { IfOk result (λ outcome. outcome ≡ outcome_for db.old Event.Switch) }
     ensures err { IfErr result (λ e. e ≡ RunFault.Memory) }
 {
     let entry = Entry {

@@ -150,9 +150,10 @@ fn run_repair(
     let calls = meanwhile.into_vec();
     let all = records.len() as u64 + calls.len() as u64;
     let edits = edits_of_slots(alloc, &records, edits.as_slice())?;
-    let db = begin(db, administrator.worker, edits)?;
-    let db = make_meanwhile(alloc, out, &mut records, db, administrator, calls)?;
-    let db = finish(out, db, administrator.worker, all)?;
+    let mut db = db;
+    begin(&mut db, administrator.worker, edits)?;
+    make_meanwhile(alloc, out, &mut records, &mut db, administrator, calls)?;
+    finish(out, &mut db, administrator.worker, all)?;
     push_changed(alloc, out, &db, &records)?;
     Ok(db)
 }

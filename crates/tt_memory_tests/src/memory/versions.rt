@@ -178,7 +178,7 @@ fn with_two_rows(rt: &impl Abort, alloc: Global) -> Table {
     let written = table.into_all_written(rows, 1);
     mark(alloc);
     match written {
-        Ok(table) => table,
+        Ok(table) => with_no_further_rows(rt, alloc, table),
         Err(AllocError) => {
             let table = kept.into_written(1, ann(rt, alloc, 5), 1);
             let bob = Some(row(rt, alloc, 2, "bob", 6));
@@ -186,6 +186,13 @@ fn with_two_rows(rt: &impl Abort, alloc: Global) -> Table {
             table.expect(rt, "a second call")
         }
     }
+}
+
+/// The same, once no further rows are written on the next side.
+fn with_no_further_rows(rt: &impl Abort, alloc: Global, table: Table) -> Table {
+    let none = Few::new(alloc);
+    let same = table.into_all_next_written(none, 1);
+    same.expect(rt, "no memory is needed")
 }
 
 /// How many rows bob has, though the first call may find no memory.

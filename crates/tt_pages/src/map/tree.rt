@@ -154,10 +154,24 @@ pub(super) fn unshare<V: Kept + Drop>(
 ) -> Result<(), AllocError>
     ensures { arc_value this.new ≡ arc_value this.old }
 {
-    if Arc::strong_count(this) != 1 {
-        let copy = this.copy(alloc)?;
-        *this = Arc::new(alloc, copy)?;
+    if is_shared(this) {
+        return own_copy(alloc, this);
     }
+    Ok(())
+}
+
+// Whether the tree has other owners.
+#[inline(always)]
+fn is_shared<V>(this: &Arc<Tree<V>>) -> bool {
+    Arc::strong_count(this) != 1
+}
+
+// Puts a copy of its own in the place of a tree.
+fn own_copy<V: Kept + Drop>(alloc: Global, this: &mut Arc<Tree<V>>) -> Result<(), AllocError>
+    ensures { arc_value this.new ≡ arc_value this.old }
+{
+    let copy = this.copy(alloc)?;
+    *this = Arc::new(alloc, copy)?;
     Ok(())
 }
 

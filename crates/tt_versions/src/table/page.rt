@@ -25,8 +25,8 @@ impl Table {
     ) -> Result<(Vec<(i64, &Row)>, bool), AllocError>
         ensures lists { IfOk result (λ p. ListsPage (rows_behind p.0.items) p.1 after most
             equals.now (side_of self.now side) time) }
-        ensures content { IfOk result (λ p. ListsMatchingPage (rows_behind p.0.items) p.1 after most
-            equals.now (side_of self.now side) time) }
+        ensures content { IfOk result (λ p. ListsMatchingPage (rows_behind p.0.items) p.1
+            after most equals.now (side_of self.now side) time) }
     {
         let page = self.search_page(equals, time, side, after, most)?;
         Ok(page)

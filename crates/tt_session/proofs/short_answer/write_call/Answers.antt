@@ -1,5 +1,5 @@
 -- The label, the number and the end are written one after another.
-use Rattle.std.proofs.Common.{◌≡◌, ◌++◌, codes, decimal, sym, ap, subst, ◌∙◌}
+use Rattle.std.proofs.Common.{◌≡◌, decimal, subst, ◌∙◌}
 use Rattle.std.specs.Io.KnownBytes.{Appends}
 use Rattle.tt_workload.specs.Ends.{AppendsPrefix}
 use Rattle.tt_session.proofs.AnsweringLemmas.{prefix-after, prefix-longer}

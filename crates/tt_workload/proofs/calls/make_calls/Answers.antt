@@ -16,14 +16,14 @@ loop-call-preserved c =
     let call : Call = c.in-Some.call in
     let rest : List Call = c.next.new.self.rest.items in
     let next : l.call-iterator.rest.items ≡ call ∷ rest = search rules in
-    let next_is = c.in_ok-next.ensures.state in
-    let left = records_of-next (l.number + 1) l.db c.in_ok-next.next call l.call-iterator.rest.items rest next next_is in
+    let next_is = c.in_ok-record.ensures.state in
+    let left = records_of-next (l.number + 1) l.db c.make_call.new.db call l.call-iterator.rest.items rest next next_is in
     let latest = record_in (l.number + 1) (state_of l.db) call in
     record {
-      lines = next-piece text_of_records text_of_record l.out.items c.make_call.new.out.items _ latest _ _ (λ r rs. refl) left c.in_ok-next.ensures.line l.invariant.lines;
+      lines = next-piece text_of_records text_of_record l.out.items c.make_call.new.out.items _ latest _ _ (λ r rs. refl) left c.in_ok-record.ensures.line l.invariant.lines;
       records = next-piece (kept c.args.are_kept) (λ r. kept c.args.are_kept (r ∷ [])) l.records.items _ _ latest _ _ (kept-next c.args.are_kept) left
-          (c.in_ok-keep.ensures ∙ ap (λ (r : Record). l.records.items ++ kept c.args.are_kept (r ∷ [])) c.in_ok-next.ensures.answer) l.invariant.records;
-      state = next-piece history_of entries_of l.db.history c.in_ok-next.next.history _ call _ _ (λ d ds. refl) next (ap (λ (db : Database). db.history) next_is) l.invariant.state;
+          (c.in_ok-keep.ensures ∙ ap (λ (r : Record). l.records.items ++ kept c.args.are_kept (r ∷ [])) c.in_ok-record.ensures.answer) l.invariant.records;
+      state = next-piece history_of entries_of l.db.history c.make_call.new.db.history _ call _ _ (λ d ds. refl) next (ap (λ (db : Database). db.history) next_is) l.invariant.state;
       catalog = search rules;
       limits = search rules;
       before =

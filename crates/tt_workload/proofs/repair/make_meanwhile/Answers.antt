@@ -14,17 +14,17 @@ loop-call-preserved c =
     let call : Call = c.in-Some.call in
     let rest : List Call = c.next.new.self.rest.items in
     let next : l.call-iterator.rest.items ≡ call ∷ rest = search rules in
-    let before = c.in_ok-db.ensures.state in
-    let next_is = c.in_ok-next.ensures.state in
-    let left = records_meanwhile-next c.args.administrator.worker c.args.administrator.batch (l.number + 1) l.db c.in_ok-db.db c.in_ok-next.next call l.call-iterator.rest.items rest next before next_is in
-    let latest = record_in (l.number + 1) (state_of c.in_ok-db.db) call in
+    let before = c.in_ok-make_batch.ensures.state in
+    let next_is = c.in_ok-record.ensures.state in
+    let left = records_meanwhile-next c.args.administrator.worker c.args.administrator.batch (l.number + 1) l.db c.make_batch.new.db c.make_call.new.db call l.call-iterator.rest.items rest next before next_is in
+    let latest = record_in (l.number + 1) (state_of c.make_batch.new.db) call in
     record {
-      lines = next-piece text_of_records text_of_record l.out.items c.make_call.new.out.items _ latest _ _ (λ r rs. refl) left c.in_ok-next.ensures.line l.invariant.lines;
+      lines = next-piece text_of_records text_of_record l.out.items c.make_call.new.out.items _ latest _ _ (λ r rs. refl) left c.in_ok-record.ensures.line l.invariant.lines;
       records = next-piece (λ rs. rs) (λ r. r ∷ []) l.records.items _ _ latest _ _ (λ r rs. refl) left
-          (c.in_ok-push.ensures.items ∙ ap (λ r. l.records.items ++ r ∷ []) c.in_ok-next.ensures.answer) l.invariant.records;
-      state = sym (with_meanwhile-next c.args.administrator.worker c.args.administrator.batch l.db c.in_ok-db.db c.in_ok-next.next call l.call-iterator.rest.items rest next before next_is) ∙ l.invariant.state;
+          (c.in_ok-push.ensures.items ∙ ap (λ r. l.records.items ++ r ∷ []) c.in_ok-record.ensures.answer) l.invariant.records;
+      state = sym (with_meanwhile-next c.args.administrator.worker c.args.administrator.batch l.db c.make_batch.new.db c.make_call.new.db call l.call-iterator.rest.items rest next before next_is) ∙ l.invariant.state;
       under_way =
-          let more = under_way-call l.number c.in_ok-db.db call.worker call.ask c.in_ok-db.ensures.under_way in
+          let more = under_way-call l.number c.make_batch.new.db call.worker call.ask c.in_ok-make_batch.ensures.under_way in
           subst (λ (db : Database). IsUnderWay (l.number + 1) db) (sym next_is) more;
       accepted = search rules;
       number = search rules;

@@ -26,12 +26,12 @@ pub returns-clause-lines : goal.returns-clause-lines
 returns-clause-lines c =
     let edits_are = c.in_ok-edits.ensures ∙ ap (λ rs. map (edit_of_slot rs) c.as_slice.result.now) c.deref.ensures.value ∙ ap (map (edit_of_slot c.args.records.items)) c.as_slice.ensures in
     repair-pieces c.args.administrator.worker c.args.administrator.batch c.args.records.items c.make_meanwhile.new.records.items c.args.plan c.in_ok-edits.edits
-    c.args.db c.in_ok-db.db c.in_ok-db-2.db c.in_ok-db-3.db c.args.out.now.items c.make_meanwhile.new.out.items c.finish.new.out.items c.push_changed.new.out.items
-    (record { edits_are = edits_are; begun_is = c.in_ok-db.ensures.state; steps_are = search rules; last_is = c.in_ok-db-3.ensures.state })
-    (record { all_are = search rules; calls_are = search rules; line_is = c.in_ok-db-3.ensures.line; changed_are = search rules })
+    c.args.db c.begin.new.db c.make_meanwhile.new.db c.finish.new.db c.args.out.now.items c.make_meanwhile.new.out.items c.finish.new.out.items c.push_changed.new.out.items
+    (record { edits_are = edits_are; begun_is = c.in_ok-begin.ensures.state; steps_are = search rules; last_is = c.in_ok-finish.ensures.state })
+    (record { all_are = search rules; calls_are = search rules; line_is = c.in_ok-finish.ensures.line; changed_are = search rules })
 
 pub returns-clause-state : goal.returns-clause-state
 returns-clause-state c =
     let edits_are = c.in_ok-edits.ensures ∙ ap (λ rs. map (edit_of_slot rs) c.as_slice.result.now) c.deref.ensures.value ∙ ap (map (edit_of_slot c.args.records.items)) c.as_slice.ensures in
-    repair-state c.args.administrator.worker c.args.administrator.batch c.args.records.items c.args.plan c.in_ok-edits.edits c.args.db c.in_ok-db.db c.in_ok-db-2.db c.in_ok-db-3.db
-    (record { edits_are = edits_are; begun_is = c.in_ok-db.ensures.state; steps_are = search rules; last_is = c.in_ok-db-3.ensures.state })
+    repair-state c.args.administrator.worker c.args.administrator.batch c.args.records.items c.args.plan c.in_ok-edits.edits c.args.db c.begin.new.db c.make_meanwhile.new.db c.finish.new.db
+    (record { edits_are = edits_are; begun_is = c.in_ok-begin.ensures.state; steps_are = search rules; last_is = c.in_ok-finish.ensures.state })

@@ -1,5 +1,5 @@
 -- The slots with one more, and the tables with its rows.
-use Rattle.std.proofs.Common.{◌≡◌, ◌+◌, ◌++◌, ◌∷◌, [], Some, List, Option, ap, subst, sym, ◌∙◌, arith, length}
+use Rattle.std.proofs.Common.{◌+◌, ◌++◌, ◌∷◌, [], List, Option, ap, subst, sym, ◌∙◌, arith}
 use Rattle.std.specs.List.{All}
 use Rattle.std.proofs.lemmas.List.{length-map}
 use Rattle.tt_values.specs.declared.statement.Write.{Write}
@@ -9,7 +9,6 @@ use Rattle.tt_versions.specs.declared.side.Side.TheVariants.{Current}
 use Rattle.tt_generations.specs.Rows.{TablesByPosition, HasFewRows, KeepsSplitRows}
 use Rattle.tt_generations.specs.ActionRun.{CarriesOutAction, most_rows}
 use Rattle.tt_generations.specs.KeptSlots.{actions_of}
-use Rattle.tt_generations.specs.Generations.{AreGenerations}
 use Rattle.tt_generations.proofs.KeptSlotsLemmas.{actions-push}
 use Rattle.tt_generations.proofs.GenerationsLemmas.{AreGenerations-action, IsNextSlot-run, HasFewRows-slots, phase-with_slot}
 use Rattle.tt_generations.proofs.generations.State.add_action.Goals as goal

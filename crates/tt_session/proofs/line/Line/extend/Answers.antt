@@ -1,5 +1,5 @@
 -- The bytes so far, and the further ones.
-use Rattle.std.proofs.Common.{◌≡◌, ◌+◌, ◌-◌, ◌&&◌, min, length, take, sym, ap, ◌∙◌, arith}
+use Rattle.std.proofs.Common.{◌≡◌, ◌-◌, ◌&&◌, min, length, sym, ap, ◌∙◌, arith}
 use Rattle.tt_requests.specs.Lines.{is_blank}
 use Rattle.tt_session.specs.Lines.{max_bytes_kept}
 use Rattle.tt_session.proofs.LineLemmas.{kept-more, len-more, blank-more}

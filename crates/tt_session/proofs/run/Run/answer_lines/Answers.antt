@@ -1,7 +1,5 @@
 -- The lines are answered, and then their answers are written.
-use Rattle.std.proofs.Common.{ap, arith}
-use Rattle.tt_session.specs.Run.{calls_of}
-use Rattle.tt_session.proofs.AnsweringLemmas.{on_ok, on_err, and_result, takes-written, takes-unwritten}
+use Rattle.tt_session.proofs.AnsweringLemmas.{on_err, and_result, takes-written, takes-unwritten}
 use Rattle.tt_session.proofs.run.Run.answer_lines.Goals as goal
 
 pub returns-in_err-take-clause-err : goal.returns-in_err-take-clause-err

@@ -1,6 +1,6 @@
 -- A line that is too long, one for which there is memory, and one for which there is none.
 use Rattle.std.proofs.Common.{refl, sym, ◌∙◌}
-use Rattle.tt_session.proofs.AnsweringLemmas.{on_ok, on_err, one-long, stops-long, one-kept, one-lost, stops-lost, and_result}
+use Rattle.tt_session.proofs.AnsweringLemmas.{on_err, one-long, stops-long, one-kept, one-lost, stops-lost, and_result}
 use Rattle.tt_session.proofs.run.Run.answer_request.Goals as goal
 
 pub returns-then-is_too_long-clause-ok : goal.returns-then-is_too_long-clause-ok

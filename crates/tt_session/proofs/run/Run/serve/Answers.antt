@@ -1,10 +1,10 @@
 -- How the run ends, and what it has taken after each read.
-use Rattle.std.proofs.Common.{◌≡◌, ◌++◌, ◌≤◌, ◌<◌, [], take, length, append-nil, refl, sym, ap, subst, ◌∙◌, arith}
+use Rattle.std.proofs.Common.{◌≡◌, ◌++◌, [], take, append-nil, refl, ap, subst, ◌∙◌, arith}
 use Rattle.std.specs.Io.KnownBytes.{Consumes}
 use Rattle.std.proofs.KnownBytes.{Consumes-nil, Consumes-kept, Consumes-trans}
 use Rattle.tt_session.specs.Run.{calls_of}
 use Rattle.tt_session.proofs.AnsweringLemmas.{takes-nothing, takes-on, takes-trans, stops-trans}
-use Rattle.tt_session.proofs.EndingLemmas.{Begins, ends-well, ends-unread, ends-unwritten, ends-unwritten-last}
+use Rattle.tt_session.proofs.EndingLemmas.{ends-well, ends-unread, ends-unwritten, ends-unwritten-last}
 use Rattle.tt_session.proofs.run.Run.serve.Goals as goal
 
 pub loop-total-init : goal.loop-total-init

@@ -1,5 +1,5 @@
 -- the bytes read so far are taken, their answers are written, and there are no more calls than bytes
-use Rattle.std.proofs.Common.{◌≡◌, ◌+◌, ◌-◌, ◌<◌, ◌≤◌, [], length}
+use Rattle.std.proofs.Common.{◌≡◌, ◌-◌, ◌<◌, ◌≤◌, [], length}
 use Rattle.tt_session.specs.Run.{calls_of}
 use Rattle.tt_session.specs.Answering.{Serves}
 use Rattle.tt_session.proofs.run.Run.serve.Given as goal
