@@ -63,8 +63,8 @@ PARTS = [
         ('tt_values', 'RowWrites', 'Slots slot_after slot_writes slot_replies row_writes content_of',
          'Slot after slot, each on what those before it left: the content at every time'),
     ]),
-    ('One database. `Db::apply`, `advanced`, `advance` and `apply_all` of `tt_db` make these '
-     'states, and `select`, `select_at`, `select_in`, `preview` and `preview_at` give these answers.', [
+    ('One database. `Db::apply`, `advanced` and `advance` of `tt_db` make these states, and '
+     '`select`, `select_at`, `select_in`, `preview` and `preview_at` give these answers.', [
         ('tt_repair_laws', 'Edits', 'slot_number replacement_of edit_of slot_with_edit'
          ' edited_slots_from edited_slots', 'The slots as the edits of a repair leave them'),
         ('tt_generations', 'TwoGenerations', 'Phase phase_after_step slots_edited_by is_repairing'
@@ -84,15 +84,14 @@ PARTS = [
          ' unless_no_generation right_select_in unless_idle right_preview right_preview_at Answers',
          'The right answer to each kind of read'),
         ('tt_db', 'Errors', 'refusal_of_error', 'Out of memory is no refusal'),
-        ('tt_db', 'Run', 'IsRun', 'A whole run, of any entries, with their answers'),
         ('tt_db', 'Database', 'Database state_of with_entry refusal_of outcome_for',
          'A database as contracts see it: tables, limits and a history'),
         ('tt_db', 'Database', 'current_slots now_in current_of_db HasSlots ShowsCurrent',
          'A repair changes no current answer before its switch'),
         ('tt_db', 'History', 'is_write write_places', 'At which places of the history the slots were made'),
     ]),
-    ('What a repair re-executes. `Db::apply` carries the law, and tells of each step whether its '
-     'slot was due.', [
+    ('What a repair re-executes. `Db::apply` and `advance` carry the law, and tell of each step '
+     'whether its slot was due.', [
         ('tt_parts', 'Partitions', 'is_partition_column parts_from parts_of key_partition'
          ' is_partition_position partition_of equated_partitions partitions_read is_same_partition'
          ' is_partition_in',

@@ -4,11 +4,11 @@ use Rattle.std.specs.List.{flat_map}
 use Rattle.tt_values.specs.Tables.{Tables}
 use Rattle.tt_db.specs.declared.errors.DbError.TheVariants as errors
 use Rattle.tt_db.specs.declared.errors.ReadError.TheVariants as read_errors
-use Rattle.tt_document.specs.declared.fault.DocFault.TheVariants as faults
+use Rattle.tt_grammar.specs.declared.fault.DocFault.TheVariants as faults
+use Rattle.tt_grammar.specs.JsonText.{further_item, member_text, members_text}
 use Rattle.tt_answers.specs.declared.answer.Refusal.TheVariants as refusals
 use Rattle.tt_answers.specs.declared.answer.Answer.{Answer}
 use Rattle.tt_answers.specs.declared.answer.Answer.TheVariants as answers
-use Rattle.tt_answers.specs.JsonText.{further_item, member_text, members_text}
 use Rattle.tt_answers.specs.AnswerText.{answer_members}
 
 -- behind another member they begin with a comma, since every answer has one

@@ -1,6 +1,4 @@
-mod Accounts
 mod Writing
 mod Repairing
 mod Telling
 mod Refusing
-mod ReadingBack

@@ -11,8 +11,10 @@ use Rattle.tt_records.specs.declared.record.What.{What}
 use Rattle.tt_records.specs.declared.record.What.TheVariants as whats
 use Rattle.tt_records.specs.declared.changed.After.{After}
 use Rattle.tt_records.specs.declared.changed.After.TheVariants as afters
-use Rattle.tt_document.specs.Quoting.{quoted}
-use Rattle.tt_workload.specs.Printing.{row_text}
+use Rattle.tt_grammar.specs.Quoting.{quoted}
+use Rattle.tt_grammar.specs.Printing.{row_text}
+use Rattle.tt_grammar.specs.JsonText.{Member, number_member, array_text, object_text, flag_text, text_or_null}
+use Rattle.tt_grammar.specs.WriteText.{action_text, tables_text}
 use Rattle.tt_answers.specs.declared.answer.Status.{Status}
 use Rattle.tt_answers.specs.declared.answer.RowPage.{RowPage}
 use Rattle.tt_answers.specs.declared.answer.SlotEntry.{SlotEntry}
@@ -21,8 +23,6 @@ use Rattle.tt_answers.specs.declared.answer.Place.TheVariants as places
 use Rattle.tt_answers.specs.declared.answer.ChangeEntry.{ChangeEntry}
 use Rattle.tt_answers.specs.declared.answer.Answer.{Answer}
 use Rattle.tt_answers.specs.declared.answer.Answer.TheVariants as answers
-use Rattle.tt_answers.specs.JsonText.{Member, number_member, array_text, object_text, flag_text, text_or_null}
-use Rattle.tt_answers.specs.WriteText.{action_text, tables_text}
 use Rattle.tt_answers.specs.RefusalText.{out_of_memory, refusal_members, fault_members}
 
 -- a reply as items of an array: rows are one item each, and any other reply is one item

@@ -4,14 +4,14 @@ use Rattle.tt_db.specs.declared.errors.DbError.{DbError}
 use Rattle.tt_db.specs.declared.errors.DbError.TheVariants as errors
 use Rattle.tt_db.specs.declared.errors.ReadError.{ReadError}
 use Rattle.tt_db.specs.declared.errors.ReadError.TheVariants as read_errors
-use Rattle.tt_document.specs.declared.fault.DocFault.{DocFault}
-use Rattle.tt_document.specs.declared.fault.DocFault.TheVariants as faults
-use Rattle.tt_document.specs.Causes.{cause_of_check}
-use Rattle.tt_document.specs.Fault.{document_fault}
-use Rattle.tt_document.specs.Quoting.{quoted}
+use Rattle.tt_grammar.specs.declared.fault.DocFault.{DocFault}
+use Rattle.tt_grammar.specs.declared.fault.DocFault.TheVariants as faults
+use Rattle.tt_grammar.specs.Causes.{cause_of_check}
+use Rattle.tt_grammar.specs.Fault.{document_fault}
+use Rattle.tt_grammar.specs.Quoting.{quoted}
+use Rattle.tt_grammar.specs.JsonText.{Member, number_member, object_text}
 use Rattle.tt_answers.specs.declared.answer.Refusal.{Refusal}
 use Rattle.tt_answers.specs.declared.answer.Refusal.TheVariants as refusals
-use Rattle.tt_answers.specs.JsonText.{Member, number_member, object_text}
 
 -- a refusal without a number
 abbrev pub refused : List ℕ → List Member

@@ -2,7 +2,7 @@
 ghost use Rattle.std.specs.Prelude.{◌≡◌};
 
 use tt_db::{DbError, Progress, ReadError, Slot};
-use tt_document::DocFault;
+use tt_grammar::DocFault;
 use tt_records::{Changed, What};
 use tt_values::{Items, Reply, Row, Write};
 

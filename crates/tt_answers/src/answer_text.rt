@@ -3,18 +3,17 @@ ghost use Rattle.std.specs.Prelude.{◌≡◌, ◌++◌, map, OnOk};
 ghost use Rattle.std.specs.List.{flat_map};
 ghost use Rattle.std.specs.Option.{option_map};
 ghost use Rattle.std.specs.Fmt.{decimal};
-ghost use Rattle.tt_answers.specs.JsonText.{further_item, member_text, members_text, text_or_null};
+ghost use Rattle.tt_grammar.specs.JsonText.{further_item, member_text, members_text, text_or_null};
 ghost use Rattle.tt_answers.specs.AnswerText.{progress_members, progress_text, status_members, more_members, page_members, written_members, finished_members, slots_members, changes_members, declared_members, answer_members, opening_text, call_text};
 
 use crate::answer::{Answer, ChangeEntry, RowPage, SlotEntry, Status};
 use crate::fault_text::{push_fault, push_out_of_memory};
-use crate::json_text::{push_flag, push_labelled};
 use crate::refusal_text::push_refusal;
 use crate::reply_text::{push_replies, push_rows};
 use crate::slot_text::{push_changes, push_slots};
-use crate::table_text::push_tables;
 use std::alloc::{AllocError, Global};
 use tt_db::Progress;
+use tt_grammar::{push_flag, push_labelled, push_tables};
 use tt_values::{Catalog, Reply};
 
 /// Pushes the line of an answer to an opening. Where memory runs out, `out` may end with a prefix

@@ -1,11 +1,10 @@
 //! Faults as they are printed.
 ghost use Rattle.std.specs.Prelude.{◌≡◌, ◌++◌, OnOk};
-ghost use Rattle.tt_answers.specs.JsonText.{members_text};
+ghost use Rattle.tt_grammar.specs.JsonText.{members_text};
 ghost use Rattle.tt_answers.specs.RefusalText.{out_of_memory, fault_members_at, fault_members};
 
-use crate::json_text::push_named;
 use std::alloc::AllocError;
-use tt_document::DocFault;
+use tt_grammar::{DocFault, push_named};
 
 /// Pushes the members of a fault.
 pub(crate) fn push_fault(out: &mut Vec<u8>, fault: &DocFault) -> Result<(), AllocError>

@@ -4,13 +4,9 @@
 mod answer;
 mod answer_text;
 mod fault_text;
-mod json_text;
-pub mod laws;
 mod refusal_text;
 mod reply_text;
 mod slot_text;
-mod table_text;
-mod write_text;
 
 pub use answer::{Answer, ChangeEntry, Place, Refusal, RowPage, SlotEntry, Status};
 pub use answer_text::{push_call, push_opening};

@@ -1,16 +1,13 @@
 //! Refusals as they are printed.
 ghost use Rattle.std.specs.Prelude.{◌≡◌, ◌++◌, OnOk};
-ghost use Rattle.tt_document.specs.Causes.{cause_of_check};
-ghost use Rattle.tt_answers.specs.JsonText.{members_text};
+ghost use Rattle.tt_grammar.specs.JsonText.{members_text};
 ghost use Rattle.tt_answers.specs.RefusalText.{refused, refused_at, no_generation, event_refused, read_refused, refusal_members};
 
 use crate::answer::Refusal;
 use crate::fault_text::push_out_of_memory;
-use crate::json_text::{push_labelled, push_named};
 use std::alloc::AllocError;
 use tt_db::{DbError, ReadError};
-use tt_values::CheckError;
-use tt_workload::push_decimal;
+use tt_grammar::{cause_of_check, push_decimal, push_labelled, push_named};
 
 /// Pushes the members of a refusal.
 pub(crate) fn push_refusal(out: &mut Vec<u8>, refusal: Refusal) -> Result<(), AllocError>
@@ -89,21 +86,4 @@ fn push_refused_at(
     out.push(b':')?;
     push_decimal(out, number)?;
     Ok(())
-}
-
-/// Why a statement or an action is refused.
-fn cause_of_check(error: CheckError) -> &'static str
-    ensures { result.now ≡ cause_of_check error }
-{
-    match error {
-        CheckError::NoTable => "no such table",
-        CheckError::NoColumn => "no such column",
-        CheckError::WrongKind => "value of the wrong kind",
-        CheckError::WrongWidth => "row of the wrong width",
-        CheckError::TextTooLong => "text too long",
-        CheckError::SetsKey => "key set by an update",
-        CheckError::SameColumnTwice => "column changed twice",
-        CheckError::TooManyEquals => "too many equalities",
-        CheckError::TooManyWrites => "too many writes",
-    }
 }

@@ -1,15 +1,15 @@
 //! Rows and replies as they are printed.
 ghost use Rattle.std.specs.Prelude.{◌≡◌, ◌==◌, ◌&&◌, [], ◌∷◌, ◌++◌, map, length, codes, OnOk};
 ghost use Rattle.std.specs.Fmt.{decimal};
-ghost use Rattle.tt_workload.specs.Printing.{row_text};
-ghost use Rattle.tt_answers.specs.JsonText.{further_item, items_text, items_at, text_or_null};
+ghost use Rattle.tt_grammar.specs.Printing.{row_text};
+ghost use Rattle.tt_grammar.specs.JsonText.{further_item, items_text, items_at, text_or_null};
 ghost use Rattle.tt_answers.specs.AnswerText.{reply_items, replies_text, rows_text};
 ghost use Rattle.std.specs.Option.{option_map};
 ghost use Rattle.std.specs.List.{flat_map};
 
 use std::alloc::AllocError;
+use tt_grammar::{push_decimal, push_row};
 use tt_values::{Items, Reply, Row};
-use tt_workload::{push_decimal, push_row};
 
 /// Pushes rows as an array.
 pub(crate) fn push_rows(out: &mut Vec<u8>, rows: &[Row]) -> Result<(), AllocError>

@@ -1,14 +1,13 @@
 //! Slots and changed replies as they are printed.
 ghost use Rattle.std.specs.Prelude.{◌≡◌, ◌++◌, map, OnOk};
 ghost use Rattle.std.specs.List.{flat_map};
-ghost use Rattle.tt_answers.specs.JsonText.{further_item, array_text, member_text};
+ghost use Rattle.tt_grammar.specs.JsonText.{further_item, array_text, member_text};
 ghost use Rattle.tt_answers.specs.AnswerText.{asked_members, slot_text, place_member, after_text, change_text};
 
 use crate::answer::{ChangeEntry, Place, SlotEntry};
-use crate::json_text::push_labelled;
 use crate::reply_text::{push_replies, push_replies_or_null};
-use crate::write_text::{push_action, push_action_or_null};
 use std::alloc::AllocError;
+use tt_grammar::{push_action, push_action_or_null, push_labelled};
 use tt_records::After;
 use tt_values::{Catalog, Items, Write};
 

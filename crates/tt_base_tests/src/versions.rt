@@ -57,7 +57,7 @@ fn expect_sides(rt: &impl Abort, table: &Table, current: [i64; 5], next: [i64; 5
 /// Key 1 has tag a from time 1 and tag b from time 3.
 fn a_then_b(rt: &impl Abort, alloc: Global) -> Table {
     let table = Table::new(alloc)
-        .into_written(1, row(rt, alloc, 1, A), 1)
+        .written(1, row(rt, alloc, 1, A), 1)
         .expect(rt, "memory");
     table
         .written(1, row(rt, alloc, 1, B), 3)
@@ -137,8 +137,9 @@ fn written_together(rt: &impl Abort, alloc: Global) -> Table {
     let mut rows = Few::new(alloc);
     rows.push((1, row(rt, alloc, 1, C))).expect(rt, "memory");
     rows.push((2, row(rt, alloc, 2, A))).expect(rt, "memory");
-    let table = a_then_b(rt, alloc).split_back(1, 2).expect(rt, "memory");
-    table.into_all_written(rows, 4).expect(rt, "memory")
+    let mut table = a_then_b(rt, alloc).split_back(1, 2).expect(rt, "memory");
+    table.write_all(rows, 4).expect(rt, "memory");
+    table
 }
 
 #[test]
@@ -168,14 +169,21 @@ const BY_COLUMN: [ColumnCase; 7] = [
     (7, A, 3, 0),
 ];
 
+/// One row to be written, with that key and tag.
+fn one_row(rt: &impl Abort, alloc: Global, key: i64, tag: i64) -> Few<(i64, Option<Row>)> {
+    let mut rows = Few::new(alloc);
+    rows.push((key, row(rt, alloc, key, tag)))
+        .expect(rt, "memory");
+    rows
+}
+
 /// Key 1 has tag a from time 1 and tag b from time 3, and key 2 has tag a from time 2. The tags are
 /// indexed.
 fn indexed(rt: &impl Abort, alloc: Global) -> Table {
     let mut table = Table::with_columns(alloc, &[1]).expect(rt, "memory");
     for (key, tag, time) in [(1, A, 1), (2, A, 2), (1, B, 3)] {
-        table = table
-            .into_written(key, row(rt, alloc, key, tag), time)
-            .expect(rt, "memory");
+        let rows = one_row(rt, alloc, key, tag);
+        table.write_all(rows, time).expect(rt, "memory");
     }
     table
 }
@@ -205,15 +213,14 @@ fn many_rows(rt: &impl Abort, alloc: Global) -> Table {
     let mut table = Table::new(alloc);
     for key in 0..30 {
         for (tag, time) in [(A, 1), (B, 2)] {
-            table = table
-                .into_written(key, row(rt, alloc, key, tag), time)
-                .expect(rt, "memory");
+            let rows = one_row(rt, alloc, key, tag);
+            table.write_all(rows, time).expect(rt, "memory");
         }
         if key % 3 == 0 {
-            table = table.into_split_back(key, 2).expect(rt, "memory");
+            table.split_row_back(key, 2).expect(rt, "memory");
             assert!(rt; table.is_split(key));
             table = table
-                .into_next_written(key, row(rt, alloc, key, C), 2)
+                .next_written(key, row(rt, alloc, key, C), 2)
                 .expect(rt, "memory");
         }
     }
@@ -243,6 +250,7 @@ fn expect_many(rt: &impl Abort, table: &Table) {
 
 #[test]
 fn many_rows_are_switched(rt: HostRuntime) {
-    let table = many_rows(&rt, rt.alloc()).into_switched();
-    expect_many(&rt, &table.expect(&rt, "memory"));
+    let mut table = many_rows(&rt, rt.alloc());
+    table.switch().expect(&rt, "memory");
+    expect_many(&rt, &table);
 }

@@ -7,7 +7,8 @@ use Rattle.tt_session.specs.declared.run.SessionFault.TheVariants as session_fau
 use Rattle.tt_session.specs.Ends as session
 use Rattle.tt_workload.specs.declared.run_fault.RunFault.{RunFault}
 use Rattle.tt_workload.specs.declared.run_fault.RunFault.TheVariants as faults
-use Rattle.tt_workload.specs.Ends.{AppendsPrefix, ReadsDocument, EndsReading, IsReadingFault}
+use Rattle.tt_workload.specs.Ends.{ReadsDocument, EndsReading, IsReadingFault}
+use Rattle.tt_streams.specs.Writing.{AppendsPrefix}
 use Rattle.tt_workload.specs.Run.{WritesReport, EndsEarly, IsFaultOfRun}
 use Rattle.tt_workers.specs.declared.report.Report.{Report}
 use Rattle.tt_workers.specs.Report.{IsReportOf, text_of_report}

@@ -1,6 +1,6 @@
 -- The status that a fault ends the program with, and its line on standard error.
 use Rattle.std.specs.Prelude.{ℕ, List, ◌++◌, codes, Bool, true, false}
-use Rattle.tt_document.specs.declared.fault.DocFault.TheVariants as document_faults
+use Rattle.tt_grammar.specs.declared.fault.DocFault.TheVariants as document_faults
 use Rattle.tt_workload.specs.declared.run_fault.RunFault.{RunFault}
 use Rattle.tt_workload.specs.declared.run_fault.RunFault.TheVariants as faults
 

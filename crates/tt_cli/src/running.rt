@@ -17,10 +17,10 @@ use std::alloc::Global;
 use std::io::{Read, Write};
 use std::sync::Wait;
 use std::thread::Threads;
-use tt_session::{SessionFault, run_session};
+use tt_session::{SessionFault, run_session_to_end};
 use tt_store::NoGate;
 use tt_workers::{run_workers, text_of_report};
-use tt_workload::{Document, Options, RunEnd, RunFault, read_document, run_to_end, write_text};
+use tt_workload::{Document, Options, RunFault, read_document, run_to_end, write_text};
 
 /// Does what is asked for: runs the document of a reader, with the options, and writes the report,
 /// nothing of it before the whole report is known; or answers the reader's lines.
@@ -124,9 +124,9 @@ pub fn replay<R: Read, W: Write>(
     Ok(())
 }
 
-/// Leaks the memory of a run: releasing it piece by piece takes long, and the system takes it back
-/// as a whole when the program ends.
-fn leak(alloc: Global, end: RunEnd) {
+/// Leaks the memory of a run or a session: releasing it piece by piece takes long, and the system
+/// takes it back as a whole when the program ends.
+fn leak<T: Drop>(alloc: Global, end: T) {
     if let Ok(last) = Box::new(alloc, end) {
         let _ = Box::leak(last);
     }
@@ -144,8 +144,11 @@ pub fn answer_lines<R: Read, W: Write>(
         EndsSessionEarly e (R.remaining reader.old) (R.remaining reader.new)
         (W.contents writer.old) (W.contents writer.new)) }
 {
-    match run_session(alloc, reader, writer) {
-        Ok(()) => Ok(()),
+    match run_session_to_end(alloc, reader, writer) {
+        Ok(end) => {
+            leak(alloc, end);
+            Ok(())
+        }
         Err(fault) => Err(fault_of_session(fault)),
     }
 }

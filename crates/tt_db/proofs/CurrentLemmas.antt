@@ -11,7 +11,7 @@ use Rattle.tt_db.specs.declared.event.Event.{Event}
 use Rattle.tt_db.specs.declared.event.Event.TheVariants as events
 use Rattle.tt_db.specs.State.{State, current_at, next_state}
 use Rattle.tt_db.specs.Database.{Database, state_of, current_slots, with_entry, IsDueOrSame, MissesNoSlot, ShowsCurrent}
-use Rattle.tt_db.proofs.DatabaseLemmas.{after-push}
+use Rattle.tt_db.proofs.EntryLemmas.{after-push}
 
 IsDueOrSame-law : (tables : Tables) (phase : Phase) (W : Slots) → IsDueOrSame tables phase W
 IsDueOrSame-law tables Idle W = tt

@@ -1,6 +1,5 @@
 -- A database with one more entry.
 use Rattle.std.proofs.Common.{◌≡◌, ◌≢◌, ℕ, ◌+◌, ◌<◌, ◌≤◌, List, [], ◌∷◌, ◌++◌, fold, length, None, Some, refl, sym, ap, subst, ◌∙◌, arith, length-append}
-use Rattle.std.proofs.lemmas.List.Sums.{fold-append}
 use Rattle.tt_values.specs.declared.statement.Write.{Write}
 use Rattle.tt_values.specs.Tables.{Tables, IsCatalog}
 use Rattle.tt_values.specs.RowWrites.{Slots}
@@ -14,6 +13,7 @@ use Rattle.tt_db.specs.Limits.{max_limits, Fits}
 use Rattle.tt_db.specs.State.{State, ClosedGeneration, start, after, next_state, with_closed, refusal, outcome_of, now_of, IsLegal, IsLegalFrom}
 use Rattle.tt_db.specs.Database.{IsConsistent}
 use Rattle.tt_db.specs.Transition.{generations_after, number_after, closed_after, state_with, Allows}
+use Rattle.tt_db.proofs.EntryLemmas.{after-push, IsLegalFrom-push}
 use Rattle.tt_db.proofs.RefusalLemmas.{accepted_action, accepted_begin, has_room_for_entry, has_room_for_slot, step_finds_slot, switch_finds_none, is_idle, All-names, All-accepted}
 
 pub IsConsistent-empty : (tables : Tables) (limits : Limits) → IsCatalog tables → Fits limits → IsConsistent limits [] (no_slots tables) 0 []
@@ -31,16 +31,6 @@ IsConsistent-empty tables limits catalog fits = record {
   generation = refl;
   closed = refl;
 }
-
--- one more entry leads to the next state
-pub after-push : (limits : Limits) (history : List Entry) (e : Entry) → after limits (history ++ e ∷ []) ≡ next_state limits (after limits history) e.event
-after-push limits history e = fold-append (λ S e. next_state limits S e.event) start history (e ∷ [])
-
--- a history stays legal where the entry isn't refused
-IsLegalFrom-push : (tables : Tables) (limits : Limits) (S : State) (history : List Entry) (e : Entry) → IsLegalFrom tables limits S history
-    → refusal tables limits (fold (λ S e. next_state limits S e.event) S history) e.event ≡ None → IsLegalFrom tables limits S (history ++ e ∷ [])
-IsLegalFrom-push tables limits S [] e legal none = (none, tt)
-IsLegalFrom-push tables limits S (d ∷ history) e legal none = (legal.0, IsLegalFrom-push tables limits (next_state limits S d.event) history e legal.1 none)
 
 -- tables of two generations, a number and closed generations are those of a state
 pub record Agrees (G : TwoGenerations) (number : ℕ) (kept : List ClosedGeneration) (S : State) : Type 0 where

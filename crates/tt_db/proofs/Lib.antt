@@ -1,4 +1,5 @@
 pub mod RefusalLemmas
+pub mod EntryLemmas
 pub mod ClosedLemmas
 pub mod DatabaseLemmas
 pub mod HistoryLemmas

@@ -1,5 +1,7 @@
 -- A database as contracts see it: what it refuses, what it answers and what it becomes.
-use Rattle.std.specs.Prelude.{◌≡◌, ℕ, zero, suc, ◌≤◌, ℤ, Bool, false, List, [], ◌∷◌, ◌++◌, length, slice_get, Option, None, Result}
+use Rattle.std.specs.Prelude.{◌≡◌, ℕ, zero, suc, ◌≤◌, ℤ, Bool, false, List, [], ◌∷◌, ◌++◌, length, nat_lt, slice_get, Option, None, Result, if◌then◌else◌}
+use Rattle.tt_values.specs.declared.row.Row.{Row}
+use Rattle.tt_values.specs.declared.row_id.RowId.{RowId}
 use Rattle.tt_values.specs.declared.statement.Select.{Select}
 use Rattle.tt_values.specs.declared.reply.Reply.{Reply}
 use Rattle.tt_values.specs.Tables.{Tables, IsCatalog}
@@ -112,6 +114,14 @@ repair_of db = progress_of (generations_in db.catalog (state_of db))
 abbrev pub current_rows_of : Database → ℕ → RowsOverTime
 current_rows_of db table key time = row_at (current_at (state_of db) time table) key
 
+-- the current content at each time
+abbrev pub current_of_db : Database → ℕ → Content
+current_of_db db time = current_at (state_of db) time
+
+-- a row in the current generation at a time, if its table is declared and it is there
+abbrev pub row_in : Database → RowId → ℕ → Option Row
+row_in db row time = if nat_lt row.table (length db.catalog) then row_at (current_of_db db time row.table) row.key else None
+
 -- up to the last slot that the repair has done, a side shows the rows of a table in the next generation
 abbrev pub ShowsNextRows : Database → ℕ → RowsOverTime → Type 0
 ShowsNextRows db table rows = (key : ℤ) (time : ℕ) → time ≤ done_of (state_of db).phase → rows key time ≡ row_at (next_at (state_of db) time table) key
@@ -129,10 +139,6 @@ IsDueOrSame tables (Repairing E n) W = is_due tables W E n ≡ false → IsSameS
 abbrev pub MissesNoSlot : Database → Event → Type 0
 MissesNoSlot db events.Step = IsDueOrSame db.catalog (state_of db).phase (current_slots db)
 MissesNoSlot db event = Unit {0}
-
--- the current content at each time
-abbrev pub current_of_db : Database → ℕ → Content
-current_of_db db time = current_at (state_of db) time
 
 -- the slots of a database are these, so that it has their content at each time
 pub record HasSlots (db : Database) (W : Slots) : Type 0 where

@@ -5,6 +5,5 @@ pub mod RightAnswers
 pub mod History
 pub mod Database
 pub mod Transition
-pub mod Run
 pub mod Laws
 pub mod Pages

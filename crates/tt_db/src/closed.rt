@@ -38,7 +38,7 @@ impl ClosedGeneration {
     }
 }
 
-/// A further owner of the same slots and rows.
+/// Another owner of the same slots and rows.
 impl Kept for ClosedGeneration {
     fn kept(&self) -> Result<Self, AllocError> {
         let generations = self.generations.share()?;

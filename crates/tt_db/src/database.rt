@@ -1,13 +1,12 @@
 ghost use Rattle.std.specs.Prelude.{◌≡◌, ◌≢◌, ◌<◌, ◌≤◌, ◌↔◌, IsSome, IsOk, IfSome, [], ◌∷◌, ◌++◌, length, None, Some, OnOk, OnErr, IfOk, IfErr};
 ghost use Rattle.std.specs.Option.{option_copied, option_map};
 ghost use Rattle.tt_versions.specs.Sides.{current_of, next_of, is_split};
-ghost use Rattle.tt_generations.specs.TwoGenerations.{done_of};
+ghost use Rattle.tt_generations.specs.TwoGenerations.{done_of, is_repairing, IsWithin};
 ghost use Rattle.tt_db.specs.Limits.{Fits, max_limits};
 ghost use Rattle.tt_db.specs.Errors.{refusal_of_error};
-ghost use Rattle.tt_db.specs.State.{IsLegal, full_at, slots_in};
-ghost use Rattle.tt_db.specs.Database.{state_of, now_in, oldest_in, with_entry, refusal_of, outcome_for, right_answer, right_answer_at, right_answer_in, right_preview_of, right_preview_at_of, answer_for, preview_for, preview_at_for, slot_of, next_slot_of, repair_of, current_rows_of, ShowsNextRows, dirty_rows_in, MissesNoSlot, ShowsCurrent, nth_item, place_of};
+ghost use Rattle.tt_db.specs.State.{IsLegal, full_at, slots_in, slots_left};
+ghost use Rattle.tt_db.specs.Database.{state_of, now_in, oldest_in, with_entry, refusal_of, outcome_for, right_answer, right_answer_at, right_answer_in, right_preview_of, right_preview_at_of, answer_for, preview_for, preview_at_for, slot_of, next_slot_of, repair_of, current_rows_of, ShowsNextRows, dirty_rows_in, row_in, MissesNoSlot, ShowsCurrent, nth_item, place_of};
 ghost use Rattle.tt_db.specs.RightAnswers.{Answers, RowsHaveRisingKeys};
-ghost use Rattle.tt_db.specs.Run.{IsRun};
 ghost use Rattle.tt_db.specs.Transition.{Allows, IsTransition, closed_after};
 
 mod page;
@@ -25,8 +24,8 @@ use std::marker::Model;
 use std::sync::Arc;
 use tt_generations::{Edit, Generations, Progress, Slot};
 use tt_pages::PagedLog;
-use tt_values::{Catalog, Reply, Select, Shared, Write, check_action, check_select};
-use tt_versions::Table;
+use tt_values::{Catalog, Reply, Row, RowId, Select, Shared, Write, check_action, check_select};
+use tt_versions::{Side, Table};
 
 /// A database: a catalog, limits, and the history of the accepted events.
 pub struct Db {
@@ -92,6 +91,14 @@ impl Db {
         ensures { result.now ≡ self.now.catalog }
     {
         self.generations.catalog()
+    }
+
+    /// The limits that the database was created with.
+    pub fn limits(&self) -> Limits
+        ensures value { result ≡ self.now.limits }
+        ensures fits { Fits result }
+    {
+        self.limits
     }
 
     /// The current time: the number of slots.
@@ -172,7 +179,29 @@ impl Db {
         self.generations.progress()
     }
 
-    /// Applies an event: answers the next database and the outcome, or why the event is refused.
+    /// How many slots the repair has done; 0 where none is under way. Takes no memory.
+    pub fn slots_done(&self) -> u64
+        ensures { result ≡ done_of (state_of self.now).phase }
+    {
+        self.generations.done()
+    }
+
+    /// How many slots the repair has left to do; 0 where none is under way. Takes no memory.
+    pub fn slots_left(&self) -> u64
+        ensures left { result ≡ slots_left (state_of self.now) }
+        ensures within { IsWithin (state_of self.now).phase (state_of self.now).slots }
+    {
+        self.generations.left()
+    }
+
+    /// Whether a repair is under way. Takes no memory.
+    pub fn is_repairing(&self) -> bool
+        ensures { result ≡ is_repairing (state_of self.now).phase }
+    {
+        self.generations.is_repairing()
+    }
+
+    /// Applies an event: returns the next database and the outcome, or why the event is refused.
     /// This database stays as it is, and shares with the next one what they have in common.
     ///
     /// The slot of a step that isn't due is the same in both generations, with the same effect and
@@ -197,7 +226,7 @@ impl Db {
         }
     }
 
-    /// Applies an event to a database whose earlier state isn't needed any more: answers the next
+    /// Applies an event to a database whose earlier state isn't needed any more: returns the next
     /// database and the outcome, or this database and why the event is refused. What no other
     /// database shares is changed in place. Without memory for an event that isn't refused nothing
     /// is left: use [`apply`](Db::apply) where the database has to survive that.
@@ -210,28 +239,20 @@ impl Db {
         ensures unchanged { IfOk result (λ r. OnErr r.1 (r.0 ≡ self)) }
         ensures memory { OnErr result (refusal_of self entry.event ≡ None) }
     {
-        match self.refusal(&entry.event) {
-            Some(refusal) => Ok((self, Err(refusal))),
-            None => self.advanced_by(entry),
-        }
-    }
-
-    /// The database after an event that isn't refused, and the outcome.
-    fn advanced_by(self, entry: Entry) -> Result<(Db, Result<Outcome, DbError>), AllocError>
-        requires { refusal_of self entry.event ≡ None }
-        ensures state { IfOk result (λ r. OnOk r.1 (r.0 ≡ with_entry self entry)) }
-        ensures outcome { IfOk result (λ r. IfOk r.1 (λ o. o ≡ outcome_for self entry.event)) }
-        ensures accepted { IfOk result (λ r. IsOk r.1) }
-    {
         let mut db = self;
+        if let Some(refusal) = db.refusal(&entry.event) {
+            return Ok((db, Err(refusal)));
+        }
         let outcome = db.apply_event(entry)?;
         Ok((db, Ok(outcome)))
     }
 
-    /// Applies an event in place: becomes the next database and answers the outcome, or stays and
-    /// answers why the event is refused. What no other database shares is changed where it lies.
+    /// Applies an event in place: becomes the next database and returns the outcome, or stays and
+    /// returns why the event is refused. What no other database shares is changed where it lies.
+    /// What [`apply`](Db::apply) says of repairs holds here too.
+    ///
     /// Without memory for an event that isn't refused nothing is left of the database but its
-    /// catalog and its limits: use [`apply`](Db::apply) where it has to survive that.
+    /// catalog and its limits: where it has to survive that, [`share`](Db::share) it first.
     pub fn advance(&mut self, entry: Entry) -> Result<Outcome, DbError>
         ensures state { OnOk result (self.new ≡ with_entry self.old entry) }
         ensures outcome { IfOk result (λ o. o ≡ outcome_for self.old entry.event) }
@@ -239,8 +260,11 @@ impl Db {
         ensures refused { IfErr result (λ e.
             refusal_of self.old entry.event ≡ refusal_of_error e) }
         ensures unchanged { IfErr result (λ e. e ≢ DbError.Memory → self.new ≡ self.old) }
+        ensures memory { IfErr result (λ e. e ≡ DbError.Memory → self.new.history ≡ []) }
         ensures catalog { self.new.catalog ≡ self.old.catalog }
         ensures limits { self.new.limits ≡ self.old.limits }
+        ensures repaired { OnOk result (MissesNoSlot self.old entry.event) }
+        ensures current { OnOk result (ShowsCurrent self.old entry.event self.new) }
     {
         if let Some(refusal) = self.refusal(&entry.event) {
             return Err(refusal);
@@ -251,8 +275,26 @@ impl Db {
         }
     }
 
-    /// Why the event is refused, memory aside.
-    fn refusal(&self, event: &Event) -> Option<DbError>
+    /// Another owner of this database: a checkpoint, which stays as it is whatever becomes of this
+    /// one. Copies no entry and no row.
+    pub fn share(&self) -> Result<Db, AllocError>
+        ensures { IfOk result (λ db. db ≡ self.now) }
+    {
+        let history = self.history.share()?;
+        let generations = self.generations.share()?;
+        let closed = self.closed.share()?;
+        Ok(Db {
+            alloc: self.alloc,
+            limits: self.limits,
+            history,
+            generations,
+            generation: self.generation,
+            closed,
+        })
+    }
+
+    /// Why an event would be refused, memory aside. Takes no memory.
+    pub fn refusal(&self, event: &Event) -> Option<DbError>
         ensures { result ≡ refusal_of self.now event.now }
     {
         match event {
@@ -361,29 +403,13 @@ impl Db {
         Ok((next, outcome))
     }
 
-    /// A further owner of the same database.
-    fn share(&self) -> Result<Db, AllocError>
-        ensures { IfOk result (λ db. db ≡ self.now) }
-    {
-        let history = self.history.share()?;
-        let generations = self.generations.share()?;
-        let closed = self.closed.share()?;
-        Ok(Db {
-            alloc: self.alloc,
-            limits: self.limits,
-            history,
-            generations,
-            generation: self.generation,
-            closed,
-        })
-    }
-
-    /// Becomes the database after an event that isn't refused, and answers the outcome. Without
+    /// Becomes the database after an event that isn't refused, and returns the outcome. Without
     /// memory there is no entry afterwards.
     fn apply_event(&mut self, entry: Entry) -> Result<Outcome, AllocError>
         requires { refusal_of self.old entry.event ≡ None }
         ensures state { OnOk result (self.new ≡ with_entry self.old entry) }
         ensures outcome { IfOk result (λ o. o ≡ outcome_for self.old entry.event) }
+        ensures memory { OnErr result (self.new.history ≡ []) }
         ensures catalog { self.new.catalog ≡ self.old.catalog }
         ensures limits { self.new.limits ≡ self.old.limits }
     {
@@ -406,62 +432,6 @@ impl Db {
                 Err(AllocError)
             }
         }
-    }
-
-    /// Applies entries in order, and answers each: one that is refused, or that runs out of memory,
-    /// is skipped. An error means that there was no memory for the answers, and leaves the database
-    /// as it was.
-    pub fn apply_all(
-        &mut self,
-        entries: &[Entry],
-    ) -> Result<Vec<Result<Outcome, DbError>>, AllocError>
-        ensures run { IfOk result (λ answers. IsRun self.old.catalog self.old.limits
-            self.old.history entries.now answers.items self.new.history) }
-        ensures legal { OnOk result (IsLegal self.new.catalog self.new.limits self.new.history) }
-        ensures catalog { self.new.catalog ≡ self.old.catalog }
-        ensures limits { self.new.limits ≡ self.old.limits }
-        ensures err { OnErr result (self.new ≡ self.old) }
-    {
-        let mut answers = Vec::with_capacity(self.alloc, entries.len())?;
-        for entry in entries {
-            let answer = self.try_entry(entry);
-            answers.push_reserved(answer);
-        }
-        // For the proof: the invariant of the database is known where it is read.
-        let _ = &self.limits;
-        Ok(answers)
-    }
-
-    /// Becomes the database after the entry, or stays as it is where the entry isn't accepted.
-    fn try_entry(&mut self, entry: &Entry) -> Result<Outcome, DbError>
-        ensures ok { OnOk result (self.new ≡ with_entry self.old entry.now) }
-        ensures outcome { IfOk result (λ o. o ≡ outcome_for self.old entry.now.event) }
-        ensures accepted { OnOk result (refusal_of self.old entry.now.event ≡ None) }
-        ensures refused { IfErr result (λ e. refusal_of self.old entry.now.event
-            ≡ refusal_of_error e) }
-        ensures err { OnErr result (self.new ≡ self.old) }
-    {
-        if let Some(refusal) = self.refusal(&entry.event) {
-            return Err(refusal);
-        }
-        match self.apply_copy(entry) {
-            Ok((db, outcome)) => {
-                *self = db;
-                Ok(outcome)
-            }
-            Err(AllocError) => Err(DbError::Memory),
-        }
-    }
-
-    /// The next database after an entry that isn't refused, beside this one.
-    fn apply_copy(&self, entry: &Entry) -> Result<(Db, Outcome), AllocError>
-        requires { refusal_of self.now entry.now.event ≡ None }
-        ensures state { IfOk result (λ r. r.0 ≡ with_entry self.now entry.now) }
-        ensures outcome { IfOk result (λ r. r.1 ≡ outcome_for self.now entry.now.event) }
-    {
-        let entry = entry.clone()?;
-        let next = self.apply_shared(entry)?;
-        Ok(next)
     }
 
     /// The rows that match now, by rising key.
@@ -553,8 +523,8 @@ impl Db {
     }
 
     /// The rows that match in the next generation at a time, by rising key. Each time up to the
-    /// last slot that the repair has done can be read; at this one it answers as
-    /// [`preview`](Db::preview).
+    /// last slot that the repair has done can be read; at this one it returns what
+    /// [`preview`](Db::preview) does.
     pub fn preview_at(&self, select: &Select, time: u64) -> Result<Reply, ReadError>
         ensures right { Answers (right_preview_at_of self.now select.now time) result }
         ensures keyed { IfOk result (λ reply. RowsHaveRisingKeys reply) }
@@ -602,6 +572,15 @@ impl Db {
         Ok(reply)
     }
 
+    /// The row with an identity in the current generation at a time; None where it isn't there, or
+    /// where its table isn't declared. Takes no memory.
+    pub fn row_at(&self, row: RowId, time: u64) -> Option<&Row>
+        ensures { option_copied result ≡ row_in self.now row time }
+    {
+        let table = self.versions(row.table)?;
+        table.at(row.key, time, Side::Current)
+    }
+
     /// The versions of the rows of a table; None past the last table. The current side shows the
     /// current generation, and the next side, up to the last slot that a repair has done, the next
     /// one. The split rows are the dirty ones: none while no repair is under way. Takes no memory.
@@ -621,7 +600,7 @@ impl Db {
 }
 
 /// Carries out an event that isn't refused on the parts of a database, adds its entry to the
-/// history, and answers the outcome.
+/// history, and returns the outcome.
 fn carry_out_on(
     alloc: Global,
     keep: u32,

@@ -1,7 +1,7 @@
 use thiserror::Error;
 use tt_values::CheckError;
 
-/// Why an event isn't accepted. The first that applies, in this order, is the answer; the database
+/// Why an event isn't accepted. The first that applies, in this order, is returned; the database
 /// stays as it was.
 #[derive(Clone, Copy, Debug, PartialEq, Eq, Error)]
 pub enum DbError {
@@ -44,7 +44,7 @@ pub enum ReadError {
     #[error("{0}")]
     Statement(CheckError),
     /// A worker of a shared store has no reading of what is published. A database itself never
-    /// answers so.
+    /// returns this.
     #[error("no reading")]
     NoReading,
     /// No repair is under way, so there is no next generation to read.

@@ -54,7 +54,7 @@ impl History {
         self.entries.get(position)
     }
 
-    /// A further owner of the same entries. Copies none of them.
+    /// Another owner of the same entries. Copies none of them.
     pub(crate) fn share(&self) -> Result<History, AllocError>
         ensures { IfOk result (λ h. h ≡ self.now) }
     {

@@ -8,7 +8,7 @@ use crate::outcome::Outcome;
 use std::alloc::AllocError;
 use tt_generations::Generations;
 
-/// Carries out an event on the tables, whose current generation has this number, and answers its
+/// Carries out an event on the tables, whose current generation has this number, and returns its
 /// outcome.
 pub(crate) fn carry_out(
     generations: &mut Generations,

@@ -6,7 +6,7 @@ use std::alloc::Global;
 use std::sync::Arc;
 use tt_db::{Db, Limits};
 
-/// Makes the calls of a plan, and answers how many slots they leave.
+/// Makes the calls of a plan, and returns how many slots they leave.
 pub(crate) fn make_calls(alloc: Global, plan: Plan) -> Result<u64, BenchError> {
     let Plan { mode, rows } = plan;
     match mode {

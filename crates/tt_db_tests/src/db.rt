@@ -177,16 +177,14 @@ fn after(rt: &impl Abort, alloc: Global, db: &Db, entry: Entry, reply: Reply) ->
     next
 }
 
-/// Applies an event, and answers what the database answers.
-fn answer_to(rt: &impl Abort, db: &mut Db, event: Event) -> Result<Outcome, DbError> {
-    let entry = Entry { worker: 1, event };
-    let mut answers = db.apply_all(&[entry]).expect(rt, "memory");
-    answers.pop().expect(rt, "an answer")
+/// Applies an event in place, and returns what comes of it.
+fn answer_to(db: &mut Db, event: Event) -> Result<Outcome, DbError> {
+    db.advance(Entry { worker: 1, event })
 }
 
 /// Applies an event that is accepted.
 fn made(rt: &impl Abort, db: &mut Db, event: Event) -> Outcome {
-    answer_to(rt, db, event).expect(rt, "an accepted event")
+    answer_to(db, event).expect(rt, "an accepted event")
 }
 
 /// Applies an action of these writes, with these replies.

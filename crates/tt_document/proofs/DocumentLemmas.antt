@@ -16,27 +16,29 @@ use Rattle.tt_values.specs.Check.{write_fault, first_write_fault, action_fault, 
 use Rattle.tt_values.specs.Limits.{max_writes}
 use Rattle.tt_repair_laws.specs.declared.edit.Edit.{Edit}
 use Rattle.tt_repair_laws.specs.Edits.{slot_number}
+use Rattle.tt_grammar.specs.declared.fault.DocFault.{DocFault}
+use Rattle.tt_grammar.specs.declared.statements.Context.{Context}
+use Rattle.tt_grammar.specs.declared.statements.Context.TheVariants as contexts
+use Rattle.tt_grammar.specs.declared.version.Version.{Version}
+use Rattle.tt_grammar.specs.Fault.{◌>>=◌, refuse, or_refuse, with_path, member_path, item_path}
+use Rattle.tt_grammar.specs.Decoder.{has, member, optional, read_member, read_optional, within_limit, within, count, count_within, array, object}
+use Rattle.tt_grammar.specs.Arrays.{fold_items, each, array_of}
+use Rattle.tt_grammar.specs.Members.{is_one_of, no_members_but}
+use Rattle.tt_grammar.specs.Tables.{catalog}
+use Rattle.tt_grammar.specs.Conditions.{table_named, value, condition}
+use Rattle.tt_grammar.specs.Changes.{change}
+use Rattle.tt_grammar.specs.Statements.{checked_statement, no_members_at, insert, update, delete}
+use Rattle.tt_grammar.specs.Actions.{has_action, write, item_of_action, writes, action}
+use Rattle.tt_grammar.specs.Version.{version}
+use Rattle.tt_grammar.specs.Edits.{max_edits, no_kind_of_write, replacement_by, replacement}
 use Rattle.tt_document.specs.declared.document.Document.{Document}
 use Rattle.tt_document.specs.declared.document.Plan.{Plan}
 use Rattle.tt_document.specs.declared.document.Call.{Call}
 use Rattle.tt_document.specs.declared.document.Ask.{Ask}
 use Rattle.tt_document.specs.declared.document.Ask.TheVariants as asks
-use Rattle.tt_document.specs.declared.fault.DocFault.{DocFault}
-use Rattle.tt_document.specs.declared.statements.Context.{Context}
-use Rattle.tt_document.specs.declared.statements.Context.TheVariants as contexts
-use Rattle.tt_document.specs.declared.version.Version.{Version}
-use Rattle.tt_document.specs.Fault.{◌>>=◌, refuse, or_refuse, with_path, member_path, item_path}
-use Rattle.tt_document.specs.Decoder.{has, member, optional, read_member, read_optional, within_limit, within, count, count_within, array, object}
-use Rattle.tt_document.specs.Arrays.{fold_items, each, array_of}
-use Rattle.tt_document.specs.Members.{is_one_of, no_members_but}
-use Rattle.tt_document.specs.Tables.{catalog}
-use Rattle.tt_document.specs.Conditions.{table_named, value, condition}
-use Rattle.tt_document.specs.Changes.{change}
-use Rattle.tt_document.specs.Statements.{checked_statement, no_members_at, insert, update, delete, select, preview}
-use Rattle.tt_document.specs.Actions.{has_action, write, item_of_action, writes, action}
-use Rattle.tt_document.specs.Version.{version}
+use Rattle.tt_document.specs.Reads.{select, preview}
 use Rattle.tt_document.specs.Calls.{max_calls, no_kind, ask_by, ask, call, calls}
-use Rattle.tt_document.specs.Repair.{max_edits, no_kind_of_write, replacement_by, replacement, cancel, replace, edit_by_kind, is_action_call, judge_edit, with_edit, edits, repair}
+use Rattle.tt_document.specs.Repair.{cancel, replace, edit_by_kind, is_action_call, judge_edit, with_edit, edits, repair}
 use Rattle.tt_document.specs.Reading.{max_workers, members_of_document}
 use Rattle.tt_document.specs.Document.{ask_fault, edit_fault, IsValidCall, IsValidEdit, AreForOtherCalls, IsValidPlan, IsValidDocument}
 

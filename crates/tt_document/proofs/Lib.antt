@@ -1,5 +1,1 @@
-pub mod DecoderLemmas
 pub mod DocumentLemmas
-pub mod QuotingLemmas
-pub mod RepeatedLemmas
-pub mod StatementLemmas

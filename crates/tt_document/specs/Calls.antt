@@ -3,18 +3,18 @@ use Rattle.std.specs.Prelude.{ℕ, if◌then◌else◌, List, [], ◌∷◌, Opt
 use Rattle.serde_json.specs.Data.{Data}
 use Rattle.tt_values.specs.declared.statement.Write.{Write}
 use Rattle.tt_values.specs.Tables.{Tables}
+use Rattle.tt_grammar.specs.declared.fault.DocFault.{DocFault}
+use Rattle.tt_grammar.specs.declared.statements.Context.TheVariants as contexts
+use Rattle.tt_grammar.specs.declared.version.Version.{Version}
+use Rattle.tt_grammar.specs.declared.version.Version.TheVariants as versions
+use Rattle.tt_grammar.specs.Fault.{◌>>=◌, refuse}
+use Rattle.tt_grammar.specs.Decoder.{object, array, within_limit, count_within, has, member}
+use Rattle.tt_grammar.specs.Arrays.{each}
+use Rattle.tt_grammar.specs.Actions.{has_action, write, action}
 use Rattle.tt_document.specs.declared.document.Call.{Call}
 use Rattle.tt_document.specs.declared.document.Ask.{Ask}
 use Rattle.tt_document.specs.declared.document.Ask.TheVariants as asks
-use Rattle.tt_document.specs.declared.fault.DocFault.{DocFault}
-use Rattle.tt_document.specs.declared.statements.Context.TheVariants as contexts
-use Rattle.tt_document.specs.declared.version.Version.{Version}
-use Rattle.tt_document.specs.declared.version.Version.TheVariants as versions
-use Rattle.tt_document.specs.Fault.{◌>>=◌, refuse}
-use Rattle.tt_document.specs.Decoder.{object, array, within_limit, count_within, has, member}
-use Rattle.tt_document.specs.Arrays.{each}
-use Rattle.tt_document.specs.Statements.{select, preview}
-use Rattle.tt_document.specs.Actions.{has_action, write, action}
+use Rattle.tt_document.specs.Reads.{select, preview}
 
 -- the largest number of calls
 abbrev pub max_calls : ℕ

@@ -3,23 +3,24 @@ use Rattle.std.specs.Prelude.{◌≡◌, ℕ, ◌≤◌, ◌==◌, true, false, 
 use Rattle.std.specs.List.{list_any}
 use Rattle.json.specs.Json as json
 use Rattle.serde_json.specs.Data.{Data}
-use Rattle.tt_json.specs.Text.{json_of_text}
 use Rattle.tt_values.specs.declared.checking.CheckError.{CheckError}
 use Rattle.tt_values.specs.Tables.{Tables}
 use Rattle.tt_values.specs.Check.{action_fault, select_fault}
 use Rattle.tt_repair_laws.specs.declared.edit.Edit.{Edit}
 use Rattle.tt_repair_laws.specs.declared.edit.Edit.TheVariants.{Cancel, Replace}
 use Rattle.tt_repair_laws.specs.Edits.{slot_number}
+use Rattle.tt_json.specs.Text.{json_of_text}
+use Rattle.tt_grammar.specs.declared.fault.DocFault.{DocFault}
+use Rattle.tt_grammar.specs.Fault.{◌>>=◌, with_path, document_path}
+use Rattle.tt_grammar.specs.TextValue.{value_of_found}
+use Rattle.tt_grammar.specs.Edits.{max_edits}
 use Rattle.tt_document.specs.declared.document.Document.{Document}
 use Rattle.tt_document.specs.declared.document.Plan.{Plan}
 use Rattle.tt_document.specs.declared.document.Call.{Call}
 use Rattle.tt_document.specs.declared.document.Ask.{Ask}
 use Rattle.tt_document.specs.declared.document.Ask.TheVariants as asks
-use Rattle.tt_document.specs.declared.fault.DocFault.{DocFault}
-use Rattle.tt_document.specs.Fault.{◌>>=◌, with_path, document_path}
-use Rattle.tt_document.specs.TextValue.{value_of_found}
 use Rattle.tt_document.specs.Calls.{max_calls}
-use Rattle.tt_document.specs.Repair.{max_edits, is_action_call}
+use Rattle.tt_document.specs.Repair.{is_action_call}
 use Rattle.tt_document.specs.Reading.{max_workers, members_of_document}
 
 -- the meaning of a JSON value: a document, or its first fault with the path from the root

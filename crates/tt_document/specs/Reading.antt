@@ -2,13 +2,13 @@
 -- next; then an unknown member, the least by its bytes; then the object as a whole. Statements and tables are judged likewise.
 use Rattle.std.specs.Prelude.{ℕ, [], ◌∷◌, Result, Ok, codes}
 use Rattle.serde_json.specs.Data.{Data}
+use Rattle.tt_grammar.specs.declared.fault.DocFault.{DocFault}
+use Rattle.tt_grammar.specs.Fault.{◌>>=◌}
+use Rattle.tt_grammar.specs.Decoder.{object, count_within, member, optional}
+use Rattle.tt_grammar.specs.Members.{is_one_of, no_members_but}
+use Rattle.tt_grammar.specs.Tables.{catalog}
+use Rattle.tt_grammar.specs.Version.{version}
 use Rattle.tt_document.specs.declared.document.Document.{Document}
-use Rattle.tt_document.specs.declared.fault.DocFault.{DocFault}
-use Rattle.tt_document.specs.Fault.{◌>>=◌}
-use Rattle.tt_document.specs.Decoder.{object, count_within, member, optional}
-use Rattle.tt_document.specs.Members.{is_one_of, no_members_but}
-use Rattle.tt_document.specs.Tables.{catalog}
-use Rattle.tt_document.specs.Version.{version}
 use Rattle.tt_document.specs.Calls.{calls}
 use Rattle.tt_document.specs.Repair.{repair}
 

@@ -3,46 +3,22 @@ use Rattle.std.specs.Prelude.{ℕ, ◌-◌, ◌==◌, Bool, true, false, not, if
 use Rattle.std.specs.List.{list_any}
 use Rattle.std.specs.Option.{unwrap_or}
 use Rattle.serde_json.specs.Data.{Data}
-use Rattle.tt_values.specs.declared.statement.Write.{Write}
 use Rattle.tt_values.specs.Tables.{Tables}
 use Rattle.tt_repair_laws.specs.declared.edit.Edit.{Edit}
 use Rattle.tt_repair_laws.specs.declared.edit.Edit.TheVariants.{Cancel, Replace}
 use Rattle.tt_repair_laws.specs.Edits.{slot_number}
+use Rattle.tt_grammar.specs.declared.fault.DocFault.{DocFault}
+use Rattle.tt_grammar.specs.declared.version.Version.{Version}
+use Rattle.tt_grammar.specs.Fault.{◌>>=◌, refuse}
+use Rattle.tt_grammar.specs.Decoder.{object, array, within_limit, count_within, has, member, optional}
+use Rattle.tt_grammar.specs.Arrays.{fold_items}
+use Rattle.tt_grammar.specs.Members.{is_one_of, no_members_but}
+use Rattle.tt_grammar.specs.Edits.{max_edits, replacement}
 use Rattle.tt_document.specs.declared.document.Call.{Call}
 use Rattle.tt_document.specs.declared.document.Ask.{Ask}
 use Rattle.tt_document.specs.declared.document.Ask.TheVariants as asks
 use Rattle.tt_document.specs.declared.document.Plan.{Plan}
-use Rattle.tt_document.specs.declared.fault.DocFault.{DocFault}
-use Rattle.tt_document.specs.declared.statements.Context.TheVariants as contexts
-use Rattle.tt_document.specs.declared.version.Version.{Version}
-use Rattle.tt_document.specs.declared.version.Version.TheVariants as versions
-use Rattle.tt_document.specs.Fault.{◌>>=◌, refuse}
-use Rattle.tt_document.specs.Decoder.{object, array, within_limit, count_within, has, member, optional}
-use Rattle.tt_document.specs.Arrays.{fold_items}
-use Rattle.tt_document.specs.Members.{is_one_of, no_members_but}
-use Rattle.tt_document.specs.Actions.{has_action, write, action}
 use Rattle.tt_document.specs.Calls.{calls}
-
--- the largest number of edits
-abbrev pub max_edits : ℕ
-max_edits = 10000
-
--- why a replacement is refused that has none of the kinds of its version
-abbrev pub no_kind_of_write : Version → List ℕ
-no_kind_of_write versions.One = codes "missing one of insert, update, delete"
-no_kind_of_write versions.Two = codes "missing one of insert, update, delete, do"
-
--- the action that replaces another: its write, if it has one, as an action of one; or else its action
-abbrev pub replacement_by : Version → Tables → Data → Option Write → Result (List Write) DocFault
-replacement_by version tables v (Some write) = Ok (write ∷ [])
-replacement_by version tables v None = if has_action version v then action tables contexts.Nested v else refuse (no_kind_of_write version)
-
--- the action that replaces another, by the first of the kinds that its object has: insert, update, delete, and in version 2 do
-unfoldable pub replacement : Version → Tables → Data → Result (List Write) DocFault
-replacement version tables v = do
-  _ ← object v
-  write ← write tables contexts.Nested v
-  replacement_by version tables v write
 
 -- an edit that cancels a call, whose number is at most the number of calls
 unfoldable pub cancel : ℕ → Data → Result Edit DocFault

@@ -1,18 +1,17 @@
 //! Reading of the calls of a document.
 ghost use Rattle.std.specs.Prelude.{◌≡◌, None};
-ghost use Rattle.tt_document.specs.Fault.{Gives};
+ghost use Rattle.tt_grammar.specs.Fault.{Gives};
 ghost use Rattle.tt_document.specs.Calls.{no_kind, ask_by, ask, call, calls};
 
 use crate::MAX_CALLS;
-use crate::actions::{action, action_of_one, has_action, write};
-use crate::arrays::decode_owned;
-use crate::decoder::{CountDecoder, Decoder, OUT_OF_RANGE, array, has, member, object};
 use crate::document::{Ask, Call};
-use crate::fault::DocFault;
-use crate::owned_items::OwnedItems;
-use crate::statements::{Context, preview, select};
-use crate::version::Version;
+use crate::reads::{preview, select};
 use std::alloc::Global;
+use tt_grammar::decoding::{
+    Context, CountDecoder, Decoder, OUT_OF_RANGE, Version, action, action_of_one, array,
+    decode_owned, has, has_action, member, object, write,
+};
+use tt_grammar::{DocFault, OwnedItems};
 use tt_json::JsonValue;
 use tt_values::Catalog;
 

@@ -1,9 +1,7 @@
-use crate::fault::DocFault;
-use crate::json_text::parse_text;
-use crate::owned_items::OwnedItems;
 use crate::reading::from_members;
 use serde_json::Value;
 use std::alloc::Global;
+use tt_grammar::{DocFault, OwnedItems, parse_text};
 use tt_json::{JsonValue, Scratch, root};
 use tt_repair_laws::Edit;
 use tt_values::{Catalog, Items, Select, Shared, Write};
@@ -34,7 +32,7 @@ pub struct Plan {
 impl Document {
     ghost use Rattle.std.specs.Prelude.{◌≡◌, Ok, IfOk, IfErr};
     ghost use Rattle.serde_json.specs.View.{view};
-    ghost use Rattle.tt_document.specs.Fault.{FailsWith};
+    ghost use Rattle.tt_grammar.specs.Fault.{FailsWith};
     ghost use Rattle.tt_document.specs.Document.{document_of, document_of_text, IsValidDocument};
 
     /// The document that a JSON value spells, or its first fault. Memory can run out before the

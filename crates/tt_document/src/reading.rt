@@ -1,17 +1,16 @@
 //! Reading of a whole document.
-ghost use Rattle.tt_document.specs.Fault.{Gives};
+ghost use Rattle.tt_grammar.specs.Fault.{Gives};
 ghost use Rattle.tt_document.specs.Reading.{members_of_document};
 
 use crate::MAX_WORKERS;
 use crate::calls::CallsDecoder;
-use crate::decoder::{CountDecoder, member, object, optional};
 use crate::document::Document;
-use crate::fault::DocFault;
-use crate::members::no_members_but;
 use crate::repair::RepairDecoder;
-use crate::tables::TablesDecoder;
-use crate::version::VersionDecoder;
 use std::alloc::Global;
+use tt_grammar::DocFault;
+use tt_grammar::decoding::{
+    CountDecoder, TablesDecoder, VersionDecoder, member, no_members_but, object, optional,
+};
 use tt_json::JsonValue;
 use tt_values::Shared;
 

@@ -1,26 +1,22 @@
 //! Reading of the repair of a document.
-ghost use Rattle.std.specs.Prelude.{◌≡◌, ◌==◌, None};
+ghost use Rattle.std.specs.Prelude.{◌≡◌, ◌==◌};
 ghost use Rattle.std.specs.List.{list_any};
 ghost use Rattle.tt_repair_laws.specs.Edits.{slot_number};
-ghost use Rattle.tt_document.specs.Fault.{Gives};
-ghost use Rattle.tt_document.specs.Decoder.{count_within};
-ghost use Rattle.tt_document.specs.Repair.{no_kind_of_write, replacement_by, replacement, cancel, replace, edit_by_kind, is_action, is_action_call, judge_edit, with_edit, edits, repair};
+ghost use Rattle.tt_grammar.specs.Fault.{Gives};
+ghost use Rattle.tt_grammar.specs.Decoder.{count_within};
+ghost use Rattle.tt_document.specs.Repair.{cancel, replace, edit_by_kind, is_action, is_action_call, judge_edit, with_edit, edits, repair};
 
-use crate::MAX_EDITS;
-use crate::actions::{action, action_of_one, has_action, write};
-use crate::arrays::{Fold, fold_items};
 use crate::calls::CallsDecoder;
-use crate::decoder::{Decoder, OUT_OF_RANGE, array, count, has, member, object, optional};
 use crate::document::{Ask, Call, Plan};
-use crate::fault::DocFault;
-use crate::members::no_members_but;
-use crate::owned_items::OwnedItems;
-use crate::statements::Context;
-use crate::version::Version;
 use std::alloc::Global;
+use tt_grammar::decoding::{
+    Decoder, Fold, OUT_OF_RANGE, ReplacementDecoder, Version, array, count, fold_items, has,
+    member, no_members_but, object, optional,
+};
+use tt_grammar::{DocFault, MAX_EDITS, OwnedItems};
 use tt_json::JsonValue;
 use tt_repair_laws::Edit;
-use tt_values::{Catalog, Items, Write};
+use tt_values::{Catalog, Items};
 
 /// The repair of calls: its edits, and the calls that are made meanwhile.
 #[derive(Drop)]
@@ -223,56 +219,5 @@ impl Decoder for CallNumberDecoder {
             return Err(DocFault::here(alloc, OUT_OF_RANGE));
         }
         Ok(number)
-    }
-}
-
-/// The action that replaces the one of a call.
-#[derive(Drop)]
-pub struct ReplacementDecoder<'a> {
-    /// Which kinds of write there are.
-    pub version: Version,
-    /// The tables.
-    pub catalog: &'a Catalog,
-}
-
-impl Decoder for ReplacementDecoder<'_> {
-    type Output = Items<Write>;
-
-    ghost meaning = { λ r. replacement r.version r.catalog.now };
-
-    #[tactic(auto, unfolding(crate::specs::Repair::replacement))]
-    fn decode<V: JsonValue>(&self, alloc: Global, value: &V) -> Result<Items<Write>, DocFault> {
-        object(alloc, value)?;
-        match write(alloc, self.catalog, Context::Nested, value)? {
-            Some(write) => {
-                let action = action_of_one(alloc, write)?;
-                Ok(action)
-            }
-            None => replacement_without_write(alloc, self.version, self.catalog, value),
-        }
-    }
-}
-
-fn replacement_without_write<V: JsonValue>(
-    alloc: Global,
-    version: Version,
-    catalog: &Catalog,
-    value: &V,
-) -> Result<Items<Write>, DocFault>
-    ensures { Gives result (replacement_by version catalog.now (V.json value.now) None) }
-{
-    if has_action(version, value) {
-        let action = action(alloc, catalog, Context::Nested, value)?;
-        return Ok(action);
-    }
-    Err(DocFault::here(alloc, no_kind_of_write(version)))
-}
-
-fn no_kind_of_write(version: Version) -> &'static str
-    ensures { result.now ≡ no_kind_of_write version }
-{
-    match version {
-        Version::One => "missing one of insert, update, delete",
-        Version::Two => "missing one of insert, update, delete, do",
     }
 }

@@ -42,7 +42,7 @@ impl BoxedRepair {
         Ok(BoxedRepair { repair })
     }
 
-    /// A further owner of the same repair.
+    /// Another owner of the same repair.
     pub(crate) fn share(&self, alloc: Global) -> Result<BoxedRepair, AllocError>
         ensures { IfOk result (λ b. b ≡ self.now) }
     {

@@ -245,7 +245,7 @@ impl Generations {
         Ok(Reply::Rows(rows))
     }
 
-    /// A further owner of the same slots and rows. Copies none of them.
+    /// Another owner of the same slots and rows. Copies none of them.
     pub fn share(&self) -> Result<Generations, AllocError>
         ensures { IfOk result (λ g. g ≡ self.now) }
     {
@@ -253,7 +253,7 @@ impl Generations {
         Ok(Generations { state })
     }
 
-    /// Adds a slot for this action, and answers the replies to its writes. Without memory there are
+    /// Adds a slot for this action, and returns the replies to its writes. Without memory there are
     /// no slots afterwards.
     pub fn write(&mut self, action: Items<Write>) -> Result<Items<Reply>, AllocError>
         requires accepted { action_fault self.old.catalog action ≡ None }
@@ -265,10 +265,7 @@ impl Generations {
     {
         match self.state.add_action(action) {
             Ok(replies) => Ok(replies),
-            Err(AllocError) => {
-                self.state.clear();
-                Err(AllocError)
-            }
+            Err(error) => Err(self.state.clear_after(error)),
         }
     }
 
@@ -283,14 +280,11 @@ impl Generations {
     {
         match self.state.begin(edits) {
             Ok(()) => Ok(()),
-            Err(AllocError) => {
-                self.state.clear();
-                Err(AllocError)
-            }
+            Err(error) => Err(self.state.clear_after(error)),
         }
     }
 
-    /// Does one slot of the repair: it is re-executed where it is due. Answers whether it was.
+    /// Does one slot of the repair: it is re-executed where it is due. Returns whether it was.
     /// Without memory there are no slots afterwards.
     pub fn step(&mut self) -> Result<bool, AllocError>
         requires { 0 < left_of self.old.phase self.old.slots }
@@ -300,10 +294,7 @@ impl Generations {
     {
         match self.state.step() {
             Ok(is_due) => Ok(is_due),
-            Err(AllocError) => {
-                self.state.clear();
-                Err(AllocError)
-            }
+            Err(error) => Err(self.state.clear_after(error)),
         }
     }
 
@@ -319,10 +310,7 @@ impl Generations {
                 self.state.take_next_slots();
                 Ok(())
             }
-            Err(AllocError) => {
-                self.state.clear();
-                Err(AllocError)
-            }
+            Err(error) => Err(self.state.clear_after(error)),
         }
     }
 
@@ -337,10 +325,7 @@ impl Generations {
                 self.state.repair = None;
                 Ok(())
             }
-            Err(AllocError) => {
-                self.state.clear();
-                Err(AllocError)
-            }
+            Err(error) => Err(self.state.clear_after(error)),
         }
     }
 
@@ -353,7 +338,7 @@ impl Generations {
 }
 
 impl State {
-    /// A further owner of the same slots and rows.
+    /// Another owner of the same slots and rows.
     fn share(&self) -> Result<State, AllocError>
         ensures { IfOk result (λ state. state ≡ self.now) }
     {
@@ -380,6 +365,18 @@ impl State {
         self.slots = PagedLog::new(self.alloc);
         self.rows = Rows::new(self.alloc);
         self.repair = None;
+    }
+
+    /// Drops what a change that found no memory has left, whose parts needn't fit together. Returns
+    /// the error.
+    fn clear_after(&mut self, error: AllocError) -> AllocError
+        requires { IsCatalog self.old.catalog }
+        ensures parts { AreGenerations
+            self.new.catalog self.new.slots self.new.rows self.new.repair }
+        ensures nothing { self.new ≡ record self.old { slots = []; rows = []; repair = None } }
+    {
+        self.clear();
+        error
     }
 
     /// The slots of the next generation become those of the current one, and there is no repair.
@@ -412,7 +409,7 @@ impl State {
         Ok(())
     }
 
-    /// Adds a slot of this action, and answers the replies to its writes.
+    /// Adds a slot of this action, and returns the replies to its writes.
     fn add_action(&mut self, action: Items<Write>) -> Result<Items<Reply>, AllocError>
         requires parts { AreGenerations
             self.old.catalog self.old.slots self.old.rows self.old.repair }
@@ -437,7 +434,7 @@ impl State {
         Ok(replies)
     }
 
-    /// Does one slot of the repair. Answers whether it was due.
+    /// Does one slot of the repair. Returns whether it was due.
     fn step(&mut self) -> Result<bool, AllocError>
         requires parts { AreGenerations
             self.old.catalog self.old.slots self.old.rows self.old.repair }
@@ -462,7 +459,7 @@ impl State {
     }
 }
 
-/// A further owner of a repair, if there is one.
+/// Another owner of a repair, if there is one.
 fn shared_repair(
     alloc: Global,
     repair: &Option<BoxedRepair>,

@@ -82,7 +82,7 @@ impl Repair {
         })
     }
 
-    /// A further owner of the same repair.
+    /// Another owner of the same repair.
     pub(crate) fn share(&self) -> Result<Repair, AllocError>
         ensures { IfOk result (λ r. r ≡ self.now) }
     {
@@ -166,7 +166,7 @@ impl Repair {
         }
     }
 
-    /// Does the next slot, which is this one in the current generation. Answers whether it was
+    /// Does the next slot, which is this one in the current generation. Returns whether it was
     /// due. Without memory nothing is promised of the repair and the rows.
     pub(crate) fn step(
         &mut self,

@@ -1,11 +1,10 @@
 ghost use Rattle.std.specs.Prelude.{◌≡◌, ◌<◌, [], ◌∷◌, length, true, IfOk, OnOk};
 ghost use Rattle.std.specs.List.{All};
-ghost use Rattle.tt_versions.specs.Sides.{no_lineages, side_of, current_of, next_of, is_split, none_split};
+ghost use Rattle.tt_versions.specs.Sides.{no_lineages, side_of, is_split, none_split};
 ghost use Rattle.tt_generations.specs.Rows.{versions_at, KeepsOthers, ShowsSide};
 
 use std::alloc::{AllocError, Global};
 use std::marker::Model;
-use std::mem;
 use tt_values::{Catalog, Column, Few, Row, RowId, TableDef};
 use tt_versions::{Side, Table};
 
@@ -67,7 +66,7 @@ impl Rows {
         }
     }
 
-    /// A further owner of each table.
+    /// Another owner of each table.
     pub(crate) fn share(&self) -> Result<Rows, AllocError>
         ensures { IfOk result (λ r. r ≡ self.now) }
     {
@@ -153,32 +152,30 @@ impl Rows {
     pub(crate) fn unsplit(&mut self, side: Side) -> Result<(), AllocError>
         ensures { OnOk result (ShowsSide side self.old self.new) }
     {
-        let old = mem::replace(&mut self.tables, Vec::new(self.alloc));
-        let new = tables_unsplit(self.alloc, old, side)?;
-        self.tables = new;
+        unsplit_tables(&mut self.tables, side)?;
         Ok(())
     }
 }
 
-/// The tables once both sides of each show what this one shows.
-fn tables_unsplit(alloc: Global, tables: Vec<Table>, side: Side) -> Result<Vec<Table>, AllocError>
-    ensures { IfOk result (λ r. ShowsSide side tables.items r.items) }
+/// Makes both sides of each table show what this one shows.
+fn unsplit_tables(tables: &mut Vec<Table>, side: Side) -> Result<(), AllocError>
+    ensures { OnOk result (ShowsSide side tables.old.items tables.new.items) }
 {
-    let mut shown = Vec::with_capacity(alloc, tables.len())?;
-    for table in tables {
-        shown.push(table_unsplit(table, side)?)?;
+    for table in tables.iter_mut() {
+        unsplit_table(table, side)?;
     }
-    Ok(shown)
+    Ok(())
 }
 
-/// A table once both its sides show what this one shows.
-fn table_unsplit(table: Table, side: Side) -> Result<Table, AllocError>
-    ensures rows { IfOk result (λ t. (either : Side) → side_of t either ≡ side_of table side) }
-    ensures whole { IfOk result (λ t. is_split t ≡ none_split) }
+/// Makes both sides of a table show what this one shows.
+fn unsplit_table(table: &mut Table, side: Side) -> Result<(), AllocError>
+    ensures rows { OnOk result
+        ((either : Side) → side_of table.new either ≡ side_of table.old side) }
+    ensures whole { OnOk result (is_split table.new ≡ none_split) }
 {
     match side {
-        Side::Current => table.into_aborted(),
-        Side::Next => table.into_switched(),
+        Side::Current => table.abort(),
+        Side::Next => table.switch(),
     }
 }
 

@@ -1,5 +1,5 @@
 //! A text on a tape, read as serde_json reads it.
-ghost use Rattle.std.specs.Prelude.{◌≡◌, ◌<◌, [], ◌∷◌, ◌++◌, false, not, filter, map, length, Some, None, Err, IfOk, OnOk, IsSomeAnd, OnSome, MatchOption, option_map, option_and_then, List, is_some};
+ghost use Rattle.std.specs.Prelude.{◌≡◌, ◌≢◌, ◌<◌, [], ◌∷◌, ◌++◌, false, not, filter, map, length, Some, None, Err, IfOk, OnOk, IsSomeAnd, OnSome, MatchOption, option_map, option_and_then, List, is_some};
 ghost use Rattle.std.specs.List.{list_any};
 ghost use Rattle.std.specs.Option.{option_copied};
 ghost use Rattle.std.specs.Str.{bytes_eq};
@@ -25,7 +25,7 @@ use std::marker::Model;
 
 const MAX_DEPTH: usize = 127;
 
-/// Reads a text onto a tape. It's `Invalid` where serde_json refuses the text. The tape is made of
+/// Reads a text onto a tape. `Invalid` means that serde_json refuses the text. The tape is made of
 /// `buffer`, and `scratch` holds the texts that were written with escapes.
 pub fn parse<'a, S: Allocator, A: Allocator>(
     text: &'a str,
@@ -36,6 +36,7 @@ pub fn parse<'a, S: Allocator, A: Allocator>(
     ensures ok { IfOk result (λ tape. read text.now ≡ Some (value_at tape)) }
     ensures invalid { result ≡ Err Error.Invalid → read text.now ≡ None }
     ensures too_long { result ≡ Err Error.TooLong → MAX_LEN < length text.now }
+    ensures never_duplicate { result ≢ Err Error.DuplicateKey }
 {
     match Tape::parse(text, scratch, buffer) {
         Ok(tape) => if fits(tape.nodes()) {
@@ -47,8 +48,10 @@ pub fn parse<'a, S: Allocator, A: Allocator>(
     }
 }
 
-/// As [`parse`], but it's `DuplicateKey` where an object names a member twice, also where
-/// serde_json refuses the text.
+/// As [`parse`], but takes only texts in which no object names a member twice. `DuplicateKey` means
+/// that the text is JSON and an object of it names a member twice; serde_json may refuse it all the
+/// same, as one that nests too deep. `Invalid` means only that serde_json refuses the text: an
+/// object may name a member twice in it, too.
 pub fn parse_strict<'a, S: Allocator, A: Allocator>(
     text: &'a str,
     scratch: &'a mut Scratch<S>,

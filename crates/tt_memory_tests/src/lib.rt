@@ -1,5 +1,5 @@
 //! Calls that meet want of memory. Each test makes calls between two marks, and expects of each
-//! what it answers with memory or without; where it had none, it is made again. With ample memory
+//! what it returns with memory or without; where it had none, it is made again. With ample memory
 //! the tests pass as any others. `tests/hostile.py` runs them again and again, and refuses one
 //! growth of memory after another, between the marks.
 #![tactic(auto)]

@@ -1,26 +1,14 @@
 -- What a change of the value at a key leaves as it was: the keys, and with them the shape of a fork.
-use Rattle.std.proofs.Common.{◌≡◌, ℕ, zero, suc, ◌<◌, ℤ, List, [], ◌∷◌, ◌++◌, length, get_or, set, IsTrue, IsSome, refl, sym, ap, ◌∙◌, subst, arith, int_cmp}
-use Rattle.std.specs.FinMap.Entries.{find, put, is_sorted}
-use Rattle.std.proofs.lemmas.Bool.{false≢true}
-use Rattle.std.proofs.lemmas.List.{get_or_default}
-use Rattle.tt_pages.specs.MapEntries.{rank_of, keys_of, ChangesAt}
+use Rattle.std.proofs.Common.{◌≡◌, ℕ, zero, suc, ◌<◌, ℤ, List, [], ◌∷◌, ◌++◌, length, get_or, set, IsSome, refl, sym, ap, ◌∙◌, subst, arith, int_cmp}
+use Rattle.std.specs.FinMap.Entries.{find, put}
+use Rattle.tt_pages.specs.MapEntries.{keys_of, ChangesAt}
 use Rattle.tt_pages.specs.MapValues.{BranchValue}
 use Rattle.tt_pages.specs.MapTree.{branch_entries, IsPage, IsBranch, AreBranches}
 use Rattle.tt_pages.specs.MapBranches.{IsBranchFor}
-use Rattle.tt_pages.proofs.MapEntriesLemmas.{rank_of-within, put-at_rank, keys-place, keys-append, is_sorted-left, is_sorted-right, length-keys, sorted-keys, first_key-keys}
+use Rattle.tt_pages.proofs.MapEntriesLemmas.{keys-append, length-keys, sorted-keys, first_key-keys}
 use Rattle.tt_pages.proofs.MapBranchLemmas.{put-at_key, find-branch, set-branch, branch-at, branch-grown, branches-set}
 
 module _ {V : Type 0} where
-  -- another value at a key that is there leaves the keys
-  pub keys-put : (key : ℤ) (v : V) (es : List (ℤ × V)) → IsTrue (is_sorted int_cmp es) → IsSome (find int_cmp key es) → keys_of (put int_cmp key v es) ≡ keys_of es
-  keys-put key v [] sorted some = absurd (false≢true some)
-  keys-put key v (e ∷ es) sorted some =
-      let at = rank_of key (e ∷ es) in
-      ap keys_of (put-at_rank key (e ∷ es) v e sorted some) ∙ keys-place (e ∷ es) (get_or (e ∷ es) at e) v at (get_or_default (e ∷ es) at e (get_or (e ∷ es) at e) (rank_of-within key (e ∷ es) some))
-
-  pub keys-put_to : (key : ℤ) (v : V) (es new : List (ℤ × V)) → new ≡ put int_cmp key v es → IsTrue (is_sorted int_cmp es) → IsSome (find int_cmp key es) → keys_of new ≡ keys_of es
-  keys-put_to key v es new is sorted some = ap keys_of is ∙ keys-put key v es sorted some
-
   -- a page or a branch whose keys stay is still one
   pub page-kept : (page es : List (ℤ × V)) → keys_of es ≡ keys_of page → IsPage page → IsPage es
   page-kept page es same is = record {
@@ -44,15 +32,6 @@ module _ {V : Type 0} where
       keys-append c.tree.entries (branch_entries (set bs at x))
       ∙ ap (λ ks. keys_of c.tree.entries ++ ks) (keys-set_branch bs at b x here same)
       ∙ sym (keys-append c.tree.entries (branch_entries bs))
-
-  -- each branch is in ascending key order
-  pub branch-sorted : (d : ℕ) (bs : List (BranchValue V)) (at : ℕ) (b : BranchValue V) → AreBranches d bs → at < length bs → b ≡ get_or bs at b → IsTrue (is_sorted int_cmp b.tree.entries)
-  branch-sorted d bs at b are within here = by bs at are.sorted within here
-    where
-      by : (bs : List (BranchValue V)) (at : ℕ) → IsTrue (is_sorted int_cmp (branch_entries bs)) → at < length bs → b ≡ get_or bs at b → IsTrue (is_sorted int_cmp b.tree.entries)
-      by [] at sorted within here = absurd (omega (arith, within))
-      by (c ∷ bs) zero sorted within here = subst (λ (y : BranchValue V). IsTrue (is_sorted int_cmp y.tree.entries)) (sym here) (is_sorted-left c.tree.entries (branch_entries bs) sorted)
-      by (c ∷ bs) (suc at) sorted within here = by bs at (is_sorted-right c.tree.entries (branch_entries bs) sorted) (omega (arith, within)) here
 
   module _ (d : ℕ) (bs : List (BranchValue V)) (at : ℕ) (b x : BranchValue V) (are : AreBranches d bs) (here : b ≡ get_or bs at b) where
     pub branches-kept : at < length bs → x.first ≡ b.first → x.tree.depth ≡ b.tree.depth → x.tree.width ≡ b.tree.width → keys_of x.tree.entries ≡ keys_of b.tree.entries → AreBranches d (set bs at x)

@@ -16,7 +16,7 @@ use Rattle.tt_values.specs.Digest.{digest_of}
 use Rattle.tt_parts.specs.declared.partition.Partition.{Partition}
 use Rattle.tt_parts.specs.Partitions.{is_same_partition, is_partition_in}
 use Rattle.tt_parts.specs.Dirty.{is_row_in, is_table_in, SameRows, SamePartitions}
-use Rattle.tt_parts.specs.Sets.{under, KeySet, KeysByTable, ValuesByDigest, ValuesByColumn, ValuesByTable, has_key, is_filled, finds_row, finds_table, finds_value, finds_in_column, finds_partition, rows_of_table, rows_found, partitions_of_values, partitions_of_column, partitions_of_table, partitions_found, AddsRow, AddsValue, AddsInColumn, AddsPartition}
+use Rattle.tt_parts.specs.Sets.{under, KeySet, KeysByTable, ValuesByDigest, ValuesByColumn, ValuesByTable, has_key, is_filled, finds_row, finds_table, finds_value, finds_in_column, finds_partition, with_key, with_value, with_value_in, rows_of_table, rows_found, partitions_of_values, partitions_of_column, partitions_of_table, partitions_found, AddsRow, AddsValue, AddsInColumn, AddsPartition}
 use Rattle.tt_parts.proofs.SoundnessLemmas.{equal_values, equal_partitions}
 use Rattle.tt_parts.proofs.DirtySetLemmas.{agree, is_table_in-row, row_of_table}
 
@@ -28,14 +28,13 @@ same_key q key = (Decides-int_eq q key).0
 int_eq-pos : (m n : ℕ) → int_eq (pos m) (pos n) ≡ (m == n)
 int_eq-pos m n = same_from_decides _ _ (Decides-like (int_eq (pos m) (pos n)) (λ (e : pos m ≡ pos n). cc) (ap pos) (Decides-int_eq (pos m) (pos n))) (Decides-eqb m n)
 
--- a list is put at a key, where the lists at the other keys have stayed
-under-put : {X : Type 0} (key : ℤ) (xs : List X) (before left : List (ℤ × List X)) → ((q : ℤ) → int_eq q key ≡ false → sorted.find int_cmp q left ≡ sorted.find int_cmp q before)
-    → (q : ℤ) → under q (sorted.put int_cmp key xs left) ≡ cond (int_eq q key) xs (under q before)
-under-put key xs before left others q = ap (λ o. unwrap_or o []) (sorted.find-put int_cmp int_cmp_total q key xs left) ∙ by (int_eq q key) refl
+-- a list is put at a key
+under-put : {X : Type 0} (key : ℤ) (xs : List X) (before : List (ℤ × List X)) (q : ℤ) → under q (sorted.put int_cmp key xs before) ≡ cond (int_eq q key) xs (under q before)
+under-put key xs before q = ap (λ o. unwrap_or o []) (sorted.find-put int_cmp int_cmp_total q key xs before) ∙ by (int_eq q key)
   where
-    by : (b : Bool) → int_eq q key ≡ b → unwrap_or (cond b (Some xs) (sorted.find int_cmp q left)) [] ≡ cond b xs (under q before)
-    by true e = refl
-    by false e = ap (λ o. unwrap_or o []) (others q e)
+    by : (b : Bool) → unwrap_or (cond b (Some xs) (sorted.find int_cmp q before)) [] ≡ cond b xs (under q before)
+    by true = refl
+    by false = refl
 
 -- a test of the list at a key, where it holds, holds of an item of the whole map
 any-under : {X Y : Type 0} (f : ℤ × List X → List Y) (test : Y → Bool) (finds : List X → Bool) (key : ℤ) (entries : List (ℤ × List X)) → finds [] ≡ false
@@ -151,29 +150,21 @@ AddsRow-there tables table key h t k = by (t == table) refl (int_eq k key) refl
     by true same false other = refl
     by false other b e = refl
 
-AddsRow-put : (before left : KeysByTable) (table : ℕ) (key : ℤ) (u : Unit {0}) → ((q : ℤ) → int_eq q (pos table) ≡ false → sorted.find int_cmp q left ≡ sorted.find int_cmp q before)
-    → AddsRow before table key (sorted.put int_cmp (pos table) (sorted.put int_cmp key u (under (pos table) before)) left)
-AddsRow-put before left table key u others t k =
-    ap (λ keys. has_key keys k) (under-put (pos table) (sorted.put int_cmp key u (under (pos table) before)) before left others (pos t) ∙ ap (λ b. cond b (sorted.put int_cmp key u (under (pos table) before)) (under (pos t) before)) (int_eq-pos t table))
+-- the keys of a table get one more
+pub AddsRow-put : (before : KeysByTable) (table : ℕ) (key : ℤ) → AddsRow before table key (sorted.put int_cmp (pos table) (with_key key (under (pos table) before)) before)
+AddsRow-put before table key t k =
+    ap (λ keys. has_key keys k) (under-put (pos table) (with_key key (under (pos table) before)) before (pos t) ∙ ap (λ b. cond b (with_key key (under (pos table) before)) (under (pos t) before)) (int_eq-pos t table))
     ∙ by (t == table) refl
   where
-    one_more : (keys : KeySet) (b : Bool) → is_some (cond b (Some u) (sorted.find int_cmp k keys)) ≡ (b || has_key keys k)
+    one_more : (keys : KeySet) (b : Bool) → is_some (cond b (Some tt) (sorted.find int_cmp k keys)) ≡ (b || has_key keys k)
     one_more keys true = refl
     one_more keys false = refl
 
-    by : (a : Bool) → (t == table) ≡ a → has_key (cond a (sorted.put int_cmp key u (under (pos table) before)) (under (pos t) before)) k ≡ ((a && int_eq k key) || finds_row before t k)
+    by : (a : Bool) → (t == table) ≡ a → has_key (cond a (with_key key (under (pos table) before)) (under (pos t) before)) k ≡ ((a && int_eq k key) || finds_row before t k)
     by true same =
-        ap is_some (sorted.find-put int_cmp int_cmp_total k key u (under (pos table) before)) ∙ one_more (under (pos table) before) (int_eq k key)
+        ap is_some (sorted.find-put int_cmp int_cmp_total k key tt (under (pos table) before)) ∙ one_more (under (pos table) before) (int_eq k key)
         ∙ ap (λ n. int_eq k key || finds_row before n k) (sym (eqb-true t table same))
     by false other = refl
-
--- the keys of a table are taken out, get one more, and are put back
-pub AddsRow-taken : (before left after : KeysByTable) (keys more empty : KeySet) (table : ℕ) (key : ℤ) (u : Unit {0}) → empty ≡ [] → keys ≡ unwrap_or (sorted.find int_cmp (pos table) before) empty
-    → more ≡ sorted.put int_cmp key u keys → ((q : ℤ) → int_eq q (pos table) ≡ false → sorted.find int_cmp q left ≡ sorted.find int_cmp q before)
-    → after ≡ sorted.put int_cmp (pos table) more left → AddsRow before table key after
-AddsRow-taken before left after keys more empty table key u none taken grown others is =
-    let all = grown ∙ ap (sorted.put int_cmp key u) (taken ∙ ap (unwrap_or (sorted.find int_cmp (pos table) before)) none) in
-    subst (λ (tables : KeysByTable). AddsRow before table key tables) (sym (is ∙ ap (λ ks. sorted.put int_cmp (pos table) ks left) all)) (AddsRow-put before left table key u others)
 
 -- one value more at the end
 any-last : (v value : Value) (values : List Value) → list_any (is_same v) (values ++ value ∷ []) ≡ (is_same v value || list_any (is_same v) values)
@@ -185,51 +176,47 @@ any-last v value values = list_any-append (is_same v) values (value ∷ []) ∙ 
     by false true = refl
     by false false = refl
 
-pub AddsValue-put : (before after : ValuesByDigest) (value : Value) (values : List Value) → values ≡ under (digest_of value) before ++ value ∷ []
-    → after ≡ sorted.put int_cmp (digest_of value) values before → AddsValue before value after
-AddsValue-put before after value values grown is v =
-    ap (λ vs. finds_value vs v) is ∙ ap (list_any (is_same v)) (under-put (digest_of value) values before before (λ q e. refl) (digest_of v)) ∙ by (int_eq (digest_of v) (digest_of value)) refl
+-- the values of a column get one more
+AddsValue-put : (before : ValuesByDigest) (value : Value) → AddsValue before value (with_value value before)
+AddsValue-put before value v =
+    ap (list_any (is_same v)) (under-put (digest_of value) values before (digest_of v)) ∙ by (int_eq (digest_of v) (digest_of value)) refl
   where
+    values : List Value
+    values = under (digest_of value) before ++ value ∷ []
+
     differ : (b : Bool) → is_same v value ≡ b → int_eq (digest_of v) (digest_of value) ≡ false → b ≡ false
     differ true same other = sym ((Decides-int_eq (digest_of v) (digest_of value)).1 (ap digest_of (equal_values v value same))) ∙ other
     differ false same other = refl
 
     by : (b : Bool) → int_eq (digest_of v) (digest_of value) ≡ b → list_any (is_same v) (cond b values (under (digest_of v) before)) ≡ (is_same v value || finds_value before v)
-    by true same = ap (list_any (is_same v)) grown ∙ any-last v value (under (digest_of value) before) ∙ ap (λ d. is_same v value || list_any (is_same v) (under d before)) (sym (same_key (digest_of v) (digest_of value) same))
+    by true same = any-last v value (under (digest_of value) before) ∙ ap (λ d. is_same v value || list_any (is_same v) (under d before)) (sym (same_key (digest_of v) (digest_of value) same))
     by false other = ap (λ b. b || finds_value before v) (sym (differ (is_same v value) refl other))
 
--- the values of a column are taken out, get one more, and are put back
-pub AddsInColumn-taken : (before left after : ValuesByColumn) (values more empty : ValuesByDigest) (column : ℕ) (value : Value) → empty ≡ [] → values ≡ unwrap_or (sorted.find int_cmp (pos column) before) empty
-    → AddsValue values value more → ((q : ℤ) → int_eq q (pos column) ≡ false → sorted.find int_cmp q left ≡ sorted.find int_cmp q before)
-    → after ≡ sorted.put int_cmp (pos column) more left → AddsInColumn before column value after
-AddsInColumn-taken before left after values more empty column value none taken grown others is c v =
-    ap (λ cs. finds_in_column cs c v) is
-    ∙ ap (λ vs. finds_value vs v) (under-put (pos column) more before left others (pos c) ∙ ap (λ b. cond b more (under (pos c) before)) (int_eq-pos c column)) ∙ by (c == column) refl
+AddsInColumn-put : (before : ValuesByColumn) (column : ℕ) (value : Value) → AddsInColumn before column value (with_value_in column value before)
+AddsInColumn-put before column value c v =
+    ap (λ vs. finds_value vs v) (under-put (pos column) more before (pos c) ∙ ap (λ b. cond b more (under (pos c) before)) (int_eq-pos c column)) ∙ by (c == column) refl
   where
-    all : values ≡ under (pos column) before
-    all = taken ∙ ap (unwrap_or (sorted.find int_cmp (pos column) before)) none
+    more : ValuesByDigest
+    more = with_value value (under (pos column) before)
 
     by : (a : Bool) → (c == column) ≡ a → finds_value (cond a more (under (pos c) before)) v ≡ ((a && is_same v value) || finds_in_column before c v)
-    by true same = grown v ∙ ap (λ vs. is_same v value || finds_value vs v) all ∙ ap (λ n. is_same v value || finds_in_column before n v) (sym (eqb-true c column same))
+    by true same = AddsValue-put (under (pos column) before) value v ∙ ap (λ n. is_same v value || finds_in_column before n v) (sym (eqb-true c column same))
     by false other = refl
 
--- the columns of a table are taken out, get one value more, and are put back
-pub AddsPartition-taken : (before left after : ValuesByTable) (columns more empty : ValuesByColumn) (p : Partition) → empty ≡ [] → columns ≡ unwrap_or (sorted.find int_cmp (pos p.table) before) empty
-    → AddsInColumn columns p.column p.value more → ((q : ℤ) → int_eq q (pos p.table) ≡ false → sorted.find int_cmp q left ≡ sorted.find int_cmp q before)
-    → after ≡ sorted.put int_cmp (pos p.table) more left → AddsPartition before p after
-AddsPartition-taken before left after columns more empty p none taken grown others is q =
-    ap (λ ts. finds_partition ts q) is
-    ∙ ap (λ cs. finds_in_column cs q.column q.value) (under-put (pos p.table) more before left others (pos q.table) ∙ ap (λ b. cond b more (under (pos q.table) before)) (int_eq-pos q.table p.table)) ∙ by (q.table == p.table) refl
+-- the columns of a table get one value more
+pub AddsPartition-put : (before : ValuesByTable) (p : Partition) → AddsPartition before p (sorted.put int_cmp (pos p.table) (with_value_in p.column p.value (under (pos p.table) before)) before)
+AddsPartition-put before p q =
+    ap (λ cs. finds_in_column cs q.column q.value) (under-put (pos p.table) more before (pos q.table) ∙ ap (λ b. cond b more (under (pos q.table) before)) (int_eq-pos q.table p.table)) ∙ by (q.table == p.table) refl
   where
-    all : columns ≡ under (pos p.table) before
-    all = taken ∙ ap (unwrap_or (sorted.find int_cmp (pos p.table) before)) none
+    more : ValuesByColumn
+    more = with_value_in p.column p.value (under (pos p.table) before)
 
     here : Bool
     here = (q.column == p.column) && is_same q.value p.value
 
     by : (a : Bool) → (q.table == p.table) ≡ a → finds_in_column (cond a more (under (pos q.table) before)) q.column q.value ≡ (((a && (q.column == p.column)) && is_same q.value p.value) || finds_partition before q)
     by true same =
-        grown q.column q.value ∙ ap (λ cs. here || finds_in_column cs q.column q.value) all
+        AddsInColumn-put (under (pos p.table) before) p.column p.value q.column q.value
         ∙ ap (λ n. here || finds_in_column (under (pos n) before) q.column q.value) (sym (eqb-true q.table p.table same))
     by false other = refl
 

@@ -1,5 +1,5 @@
 -- Sets of rows and of partitions as nested maps, and what a search of them finds.
-use Rattle.std.specs.Prelude.{ℕ, ℤ, pos, Bool, true, false, ◌&&◌, ◌||◌, ◌==◌, ◌≡◌, List, [], ◌∷◌, map, filter, is_some}
+use Rattle.std.specs.Prelude.{ℕ, ℤ, pos, Bool, true, false, ◌&&◌, ◌||◌, ◌==◌, ◌≡◌, List, [], ◌∷◌, ◌++◌, map, filter, is_some}
 use Rattle.std.specs.List.{list_any, flat_map}
 use Rattle.std.specs.Option.{unwrap_or}
 use Rattle.std.specs.Int.RustNames.{unsigned_abs}
@@ -87,6 +87,18 @@ partitions_of_table entry = flat_map (partitions_of_column (unsigned_abs entry.0
 -- the partitions that a search finds
 abbrev pub partitions_found : ValuesByTable → List Partition
 partitions_found tables = filter (finds_partition tables) (flat_map partitions_of_table tables)
+
+-- a set of keys, and one more
+abbrev pub with_key : ℤ → KeySet → KeySet
+with_key key keys = sorted.put int_cmp key tt keys
+
+-- values, and one more
+abbrev pub with_value : Value → ValuesByDigest → ValuesByDigest
+with_value value values = sorted.put int_cmp (digest_of value) (under (digest_of value) values ++ value ∷ []) values
+
+-- the values of partitions, and one more in this column
+abbrev pub with_value_in : ℕ → Value → ValuesByColumn → ValuesByColumn
+with_value_in column value columns = sorted.put int_cmp (pos column) (with_value value (under (pos column) columns)) columns
 
 -- a search finds one more row
 abbrev pub AddsRow : KeysByTable → ℕ → ℤ → KeysByTable → Type 0

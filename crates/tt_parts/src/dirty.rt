@@ -68,14 +68,7 @@ impl Dirty {
         }
     }
 
-    /// The catalog whose tables the members are of. Allocates nothing.
-    pub fn catalog(&self) -> &Catalog
-        ensures { result.now ≡ self.now.catalog }
-    {
-        self.catalog.get()
-    }
-
-    /// A further owner of the same members. Copies no page.
+    /// Another owner of the same members. Copies no page.
     pub fn share(&self) -> Result<Dirty, AllocError>
         ensures { IfOk result (λ d. d ≡ self.now) }
     {

@@ -3,14 +3,14 @@ ghost use Rattle.std.specs.Option.{option_copied};
 ghost use Rattle.std.specs.Ordering.{int_cmp};
 ghost use Rattle.std.specs.FinMap.Entries.{find};
 ghost use Rattle.tt_values.specs.Digest.{digest_of};
-ghost use Rattle.tt_parts.specs.Sets.{under, finds_value, finds_in_column, finds_partition, AddsValue, AddsInColumn, AddsPartition};
+ghost use Rattle.tt_parts.specs.Sets.{under, finds_value, finds_in_column, finds_partition, with_value, AddsPartition};
 
-use crate::by_position::{put_value, take_value, value_at};
+use crate::by_position::{change_at, value_at};
 use crate::partition::Partition;
 use crate::same_digest::SameDigest;
 use std::alloc::{AllocError, Global};
 use std::marker::Model;
-use tt_pages::PagedMap;
+use tt_pages::{Modify, PagedMap};
 use tt_values::{Value, digest};
 
 /// Values by their digests.
@@ -48,7 +48,7 @@ impl DirtyPartitions {
         }
     }
 
-    /// A further owner of the same partitions.
+    /// Another owner of the same partitions.
     pub(crate) fn share(&self) -> Result<DirtyPartitions, AllocError>
         ensures { IfOk result (λ partitions. partitions ≡ self.now) }
     {
@@ -71,8 +71,8 @@ impl DirtyPartitions {
         has_partition(&self.tables, table, column, value)
     }
 
-    pub(crate) fn add(&mut self, alloc: Global, partition: &Partition) -> Result<(), AllocError>
-        ensures { OnOk result (SamePartitions self.new (partition.now ∷ self.old)) }
+    pub(crate) fn add(&mut self, alloc: Global, partition: Partition) -> Result<(), AllocError>
+        ensures { OnOk result (SamePartitions self.new (partition ∷ self.old)) }
     {
         add_partition(alloc, &mut self.tables, partition)?;
         Ok(())
@@ -111,35 +111,71 @@ fn has_value(values: &Values, value: &Value) -> bool
 fn add_partition(
     alloc: Global,
     tables: &mut PagedMap<Columns>,
-    partition: &Partition,
+    partition: Partition,
 ) -> Result<(), AllocError>
-    ensures { OnOk result (AddsPartition tables.old partition.now tables.new) }
+    ensures { OnOk result (AddsPartition tables.old partition tables.new) }
 {
-    if has_partition(tables, partition.table, partition.column, &partition.value) {
+    let Partition {
+        table,
+        column,
+        value,
+    } = partition;
+    if has_partition(tables, table, column, &value) {
         return Ok(());
     }
-    let mut columns = take_value(tables, partition.table, PagedMap::new(alloc))?;
-    add_in_column(alloc, &mut columns, partition.column, &partition.value)?;
-    put_value(tables, partition.table, columns)?;
+    let change = AddInColumn {
+        alloc,
+        column,
+        value,
+    };
+    change_at(tables, table, PagedMap::new(alloc), change)?;
     Ok(())
 }
 
-fn add_in_column(
+/// A column gets the partition of one value more.
+#[derive(Drop)]
+struct AddInColumn {
     alloc: Global,
-    columns: &mut Columns,
     column: u16,
-    value: &Value,
-) -> Result<(), AllocError>
-    ensures { OnOk result (AddsInColumn columns.old column value.now columns.new) }
-{
-    let mut values = take_value(columns, column, PagedMap::new(alloc))?;
-    add_value(alloc, &mut values, value)?;
-    put_value(columns, column, values)?;
-    Ok(())
+    value: Value,
+}
+
+impl Modify<Columns> for AddInColumn {
+    ghost use Rattle.tt_parts.specs.Sets.{with_value_in};
+
+    ghost after = { λ change. with_value_in change.column change.value };
+
+    fn apply(self, columns: &mut Columns) -> Result<(), AllocError> {
+        let AddInColumn {
+            alloc,
+            column,
+            value,
+        } = self;
+        let change = AddValue { alloc, value };
+        change_at(columns, column, PagedMap::new(alloc), change)?;
+        Ok(())
+    }
+}
+
+/// Values by their digests get one more.
+#[derive(Drop)]
+struct AddValue {
+    alloc: Global,
+    value: Value,
+}
+
+impl Modify<Values> for AddValue {
+    ghost use Rattle.tt_parts.specs.Sets.{with_value};
+
+    ghost after = { λ change. with_value change.value };
+
+    fn apply(self, values: &mut Values) -> Result<(), AllocError> {
+        add_value(self.alloc, values, &self.value)
+    }
 }
 
 fn add_value(alloc: Global, values: &mut Values, value: &Value) -> Result<(), AllocError>
-    ensures { OnOk result (AddsValue values.old value.now values.new) }
+    ensures { OnOk result (values.new ≡ with_value value.now values.old) }
 {
     let same_digest = same_digest_with(alloc, values, value)?;
     values.put(digest(value), same_digest)?;

@@ -1,10 +1,10 @@
 ghost use Rattle.std.specs.Prelude.{◌≡◌, [], ◌∷◌, IfOk, OnOk};
 ghost use Rattle.tt_parts.specs.Sets.{has_key, is_filled, finds_row, finds_table, AddsRow};
 
-use crate::by_position::{put_value, take_value, value_at};
+use crate::by_position::{change_at, value_at};
 use std::alloc::{AllocError, Global};
 use std::marker::Model;
-use tt_pages::PagedMap;
+use tt_pages::{Modify, PagedMap};
 use tt_values::RowId;
 
 /// A set of keys.
@@ -38,7 +38,7 @@ impl DirtyRows {
         }
     }
 
-    /// A further owner of the same rows.
+    /// Another owner of the same rows.
     pub(crate) fn share(&self) -> Result<DirtyRows, AllocError>
         ensures { IfOk result (λ rows. rows ≡ self.now) }
     {
@@ -110,8 +110,22 @@ fn add_row(
     if has_row(tables, table, key) {
         return Ok(());
     }
-    let mut keys = take_value(tables, table, PagedMap::new(alloc))?;
-    keys.put(key, ())?;
-    put_value(tables, table, keys)?;
+    change_at(tables, table, PagedMap::new(alloc), AddKey { key })?;
     Ok(())
+}
+
+/// A set gets one key more.
+#[derive(Drop)]
+struct AddKey {
+    key: i64,
+}
+
+impl Modify<KeySet> for AddKey {
+    ghost use Rattle.tt_parts.specs.Sets.{with_key};
+
+    ghost after = { λ change. with_key change.key };
+
+    fn apply(self, keys: &mut KeySet) -> Result<(), AllocError> {
+        keys.put(self.key, ())
+    }
 }

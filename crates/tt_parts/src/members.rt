@@ -10,7 +10,7 @@ use crate::partition::Partition;
 use crate::parts::is_partition_column;
 use crate::statement_reads::is_partition_position;
 use std::alloc::{AllocError, Global};
-use tt_values::{Column, Equal, Row, TableDef, Value};
+use tt_values::{Column, Equal, Row, Same, TableDef, Value};
 
 /// Whether one of the partitions isn't a member.
 pub(crate) fn has_other_partition(members: &DirtyPartitions, partitions: &[Partition]) -> bool
@@ -193,7 +193,7 @@ fn ensure_member(
         column,
         value: value.copy()?,
     };
-    members.add(alloc, &partition)
+    members.add(alloc, partition)
 }
 
 /// Whether one of the equalities is on a partition column.

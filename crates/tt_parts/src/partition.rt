@@ -1,5 +1,3 @@
-ghost use Rattle.std.specs.Prelude.{◌≡◌};
-
 use std::alloc::AllocError;
 use tt_values::{Items, Value};
 
@@ -19,17 +17,6 @@ pub enum Reads {
     /// The rows that lie in each of these partitions: one for each equality on a partition column,
     /// in the order of the equalities.
     Equated(Items<Partition>),
-}
-
-impl Partition {
-    ghost use Rattle.tt_parts.specs.Partitions.{is_same_partition};
-
-    /// Whether the two have the same table, column and value. Allocates nothing.
-    pub fn is_same(&self, other: &Partition) -> bool
-        ensures { result ≡ is_same_partition self.now other.now }
-    {
-        self.table == other.table && self.column == other.column && self.value.is_same(&other.value)
-    }
 }
 
 impl Clone for Partition {

@@ -1,4 +1,4 @@
-//! The change of a dirty set that answers a changed set and leaves this one as it was. It is part
+//! The change of a dirty set that returns a changed set and leaves this one as it was. It is part
 //! of the public surface; no library above calls it.
 ghost use Rattle.std.specs.Prelude.{◌≡◌, ◌<◌, length, IfOk};
 ghost use Rattle.std.specs.Option.{option_copied};

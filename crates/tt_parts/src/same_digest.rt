@@ -5,7 +5,7 @@ ghost use Rattle.tt_values.specs.Value.{is_same};
 use std::alloc::{AllocError, Global};
 use std::marker::Model;
 use tt_pages::Kept;
-use tt_values::{Few, Items, Value};
+use tt_values::{Few, Items, Same, Value};
 
 /// Values with one digest, mostly a single one. Owners share them.
 #[derive(Debug, Drop)]
@@ -53,7 +53,7 @@ impl SameDigest {
     }
 }
 
-/// A further owner of the same values.
+/// Another owner of the same values.
 impl Kept for SameDigest {
     fn kept(&self) -> Result<Self, AllocError> {
         let values = self.values.clone()?;

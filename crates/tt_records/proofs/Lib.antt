@@ -1,3 +1,2 @@
 pub mod ChangesLemmas
-pub mod SameLemmas
 pub mod NextLemmas

@@ -7,6 +7,7 @@ use Rattle.tt_values.specs.declared.checking.CheckError.{CheckError}
 use Rattle.tt_values.specs.Tables.{Tables}
 use Rattle.tt_values.specs.Check.{select_fault}
 use Rattle.tt_values.specs.Effect.{answer_of}
+use Rattle.tt_values.specs.Same.{are_same_by, is_same_reply}
 use Rattle.tt_generations.specs.declared.slot.Slot.{Slot}
 use Rattle.tt_generations.specs.KeptSlots.{slot_at}
 use Rattle.tt_generations.specs.TwoGenerations.{done_of, next_slot_at}
@@ -17,7 +18,6 @@ use Rattle.tt_records.specs.declared.record.What.TheVariants.{Write, Read, Previ
 use Rattle.tt_records.specs.declared.changed.Changed.{Changed}
 use Rattle.tt_records.specs.declared.changed.After.{After}
 use Rattle.tt_records.specs.declared.changed.After.TheVariants.{Cancelled, Replies}
-use Rattle.tt_records.specs.Same.{are_same}
 
 -- the replies that a record has. A read has one
 abbrev pub replies_before : What → List Reply
@@ -51,7 +51,7 @@ answered_now tables S NotRepairing = None
 -- whether an answer is the same replies as before
 abbrev pub is_still : List Reply → After → Bool
 is_still before Cancelled = false
-is_still before (Replies replies) = are_same before replies
+is_still before (Replies replies) = are_same_by is_same_reply before replies
 
 -- a changed reply, if the answer differs from the replies before
 abbrev pub change_to : ℕ → List Reply → After → Option Changed

@@ -1,3 +1,2 @@
-pub mod Same
 pub mod Changes
 pub mod Laws

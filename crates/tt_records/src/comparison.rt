@@ -7,10 +7,9 @@ ghost use Rattle.tt_records.specs.Changes.{after_of_slot, answer_now, change_to,
 
 use crate::changed::{After, Changed};
 use crate::record::{Record, What};
-use crate::same::{are_same, is_same_reply};
 use std::alloc::{AllocError, Global};
 use tt_db::{Db, ReadError, Slot};
-use tt_values::{Items, Reply, Select};
+use tt_values::{Items, Reply, Same, Select, are_same};
 
 /// The calls of these records whose answers have changed, in the order of the records: a write by
 /// the replies that its slot has now, a read by the rows that its select finds now at its time.
@@ -132,7 +131,7 @@ pub(crate) fn change_to_reply(
     ensures { IfOk result (λ c. c
         ≡ change_to call (before.now ∷ []) (After.Replies (after ∷ []))) }
 {
-    if is_same_reply(before, &after) {
+    if before.is_same(&after) {
         return Ok(None);
     }
     let before = list_of_one(alloc, before.clone()?)?;

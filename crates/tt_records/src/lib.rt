@@ -7,7 +7,6 @@ mod comparison;
 pub mod laws;
 mod next;
 mod record;
-mod same;
 
 pub use changed::{After, Changed};
 pub use comparison::changes;

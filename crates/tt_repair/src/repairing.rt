@@ -109,7 +109,7 @@ fn slots_left<L: Naming>(worker: &Worker<L>) -> u64
     }
 }
 
-/// The answer of a repair, from that of its last call.
+/// What a repair returns, by what its last call has returned.
 fn repaired(finished: Finished) -> Repaired
     ensures generation { result.generation ≡ finished.generation }
     ensures place { result.place ≡ finished.place }

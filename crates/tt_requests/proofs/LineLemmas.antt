@@ -3,8 +3,8 @@ use Rattle.std.proofs.Common.{◌≡◌, ℕ, true, false, List, Err, refl}
 use Rattle.std.specs.Prelude.{codes}
 use Rattle.std.specs.Str.{IsUtf8, is_utf8}
 use Rattle.std.proofs.lemmas.Str.{IsUtf8-from_is_utf8, is_utf8-from_IsUtf8}
-use Rattle.tt_document.specs.Fault.{fault_here}
-use Rattle.tt_document.specs.TextValue.{value_of_text}
+use Rattle.tt_grammar.specs.Fault.{fault_here}
+use Rattle.tt_grammar.specs.TextValue.{value_of_text}
 use Rattle.tt_requests.specs.Lines.{is_too_long}
 use Rattle.tt_requests.specs.LineValue.{value_of_line}
 

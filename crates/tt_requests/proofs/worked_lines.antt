@@ -4,8 +4,8 @@ use Rattle.json.specs.Json as json
 use Rattle.json.specs.Lex.{lex, punctuate}
 use Rattle.json.specs.Text.{content, short_escape}
 use Rattle.json.specs.Word.{word, after_number}
-use Rattle.tt_requests.specs.Lines.{lines_of, whole_lines_of, is_passed_over}
 use Rattle.tt_json.specs.Text.{json_of_text}
+use Rattle.tt_requests.specs.Lines.{lines_of, whole_lines_of, is_passed_over}
 
 -- an empty line is a line, and what stands after the last line feed is one, too
 splits : lines_of (codes "a\n\nbc") ≡ codes "a" ∷ [] ∷ codes "bc" ∷ []

@@ -4,13 +4,13 @@ use Rattle.serde_json.specs.Data.{Data}
 use Rattle.tt_values.specs.Tables.{Tables}
 use Rattle.tt_repair_laws.specs.declared.edit.Edit.{Edit}
 use Rattle.tt_repair_laws.specs.declared.edit.Edit.TheVariants.{Cancel, Replace}
-use Rattle.tt_document.specs.declared.fault.DocFault.{DocFault}
-use Rattle.tt_document.specs.declared.version.Version.TheVariants as versions
-use Rattle.tt_document.specs.Fault.{◌>>=◌, refuse}
-use Rattle.tt_document.specs.Decoder.{object, array, within_limit, count, has, member}
-use Rattle.tt_document.specs.Arrays.{each}
-use Rattle.tt_document.specs.Members.{is_one_of, no_members_but}
-use Rattle.tt_document.specs.Repair.{max_edits, replacement}
+use Rattle.tt_grammar.specs.declared.fault.DocFault.{DocFault}
+use Rattle.tt_grammar.specs.declared.version.Version.TheVariants as versions
+use Rattle.tt_grammar.specs.Fault.{◌>>=◌, refuse}
+use Rattle.tt_grammar.specs.Decoder.{object, array, within_limit, count, has, member}
+use Rattle.tt_grammar.specs.Arrays.{each}
+use Rattle.tt_grammar.specs.Members.{is_one_of, no_members_but}
+use Rattle.tt_grammar.specs.Edits.{max_edits, replacement}
 
 -- an edit that cancels a slot, by its number
 unfoldable pub cancel : Data → Result Edit DocFault

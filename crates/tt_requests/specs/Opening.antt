@@ -1,11 +1,11 @@
 -- The opening of a session: its tables, how many closed generations are kept, and how many records of calls.
 use Rattle.std.specs.Prelude.{ℕ, [], ◌∷◌, unwrap_or, Result, Ok, codes}
 use Rattle.serde_json.specs.Data.{Data}
-use Rattle.tt_document.specs.declared.fault.DocFault.{DocFault}
-use Rattle.tt_document.specs.Fault.{◌>>=◌, with_path, document_path}
-use Rattle.tt_document.specs.Decoder.{object, count_within, member, optional}
-use Rattle.tt_document.specs.Members.{is_one_of, no_members_but}
-use Rattle.tt_document.specs.Tables.{catalog}
+use Rattle.tt_grammar.specs.declared.fault.DocFault.{DocFault}
+use Rattle.tt_grammar.specs.Fault.{◌>>=◌, with_path, document_path}
+use Rattle.tt_grammar.specs.Decoder.{object, count_within, member, optional}
+use Rattle.tt_grammar.specs.Members.{is_one_of, no_members_but}
+use Rattle.tt_grammar.specs.Tables.{catalog}
 use Rattle.tt_requests.specs.declared.opening.Opening.{Opening}
 
 -- the largest number of closed generations that are kept

@@ -4,12 +4,12 @@ use Rattle.std.specs.Str.{bytes_eq}
 use Rattle.serde_json.specs.Data.{Data}
 use Rattle.tt_values.specs.declared.row_id.RowId.{RowId}
 use Rattle.tt_values.specs.Tables.{Tables}
-use Rattle.tt_document.specs.declared.fault.DocFault.{DocFault}
-use Rattle.tt_document.specs.declared.statements.Context.TheVariants as contexts
-use Rattle.tt_document.specs.Fault.{◌>>=◌, refuse, or_refuse, with_path, item_path}
-use Rattle.tt_document.specs.Decoder.{text, int, count, count_within, member, optional}
-use Rattle.tt_document.specs.Conditions.{pair, table_named}
-use Rattle.tt_document.specs.Statements.{no_members_at}
+use Rattle.tt_grammar.specs.declared.fault.DocFault.{DocFault}
+use Rattle.tt_grammar.specs.declared.statements.Context.TheVariants as contexts
+use Rattle.tt_grammar.specs.Fault.{◌>>=◌, refuse, or_refuse, with_path, item_path}
+use Rattle.tt_grammar.specs.Decoder.{text, int, count, count_within, member, optional}
+use Rattle.tt_grammar.specs.Conditions.{pair, table_named}
+use Rattle.tt_grammar.specs.Statements.{no_members_at}
 use Rattle.tt_requests.specs.declared.request.Command.{Command}
 use Rattle.tt_requests.specs.declared.request.Command.TheVariants as commands
 

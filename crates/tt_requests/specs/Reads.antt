@@ -4,12 +4,12 @@ use Rattle.serde_json.specs.Data.{Data}
 use Rattle.tt_values.specs.declared.statement.Select.{Select}
 use Rattle.tt_values.specs.Tables.{Tables}
 use Rattle.tt_values.specs.Check.{select_fault}
-use Rattle.tt_document.specs.declared.fault.DocFault.{DocFault}
-use Rattle.tt_document.specs.declared.statements.Context.TheVariants as contexts
-use Rattle.tt_document.specs.Fault.{◌>>=◌}
-use Rattle.tt_document.specs.Decoder.{int, count, count_within, member, optional}
-use Rattle.tt_document.specs.Conditions.{table_named}
-use Rattle.tt_document.specs.Statements.{checked_statement, conditions, no_members_at}
+use Rattle.tt_grammar.specs.declared.fault.DocFault.{DocFault}
+use Rattle.tt_grammar.specs.declared.statements.Context.TheVariants as contexts
+use Rattle.tt_grammar.specs.Fault.{◌>>=◌}
+use Rattle.tt_grammar.specs.Decoder.{int, count, count_within, member, optional}
+use Rattle.tt_grammar.specs.Conditions.{table_named}
+use Rattle.tt_grammar.specs.Statements.{checked_statement, conditions, no_members_at}
 use Rattle.tt_requests.specs.declared.request.Command.{Command}
 use Rattle.tt_requests.specs.declared.request.Command.TheVariants as commands
 use Rattle.tt_requests.specs.declared.request.Page.{Page}

@@ -5,12 +5,12 @@ use Rattle.std.specs.Prelude.{ℕ, List, [], ◌∷◌, ◌++◌, unwrap_or, if�
 use Rattle.serde_json.specs.Data.{Data}
 use Rattle.tt_values.specs.declared.statement.Write.{Write}
 use Rattle.tt_values.specs.Tables.{Tables}
-use Rattle.tt_document.specs.declared.fault.DocFault.{DocFault}
-use Rattle.tt_document.specs.declared.statements.Context.TheVariants as contexts
-use Rattle.tt_document.specs.Fault.{◌>>=◌, refuse, with_path, document_path}
-use Rattle.tt_document.specs.Decoder.{object, flag, count, count_within, has, member, optional}
-use Rattle.tt_document.specs.Statements.{no_members_at, insert, update, delete}
-use Rattle.tt_document.specs.Actions.{action}
+use Rattle.tt_grammar.specs.declared.fault.DocFault.{DocFault}
+use Rattle.tt_grammar.specs.declared.statements.Context.TheVariants as contexts
+use Rattle.tt_grammar.specs.Fault.{◌>>=◌, refuse, with_path, document_path}
+use Rattle.tt_grammar.specs.Decoder.{object, flag, count, count_within, has, member, optional}
+use Rattle.tt_grammar.specs.Statements.{no_members_at, insert, update, delete}
+use Rattle.tt_grammar.specs.Actions.{action}
 use Rattle.tt_requests.specs.declared.request.Command.{Command}
 use Rattle.tt_requests.specs.declared.request.Command.TheVariants as commands
 use Rattle.tt_requests.specs.declared.request.Request.{Request}

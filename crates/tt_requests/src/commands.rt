@@ -1,6 +1,6 @@
 //! Reading of commands, each by the first of its kinds that's there.
 ghost use Rattle.std.specs.Prelude.{◌∷◌, ◌++◌, Ok};
-ghost use Rattle.tt_document.specs.Fault.{Gives};
+ghost use Rattle.tt_grammar.specs.Fault.{Gives};
 ghost use Rattle.tt_requests.specs.Requests.{one_write, several_writes, begin, step, only_true, bare, repair_kinds, question_kinds, by_first_kind, command};
 
 use crate::MAX_STEPS;
@@ -9,8 +9,8 @@ use crate::questions::{changes, slots};
 use crate::reads::{preview, read};
 use crate::request::Command;
 use std::alloc::Global;
-use tt_document::DocFault;
-use tt_document::decoding::{
+use tt_grammar::DocFault;
+use tt_grammar::decoding::{
     Context, CountDecoder, Decoder, FlagDecoder, OUT_OF_RANGE, action, delete, has, insert, member,
     no_members_but, update,
 };

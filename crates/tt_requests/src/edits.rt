@@ -1,14 +1,15 @@
 //! Reading of the edits that a repair begins with.
-ghost use Rattle.tt_document.specs.Fault.{Gives};
+ghost use Rattle.tt_grammar.specs.Fault.{Gives};
 ghost use Rattle.tt_requests.specs.Edits.{cancel, replace, edit, edits};
 
 use std::alloc::Global;
-use tt_document::decoding::{
+use tt_grammar::decoding::{
     AnyCountDecoder, Decoder, OUT_OF_RANGE, ReplacementDecoder, Version, array, decode_items, has,
     member, no_members_but, object,
 };
-use tt_document::{DocFault, Edit, MAX_EDITS};
+use tt_grammar::{DocFault, MAX_EDITS};
 use tt_json::JsonValue;
+use tt_repair_laws::Edit;
 use tt_values::{Catalog, Items};
 
 const NO_KIND: &str = "missing one of cancel, replace";

@@ -18,6 +18,9 @@ pub use request::{Command, Page, Request};
 /// The largest length of a line, in bytes, without its line feed.
 pub const MAX_LINE_BYTES: usize = 16_777_216;
 
+/// The largest number of closed generations that a session keeps.
+pub const MAX_KEEP: u32 = 16;
+
 /// The largest number of records of calls that a session keeps.
 pub const MAX_RECORDS: u32 = 1_000_000;
 

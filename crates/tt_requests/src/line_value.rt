@@ -1,18 +1,15 @@
 //! Reading of a line's JSON.
 ghost use Rattle.std.specs.Prelude.{IfOk};
 ghost use Rattle.tt_json.specs.Tape.{IsValue, value_at};
-ghost use Rattle.tt_document.specs.Fault.{GivesViewed};
+ghost use Rattle.tt_grammar.specs.Fault.{GivesViewed};
 ghost use Rattle.tt_requests.specs.LineValue.{value_of_line};
 
 use crate::lines::is_too_long;
 use json::Tape;
 use std::alloc::Global;
-use tt_document::{DocFault, parse_text};
+use tt_grammar::decoding::{NOT_JSON, TOO_LONG};
+use tt_grammar::{DocFault, parse_text};
 use tt_json::Scratch;
-
-const TOO_LONG: &str = "longer than 16777216 bytes";
-
-const NOT_JSON: &str = "not JSON";
 
 /// Reads the JSON of a line onto a tape. Its length is judged first. `scratch` holds the texts that
 /// were written with escapes.

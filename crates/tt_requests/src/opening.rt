@@ -1,21 +1,22 @@
 //! The opening of a session.
 ghost use Rattle.std.specs.Prelude.{Ok};
-ghost use Rattle.tt_document.specs.Fault.{Gives};
+ghost use Rattle.tt_grammar.specs.Fault.{Gives};
 ghost use Rattle.tt_requests.specs.Opening.{members_of_opening, opening_of};
 
-use crate::MAX_RECORDS;
 use crate::line_value::parse_line;
+use crate::{MAX_KEEP, MAX_RECORDS};
 use std::alloc::Global;
-use tt_document::DocFault;
-use tt_document::decoding::{
-    CountDecoder, TablesDecoder, member, no_members_but, object, optional,
-};
+use tt_grammar::DocFault;
+use tt_grammar::decoding::{CountDecoder, TablesDecoder, member, no_members_but, object, optional};
 use tt_json::{JsonValue, Scratch, root};
 use tt_values::{Catalog, Shared};
 
 const VERSION: CountDecoder = CountDecoder { min: 2, max: 2 };
 
-const KEEP: CountDecoder = CountDecoder { min: 0, max: 16 };
+const KEEP: CountDecoder = CountDecoder {
+    min: 0,
+    max: MAX_KEEP,
+};
 
 const USUAL_KEEP: u32 = 4;
 
@@ -30,7 +31,7 @@ const USUAL_RECORDS: u32 = 100_000;
 #[derive(Debug, Drop)]
 pub struct Opening {
     pub catalog: Shared<Catalog>,
-    /// How many closed generations are kept, at most 16.
+    /// How many closed generations are kept, at most [`MAX_KEEP`].
     pub keep: u32,
     /// How many records of calls are kept, at most [`MAX_RECORDS`].
     pub records: u32,

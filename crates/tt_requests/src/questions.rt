@@ -1,13 +1,13 @@
 //! Reading of questions about slots and about calls.
 ghost use Rattle.std.specs.Prelude.{◌≡◌};
-ghost use Rattle.tt_document.specs.Fault.{Gives};
+ghost use Rattle.tt_grammar.specs.Fault.{Gives};
 ghost use Rattle.tt_requests.specs.Questions.{within_span, span, row_named, slots, changes_named, changes_asked, changes};
 
 use crate::MAX_SPAN;
 use crate::request::Command;
 use std::alloc::Global;
-use tt_document::DocFault;
-use tt_document::decoding::{
+use tt_grammar::DocFault;
+use tt_grammar::decoding::{
     AnyCountDecoder, CountDecoder, Decoder, IntDecoder, OUT_OF_RANGE, TableNameDecoder, item,
     member, no_members_but, optional, pair, text,
 };

@@ -1,12 +1,12 @@
 //! Reading of selects and previews, which may ask for one page of their rows.
-ghost use Rattle.tt_document.specs.Fault.{Gives};
+ghost use Rattle.tt_grammar.specs.Fault.{Gives};
 ghost use Rattle.tt_requests.specs.Reads.{page, read, preview};
 
 use crate::MAX_PAGE;
 use crate::request::{Command, Page};
 use std::alloc::Global;
-use tt_document::DocFault;
-use tt_document::decoding::{
+use tt_grammar::DocFault;
+use tt_grammar::decoding::{
     AnyCountDecoder, CountDecoder, IntDecoder, TableNameDecoder, checked_select, conditions,
     member, no_members_but, optional,
 };

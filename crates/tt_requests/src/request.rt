@@ -1,15 +1,16 @@
 //! Requests: what a line of an open session asks for.
 ghost use Rattle.std.specs.Prelude.{Ok};
-ghost use Rattle.tt_document.specs.Fault.{Gives};
+ghost use Rattle.tt_grammar.specs.Fault.{Gives};
 ghost use Rattle.tt_requests.specs.Requests.{members_of_request, request_of};
 
 use crate::commands::command;
 use crate::line_value::parse_line;
 use crate::questions::WORKER;
 use std::alloc::Global;
-use tt_document::decoding::{AnyCountDecoder, object, optional};
-use tt_document::{DocFault, Edit};
+use tt_grammar::DocFault;
+use tt_grammar::decoding::{AnyCountDecoder, object, optional};
 use tt_json::{JsonValue, Scratch, root};
+use tt_repair_laws::Edit;
 use tt_values::{Catalog, Items, RowId, Select, Write};
 
 const USUAL_WORKER: u32 = 1;
@@ -44,7 +45,7 @@ pub enum Command {
         select: Select,
         page: Page,
     },
-    /// A repair begins, with at most [`MAX_EDITS`](tt_document::MAX_EDITS) edits.
+    /// A repair begins, with at most [`MAX_EDITS`](tt_grammar::MAX_EDITS) edits.
     Begin(Items<Edit>),
     /// The repair does slots: at most this many, from 1 to [`MAX_STEPS`](crate::MAX_STEPS).
     Step(u32),

@@ -45,7 +45,7 @@ pub(crate) fn serve<L: Naming + Send + Sync, R: Threads + Wait + Sync>(
 }
 
 /// Opens three accounts, and charges a fee of 5 to all of them, though it was meant for the third.
-/// Answers the slot of that.
+/// Returns the slot of that.
 fn charge_all<L: Naming, R: Wait>(
     rt: &R,
     alloc: Global,
@@ -59,7 +59,7 @@ fn charge_all<L: Naming, R: Wait>(
     Ok(written.slot)
 }
 
-/// Lets the administrator repair the fee while the clerks book payments. Answers all workers.
+/// Lets the administrator repair the fee while the clerks book payments. Returns all workers.
 fn work<L: Naming + Send + Sync, R: Threads + Wait + Sync>(
     rt: &R,
     alloc: Global,

@@ -1,13 +1,13 @@
 -- How a session on a reader and a writer goes on.
-use Rattle.std.proofs.Common.{◌≡◌, ℕ, ◌+◌, ◌≤◌, ◌==◌, Bool, true, false, not, min, List, [], ◌∷◌, ◌++◌, length, take, append-nil, append_assoc, Option, Result, Ok, Err, OnOk, OnErr, refl, sym, ap, ◌∙◌, subst, arith}
+use Rattle.std.proofs.Common.{◌≡◌, ℕ, ◌+◌, ◌==◌, Bool, true, false, not, List, [], ◌∷◌, ◌++◌, length, take, append-nil, append_assoc, Option, Result, Ok, Err, OnOk, OnErr, refl, sym, ap, ◌∙◌, subst}
 use Rattle.std.proofs.Math.Seq.{take-append-add}
 use Rattle.std.proofs.lemmas.Bool.{and_from, and_parts, and_right}
-use Rattle.std.proofs.lemmas.List.{map-append, take_min, take-append-le}
+use Rattle.std.proofs.lemmas.List.{map-append}
 use Rattle.std.proofs.lemmas.List.Folds.{list_all-append}
 use Rattle.std.specs.List.{list_all}
 use Rattle.std.specs.Io.KnownBytes.{Appends}
 use Rattle.std.proofs.KnownBytes.{Appends-nil, Appends-trans}
-use Rattle.tt_workload.specs.Ends.{AppendsPrefix}
+use Rattle.tt_streams.specs.Writing.{AppendsPrefix}
 use Rattle.tt_requests.specs.Lines.{is_too_long, is_passed_over, lines_of, whole_lines_of, with_byte, with_byte_if}
 use Rattle.tt_session.specs.declared.session.Session.{Session}
 use Rattle.tt_session.specs.declared.run.Run.{Run}
@@ -270,20 +270,6 @@ err_of (Err e) f p = f p
 pub and_result : {A E P Q R : Type 0} (r : Result A E) → OnOk r P → OnOk r Q → (P → Q → R) → OnOk r R
 and_result (Ok a) p q f = f p q
 and_result (Err e) p q f = tt
-
--- a text, and a prefix of the next one
-pub prefix-after : (a b c : Option (List ℕ)) (text more : List ℕ) → Appends a b text → AppendsPrefix b c more → AppendsPrefix a c (text ++ more)
-prefix-after a b c text more p q = record {
-  count = length text + q.count;
-  appended = subst (Appends a c) (sym (take-append-add text more q.count)) (Appends-trans a b c text (take q.count more) p q.appended);
-}
-
--- a prefix of a text, and none of the next one
-pub prefix-longer : (a b : Option (List ℕ)) (text more : List ℕ) → AppendsPrefix a b text → AppendsPrefix a b (text ++ more)
-prefix-longer a b text more p =
-    let count = min p.count (length text) in
-    let few : count ≤ length text = omega arith in
-    record { count = count; appended = subst (Appends a b) (sym (take_min p.count text) ∙ sym (take-append-le count text more few)) p.appended }
 
 -- a line that is passed over
 pub one-passed : (bytes : List ℕ) (run : Run) (writer : Option (List ℕ)) → is_passed_over bytes ≡ true → AnswersOne bytes run run writer writer

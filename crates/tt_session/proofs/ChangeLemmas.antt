@@ -7,9 +7,9 @@ use Rattle.tt_records.specs.declared.record.Record.{Record}
 use Rattle.tt_records.specs.declared.changed.Changed.{Changed}
 use Rattle.tt_records.specs.Changes.{as_list}
 use Rattle.tt_answers.specs.declared.answer.ChangeEntry.{ChangeEntry}
-use Rattle.tt_session.specs.ChangeEntries.{first_call, entry_of_change, entries_of_changes, telling_changes}
+use Rattle.tt_session.specs.ChangeEntries.{first_call, entry_of_change, entries_of_changes, changes_answer}
 use Rattle.tt_answers.specs.declared.answer.Answer.TheVariants as answers
-use Rattle.tt_session.specs.declared.carried_out.CarriedOut.{CarriedOut}
+use Rattle.tt_session.specs.declared.response.Response.{Response}
 use Rattle.tt_session.specs.Session.{OpenSession}
 use Rattle.tt_session.specs.Answers.{answered_by}
 
@@ -36,8 +36,8 @@ entries-append change_in (r ∷ older) newer = by (entry_of_change r.what (chang
     by (Some e) is = ap (λ es. e ∷ es) is
 
 -- what is told of the changes of all records
-pub tells_changes : (session : OpenSession) (done : CarriedOut) (first : ℕ) (list : List ChangeEntry) (change_in : Record → Option Changed)
-    → done ≡ record { answer = answers.Changes first list; db = None; latest = None } → first ≡ first_call session.records session.calls
-    → list ≡ entries_of_changes change_in session.records → answered_by session done ≡ telling_changes session change_in
-tells_changes session done first list change_in is first_is list_is =
+pub changes_told : (session : OpenSession) (response : Response) (first : ℕ) (list : List ChangeEntry) (change_in : Record → Option Changed)
+    → response ≡ record { answer = answers.Changes first list; latest = None } → first ≡ first_call session.records session.calls
+    → list ≡ entries_of_changes change_in session.records → answered_by session response ≡ changes_answer session change_in
+changes_told session response first list change_in is first_is list_is =
     ap (answered_by session) is ∙ (λ i. record { answer = answers.Changes (first_is i) (list_is i); session = session })

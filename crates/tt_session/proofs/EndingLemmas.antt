@@ -4,8 +4,9 @@ use Rattle.std.proofs.lemmas.Bool.{or_from}
 use Rattle.std.specs.List.{list_any}
 use Rattle.std.specs.Io.KnownBytes.{Appends, Consumes, IsAtEnd}
 use Rattle.std.proofs.KnownBytes.{Appends-nil}
-use Rattle.tt_workload.specs.Ends.{AppendsPrefix}
+use Rattle.tt_streams.specs.Writing.{AppendsPrefix}
 use Rattle.tt_requests.specs.Lines.{lines_of, whole_lines_of}
+use Rattle.tt_streams.proofs.WritingLemmas.{prefix-longer}
 use Rattle.tt_session.specs.declared.session.Session.{Session}
 use Rattle.tt_session.specs.declared.session.Session.TheVariants.{NotOpen}
 use Rattle.tt_session.specs.declared.run.Run.{Run}
@@ -13,7 +14,7 @@ use Rattle.tt_session.specs.Lines.{joined}
 use Rattle.tt_session.specs.Run.{Turn, turn_of_line, turn_of_lines, session_text}
 use Rattle.tt_session.specs.Answering.{LineRead, turn_of_read, turns_of, AnswersEach, Takes, StopsIn, AnswersLast, StopsInLast}
 use Rattle.tt_session.specs.Ends.{AnswersLines, AnswersPrefix, AnswersWholeLines, AnswersAll, FailsToRead, FailsToWrite}
-use Rattle.tt_session.proofs.AnsweringLemmas.{each-trans, lines_of-joined, whole_lines_of-joined, prefix-longer, gives-then, gives-all, gives-prefix}
+use Rattle.tt_session.proofs.AnsweringLemmas.{each-trans, lines_of-joined, whole_lines_of-joined, gives-then, gives-all, gives-prefix}
 
 -- ---- the numbers of the lines for which there was no memory
 

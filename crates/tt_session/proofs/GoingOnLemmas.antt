@@ -1,7 +1,6 @@
 -- An open session goes on as one, whatever it is asked.
-use Rattle.std.proofs.Common.{◌≡◌, ℕ, ◌+◌, ◌-◌, ◌≤◌, min, Bool, true, false, ◌&&◌, nat_lt, List, [], ◌∷◌, ◌++◌, length, Option, None, Some, Result, Ok, Err, refl, sym, ap, subst, ◌∙◌, arith, length-drop}
+use Rattle.std.proofs.Common.{◌≡◌, ℕ, ◌+◌, ◌-◌, ◌≤◌, min, Bool, true, false, List, [], ◌∷◌, ◌++◌, length, Option, None, Some, Result, Ok, Err, OnOk, IfErr, ◌≢◌, refl, sym, ap, subst, ◌∙◌, arith, length-drop}
 use Rattle.std.specs.Option.{option_or}
-use Rattle.std.proofs.lemmas.Bool.Decides.{nat_tests}
 use Rattle.tt_values.specs.declared.statement.Write.{Write}
 use Rattle.tt_values.specs.declared.statement.Select.{Select}
 use Rattle.tt_values.specs.declared.reply.Reply.{Reply}
@@ -9,13 +8,13 @@ use Rattle.tt_values.specs.Tables.{IsCatalog}
 use Rattle.tt_values.specs.Action.{replies_of}
 use Rattle.tt_repair_laws.specs.declared.edit.Edit.{Edit}
 use Rattle.tt_generations.specs.TwoGenerations.{Phase, Idle, Repairing, is_repairing}
-use Rattle.tt_db.specs.declared.limits.Limits.{Limits}
 use Rattle.tt_db.specs.declared.event.Event.{Event}
 use Rattle.tt_db.specs.declared.event.Event.TheVariants as events
 use Rattle.tt_db.specs.declared.errors.DbError.{DbError}
 use Rattle.tt_db.specs.declared.errors.DbError.TheVariants as errors
 use Rattle.tt_db.specs.Limits.{Fits}
 use Rattle.tt_db.specs.declared.errors.ReadError.{ReadError}
+use Rattle.tt_db.specs.declared.outcome.Outcome.{Outcome}
 use Rattle.tt_db.specs.State.{next_state, slots_left, refused_if, unless_repairing, last_items}
 use Rattle.tt_db.specs.Database.{Database, state_of, refusal_of, now_in, current_of_db, right_preview_of}
 use Rattle.tt_records.specs.declared.record.Record.{Record}
@@ -28,25 +27,25 @@ use Rattle.tt_requests.specs.declared.request.Request.{Request}
 use Rattle.tt_requests.specs.declared.request.Page.{Page}
 use Rattle.tt_answers.specs.declared.answer.Answer.{Answer}
 use Rattle.tt_answers.specs.declared.answer.Refusal.{Refusal}
-use Rattle.tt_workload.proofs.SlotLemmas.{after-push}
+use Rattle.tt_db.proofs.EntryLemmas.{after-push}
 use Rattle.tt_session.specs.Session.{OpenSession, state_in, with_database, with_latest_if}
-use Rattle.std.specs.Prelude.{⊤, OnOk}
-use Rattle.tt_answers.specs.AnswerText.{call_text}
-use Rattle.tt_session.specs.declared.carried_out.CarriedOut.{CarriedOut}
-use Rattle.tt_session.specs.Run.{turn_by_outcome, turn_by_request}
-use Rattle.tt_session.specs.Answers.{Answered, answered_by}
-use Rattle.tt_session.specs.Room.{has_no_room_to_end, events_at_end, full_by_repair, refusal_in_session, CanEnd}
-use Rattle.tt_session.specs.Sound.{IsSound, GoesOn}
-use Rattle.tt_session.specs.Repairing.{entry_by, with_event, with_steps, with_all_steps, unless_refused, telling_progress, telling_status, after_switch, begin, step, finish, abort}
+use Rattle.tt_session.specs.Answers.{Answered}
+use Rattle.tt_session.specs.Room.{has_no_room_to_end, full_by_repair, refusal_in_session, CanEnd}
+use Rattle.tt_session.specs.Invariants.{IsOpenSession, IsSession, OpenSessionsStaySound}
+use Rattle.tt_session.specs.Run.{turn_by_outcome}
+use Rattle.tt_session.specs.Sound.{IsSound}
+use Rattle.tt_session.specs.Repairing.{entry_by, with_event, with_steps, with_all_steps, unless_refused, progress_answer, status_answer, after_switch, begin, step, finish, abort}
 use Rattle.tt_session.specs.Reading.{selected_by, previewed_by, latest_if, asks_for_all}
-use Rattle.tt_session.specs.ChangeEntries.{telling_changes, next_changes}
+use Rattle.tt_session.specs.ChangeEntries.{changes_answer, next_changes}
 use Rattle.tt_session.specs.Commands.{write, written, carried_out, moved_to, unless_moved, outcome_of_request}
-use Rattle.tt_session.proofs.StepLemmas.{can_end, switch_is_accepted, abort_is_accepted}
+use Rattle.tt_session.proofs.StepLemmas.{accepted_in_session, can_end, room-can_end, switch_is_accepted, abort_is_accepted}
 use Rattle.tt_session.proofs.LawLemmas.{HasLegalHistory, legal-push, is_stepped}
 
--- what is known of an open session
-abbrev pub IsSoundSession : OpenSession → Type 0
-IsSoundSession session = IsSound session.database session.database.limits session.records session.most_records
+-- a session goes on as another, with the same tables and limits
+pub record GoesOn (before next : OpenSession) : Type 0 where
+  pub catalog : next.database.catalog ≡ before.database.catalog
+  pub limits : next.database.limits ≡ before.database.limits
+  pub sound : IsOpenSession next
 
 -- ---- from a result back to what it came from
 
@@ -76,14 +75,6 @@ moved-none (Some now) outcome b is = cc
 record IsNext (next : Database) : Type 0 where
   legal : HasLegalHistory next
   room : has_no_room_to_end next.limits (state_of next) ≡ false
-
-room-test : (limit : ℕ) (n : ℕ) → n ≤ limit → nat_lt limit n ≡ false
-room-test limit n few = grind (arith, nat_tests, few)
-
-room-can_end : (db : Database) → CanEnd db → has_no_room_to_end db.limits (state_of db) ≡ false
-room-can_end db is =
-    ap (λ b. b && nat_lt db.limits.events (events_at_end (state_of db))) is.repairing
-    ∙ room-test db.limits.events (events_at_end (state_of db)) is.room
 
 -- an event that a session doesn't refuse
 accepted : (db : Database) (worker : ℕ) (event : Event) → HasLegalHistory db → refusal_in_session db event ≡ None → IsNext (with_event db worker event)
@@ -115,20 +106,71 @@ given_up db worker legal is = record {
   room = ap (has_no_room_to_end db.limits) (after-push db.limits db.history (entry_by worker events.Abort));
 }
 
+-- ---- a session whose database is another one
+
+same-database : (db next : Database) (records : List Record) (most : ℕ) → IsSound db records most → next ≡ db → IsSound next records most
+same-database db next records most sound is = subst (λ (d : Database). IsSound d records most) (sym is) sound
+
+pub sound-accepted : (db next : Database) (records : List Record) (most worker : ℕ) (event : Event) → IsSound db records most → refusal_in_session db event ≡ None
+    → next ≡ with_event db worker event → IsSound next records most
+sound-accepted db next records most worker event sound none is =
+    let new = accepted db worker event sound.legal none in
+    subst (λ (d : Database). IsSound d records most) (sym is) (record {
+      catalog = sound.catalog;
+      fits = sound.fits;
+      legal = new.legal;
+      room = new.room;
+      few_records = sound.few_records;
+      few_kept = sound.few_kept;
+    })
+
+-- without a history
+pub sound-empty : (db next : Database) (records : List Record) (most : ℕ) → IsSound db records most → next.catalog ≡ db.catalog → next.limits ≡ db.limits → next.history ≡ []
+    → IsSound next records most
+sound-empty db next records most sound catalog limits none =
+    let empty : Database = record db { history = [] } in
+    let is : next ≡ empty = λ i. record { catalog = catalog i; limits = limits i; history = none i } in
+    subst (λ (d : Database). IsSound d records most) (sym is) (record {
+      catalog = sound.catalog;
+      fits = sound.fits;
+      legal = tt;
+      room = refl;
+      few_records = sound.few_records;
+      few_kept = sound.few_kept;
+    })
+
+pub sound-advanced : (r : Result Outcome DbError) (db next : Database) (records : List Record) (most worker : ℕ) (event : Event) → IsSound db records most
+    → has_no_room_to_end db.limits (next_state db.limits (state_of db) event) ≡ false
+    → OnOk r (next ≡ with_event db worker event) → OnOk r (refusal_of db event ≡ None)
+    → IfErr r (λ e. e ≢ errors.Memory → next ≡ db) → IfErr r (λ e. e ≡ errors.Memory → next.history ≡ []) → next.catalog ≡ db.catalog → next.limits ≡ db.limits
+    → IsSound next records most
+sound-advanced (Ok outcome) db next records most worker event sound room state none stays empty catalog limits =
+    sound-accepted db next records most worker event sound (accepted_in_session db event none room) state
+sound-advanced (Err errors.Memory) db next records most worker event sound room state none stays empty catalog limits =
+    sound-empty db next records most sound catalog limits (empty refl)
+sound-advanced (Err (errors.Statement fault)) db next records most worker event sound room state none stays empty catalog limits = same-database db next records most sound (stays (λ is. cc))
+sound-advanced (Err errors.Repairing) db next records most worker event sound room state none stays empty catalog limits = same-database db next records most sound (stays (λ is. cc))
+sound-advanced (Err errors.NotRepairing) db next records most worker event sound room state none stays empty catalog limits = same-database db next records most sound (stays (λ is. cc))
+sound-advanced (Err (errors.NotCaughtUp left)) db next records most worker event sound room state none stays empty catalog limits = same-database db next records most sound (stays (λ is. cc))
+sound-advanced (Err errors.NothingLeft) db next records most worker event sound room state none stays empty catalog limits = same-database db next records most sound (stays (λ is. cc))
+sound-advanced (Err (errors.NoSlot t)) db next records most worker event sound room state none stays empty catalog limits = same-database db next records most sound (stays (λ is. cc))
+sound-advanced (Err (errors.EditTwice t)) db next records most worker event sound room state none stays empty catalog limits = same-database db next records most sound (stays (λ is. cc))
+sound-advanced (Err errors.TooManyEdits) db next records most worker event sound room state none stays empty catalog limits = same-database db next records most sound (stays (λ is. cc))
+sound-advanced (Err (errors.Full limit)) db next records most worker event sound room state none stays empty catalog limits = same-database db next records most sound (stays (λ is. cc))
+
 -- ---- the next session
 
-same : (session : OpenSession) → IsSoundSession session → GoesOn session session
+same : (session : OpenSession) → IsOpenSession session → GoesOn session session
 same session sound = record { catalog = refl; limits = refl; sound = sound }
 
 few_last : (most : ℕ) (records : List Record) → length (last_items most records) ≤ most
 few_last most records = omega (arith, length-drop (length records - most) records)
 
-with_latest-sound : (session : OpenSession) (latest : Record) → IsSoundSession session → GoesOn session (with_latest_if session (Some latest))
+with_latest-sound : (session : OpenSession) (latest : Record) → IsOpenSession session → GoesOn session (with_latest_if session (Some latest))
 with_latest-sound session latest sound = record {
   catalog = refl;
   limits = refl;
   sound = record {
-    limits = refl;
     catalog = sound.catalog;
     fits = sound.fits;
     legal = sound.legal;
@@ -139,13 +181,12 @@ with_latest-sound session latest sound = record {
 }
 
 -- the database is another one, with the same tables and limits
-next-sound : (session : OpenSession) (next : Database) → IsSoundSession session → IsNext next → next.catalog ≡ session.database.catalog → next.limits ≡ session.database.limits
+next-sound : (session : OpenSession) (next : Database) → IsOpenSession session → IsNext next → next.catalog ≡ session.database.catalog → next.limits ≡ session.database.limits
     → GoesOn session (with_database session next)
 next-sound session next sound is catalog limits = record {
   catalog = catalog;
   limits = limits;
   sound = record {
-    limits = refl;
     catalog = subst IsCatalog (sym catalog) sound.catalog;
     fits = subst Fits (sym limits) sound.fits;
     legal = is.legal;
@@ -155,9 +196,9 @@ next-sound session next sound is catalog limits = record {
   };
 }
 
-onwards : (first second last : OpenSession) → GoesOn first second → (IsSoundSession second → GoesOn second last) → GoesOn first last
+onwards : (first second last : OpenSession) → GoesOn first second → (IsOpenSession second → GoesOn second last) → GoesOn first last
 onwards first second last on more =
-    let sound : IsSoundSession second = on.sound in
+    let sound : IsOpenSession second = on.sound in
     let rest = more sound in
     record { catalog = rest.catalog ∙ on.catalog; limits = rest.limits ∙ on.limits; sound = rest.sound }
 
@@ -173,10 +214,10 @@ to session a b is on = subst (λ (x : Answered). GoesOn session x.session) is on
 from_ok : (a b : Answered) → ◌≡◌ {A = Result Answered Refusal} (Ok a) (Ok b) → a ≡ b
 from_ok a b is = cc
 
-told : (session : OpenSession) (answer : Answer) → IsSoundSession session → AnswersOn session (Ok (record { answer = answer; session = session }))
+told : (session : OpenSession) (answer : Answer) → IsOpenSession session → AnswersOn session (Ok (record { answer = answer; session = session }))
 told session answer sound b is = to session _ b (from_ok (record { answer = answer; session = session }) b is) (same session sound)
 
-write-on : (session : OpenSession) (worker : ℕ) (action : List Write) → IsSoundSession session → AnswersOn session (write session worker action)
+write-on : (session : OpenSession) (worker : ℕ) (action : List Write) → IsOpenSession session → AnswersOn session (write session worker action)
 write-on session worker action sound b is =
     let db = session.database in
     let next = with_event db worker (events.Write action) in
@@ -185,26 +226,26 @@ write-on session worker action sound b is =
     let latest : Record = record { call = session.calls; worker = worker; what = whats.Write (now_in db + 1) (replies_of action (current_of_db db (now_in db))) } in
     to session (written session worker action) b parts.1 (onwards session (with_database session next) _ on (λ s. with_latest-sound (with_database session next) latest s))
 
-begin-on : (session : OpenSession) (worker : ℕ) (edits : List Edit) → IsSoundSession session → AnswersOn session (begin session worker edits)
+begin-on : (session : OpenSession) (worker : ℕ) (edits : List Edit) → IsOpenSession session → AnswersOn session (begin session worker edits)
 begin-on session worker edits sound b is =
     let db = session.database in
     let next = with_event db worker (events.Begin edits) in
-    let parts = from_unless (refusal_in_session db (events.Begin edits)) (telling_progress session next) b is in
-    to session (telling_progress session next) b parts.1 (next-sound session next sound (accepted db worker (events.Begin edits) sound.legal parts.0) refl refl)
+    let parts = from_unless (refusal_in_session db (events.Begin edits)) (progress_answer session next) b is in
+    to session (progress_answer session next) b parts.1 (next-sound session next sound (accepted db worker (events.Begin edits) sound.legal parts.0) refl refl)
 
-under_way : (session : OpenSession) → IsSoundSession session → unless_repairing (state_in session).phase ≡ None → CanEnd session.database
+under_way : (session : OpenSession) → IsOpenSession session → unless_repairing (state_in session).phase ≡ None → CanEnd session.database
 under_way session sound none = can_end session.database (under_way-none (state_in session).phase none) sound.room
 
-step-on : (session : OpenSession) (worker most : ℕ) → IsSoundSession session → AnswersOn session (step session worker most)
+step-on : (session : OpenSession) (worker most : ℕ) → IsOpenSession session → AnswersOn session (step session worker most)
 step-on session worker most sound b is =
     let db = session.database in
     let count = min most (slots_left (state_of db)) in
     let next = with_steps db worker count in
-    let parts = from_unless (unless_repairing (state_of db).phase) (telling_progress session next) b is in
+    let parts = from_unless (unless_repairing (state_of db).phase) (progress_answer session next) b is in
     let few : count ≤ slots_left (state_of db) = omega arith in
-    to session (telling_progress session next) b parts.1 (next-sound session next sound (stepped db worker count sound.legal (under_way session sound parts.0) few) refl refl)
+    to session (progress_answer session next) b parts.1 (next-sound session next sound (stepped db worker count sound.legal (under_way session sound parts.0) few) refl refl)
 
-finish-on : (session : OpenSession) (worker : ℕ) → IsSoundSession session → AnswersOn session (finish session worker)
+finish-on : (session : OpenSession) (worker : ℕ) → IsOpenSession session → AnswersOn session (finish session worker)
 finish-on session worker sound b is =
     let db = session.database in
     let last = with_all_steps db worker in
@@ -212,35 +253,35 @@ finish-on session worker sound b is =
     to session (after_switch session worker last) b parts.1
     (next-sound session (with_event last worker events.Switch) sound (switched db worker sound.legal (under_way session sound parts.0)) refl refl)
 
-abort-on : (session : OpenSession) (worker : ℕ) → IsSoundSession session → AnswersOn session (abort session worker)
+abort-on : (session : OpenSession) (worker : ℕ) → IsOpenSession session → AnswersOn session (abort session worker)
 abort-on session worker sound b is =
     let db = session.database in
     let next = with_event db worker events.Abort in
-    let parts = from_unless (unless_repairing (state_of db).phase) (telling_status session next) b is in
-    to session (telling_status session next) b parts.1 (next-sound session next sound (given_up db worker sound.legal (under_way session sound parts.0)) refl refl)
+    let parts = from_unless (unless_repairing (state_of db).phase) (status_answer session next) b is in
+    to session (status_answer session next) b parts.1 (next-sound session next sound (given_up db worker sound.legal (under_way session sound parts.0)) refl refl)
 
-latest-on : (session : OpenSession) (kept : Bool) (worker : ℕ) (what : What) → IsSoundSession session → GoesOn session (with_latest_if session (latest_if kept session worker what))
+latest-on : (session : OpenSession) (kept : Bool) (worker : ℕ) (what : What) → IsOpenSession session → GoesOn session (with_latest_if session (latest_if kept session worker what))
 latest-on session true worker what sound = with_latest-sound session (record { call = session.calls; worker = worker; what = what }) sound
 latest-on session false worker what sound = same session sound
 
-selected-on : (session : OpenSession) (worker : ℕ) (q : Select) (generation : Option ℕ) (page : Page) (time : ℕ) (right : Result Reply ReadError) → IsSoundSession session
+selected-on : (session : OpenSession) (worker : ℕ) (q : Select) (generation : Option ℕ) (page : Page) (time : ℕ) (right : Result Reply ReadError) → IsOpenSession session
     → AnswersOn session (selected_by session worker q generation page time right)
 selected-on session worker q generation page time (Err error) sound b is = cc
 selected-on session worker q generation page time (Ok reply) sound b is =
     to session _ b (from_ok _ b is) (latest-on session (asks_for_all generation page) worker (whats.Read q time reply) sound)
 
-previewed-on : (session : OpenSession) (page : Page) (right : Result Reply ReadError) → IsSoundSession session → AnswersOn session (previewed_by session page right)
+previewed-on : (session : OpenSession) (page : Page) (right : Result Reply ReadError) → IsOpenSession session → AnswersOn session (previewed_by session page right)
 previewed-on session page (Err error) sound b is = cc
 previewed-on session page (Ok reply) sound b is = to session _ b (from_ok _ b is) (same session sound)
 
-next_changes-on : (session : OpenSession) → IsSoundSession session → AnswersOn session (next_changes session)
+next_changes-on : (session : OpenSession) → IsOpenSession session → AnswersOn session (next_changes session)
 next_changes-on session sound b is =
     let S = state_in session in
-    let told = telling_changes session (next_change_of session.database.catalog S) in
+    let told = changes_answer session (next_change_of session.database.catalog S) in
     let parts = from_unless (unless_repairing S.phase) told b is in
     to session told b parts.1 (same session sound)
 
-carried_out-on : (session : OpenSession) (worker : ℕ) (command : Command) → IsSoundSession session → AnswersOn session (carried_out session worker command)
+carried_out-on : (session : OpenSession) (worker : ℕ) (command : Command) → IsOpenSession session → AnswersOn session (carried_out session worker command)
 carried_out-on session worker (commands.Write action) sound = write-on session worker action sound
 carried_out-on session worker (commands.Read q at generation page) sound = selected-on session worker q generation page _ _ sound
 carried_out-on session worker (commands.Preview q page) sound = previewed-on session page (right_preview_of session.database q) sound
@@ -255,31 +296,15 @@ carried_out-on session worker commands.NextChanges sound = next_changes-on sessi
 carried_out-on session worker commands.Tables sound = told session _ sound
 
 -- whatever a session is asked, it goes on as one
-pub goes_on : (session : OpenSession) (request : Request) → IsSoundSession session → (b : Answered) → outcome_of_request session request ≡ Ok b → GoesOn session b.session
+goes_on : (session : OpenSession) (request : Request) → IsOpenSession session → (b : Answered) → outcome_of_request session request ≡ Ok b → GoesOn session b.session
 goes_on session request sound b is =
     carried_out-on session request.worker request.command sound b (moved-none (moved_to (now_in session.database) request.expected) _ b is)
 
--- what is told of a request that is carried out: the tables stay, and so does the number of the call
-pub told_text : {E : Type 0} (r : Result ⊤ E) (session : OpenSession) (request : Request) (done : CarriedOut) (old new : List ℕ)
-    → outcome_of_request session request ≡ Ok (answered_by session done) → GoesOn session (answered_by session done).session
-    → OnOk r (new ≡ old ++ call_text session.database.catalog session.calls done.answer) → OnOk r (new ≡ old ++ (turn_by_request session (Ok request)).text)
-told_text (Ok u) session request done old new is on text =
-    text ∙ ap (λ tables. old ++ call_text tables session.calls done.answer) (sym on.catalog)
-    ∙ ap (λ (o : Result Answered Refusal). old ++ (turn_by_outcome session o).text) (sym is)
-told_text (Err e) session request done old new is on text = tt
-
--- what is known of the fields of a session is known of it
-pub known : (db : Database) (limits : Limits) (records : List Record) (most calls : ℕ) (session : OpenSession) → IsSound db limits records most
-    → ◌≡◌ {A = OpenSession} (record { database = db; records = records; most_records = most; calls = calls }) session → IsSoundSession session
-known db limits records most calls session is view_is =
-    let opened : OpenSession = record { database = db; records = records; most_records = most; calls = calls } in
-    let sound : IsSoundSession opened = record {
-      limits = refl;
-      catalog = is.catalog;
-      fits = is.fits;
-      legal = is.legal;
-      room = is.room;
-      few_records = is.few_records;
-      few_kept = is.few_kept;
-    } in
-    subst IsSoundSession view_is sound
+-- and it is one afterwards
+pub open_sessions_stay_sound : OpenSessionsStaySound
+open_sessions_stay_sound session (Err fault) sound = sound
+open_sessions_stay_sound session (Ok request) sound = by (outcome_of_request session request) (λ b is. goes_on session request sound b is)
+  where
+    by : (outcome : Result Answered Refusal) → ((b : Answered) → outcome ≡ Ok b → GoesOn session b.session) → IsSession (turn_by_outcome session outcome).session
+    by (Ok b) on = (on b refl).sound
+    by (Err refusal) on = sound

@@ -1,23 +1,16 @@
 -- What holds of an open session, whatever it is asked.
-use Rattle.std.proofs.Common.{◌≡◌, ℕ, zero, suc, ◌+◌, ◌<◌, ◌≤◌, List, [], ◌∷◌, ◌++◌, None, sym, subst, arith, fold}
-use Rattle.tt_values.specs.Tables.{Tables}
-use Rattle.tt_db.specs.declared.limits.Limits.{Limits}
-use Rattle.tt_db.specs.declared.event.Entry.{Entry}
+use Rattle.std.proofs.Common.{◌≡◌, ℕ, zero, suc, ◌+◌, ◌<◌, ◌≤◌, None, sym, subst, arith}
 use Rattle.tt_db.specs.declared.event.Event.{Event}
 use Rattle.tt_db.specs.declared.event.Event.TheVariants as events
-use Rattle.tt_db.specs.State.{State, start, next_state, slots_left, refusal, IsLegal, IsLegalFrom}
+use Rattle.tt_db.specs.State.{start, slots_left, IsLegal}
 use Rattle.tt_db.specs.Database.{Database, state_of, refusal_of}
+use Rattle.tt_db.proofs.EntryLemmas.{IsLegalFrom-push}
 use Rattle.tt_session.specs.Room.{CanEnd}
 use Rattle.tt_session.specs.Repairing.{entry_by, with_event, with_steps, with_all_steps}
 use Rattle.tt_session.specs.Invariants.{RepairsCanEnd}
 use Rattle.tt_session.proofs.StepLemmas.{can_end, step_is_accepted, switch_is_accepted, abort_is_accepted, can_end-step, left-step, with_steps-none, with_steps-first}
 
 -- ---- a database with further entries
-
-IsLegalFrom-push : (tables : Tables) (limits : Limits) (S : State) (history : List Entry) (e : Entry) → IsLegalFrom tables limits S history
-    → refusal tables limits (fold (λ T d. next_state limits T d.event) S history) e.event ≡ None → IsLegalFrom tables limits S (history ++ e ∷ [])
-IsLegalFrom-push tables limits S [] e legal none = (none, tt)
-IsLegalFrom-push tables limits S (d ∷ history) e legal none = (legal.0, IsLegalFrom-push tables limits (next_state limits S d.event) history e legal.1 none)
 
 -- the history of a database is legal
 abbrev pub HasLegalHistory : Database → Type 0

@@ -12,5 +12,6 @@ pub mod TurnLemmas
 pub mod AnsweringLemmas
 pub mod EndingLemmas
 pub mod RecordLemmas
-pub mod BatchLemmas
+pub mod EarlierLemmas
+pub mod TogetherLemmas
 mod worked_sessions

@@ -4,11 +4,11 @@ use Rattle.std.specs.Option.{unwrap_or}
 use Rattle.std.proofs.lemmas.Bool.{ltb-false}
 use Rattle.serde_json.specs.Data.{Data}
 use Rattle.serde_json.specs.Find.{get}
-use Rattle.tt_document.specs.declared.fault.DocFault.{DocFault}
-use Rattle.tt_document.specs.Fault.{◌>>=◌, refuse, with_path, member_path, document_path}
-use Rattle.tt_document.specs.Decoder.{object, member, optional, read_optional, within, count, count_within}
-use Rattle.tt_document.specs.Members.{is_one_of, no_members_but}
-use Rattle.tt_document.specs.Tables.{catalog}
+use Rattle.tt_grammar.specs.declared.fault.DocFault.{DocFault}
+use Rattle.tt_grammar.specs.Fault.{◌>>=◌, refuse, with_path, member_path, document_path}
+use Rattle.tt_grammar.specs.Decoder.{object, member, optional, read_optional, within, count, count_within}
+use Rattle.tt_grammar.specs.Members.{is_one_of, no_members_but}
+use Rattle.tt_grammar.specs.Tables.{catalog}
 use Rattle.tt_requests.specs.declared.opening.Opening.{Opening}
 use Rattle.tt_db.specs.Database.{Database}
 use Rattle.tt_answers.specs.declared.answer.Status.{Status}

@@ -13,11 +13,11 @@ use Rattle.serde_json.proofs.Numbers.{number_of-decimal}
 use Rattle.tt_values.specs.declared.statement.Write.{Write}
 use Rattle.tt_values.specs.Tables.{Tables, IsCatalog}
 use Rattle.tt_repair_laws.specs.declared.edit.Edit.TheVariants.{Replace}
-use Rattle.tt_document.specs.Fault.{with_path, document_path}
-use Rattle.tt_document.specs.Decoder.{count_within}
-use Rattle.tt_document.specs.Repair.{replacement}
-use Rattle.tt_document.specs.TextValue.{json_of_bytes, value_of_found}
-use Rattle.tt_document.specs.Version.{version_of_sessions}
+use Rattle.tt_grammar.specs.Fault.{with_path, document_path}
+use Rattle.tt_grammar.specs.Decoder.{count_within}
+use Rattle.tt_grammar.specs.Edits.{replacement}
+use Rattle.tt_grammar.specs.TextValue.{json_of_bytes, value_of_found}
+use Rattle.tt_grammar.specs.Version.{version_of_sessions}
 use Rattle.tt_requests.specs.declared.request.Command.TheVariants as commands
 use Rattle.tt_requests.specs.declared.request.Request.{Request}
 use Rattle.tt_requests.specs.declared.opening.Opening.{Opening}
@@ -26,17 +26,17 @@ use Rattle.tt_requests.specs.LineValue.{value_of_line}
 use Rattle.tt_requests.specs.Lines.{max_line_bytes, is_too_long}
 use Rattle.tt_requests.specs.Opening.{max_keep, max_records, members_of_opening, opening_of}
 use Rattle.tt_requests.specs.Requests.{begin, members_of_request, usual_worker, request_of}
-use Rattle.tt_answers.specs.JsonText.{Member, array_text, number_member, object_text}
-use Rattle.tt_answers.specs.WriteText.{write_text, action_text}
+use Rattle.tt_grammar.specs.JsonText.{Member, array_text, number_member, object_text}
+use Rattle.tt_grammar.specs.WriteText.{write_text, action_text}
 use Rattle.tt_answers.specs.AnswerText.{declared_members}
-use Rattle.tt_answers.specs.ReadBack.{read_with}
-use Rattle.tt_answers.proofs.Utf8Lemmas.{IsUtf8-array, IsUtf8-object}
-use Rattle.tt_answers.proofs.JsonReadLemmas.{object-prints, array-prints, number-prints}
-use Rattle.tt_answers.proofs.ItemReadLemmas.{IsReadBack, read-back}
-use Rattle.tt_answers.proofs.WriteReadLemmas.{json_of_write, data_of_write, write-back, replacing-back}
-use Rattle.tt_answers.proofs.ActionReadLemmas.{do_tree, do_data, action-back, do-back}
-use Rattle.tt_answers.proofs.TableReadLemmas.{json_of_tables, data_of_tables, tables-back}
-use Rattle.tt_answers.proofs.LengthLemmas.{length-write, length-action, length-tables}
+use Rattle.tt_grammar.specs.ReadBack.{read_with}
+use Rattle.tt_grammar.proofs.Utf8Lemmas.{IsUtf8-array, IsUtf8-object}
+use Rattle.tt_grammar.proofs.JsonReadLemmas.{object-prints, array-prints, number-prints}
+use Rattle.tt_grammar.proofs.ItemReadLemmas.{IsReadBack, read-back}
+use Rattle.tt_grammar.proofs.WriteReadLemmas.{json_of_write, data_of_write, write-back, replacing-back}
+use Rattle.tt_grammar.proofs.ActionReadLemmas.{do_tree, do_data, action-back, do-back}
+use Rattle.tt_grammar.proofs.TableReadLemmas.{json_of_tables, data_of_tables, tables-back}
+use Rattle.tt_grammar.proofs.LengthLemmas.{length-write, length-action, length-tables}
 use Rattle.tt_session.specs.ReadBack.{opening_line, PrintedTablesOpen, Replaces, PrintedWritesReplace, replacing_text, replacing_line, PrintedActionsReplace}
 
 digits-utf8 : (n : ℕ) → n < 2 ^ 64 → IsUtf8 (decimal n)

@@ -1,21 +1,21 @@
 -- Room for the end of a repair.
-use Rattle.std.proofs.Common.{◌≡◌, ℕ, ◌+◌, ◌-◌, true, false, ◌&&◌, nat_lt, nat_le, List, [], ◌∷◌, length, fold, Option, None, Some, refl, sym, ap, ◌∙◌, arith}
+use Rattle.std.proofs.Common.{◌≡◌, ℕ, suc, ◌+◌, ◌-◌, ◌≤◌, true, ◌&&◌, nat_lt, nat_le, List, [], ◌∷◌, ◌++◌, length, length-append, fold, Option, None, Some, refl, sym, ap, ◌∙◌, arith}
 use Rattle.std.proofs.lemmas.Bool.Decides.{nat_tests}
-use Rattle.std.specs.Option.{option_or}
-use Rattle.tt_values.specs.Tables.{Tables}
-use Rattle.tt_values.specs.RowWrites.{Slots}
-use Rattle.tt_generations.specs.declared.progress.Progress.{Progress}
-use Rattle.tt_generations.specs.TwoGenerations.{Phase, Idle, Repairing, is_repairing, left_of, progress_in}
+use Rattle.std.specs.Option.{option_or, unwrap_or}
+use Rattle.tt_values.specs.declared.statement.Write.{Write}
+use Rattle.tt_repair_laws.specs.declared.edit.Edit.{Edit}
+use Rattle.tt_generations.specs.TwoGenerations.{Phase, Idle, Repairing, is_repairing, left_of, phase_after_step, IsWithin}
 use Rattle.tt_db.specs.declared.limits.Limits.{Limits}
 use Rattle.tt_db.specs.declared.event.Entry.{Entry}
+use Rattle.tt_db.specs.declared.event.Event.{Event}
+use Rattle.tt_db.specs.declared.event.Event.TheVariants as events
 use Rattle.tt_db.specs.declared.errors.DbError.{DbError}
 use Rattle.tt_db.specs.declared.errors.DbError.TheVariants as errors
 use Rattle.tt_db.specs.Errors.{refusal_of_error}
-use Rattle.tt_db.specs.State.{State, start, after, next_state}
-use Rattle.tt_db.specs.Database.{Database, state_of, with_entry, refusal_of, repair_of}
-use Rattle.tt_workload.proofs.SlotLemmas.{after-push}
+use Rattle.tt_db.specs.State.{State, start, after, next_state, now_of, slots_left}
+use Rattle.tt_db.specs.Database.{Database, state_of, refusal_of}
 use Rattle.tt_session.specs.Failures.{IsRefusal}
-use Rattle.tt_session.specs.Room.{has_no_room_to_end, events_at_end, refusal_in_session}
+use Rattle.tt_session.specs.Room.{has_no_room_to_end, refusal_in_session}
 
 events-from : (limits : Limits) (S : State) (history : List Entry) → (fold (λ T e. next_state limits T e.event) S history).events ≡ S.events + length history
 events-from limits S [] = omega arith
@@ -25,45 +25,58 @@ events-from limits S (e ∷ history) = let rest = events-from limits (next_state
 pub events-after : (limits : Limits) (history : List Entry) → (after limits history).events ≡ length history
 events-after limits history = let all = events-from limits start history in omega (arith, all)
 
--- a repair that isn't told isn't under way
-pub idle_if_none : (tables : Tables) (phase : Phase) (W : Slots) → progress_in tables phase W ≡ None → is_repairing phase ≡ false
-idle_if_none tables Idle W none = refl
-idle_if_none tables (Repairing edits n) W none = cc
+-- ---- an event that leaves no room for the end of a repair
 
-pub repairing_if_some : (tables : Tables) (phase : Phase) (W : Slots) (p : Progress) → progress_in tables phase W ≡ Some p → is_repairing phase ≡ true
-repairing_if_some tables Idle W p some = cc
-repairing_if_some tables (Repairing edits n) W p some = refl
+write-test : (limit events n slots : ℕ) → n ≤ slots → nat_le (limit - events - 1 - 1) (slots - n) ≡ nat_lt limit (events + 1 + (slots + 1 - n) + 1)
+write-test limit events n slots few = grind (arith, nat_tests, few)
 
-pub left_if_some : (tables : Tables) (phase : Phase) (W : Slots) (p : Progress) → progress_in tables phase W ≡ Some p → left_of phase W ≡ p.left
-left_if_some tables Idle W p some = cc
-left_if_some tables (Repairing edits n) W p some = ap (λ o. left_or 0 o) some
-  where
-    left_or : ℕ → Option Progress → ℕ
-    left_or d None = d
-    left_or d (Some q) = q.left
+begin-test : (limit events slots : ℕ) → nat_le (limit - events - 1) slots ≡ nat_lt limit (events + 1 + (slots - 0) + 1)
+begin-test limit events slots = grind (arith, nat_tests)
 
-room-test : (limit events left : ℕ) → nat_le (limit - events) left ≡ nat_lt limit (events + left + 1)
-room-test limit events left = grind (arith, nat_tests)
+step-test : (limit events n slots : ℕ) → nat_le (limit - events - 1) (slots - n - 1) ≡ nat_lt limit (events + 1 + (slots - suc n) + 1)
+step-test limit events n slots = grind (arith, nat_tests)
 
-pub no_room_if_none : (db : Database) → repair_of db ≡ None → false ≡ has_no_room_to_end db.limits (state_of db)
-no_room_if_none db none = ap (λ b. b && nat_lt db.limits.events (events_at_end (state_of db))) (sym (idle_if_none db.catalog (state_of db).phase (state_of db).slots none))
+write-room : (limits : Limits) (S : State) (phase : Phase) (action : List Write) → IsWithin phase S.slots
+    → (is_repairing phase && nat_le (limits.events - S.events - 1 - 1) (left_of phase S.slots))
+    ≡ (is_repairing phase && nat_lt limits.events (S.events + 1 + left_of phase (S.slots ++ Some action ∷ []) + 1))
+write-room limits S Idle action within = refl
+write-room limits S (Repairing edits n) action within =
+    write-test limits.events S.events n (length S.slots) within
+    ∙ ap (λ l. nat_lt limits.events (S.events + 1 + (l - n) + 1)) (sym (length-append S.slots (Some action ∷ [])))
 
-pub no_room_if_some : (db : Database) (p : Progress) → repair_of db ≡ Some p → nat_le (db.limits.events - length db.history) p.left ≡ has_no_room_to_end db.limits (state_of db)
-no_room_if_some db p some =
+step-room : (limits : Limits) (S : State) (phase : Phase)
+    → (is_repairing phase && nat_le (limits.events - S.events - 1) (left_of phase S.slots - 1))
+    ≡ (is_repairing (phase_after_step phase) && nat_lt limits.events (S.events + 1 + left_of (phase_after_step phase) S.slots + 1))
+step-room limits S Idle = refl
+step-room limits S (Repairing edits n) = step-test limits.events S.events n (length S.slots)
+
+pub no_room-write : (db : Database) (action : List Write) → IsWithin (state_of db).phase (state_of db).slots
+    → (is_repairing (state_of db).phase && nat_le (db.limits.events - length db.history - 1 - 1) (slots_left (state_of db)))
+    ≡ has_no_room_to_end db.limits (next_state db.limits (state_of db) (events.Write action))
+no_room-write db action within =
     let S = state_of db in
-    let left = left_if_some db.catalog S.phase S.slots p some in
-    let repairing = repairing_if_some db.catalog S.phase S.slots p some in
-    ap (λ n. nat_le (db.limits.events - n) p.left) (sym (events-after db.limits db.history))
-    ∙ room-test db.limits.events S.events p.left
-    ∙ ap (λ n. nat_lt db.limits.events (S.events + n + 1)) (sym left)
-    ∙ ap (λ b. b && nat_lt db.limits.events (events_at_end S)) (sym repairing)
+    ap (λ n. is_repairing S.phase && nat_le (db.limits.events - n - 1 - 1) (slots_left S)) (sym (events-after db.limits db.history))
+    ∙ write-room db.limits S S.phase action within
 
--- the room after an event is that of the database with it
-pub room-next : (db next : Database) (e : Entry) → next ≡ with_entry db e
-    → has_no_room_to_end next.limits (state_of next) ≡ has_no_room_to_end db.limits (next_state db.limits (state_of db) e.event)
-room-next db next e is =
-    ap (λ (d : Database). has_no_room_to_end d.limits (state_of d)) is
-    ∙ ap (has_no_room_to_end db.limits) (after-push db.limits db.history e)
+pub no_room-begin : (db : Database) (edits : List Edit)
+    → nat_le (db.limits.events - length db.history - 1) (now_of (state_of db)) ≡ has_no_room_to_end db.limits (next_state db.limits (state_of db) (events.Begin edits))
+no_room-begin db edits =
+    let S = state_of db in
+    ap (λ n. nat_le (db.limits.events - n - 1) (now_of S)) (sym (events-after db.limits db.history)) ∙ begin-test db.limits.events S.events (now_of S)
+
+pub no_room-step : (db : Database)
+    → (is_repairing (state_of db).phase && nat_le (db.limits.events - length db.history - 1) (slots_left (state_of db) - 1))
+    ≡ has_no_room_to_end db.limits (next_state db.limits (state_of db) events.Step)
+no_room-step db =
+    let S = state_of db in
+    ap (λ n. is_repairing S.phase && nat_le (db.limits.events - n - 1) (slots_left S - 1)) (sym (events-after db.limits db.history)) ∙ step-room db.limits S S.phase
+
+-- why a session refuses an event that leaves no room
+pub without_room : (db : Database) (event : Event) (refusal : Option DbError) (error : DbError) → refusal ≡ refusal_of db event
+    → has_no_room_to_end db.limits (next_state db.limits (state_of db) event) ≡ true → unwrap_or refusal (errors.Full db.limits.events) ≡ error
+    → refusal_in_session db event ≡ Some error
+without_room db event None error is no_room same = rw (sym is, no_room) (ap Some same)
+without_room db event (Some first) error is no_room same = rw (sym is) (ap Some same)
 
 -- why the database refuses an event is why a session does
 pub refused_in_session : (error : DbError) (refusal full : Option DbError) → refusal ≡ refusal_of_error error → IsRefusal error (option_or refusal full)
@@ -77,16 +90,3 @@ refused_in_session (errors.EditTwice t) refusal full is = rw is refl
 refused_in_session errors.TooManyEdits refusal full is = rw is refl
 refused_in_session (errors.Full limit) refusal full is = rw is refl
 refused_in_session errors.Memory refusal full is = tt
-
--- full, where there is no room
-pub full_in_session : (db next : Database) (e : Entry) → next ≡ with_entry db e → refusal_of db e.event ≡ None
-    → has_no_room_to_end next.limits (state_of next) ≡ true → refusal_in_session db e.event ≡ Some (errors.Full db.limits.events)
-full_in_session db next e is none no_room =
-    let full : has_no_room_to_end db.limits (next_state db.limits (state_of db) e.event) ≡ true = sym (room-next db next e is) ∙ no_room in
-    rw (none, full) refl
-
-pub accepted_in_session : (db next : Database) (e : Entry) → next ≡ with_entry db e → refusal_of db e.event ≡ None
-    → has_no_room_to_end next.limits (state_of next) ≡ false → refusal_in_session db e.event ≡ None
-accepted_in_session db next e is none room =
-    let free : has_no_room_to_end db.limits (next_state db.limits (state_of db) e.event) ≡ false = sym (room-next db next e is) ∙ room in
-    rw (none, free) refl

@@ -1,30 +1,31 @@
 -- The steps of a repair, and its ends.
-use Rattle.std.proofs.Common.{◌≡◌, ℕ, suc, ◌+◌, ◌-◌, ◌<◌, ◌≤◌, true, false, ◌&&◌, ◌==◌, nat_lt, [], ◌∷◌, ◌++◌, replicate, Option, None, Some, Result, Ok, Err, IfOk, refl, sym, ap, subst, ◌∙◌, arith, append-nil, append_assoc}
+use Rattle.std.proofs.Common.{◌≡◌, ℕ, suc, ◌+◌, ◌<◌, ◌≤◌, true, false, ◌&&◌, ◌==◌, nat_lt, [], ◌∷◌, ◌++◌, replicate, Option, None, Some, Result, Ok, Err, refl, sym, ap, subst, ◌∙◌, arith, append-nil, append_assoc}
 use Rattle.std.specs.Prelude.{IsErrAnd}
 use Rattle.std.proofs.lemmas.Bool.Decides.{nat_tests}
 use Rattle.std.proofs.lemmas.List.{replicate-append-replicate}
 use Rattle.tt_generations.specs.TwoGenerations.{Phase, is_repairing}
+use Rattle.tt_db.specs.declared.event.Event.{Event}
 use Rattle.tt_db.specs.declared.event.Event.TheVariants as events
 use Rattle.tt_db.specs.declared.errors.DbError.{DbError}
 use Rattle.tt_db.specs.declared.errors.DbError.TheVariants as errors
-use Rattle.tt_db.specs.State.{slots_left, unless_repairing}
+use Rattle.tt_db.specs.State.{next_state, slots_left, unless_repairing}
 use Rattle.tt_db.specs.Database.{Database, state_of, refusal_of}
 use Rattle.tt_answers.specs.declared.answer.Refusal.{Refusal}
-use Rattle.tt_workload.proofs.RepairLemmas.{full_at-below, is_after_step}
-use Rattle.tt_session.specs.declared.carried_out.CarriedOut.{CarriedOut}
+use Rattle.tt_db.proofs.EntryLemmas.{after-push, full_at-below, is_after_step}
+use Rattle.tt_session.specs.declared.response.Response.{Response}
 use Rattle.tt_session.specs.declared.failure.Failure.{Failure}
 use Rattle.tt_session.specs.declared.failure.Failure.TheVariants as failures
 use Rattle.tt_session.specs.Failures.{failure_of_event, IsRefusal, FailsWith}
 use Rattle.tt_session.specs.Session.{OpenSession}
 use Rattle.tt_session.specs.Answers.{Answered, answered_by, Becomes}
-use Rattle.tt_session.specs.Room.{has_no_room_to_end, events_at_end, CanEnd}
+use Rattle.tt_session.specs.Room.{has_no_room_to_end, events_at_end, refusal_in_session, CanEnd}
 use Rattle.tt_session.specs.Repairing.{entry_by, with_event, with_steps, unless_refused}
 
 -- ---- what becomes of a request
 
-pub carried : (session : OpenSession) (done : CarriedOut) (refusal : Option DbError) (expected : Answered)
-    → refusal ≡ None → expected ≡ answered_by session done → Becomes session (Ok done) (unless_refused refusal expected)
-carried session done refusal expected none is = rw (none, is) refl
+pub carried : (session : OpenSession) (response : Response) (refusal : Option DbError) (expected : Answered)
+    → refusal ≡ None → expected ≡ answered_by session response → Becomes session (Ok response) (unless_refused refusal expected)
+carried session response refusal expected none is = rw (none, is) refl
 
 pub refused : (session : OpenSession) (error : DbError) (refusal : Option DbError) (expected : Answered)
     → IsRefusal error refusal → Becomes session (Err (failure_of_event error)) (unless_refused refusal expected)
@@ -40,14 +41,14 @@ refused session (errors.Full limit) refusal expected is = rw is refl
 refused session errors.Memory refusal expected is = tt
 
 -- without memory nothing is said
-pub memory_becomes : (session : OpenSession) (r : Result CarriedOut Failure) (expected : Result Answered Refusal) → IsErrAnd r (λ f. f ≡ failures.Memory) → Becomes session r expected
-memory_becomes session (Ok done) expected gives = absurd gives
+pub memory_becomes : (session : OpenSession) (r : Result Response Failure) (expected : Result Answered Refusal) → IsErrAnd r (λ f. f ≡ failures.Memory) → Becomes session r expected
+memory_becomes session (Ok response) expected gives = absurd gives
 memory_becomes session (Err failure) expected gives = subst (λ f. FailsWith f expected) (sym gives) tt
 
 -- an error of an event is the refusal of its request
-pub event_becomes : (session : OpenSession) (r : Result CarriedOut Failure) (error : DbError) (refusal : Option DbError) (expected : Answered)
+pub event_becomes : (session : OpenSession) (r : Result Response Failure) (error : DbError) (refusal : Option DbError) (expected : Answered)
     → IsErrAnd r (λ f. f ≡ failure_of_event error) → IsRefusal error refusal → Becomes session r (unless_refused refusal expected)
-event_becomes session (Ok done) error refusal expected gives is = absurd gives
+event_becomes session (Ok response) error refusal expected gives is = absurd gives
 event_becomes session (Err failure) error refusal expected gives is =
     subst (λ f. FailsWith f (unless_refused refusal expected)) (sym gives) (refused session error refusal expected is)
 
@@ -58,7 +59,7 @@ pub is_under_way : (phase : Phase) → is_repairing phase ≡ true → unless_re
 is_under_way phase repairing = rw repairing refl
 
 -- no repair is under way
-pub idle_becomes : (session : OpenSession) (r : Result CarriedOut Failure) (error : DbError) (phase : Phase) (expected : Answered)
+pub idle_becomes : (session : OpenSession) (r : Result Response Failure) (error : DbError) (phase : Phase) (expected : Answered)
     → IsErrAnd r (λ f. f ≡ failure_of_event error) → error ≡ errors.NotRepairing → is_repairing phase ≡ false → Becomes session r (unless_refused (unless_repairing phase) expected)
 idle_becomes session r error phase expected gives is idle =
     let so : IsRefusal error (unless_repairing phase) = subst (λ e. IsRefusal e (unless_repairing phase)) (sym is) (not_repairing phase idle) in
@@ -118,10 +119,29 @@ pub with_steps-first : (db : Database) (worker count : ℕ) → with_steps (with
 with_steps-first db worker count =
     ap (λ h. record db { history = h }) (append_assoc db.history (entry_by worker events.Step ∷ []) (replicate count (entry_by worker events.Step)))
 
--- the first of some steps, and then the others
-pub steps_from : {E : Type 0} (r : Result Database E) (db first : Database) (worker count : ℕ) → first ≡ with_event db worker events.Step → 1 ≤ count
-    → IfOk r (λ last. last ≡ with_steps first worker (count - 1)) → IfOk r (λ last. last ≡ with_steps db worker count)
-steps_from (Ok last) db first worker count is some all =
-    let counted : suc (count - 1) ≡ count = omega (arith, some) in
-    all ∙ ap (λ d. with_steps d worker (count - 1)) is ∙ with_steps-first db worker (count - 1) ∙ ap (with_steps db worker) counted
-steps_from (Err error) db first worker count is some all = tt
+-- ---- events that a session doesn't refuse
+
+room-test : (limit : ℕ) (n : ℕ) → n ≤ limit → nat_lt limit n ≡ false
+room-test limit n few = grind (arith, nat_tests, few)
+
+pub room-can_end : (db : Database) → CanEnd db → has_no_room_to_end db.limits (state_of db) ≡ false
+room-can_end db is =
+    ap (λ b. b && nat_lt db.limits.events (events_at_end (state_of db))) is.repairing
+    ∙ room-test db.limits.events (events_at_end (state_of db)) is.room
+
+-- an event that the database accepts, and that leaves room
+pub accepted_in_session : (db : Database) (event : Event) → refusal_of db event ≡ None → has_no_room_to_end db.limits (next_state db.limits (state_of db) event) ≡ false
+    → refusal_in_session db event ≡ None
+accepted_in_session db event none room = rw (none, room) refl
+
+pub step_in_session : (db : Database) (worker : ℕ) → CanEnd db → 0 < slots_left (state_of db) → refusal_in_session db events.Step ≡ None
+step_in_session db worker is some =
+    accepted_in_session db events.Step (step_is_accepted db is some)
+    (ap (has_no_room_to_end db.limits) (sym (after-push db.limits db.history (entry_by worker events.Step)))
+    ∙ room-can_end (with_event db worker events.Step) (can_end-step db worker is some))
+
+pub switch_in_session : (db : Database) → CanEnd db → slots_left (state_of db) ≡ 0 → refusal_in_session db events.Switch ≡ None
+switch_in_session db is none = accepted_in_session db events.Switch (switch_is_accepted db is none) refl
+
+pub abort_in_session : (db : Database) → CanEnd db → refusal_in_session db events.Abort ≡ None
+abort_in_session db is = accepted_in_session db events.Abort (abort_is_accepted db is) refl

@@ -2,7 +2,7 @@
 use Rattle.std.specs.Prelude.{◌≡◌, ℕ, ◌&&◌, not, Bool, true, List, [], ◌∷◌, ◌++◌, map, Option, if◌then◌else◌}
 use Rattle.std.specs.List.{list_all}
 use Rattle.std.specs.Io.KnownBytes.{Appends, Consumes}
-use Rattle.tt_workload.specs.Ends.{AppendsPrefix}
+use Rattle.tt_streams.specs.Writing.{AppendsPrefix}
 use Rattle.tt_requests.specs.Lines.{is_too_long, is_passed_over, lines_of}
 use Rattle.tt_requests.specs.LineValue.{value_of_line}
 use Rattle.tt_session.specs.declared.session.Session.{Session}

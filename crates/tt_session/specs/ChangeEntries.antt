@@ -32,18 +32,18 @@ abbrev pub entries_of_changes : (Record → Option Changed) → List Record → 
 entries_of_changes change_in records = filter_map (λ earlier. entry_of_change earlier.what (change_in earlier)) records
 
 -- the session stays, and tells these changes
-abbrev pub telling_changes : OpenSession → (Record → Option Changed) → Answered
-telling_changes session change_in = record {
+abbrev pub changes_answer : OpenSession → (Record → Option Changed) → Answered
+changes_answer session change_in = record {
   answer = answers.Changes (first_call session.records session.calls) (entries_of_changes change_in session.records);
   session = session;
 }
 
 -- the calls that are answered differently now
 abbrev pub changes : OpenSession → Result Answered Refusal
-changes session = Ok (telling_changes session (change_of session.database.catalog (state_in session)))
+changes session = Ok (changes_answer session (change_of session.database.catalog (state_in session)))
 
 -- the calls that are answered differently in the next generation, as far as the repair is
 abbrev pub next_changes : OpenSession → Result Answered Refusal
 next_changes session =
     let S = state_in session in
-    unless_refused (unless_repairing S.phase) (telling_changes session (next_change_of session.database.catalog S))
+    unless_refused (unless_repairing S.phase) (changes_answer session (next_change_of session.database.catalog S))

@@ -1,11 +1,12 @@
 -- What an open session answers to a request, and the session after it, or why the request is refused.
-use Rattle.std.specs.Prelude.{ℕ, ◌+◌, ◌==◌, List, Option, None, Some, Result, Ok, Err, if◌then◌else◌}
+use Rattle.std.specs.Prelude.{ℕ, ◌+◌, ◌==◌, Bool, true, false, List, Option, None, Some, Result, Ok, Err, if◌then◌else◌}
 use Rattle.tt_values.specs.declared.row_id.RowId.{RowId}
 use Rattle.tt_values.specs.declared.statement.Write.{Write}
 use Rattle.tt_values.specs.Action.{replies_of}
 use Rattle.tt_db.specs.declared.event.Event.TheVariants as events
 use Rattle.tt_db.specs.Database.{now_in, current_of_db}
 use Rattle.tt_records.specs.declared.record.What.TheVariants as whats
+use Rattle.tt_grammar.specs.declared.fault.DocFault.{DocFault}
 use Rattle.tt_requests.specs.declared.request.Command.{Command}
 use Rattle.tt_requests.specs.declared.request.Command.TheVariants as commands
 use Rattle.tt_requests.specs.declared.request.Request.{Request}
@@ -37,22 +38,47 @@ abbrev pub write : OpenSession → ℕ → List Write → Result Answered Refusa
 write session worker action = unless_refused (refusal_in_session session.database (events.Write action)) (written session worker action)
 
 -- the session stays as it is
-abbrev pub telling : OpenSession → Answer → Result Answered Refusal
-telling session answer = Ok (record { answer = answer; session = session })
+abbrev pub unchanged : OpenSession → Answer → Result Answered Refusal
+unchanged session answer = Ok (record { answer = answer; session = session })
 
 -- how the database stands
 abbrev pub status : OpenSession → Result Answered Refusal
-status session = telling session (answers.Standing (status_of session.database))
+status session = unchanged session (answers.Standing (status_of session.database))
 
 -- what is told of slots, and the current time
 abbrev pub slots : OpenSession → ℕ → ℕ → Option ℕ → Option RowId → Result Answered Refusal
 slots session from to worker row =
-    telling session (answers.Slots (now_in session.database) (slot_entries session.database from to worker row))
+    unchanged session (answers.Slots (now_in session.database) (slot_entries session.database from to worker row))
 
 -- the tables, and how much is kept
 abbrev pub declared_tables : OpenSession → Result Answered Refusal
 declared_tables session =
-    telling session (answers.Declared session.database.limits.keep session.most_records)
+    unchanged session (answers.Declared session.database.limits.keep session.most_records)
+
+-- whether a command leaves the database as it is
+abbrev pub is_read_only : Command → Bool
+is_read_only (commands.Write action) = false
+is_read_only (commands.Begin edits) = false
+is_read_only (commands.Step most) = false
+is_read_only commands.Finish = false
+is_read_only commands.Abort = false
+is_read_only command = true
+
+-- whether a command asks for the records of earlier calls
+abbrev pub reads_records : Command → Bool
+reads_records commands.Changes = true
+reads_records commands.NextChanges = true
+reads_records command = false
+
+-- whether what a line asks leaves the database as it is, as a fault does
+abbrev pub asks_read_only : Result Request DocFault → Bool
+asks_read_only (Ok request) = is_read_only request.command
+asks_read_only (Err fault) = true
+
+-- whether a line asks for the records of earlier calls
+abbrev pub asks_for_records : Result Request DocFault → Bool
+asks_for_records (Ok request) = reads_records request.command
+asks_for_records (Err fault) = false
 
 -- a command of a worker is carried out
 abbrev pub carried_out : OpenSession → ℕ → Command → Result Answered Refusal

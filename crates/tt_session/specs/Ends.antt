@@ -1,7 +1,7 @@
 -- What a session on a reader and a writer has done when it ends.
 use Rattle.std.specs.Prelude.{◌≡◌, ℕ, List, Option, IfSome}
 use Rattle.std.specs.Io.KnownBytes.{Appends, Consumes, IsAtEnd, Keeps}
-use Rattle.tt_workload.specs.Ends.{AppendsPrefix}
+use Rattle.tt_streams.specs.Writing.{AppendsPrefix}
 use Rattle.tt_requests.specs.Lines.{lines_of, whole_lines_of}
 use Rattle.tt_session.specs.declared.run.SessionFault.{SessionFault}
 use Rattle.tt_session.specs.declared.run.SessionFault.TheVariants as faults

@@ -1,32 +1,30 @@
 -- What holds of every session, whatever its lines are.
-use Rattle.std.specs.Prelude.{◌≡◌, ℕ, ◌≤◌, true, false, List, length, None}
-use Rattle.tt_values.specs.Tables.{IsCatalog}
+use Rattle.std.specs.Prelude.{◌≡◌, ℕ, true, List, None, Result}
 use Rattle.tt_generations.specs.TwoGenerations.{is_repairing}
 use Rattle.tt_db.specs.declared.event.Event.TheVariants as events
-use Rattle.tt_db.specs.Limits.{Fits}
 use Rattle.tt_db.specs.State.{IsLegal}
 use Rattle.tt_db.specs.Database.{Database, refusal_of}
-use Rattle.tt_requests.specs.Opening.{max_records}
+use Rattle.tt_grammar.specs.declared.fault.DocFault.{DocFault}
+use Rattle.tt_requests.specs.declared.request.Request.{Request}
 use Rattle.tt_session.specs.declared.session.Session.{Session}
 use Rattle.tt_session.specs.declared.session.Session.TheVariants as sessions
 use Rattle.tt_session.specs.Session.{OpenSession, state_in}
 use Rattle.tt_session.specs.Repairing.{with_event, with_all_steps}
-use Rattle.tt_session.specs.Room.{has_no_room_to_end}
-use Rattle.tt_session.specs.Run.{session_after}
+use Rattle.tt_session.specs.Run.{turn_by_request, session_after}
+use Rattle.tt_session.specs.Sound.{IsSound}
 
 -- an open session: its history is legal, there is room for the end of a repair that is under way, and no more records are kept than may be
-pub record IsOpenSession (session : OpenSession) : Type 0 where
-  pub catalog : IsCatalog session.database.catalog
-  pub fits : Fits session.database.limits
-  pub legal : IsLegal session.database.catalog session.database.limits session.database.history
-  pub room : has_no_room_to_end session.database.limits (state_in session) ≡ false
-  pub few_records : length session.records ≤ session.most_records
-  pub few_kept : session.most_records ≤ max_records
+abbrev pub IsOpenSession : OpenSession → Type 0
+IsOpenSession session = IsSound session.database session.records session.most_records
 
 -- the same of a session, of which nothing holds while it is not open
 abbrev pub IsSession : Session → Type 0
 IsSession sessions.NotOpen = Unit {0}
 IsSession (sessions.Open session) = IsOpenSession session
+
+-- whatever an open session is asked, and whatever the fault of a line, it is one afterwards
+abbrev pub OpenSessionsStaySound : Type 0
+OpenSessionsStaySound = (session : OpenSession) (asked : Result Request DocFault) → IsOpenSession session → IsSession (turn_by_request session asked).session
 
 -- each session is one, after any lines and for any lines without memory
 abbrev pub SessionsStaySound : Type 0

@@ -6,7 +6,6 @@ pub mod Sound
 pub mod Pages
 pub mod Reading
 pub mod Repairing
-pub mod SameWrites
 pub mod SlotEntries
 pub mod Moments
 pub mod ChangeEntries
@@ -15,7 +14,7 @@ pub mod Run
 pub mod Lines
 pub mod ShortAnswers
 pub mod Answering
-pub mod Batch
+pub mod Together
 pub mod Ends
 pub mod Invariants
 pub mod ReadBack

@@ -9,10 +9,10 @@ use Rattle.tt_requests.specs.declared.request.Command.TheVariants as commands
 use Rattle.tt_requests.specs.LineValue.{value_of_line}
 use Rattle.tt_requests.specs.Opening.{max_keep, max_records, opening_of}
 use Rattle.tt_requests.specs.Requests.{usual_worker, request_of}
-use Rattle.tt_answers.specs.JsonText.{array_text, number_member, object_text}
-use Rattle.tt_answers.specs.WriteText.{write_text, action_text}
+use Rattle.tt_grammar.specs.JsonText.{array_text, number_member, object_text}
+use Rattle.tt_grammar.specs.WriteText.{write_text, action_text}
 use Rattle.tt_answers.specs.AnswerText.{declared_members}
-use Rattle.tt_answers.specs.ReadBack.{IsStorable, values_of_write}
+use Rattle.tt_grammar.specs.ReadBack.{IsStorable, values_of_write}
 
 -- an edit that replaces the action of a slot by what a text spells
 abbrev pub replacing_text : ℕ → List ℕ → List ℕ

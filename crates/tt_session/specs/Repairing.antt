@@ -47,24 +47,24 @@ unless_refused None answered = Ok answered
 unless_refused (Some error) answered = Err (refusals.Event error)
 
 -- the session goes on with another database, and tells how far its repair is
-abbrev pub telling_progress : OpenSession → Database → Answered
-telling_progress session db = record { answer = answers.Repairing (progress_now db); session = with_database session db }
+abbrev pub progress_answer : OpenSession → Database → Answered
+progress_answer session db = record { answer = answers.Repairing (progress_now db); session = with_database session db }
 
 -- the session goes on with another database, and tells how this one stands
-abbrev pub telling_status : OpenSession → Database → Answered
-telling_status session db = record { answer = answers.Standing (status_of db); session = with_database session db }
+abbrev pub status_answer : OpenSession → Database → Answered
+status_answer session db = record { answer = answers.Standing (status_of db); session = with_database session db }
 
 -- a repair begins
 abbrev pub begin : OpenSession → ℕ → List Edit → Result Answered Refusal
 begin session worker edits =
     let event = events.Begin edits in
-    unless_refused (refusal_in_session session.database event) (telling_progress session (with_event session.database worker event))
+    unless_refused (refusal_in_session session.database event) (progress_answer session (with_event session.database worker event))
 
 -- the repair does slots: at most this many, and no more than are left
 abbrev pub step : OpenSession → ℕ → ℕ → Result Answered Refusal
 step session worker most =
     let S = state_in session in
-    unless_refused (unless_repairing S.phase) (telling_progress session (with_steps session.database worker (min most (slots_left S))))
+    unless_refused (unless_repairing S.phase) (progress_answer session (with_steps session.database worker (min most (slots_left S))))
 
 -- the database of which the repair has done all slots
 abbrev pub with_all_steps : Database → ℕ → Database
@@ -87,4 +87,4 @@ finish session worker =
 -- the repair is given up
 abbrev pub abort : OpenSession → ℕ → Result Answered Refusal
 abort session worker =
-    unless_refused (unless_repairing (state_in session).phase) (telling_status session (with_event session.database worker events.Abort))
+    unless_refused (unless_repairing (state_in session).phase) (status_answer session (with_event session.database worker events.Abort))

@@ -1,5 +1,5 @@
 -- The state of a session: before it is opened, and while it is open.
-use Rattle.std.specs.Prelude.{ℕ, ◌+◌, List, [], ◌∷◌, ◌++◌, Option, None, Some, unwrap_or}
+use Rattle.std.specs.Prelude.{ℕ, ◌+◌, List, [], ◌∷◌, ◌++◌, Option, None, Some}
 use Rattle.tt_db.specs.Limits.{usual_limits}
 use Rattle.tt_db.specs.State.{State, last_items}
 use Rattle.tt_db.specs.Database.{Database, state_of}
@@ -34,10 +34,6 @@ counted session = record session { calls = session.calls + 1 }
 abbrev pub with_database : OpenSession → Database → OpenSession
 with_database session db = record session { database = db }
 
--- the session with another database, if there is one
-abbrev pub with_database_if : OpenSession → Option Database → OpenSession
-with_database_if session next = with_database session (unwrap_or next session.database)
-
 -- records with a further one, if there is one. The oldest record goes if there are more than this many
 abbrev pub records_with : ℕ → List Record → Option Record → List Record
 records_with most records None = records
@@ -50,6 +46,10 @@ with_latest_if session latest = record session { records = records_with session.
 -- what the last call asked for and was answered, on record
 abbrev pub with_record : OpenSession → ℕ → What → OpenSession
 with_record session worker what = with_latest_if session (Some (record { call = session.calls; worker = worker; what = what }))
+
+-- the session with no records
+abbrev pub without_records : OpenSession → OpenSession
+without_records session = record session { records = [] }
 
 -- a session with earlier records before its own: as many of the last ones as it keeps
 abbrev pub with_earlier_records : List Record → OpenSession → OpenSession

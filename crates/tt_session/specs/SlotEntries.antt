@@ -1,18 +1,16 @@
 -- What a session tells of slots: who asked for what, and what became of it in the current generation.
-use Rattle.std.specs.Prelude.{ℕ, ◌+◌, ◌-◌, ◌==◌, ◌&&◌, not, nat_lt, Bool, true, false, List, length, Option, None, Some, option_map, option_and_then, if◌then◌else◌}
+use Rattle.std.specs.Prelude.{ℕ, ◌+◌, ◌-◌, ◌==◌, ◌&&◌, not, Bool, true, false, List, Option, None, Some, option_map, option_and_then, if◌then◌else◌}
 use Rattle.std.specs.List.{filter_map, range_with_len}
 use Rattle.tt_values.specs.declared.row.Row.{Row}
 use Rattle.tt_values.specs.declared.row_id.RowId.{RowId}
 use Rattle.tt_values.specs.declared.statement.Write.{Write}
-use Rattle.tt_values.specs.Content.{row_at}
+use Rattle.tt_values.specs.Same.{are_same_by, is_same_row, is_same_write}
 use Rattle.tt_generations.specs.declared.slot.Slot.{Slot}
 use Rattle.tt_db.specs.declared.event.Event.{Event}
 use Rattle.tt_db.specs.declared.event.Event.TheVariants as events
 use Rattle.tt_db.specs.declared.event.Entry.{Entry}
-use Rattle.tt_db.specs.Database.{Database, nth_item, current_of_db, slot_of}
-use Rattle.tt_records.specs.Same.{is_same_row}
+use Rattle.tt_db.specs.Database.{Database, nth_item, row_in, slot_of}
 use Rattle.tt_answers.specs.declared.answer.SlotEntry.{SlotEntry}
-use Rattle.tt_session.specs.SameWrites.{is_same_action}
 
 -- an action as it was asked for, and the worker that did
 pub record Asked : Type 0 where
@@ -42,7 +40,7 @@ asked_in history = filter_map (λ e. asked_by e.worker e.event) history
 -- an action that was asked for, where its slot has another one now, or none
 abbrev pub if_replaced : List Write → Option (List Write) → Option (List Write)
 if_replaced asked None = Some asked
-if_replaced asked (Some action) = if is_same_action asked action then None else Some asked
+if_replaced asked (Some action) = if are_same_by is_same_write asked action then None else Some asked
 
 -- a slot by its number, with what was asked for
 abbrev pub slot_entry : ℕ → Slot → Asked → SlotEntry
@@ -61,10 +59,6 @@ numbers_between from to = range_with_len from (to + 1 - from)
 abbrev pub is_asked_for : Option ℕ → ℕ → Bool
 is_asked_for None worker = true
 is_asked_for (Some wanted) worker = wanted == worker
-
--- a row in the current generation at a time, if its table is declared and it is there
-abbrev pub row_in : Database → RowId → ℕ → Option Row
-row_in db row time = if nat_lt row.table (length db.catalog) then row_at (current_of_db db time row.table) row.key else None
 
 -- whether a row is as it was: there with the same values, or not there at both times
 abbrev pub is_unchanged : Option Row → Option Row → Bool

@@ -5,12 +5,12 @@ ghost use Rattle.tt_db.specs.Database.{state_of};
 ghost use Rattle.tt_records.specs.Changes.{as_list};
 ghost use Rattle.tt_session.specs.Answers.{Becomes, answered_by};
 ghost use Rattle.tt_session.specs.Moments.{change_at};
-ghost use Rattle.tt_session.specs.ChangeEntries.{entry_of_change, entries_of_changes, telling_changes, changes, next_changes};
+ghost use Rattle.tt_session.specs.ChangeEntries.{entry_of_change, entries_of_changes, changes_answer, changes, next_changes};
 
-use crate::carried_out::CarriedOut;
 use crate::failure::Failure;
 use crate::open_session::OpenSession;
 use crate::repairing::repair_under_way;
+use crate::response::Response;
 use std::alloc::{AllocError, Global};
 use std::slice;
 use tt_answers::{Answer, ChangeEntry, Place};
@@ -97,9 +97,9 @@ fn push_entries(
     Ok(())
 }
 
-/// Tells the changes of all records.
-fn telling_changes(session: &OpenSession, moment: Moment) -> Result<CarriedOut, AllocError>
-    ensures { IfOk result (λ done. answered_by session.now done ≡ telling_changes session.now
+/// The changes of all records, as an answer.
+fn changes_answer(session: &OpenSession, moment: Moment) -> Result<Response, AllocError>
+    ensures { IfOk result (λ response. answered_by session.now response ≡ changes_answer session.now
         (change_at moment session.now.database.catalog (state_of session.now.database))) }
 {
     let alloc = session.alloc();
@@ -111,22 +111,22 @@ fn telling_changes(session: &OpenSession, moment: Moment) -> Result<CarriedOut, 
     push_entries(alloc, &mut entries, db, moment, newer)?;
     let from = records.first_call(session.calls());
     let changes = Items::new(alloc, entries)?;
-    Ok(CarriedOut::telling(Answer::Changes { from, changes }))
+    Ok(Response::unrecorded(Answer::Changes { from, changes }))
 }
 
 /// The calls that are answered differently now.
-pub(crate) fn changes(session: &OpenSession) -> Result<CarriedOut, Failure>
+pub(crate) fn changes(session: &OpenSession) -> Result<Response, Failure>
     ensures { Becomes session.now result (changes session.now) }
 {
-    let done = telling_changes(session, Moment::Now)?;
-    Ok(done)
+    let response = changes_answer(session, Moment::Now)?;
+    Ok(response)
 }
 
 /// The calls that are answered differently in the next generation, as far as the repair is.
-pub(crate) fn next_changes(session: &OpenSession) -> Result<CarriedOut, Failure>
+pub(crate) fn next_changes(session: &OpenSession) -> Result<Response, Failure>
     ensures { Becomes session.now result (next_changes session.now) }
 {
     let _ = repair_under_way(session.db())?;
-    let done = telling_changes(session, Moment::Next)?;
-    Ok(done)
+    let response = changes_answer(session, Moment::Next)?;
+    Ok(response)
 }

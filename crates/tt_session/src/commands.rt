@@ -1,40 +1,100 @@
 //! What an open session answers to a request.
-ghost use Rattle.std.specs.Prelude.{◌≡◌};
+ghost use Rattle.std.specs.Prelude.{◌≡◌, ◌≢◌, true, IfErr, OnOk};
 ghost use Rattle.tt_session.specs.Answers.{Becomes};
-ghost use Rattle.tt_session.specs.Commands.{status, declared_tables, carried_out, moved_to, outcome_of_request};
+ghost use Rattle.tt_session.specs.Commands.{status, declared_tables, carried_out, is_read_only, reads_records, asks_read_only, asks_for_records, moved_to, outcome_of_request};
 
-use crate::carried_out::CarriedOut;
 use crate::change_entries::{changes, next_changes};
 use crate::failure::Failure;
 use crate::open_session::OpenSession;
 use crate::reading::{preview, read};
 use crate::repairing::{abort, begin, finish, status_of, step};
+use crate::response::Response;
 use crate::slot_entries::slots;
 use crate::writing::write;
 use tt_answers::{Answer, Refusal};
+use tt_grammar::DocFault;
 use tt_requests::{Command, Request};
 
 /// How the database stands.
-fn status(session: &OpenSession) -> Result<CarriedOut, Failure>
+fn status(session: &OpenSession) -> Result<Response, Failure>
     ensures { Becomes session.now result (status session.now) }
 {
     let status = status_of(session.db());
-    Ok(CarriedOut::telling(Answer::Standing(status)))
+    Ok(Response::unrecorded(Answer::Standing(status)))
 }
 
 /// The tables, and how much is kept.
-fn declared_tables(session: &OpenSession) -> Result<CarriedOut, Failure>
+fn declared_tables(session: &OpenSession) -> Result<Response, Failure>
     ensures { Becomes session.now result (declared_tables session.now) }
 {
-    Ok(CarriedOut::telling(Answer::Declared {
-        keep: session.limits().keep,
+    Ok(Response::unrecorded(Answer::Declared {
+        keep: session.db().limits().keep,
         records: session.most_records(),
     }))
 }
 
-/// Carries out a command of a worker.
-fn carried_out(session: &OpenSession, worker: u32, command: Command) -> Result<CarriedOut, Failure>
-    ensures { Becomes session.now result (carried_out session.now worker command) }
+/// Whether a command leaves the database as it is.
+fn is_read_only(command: &Command) -> bool
+    ensures { result ≡ is_read_only command.now }
+{
+    match command {
+        Command::Write(_) => false,
+        Command::Begin(_) => false,
+        Command::Step(_) => false,
+        Command::Finish => false,
+        Command::Abort => false,
+        Command::Read { .. } => true,
+        Command::Preview { .. } => true,
+        Command::Status => true,
+        Command::Slots { .. } => true,
+        Command::Changes => true,
+        Command::NextChanges => true,
+        Command::Tables => true,
+    }
+}
+
+/// Whether a command asks for the records of earlier calls.
+fn reads_records(command: &Command) -> bool
+    ensures { result ≡ reads_records command.now }
+{
+    match command {
+        Command::Changes => true,
+        Command::NextChanges => true,
+        _ => false,
+    }
+}
+
+/// Whether what a line asks leaves the database as it is, as a fault does.
+pub(crate) fn asks_read_only(asked: &Result<Request, DocFault>) -> bool
+    ensures { result ≡ asks_read_only asked.now }
+{
+    match asked {
+        Ok(request) => is_read_only(&request.command),
+        Err(_) => true,
+    }
+}
+
+/// Whether a line asks for the records of earlier calls.
+pub(crate) fn asks_for_records(asked: &Result<Request, DocFault>) -> bool
+    ensures { result ≡ asks_for_records asked.now }
+{
+    match asked {
+        Ok(request) => reads_records(&request.command),
+        Err(_) => false,
+    }
+}
+
+/// Carries out a command of a worker. Without memory the session is as before if the command is
+/// read-only; else nothing is promised of it.
+fn carried_out(
+    session: &mut OpenSession,
+    worker: u32,
+    command: Command,
+) -> Result<Response, Failure>
+    ensures becomes { Becomes session.new result (carried_out session.old worker command) }
+    ensures stays { IfErr result (λ f. f ≢ Failure.Memory → session.new ≡ session.old) }
+    ensures calls { OnOk result (session.new.calls ≡ session.old.calls) }
+    ensures reads { is_read_only command ≡ true → session.new ≡ session.old }
 {
     match command {
         Command::Write(action) => write(session, worker, action),
@@ -63,7 +123,7 @@ fn carried_out(session: &OpenSession, worker: u32, command: Command) -> Result<C
 }
 
 /// The current time, if a request expects another one.
-pub(crate) fn moved_to(now: u64, expected: Option<u64>) -> Option<u64>
+fn moved_to(now: u64, expected: Option<u64>) -> Option<u64>
     ensures { result ≡ moved_to now expected }
 {
     match expected {
@@ -72,12 +132,16 @@ pub(crate) fn moved_to(now: u64, expected: Option<u64>) -> Option<u64>
     }
 }
 
-/// Carries out a request, unless it expects another time.
+/// Carries out a request, unless it expects another time. Without memory the session is as before
+/// if the request is read-only; else nothing is promised of it.
 pub(crate) fn outcome_of_request(
-    session: &OpenSession,
+    session: &mut OpenSession,
     request: Request,
-) -> Result<CarriedOut, Failure>
-    ensures { Becomes session.now result (outcome_of_request session.now request) }
+) -> Result<Response, Failure>
+    ensures becomes { Becomes session.new result (outcome_of_request session.old request) }
+    ensures stays { IfErr result (λ f. f ≢ Failure.Memory → session.new ≡ session.old) }
+    ensures calls { OnOk result (session.new.calls ≡ session.old.calls) }
+    ensures reads { is_read_only request.command ≡ true → session.new ≡ session.old }
 {
     match moved_to(session.db().now(), request.expected) {
         Some(now) => Err(Failure::Refused(Refusal::Moved { now })),

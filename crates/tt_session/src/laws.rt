@@ -1,6 +1,6 @@
 //! Laws of the definitions that the contracts of this crate speak by. Each is the contract of a
 //! function with an empty body.
-ghost use Rattle.tt_session.specs.Invariants.{RepairsCanEnd};
+ghost use Rattle.tt_session.specs.Invariants.{OpenSessionsStaySound, RepairsCanEnd};
 ghost use Rattle.tt_session.specs.ReadBack.{PrintedWritesReplace, PrintedActionsReplace};
 ghost use Rattle.tt_session.specs.ReadBack.{PrintedTablesOpen};
 
@@ -8,6 +8,14 @@ ghost use Rattle.tt_session.specs.ReadBack.{PrintedTablesOpen};
 #[tactic(auto, using(crate::proofs::LawLemmas::repairs_can_end))]
 pub fn repairs_can_end()
     ensures { RepairsCanEnd }
+{}
+
+/// Whatever an open session is asked, and whatever the fault of a line, it is sound afterwards: its
+/// history is legal, there is room for the end of a repair that is under way, and no more records
+/// are kept than may be.
+#[tactic(auto, using(crate::proofs::GoingOnLemmas::open_sessions_stay_sound))]
+pub fn open_sessions_stay_sound()
+    ensures { OpenSessionsStaySound }
 {}
 
 /// A write that can be carried out, put under `by` as it is printed, replaces the action of a slot

@@ -1,15 +1,14 @@
 //! Selects and previews.
-ghost use Rattle.std.specs.Prelude.{◌≡◌, ℕ, Option, None, IfOk, unwrap_or};
-ghost use Rattle.tt_generations.specs.TwoGenerations.{done_of};
+ghost use Rattle.std.specs.Prelude.{◌≡◌, ℕ, Option, IfOk, unwrap_or};
 ghost use Rattle.tt_db.specs.Database.{state_of, right_answer_in};
 ghost use Rattle.tt_session.specs.Answers.{Becomes};
 ghost use Rattle.tt_session.specs.Reading.{last_time_in, latest_if, selected_by, read, preview};
 ghost use Rattle.tt_session.specs.Pages.{page_after, first_page, page_of_reply};
 
-use crate::carried_out::CarriedOut;
 use crate::failure::Failure;
 use crate::open_session::OpenSession;
 use crate::pages::{first_page, page_after};
+use crate::response::Response;
 use std::alloc::AllocError;
 use tt_answers::Answer;
 use tt_db::Db;
@@ -23,16 +22,6 @@ fn last_time_in(db: &Db, number: u64) -> u64
 {
     match db.last_time(number) {
         Some(time) => time,
-        None => 0,
-    }
-}
-
-/// How many slots the repair has done: 0 where none is under way.
-fn slots_done(db: &Db) -> u64
-    ensures { result ≡ done_of (state_of db.now).phase }
-{
-    match db.repair() {
-        Some(progress) => progress.done,
         None => 0,
     }
 }
@@ -66,17 +55,16 @@ fn selected(
     time: u64,
     after: Option<i64>,
     reply: Reply,
-) -> Result<CarriedOut, AllocError>
-    ensures answer { IfOk result (λ done.
-        done.answer ≡ Answer.Selected time (page_of_reply (page_after after) reply)) }
-    ensures db { IfOk result (λ done. done.db ≡ None) }
-    ensures latest { IfOk result (λ done. done.latest
+) -> Result<Response, AllocError>
+    ensures answer { IfOk result (λ response.
+        response.answer ≡ Answer.Selected time (page_of_reply (page_after after) reply)) }
+    ensures latest { IfOk result (λ response. response.latest
         ≡ latest_if is_recorded session.now worker (What.Read select time reply)) }
 {
     let page = page_after(session.alloc(), after, &reply)?;
     let answer = Answer::Selected { time, page };
     if !is_recorded {
-        return Ok(CarriedOut::telling(answer));
+        return Ok(Response::unrecorded(answer));
     }
     let latest = Record {
         call: session.calls(),
@@ -87,9 +75,8 @@ fn selected(
             reply,
         },
     };
-    Ok(CarriedOut {
+    Ok(Response {
         answer,
-        db: None,
         latest: Some(latest),
     })
 }
@@ -104,7 +91,7 @@ fn read_all(
     number: u64,
     time: u64,
     after: Option<i64>,
-) -> Result<CarriedOut, Failure>
+) -> Result<Response, Failure>
     ensures { Becomes session.now result
         (selected_by session.now worker select generation (page_after after) time
         (right_answer_in session.now.database number select time)) }
@@ -112,8 +99,8 @@ fn read_all(
     match session.db().select_in(number, &select, time) {
         Ok(reply) => {
             let is_recorded = generation.is_none() && after.is_none();
-            let done = selected(session, worker, select, is_recorded, time, after, reply)?;
-            Ok(done)
+            let response = selected(session, worker, select, is_recorded, time, after, reply)?;
+            Ok(response)
         }
         Err(error) => Err(Failure::from(error)),
     }
@@ -127,7 +114,7 @@ fn read_first(
     time: u64,
     after: Option<i64>,
     most: u32,
-) -> Result<CarriedOut, Failure>
+) -> Result<Response, Failure>
     ensures { (worker : ℕ) (generation : Option ℕ) → Becomes session.now result
         (selected_by session.now worker select.now generation (first_page after most) time
         (right_answer_in session.now.database number select.now time)) }
@@ -136,7 +123,7 @@ fn read_first(
     match db.page_in(number, select, time, after, most as usize) {
         Ok(first) => {
             let page = first_page(first);
-            Ok(CarriedOut::telling(Answer::Selected { time, page }))
+            Ok(Response::unrecorded(Answer::Selected { time, page }))
         }
         Err(error) => Err(Failure::from(error)),
     }
@@ -151,7 +138,7 @@ fn read_at(
     number: u64,
     time: u64,
     page: Page,
-) -> Result<CarriedOut, Failure>
+) -> Result<Response, Failure>
     ensures { Becomes session.now result (selected_by session.now worker select generation page time
         (right_answer_in session.now.database number select time)) }
 {
@@ -172,7 +159,7 @@ pub(crate) fn read(
     generation: Option<u64>,
     at: Option<u64>,
     page: Page,
-) -> Result<CarriedOut, Failure>
+) -> Result<Response, Failure>
     ensures { Becomes session.now result (read session.now worker select generation at page) }
 {
     let number = number_of(session.db(), generation);
@@ -186,15 +173,15 @@ fn preview_all(
     session: &OpenSession,
     select: &Select,
     after: Option<i64>,
-) -> Result<CarriedOut, Failure>
+) -> Result<Response, Failure>
     ensures { Becomes session.now result (preview session.now select.now (page_after after)) }
 {
     let db = session.db();
     match db.preview(select) {
         Ok(reply) => {
             let page = page_after(session.alloc(), after, &reply)?;
-            let done = slots_done(db);
-            Ok(CarriedOut::telling(Answer::Previewed { done, page }))
+            let done = db.slots_done();
+            Ok(Response::unrecorded(Answer::Previewed { done, page }))
         }
         Err(error) => Err(Failure::from(error)),
     }
@@ -206,15 +193,15 @@ fn preview_first(
     select: &Select,
     after: Option<i64>,
     most: u32,
-) -> Result<CarriedOut, Failure>
+) -> Result<Response, Failure>
     ensures { Becomes session.now result (preview session.now select.now (first_page after most)) }
 {
     let db = session.db();
     match db.preview_page(select, after, most as usize) {
         Ok(first) => {
             let page = first_page(first);
-            let done = slots_done(db);
-            Ok(CarriedOut::telling(Answer::Previewed { done, page }))
+            let done = db.slots_done();
+            Ok(Response::unrecorded(Answer::Previewed { done, page }))
         }
         Err(error) => Err(Failure::from(error)),
     }
@@ -225,7 +212,7 @@ pub(crate) fn preview(
     session: &OpenSession,
     select: &Select,
     page: Page,
-) -> Result<CarriedOut, Failure>
+) -> Result<Response, Failure>
     ensures { Becomes session.now result (preview session.now select.now page) }
 {
     match page.most {

@@ -1,5 +1,5 @@
 //! The records of the last calls.
-ghost use Rattle.std.specs.Prelude.{◌≡◌, ◌+◌, ◌-◌, ◌≤◌, ◌++◌, ◌∷◌, [], length, take, OnOk, OnErr};
+ghost use Rattle.std.specs.Prelude.{◌≡◌, ◌++◌, ◌∷◌, [], OnOk, OnErr};
 ghost use Rattle.tt_db.specs.State.{last_items};
 ghost use Rattle.tt_session.specs.ChangeEntries.{first_call};
 
@@ -34,7 +34,7 @@ impl Records {
     }
 
     /// Adds the record of the latest call.
-    pub(crate) fn push(&mut self, latest: Record) -> Result<(), AllocError>
+    fn push(&mut self, latest: Record) -> Result<(), AllocError>
         ensures ok { OnOk result (self.new ≡ self.old ++ latest ∷ []) }
         ensures err { OnErr result (self.new ≡ self.old) }
     {
@@ -42,13 +42,6 @@ impl Records {
             Ok(()) => Ok(()),
             Err(_) => Err(AllocError),
         }
-    }
-
-    /// Takes the record of the latest call away again.
-    pub(crate) fn pop(&mut self)
-        ensures { self.new ≡ take (length self.old - 1) self.old }
-    {
-        let _latest = self.queue.pop_back();
     }
 
     /// Adds the record of the latest call, and keeps the latest records, at most this many. Where

@@ -1,19 +1,19 @@
 //! How a repair goes on: its beginning, its steps, and its two ends.
-ghost use Rattle.std.specs.Prelude.{◌≡◌, ◌+◌, ◌≤◌, false, true, None, Some, IfOk, IfErr, OnOk};
+ghost use Rattle.std.specs.Prelude.{◌≡◌, ◌≢◌, ◌+◌, ◌≤◌, false, true, None, IfOk, IfErr, OnOk};
 ghost use Rattle.tt_generations.specs.TwoGenerations.{is_repairing};
 ghost use Rattle.tt_db.specs.State.{slots_left};
-ghost use Rattle.tt_db.specs.Database.{state_of, outcome_for};
+ghost use Rattle.tt_db.specs.Database.{state_of};
 ghost use Rattle.tt_session.specs.Answers.{Becomes};
 ghost use Rattle.tt_session.specs.Room.{CanEnd};
-ghost use Rattle.tt_session.specs.Repairing.{with_event, with_steps, with_all_steps, progress_now, status_of, begin, step, finish, abort};
+ghost use Rattle.tt_session.specs.Session.{with_database};
+ghost use Rattle.tt_session.specs.Repairing.{with_steps, progress_now, status_of, begin, step, finish, abort};
 
-use crate::carried_out::CarriedOut;
 use crate::failure::Failure;
 use crate::open_session::OpenSession;
-use crate::room::{apply_accepted, apply_with_room, carry_out};
+use crate::response::Response;
 use std::alloc::AllocError;
 use tt_answers::{Answer, Status};
-use tt_db::{Db, DbError, Edit, Entry, Event, Outcome, Progress};
+use tt_db::{Db, DbError, Edit, Event, Outcome, Progress};
 use tt_values::Items;
 
 /// How far the repair of a database is: nothing is done where none is under way.
@@ -53,156 +53,86 @@ pub(crate) fn status_of(db: &Db) -> Status
     }
 }
 
-/// The next database, and how far its repair is.
-fn telling_progress(db: Db) -> CarriedOut
-    ensures { result
-        ≡ record { answer = Answer.Repairing (progress_now db); db = Some db; latest = None } }
+/// How far the repair of a session is, as its answer.
+fn progress_response(session: &OpenSession) -> Response
+    ensures { result ≡ record {
+      answer = Answer.Repairing (progress_now session.now.database);
+      latest = None;
+    } }
 {
-    let progress = progress_now(&db);
-    CarriedOut {
-        answer: Answer::Repairing(progress),
-        db: Some(db),
-        latest: None,
-    }
-}
-
-/// The next database, and how it stands.
-fn telling_status(db: Db) -> CarriedOut
-    ensures { result
-        ≡ record { answer = Answer.Standing (status_of db); db = Some db; latest = None } }
-{
-    let status = status_of(&db);
-    CarriedOut {
-        answer: Answer::Standing(status),
-        db: Some(db),
-        latest: None,
-    }
+    Response::unrecorded(Answer::Repairing(progress_now(session.db())))
 }
 
 /// A repair begins.
 pub(crate) fn begin(
-    session: &OpenSession,
+    session: &mut OpenSession,
     worker: u32,
     edits: Items<Edit>,
-) -> Result<CarriedOut, Failure>
-    ensures { Becomes session.now result (begin session.now worker edits) }
+) -> Result<Response, Failure>
+    ensures becomes { Becomes session.new result (begin session.old worker edits) }
+    ensures stays { IfErr result (λ f. f ≢ Failure.Memory → session.new ≡ session.old) }
+    ensures calls { OnOk result (session.new.calls ≡ session.old.calls) }
 {
-    let entry = Entry {
-        worker,
-        event: Event::Begin(edits),
-    };
-    let (next, _) = apply_with_room(session.db(), session.limits(), entry)?;
-    Ok(telling_progress(next))
+    session.advance(worker, Event::Begin(edits))?;
+    Ok(progress_response(session))
 }
 
-/// Makes further steps of a repair.
-fn make_steps(db: Db, worker: u32, count: u64) -> Result<Db, AllocError>
-    requires can_end { CanEnd db }
-    requires left { count ≤ slots_left (state_of db) }
-    ensures state { IfOk result (λ last. last ≡ with_steps db worker count) }
-    ensures can_end { IfOk result CanEnd }
-    ensures left { IfOk result (λ last.
-        slots_left (state_of last) + count ≡ slots_left (state_of db)) }
+/// Makes further steps of a repair. Without memory nothing is promised of the session.
+fn make_steps(session: &mut OpenSession, worker: u32, count: u64) -> Result<(), AllocError>
+    requires can_end { CanEnd session.old.database }
+    requires left { count ≤ slots_left (state_of session.old.database) }
+    ensures state { OnOk result (session.new
+        ≡ with_database session.old (with_steps session.old.database worker count)) }
+    ensures can_end { OnOk result (CanEnd session.new.database) }
+    ensures left { OnOk result (slots_left (state_of session.new.database) + count
+        ≡ slots_left (state_of session.old.database)) }
 {
-    let mut db = db;
     for _ in 0..count {
-        let entry = Entry {
-            worker,
-            event: Event::Step,
-        };
-        (db, _) = carry_out(db, entry)?;
+        session.carry_out(worker, Event::Step)?;
     }
-    Ok(db)
-}
-
-/// The database after steps of its repair, at least one, beside this one.
-fn with_steps(db: &Db, worker: u32, count: u64) -> Result<Db, AllocError>
-    requires can_end { CanEnd db.now }
-    requires some { 1 ≤ count }
-    requires left { count ≤ slots_left (state_of db.now) }
-    ensures state { IfOk result (λ last. last ≡ with_steps db.now worker count) }
-    ensures can_end { IfOk result CanEnd }
-    ensures left { IfOk result (λ last.
-        slots_left (state_of last) + count ≡ slots_left (state_of db.now)) }
-{
-    let entry = Entry {
-        worker,
-        event: Event::Step,
-    };
-    let (first, _) = apply_accepted(db, entry)?;
-    make_steps(first, worker, count - 1)
+    Ok(())
 }
 
 /// The repair does slots: at most this many, and no more than are left.
-pub(crate) fn step(session: &OpenSession, worker: u32, most: u32) -> Result<CarriedOut, Failure>
-    ensures { Becomes session.now result (step session.now worker most) }
+pub(crate) fn step(session: &mut OpenSession, worker: u32, most: u32) -> Result<Response, Failure>
+    ensures becomes { Becomes session.new result (step session.old worker most) }
+    ensures stays { IfErr result (λ f. f ≢ Failure.Memory → session.new ≡ session.old) }
+    ensures calls { OnOk result (session.new.calls ≡ session.old.calls) }
 {
-    let db = session.db();
-    let progress = repair_under_way(db)?;
-    let count = u64::from(most).min(progress.left);
-    if count == 0 {
-        return Ok(CarriedOut::telling(Answer::Repairing(progress)));
-    }
-    let next = with_steps(db, worker, count)?;
-    Ok(telling_progress(next))
-}
-
-/// The database after all steps of its repair and the switch, beside this one, and the outcome of
-/// the switch.
-fn with_all_done(db: &Db, worker: u32, left: u64) -> Result<(Db, Outcome), AllocError>
-    requires can_end { CanEnd db.now }
-    requires left { left ≡ slots_left (state_of db.now) }
-    ensures state { IfOk result (λ r.
-        r.0 ≡ with_event (with_all_steps db.now worker) worker Event.Switch) }
-    ensures outcome { IfOk result (λ r.
-        r.1 ≡ outcome_for (with_all_steps db.now worker) Event.Switch) }
-{
-    let entry = Entry {
-        worker,
-        event: Event::Switch,
-    };
-    if left == 0 {
-        return apply_accepted(db, entry);
-    }
-    let last = with_steps(db, worker, left)?;
-    carry_out(last, entry)
+    let progress = repair_under_way(session.db())?;
+    make_steps(session, worker, u64::from(most).min(progress.left))?;
+    Ok(progress_response(session))
 }
 
 /// The repair does all slots that are left, and the next generation becomes the current one.
-pub(crate) fn finish(session: &OpenSession, worker: u32) -> Result<CarriedOut, Failure>
-    ensures { Becomes session.now result (finish session.now worker) }
+pub(crate) fn finish(session: &mut OpenSession, worker: u32) -> Result<Response, Failure>
+    ensures becomes { Becomes session.new result (finish session.old worker) }
+    ensures stays { IfErr result (λ f. f ≢ Failure.Memory → session.new ≡ session.old) }
+    ensures calls { OnOk result (session.new.calls ≡ session.old.calls) }
 {
-    let db = session.db();
-    let progress = repair_under_way(db)?;
-    let (next, outcome) = with_all_done(db, worker, progress.left)?;
-    match outcome {
+    let progress = repair_under_way(session.db())?;
+    make_steps(session, worker, progress.left)?;
+    match session.carry_out(worker, Event::Switch)? {
         Outcome::Switched {
             generation,
             slots,
             rerun,
-        } => Ok(CarriedOut {
-            answer: Answer::Finished {
-                generation,
-                slots,
-                rerun,
-            },
-            db: Some(next),
-            latest: None,
-        }),
+        } => Ok(Response::unrecorded(Answer::Finished {
+            generation,
+            slots,
+            rerun,
+        })),
         _ => unreachable!(),
     }
 }
 
 /// The repair is given up.
-pub(crate) fn abort(session: &OpenSession, worker: u32) -> Result<CarriedOut, Failure>
-    ensures { Becomes session.now result (abort session.now worker) }
+pub(crate) fn abort(session: &mut OpenSession, worker: u32) -> Result<Response, Failure>
+    ensures becomes { Becomes session.new result (abort session.old worker) }
+    ensures stays { IfErr result (λ f. f ≢ Failure.Memory → session.new ≡ session.old) }
+    ensures calls { OnOk result (session.new.calls ≡ session.old.calls) }
 {
-    let db = session.db();
-    let _ = repair_under_way(db)?;
-    let entry = Entry {
-        worker,
-        event: Event::Abort,
-    };
-    let (next, _) = apply_accepted(db, entry)?;
-    Ok(telling_status(next))
+    let _ = repair_under_way(session.db())?;
+    session.carry_out(worker, Event::Abort)?;
+    Ok(Response::unrecorded(Answer::Standing(status_of(session.db()))))
 }

@@ -2,29 +2,26 @@
 ghost use Rattle.std.specs.Prelude.{◌≡◌, ◌+◌, ◌-◌, ◌^◌, ◌<◌, ◌≤◌, ◌++◌, ◌∷◌, [], ℕ, List, true, false, length, take, IfOk, IfErr, OnOk, OnErr, IsTrue, MatchOption};
 ghost use Rattle.std.specs.Io.{ReadsAtMost};
 ghost use Rattle.std.specs.Io.KnownBytes.{Appends, Consumes, IsAtEnd, Keeps};
-ghost use Rattle.tt_workload.specs.Ends.{AppendsPrefix};
+ghost use Rattle.tt_streams.specs.Writing.{AppendsPrefix};
 ghost use Rattle.tt_requests.specs.Lines.{is_too_long};
-ghost use Rattle.tt_session.specs.Lines.{HasBytes, has_no_feed, HasFirstFeed};
+ghost use Rattle.tt_session.specs.Lines.{HasBytes, has_no_feed};
 ghost use Rattle.tt_session.specs.Run.{calls_of, turn_with_memory};
 ghost use Rattle.tt_session.specs.ShortAnswers.{short_text};
 ghost use Rattle.tt_session.specs.Answering.{Takes, StopsIn, AnswersOne, StopsAt, AnswersLast, StopsInLast, Gives};
-ghost use Rattle.tt_session.specs.Batch.{AnswersFront};
+ghost use Rattle.tt_session.specs.Together.{AnswersFront};
 ghost use Rattle.tt_session.specs.Ends.{AnswersAll, EndsEarly};
 
-use crate::batch::Batch;
+use crate::first_line::first_feed;
 use crate::line::Line;
+use crate::open_session::Extent;
 use crate::session::Session;
 use crate::short_answer::ShortAnswer;
-use memchr::memchr;
+use crate::workspace::{MANY_BYTES, Workspace};
 use std::alloc::{AllocError, Global};
 use std::io::{Read, Write};
-use tt_json::Scratch;
-use tt_workload::{MAX_RETRIES, read_once, write_text};
+use tt_streams::{MAX_RETRIES, read_once, write_piece, write_text};
 
 const BUFFER_BYTES: usize = 65_536;
-
-/// As many bytes of answers are handed over before a further line is answered.
-pub(crate) const MANY_BYTES: usize = 1_048_576;
 
 /// The largest number of bytes after which more are read, so that calls can be counted.
 const MAX_TOTAL: u64 = u64::MAX - 65_537;
@@ -63,6 +60,29 @@ pub fn run_session<R: Read, W: Write>(
         (R.remaining reader.old) (R.remaining reader.new)
         (W.contents writer.old) (W.contents writer.new)) }
 {
+    run_session_to_end(alloc, reader, writer)?;
+    Ok(())
+}
+
+/// What a session leaves in memory. A program that ends then may leave it to the system, since
+/// releasing it piece by piece takes long.
+#[derive(Drop)]
+pub struct SessionEnd {
+    _session: Session,
+}
+
+/// As [`run_session`], and hands over what the session leaves.
+pub fn run_session_to_end<R: Read, W: Write>(
+    alloc: Global,
+    reader: &mut R,
+    writer: &mut W,
+) -> Result<SessionEnd, SessionFault>
+    ensures ok { OnOk result (AnswersAll (R.remaining reader.old) (R.remaining reader.new)
+        (W.contents writer.old) (W.contents writer.new)) }
+    ensures fault { IfErr result (λ fault. EndsEarly fault
+        (R.remaining reader.old) (R.remaining reader.new)
+        (W.contents writer.old) (W.contents writer.new)) }
+{
     let mut zeros = vec![in alloc; 0; BUFFER_BYTES]?;
     let mut run = Run {
         alloc,
@@ -70,9 +90,12 @@ pub fn run_session<R: Read, W: Write>(
         line: Line::new(alloc),
         out: Vec::new(alloc),
         retries: MAX_RETRIES,
-        scratch: Scratch::new(alloc),
+        workspace: Workspace::new(alloc),
     };
-    run.serve(reader, writer, zeros.as_mut_slice())
+    run.serve(reader, writer, zeros.as_mut_slice())?;
+    Ok(SessionEnd {
+        _session: run.session,
+    })
 }
 
 /// A session between its reader and its writer.
@@ -85,8 +108,7 @@ struct Run {
     out: Vec<u8>,
     /// How many interrupted reads the line still survives.
     retries: u32,
-    /// What reading lines that come together needs.
-    scratch: Scratch,
+    workspace: Workspace,
 }
 
 impl Run {
@@ -178,45 +200,48 @@ impl Run {
             (calls_of self.new.session ≤ calls_of self.old.session + length bytes.now) }
     {
         let mut from = 0;
-        let mut is_cut = false;
+        let mut is_out_of_memory = false;
         while from < bytes.len() {
-            let batch = self.take_some(writer, &bytes[from..], is_cut)?;
-            from += batch.taken;
-            is_cut = batch.is_cut;
+            let extent = self.take_some(writer, &bytes[from..], is_out_of_memory)?;
+            from += extent.taken;
+            is_out_of_memory = extent.is_out_of_memory;
         }
         Ok(())
     }
 
-    /// Takes the first of some bytes: lines that are answered together, unless a batch was cut
+    /// Takes the first of some bytes: lines that are answered together, unless memory ran out
     /// before, and then one line or the beginning of one.
     fn take_some<W: Write>(
         &mut self,
         writer: &mut W,
         bytes: &[u8],
-        is_cut: bool,
-    ) -> Result<Batch, SessionFault>
+        is_out_of_memory: bool,
+    ) -> Result<Extent, SessionFault>
         requires { calls_of self.old.session + length bytes.now < 2 ^ 64 - 1 }
-        ensures within { IfOk result (λ batch. batch.taken ≤ length bytes.now) }
-        ensures some { IfOk result (λ batch. 0 < length bytes.now → 0 < batch.taken) }
-        ensures ok { IfOk result (λ batch. (pending : List ℕ) → HasBytes self.old.line pending
-            → has_no_feed pending ≡ true → Takes pending (take batch.taken bytes.now)
+        ensures within { IfOk result (λ extent. extent.taken ≤ length bytes.now) }
+        ensures some { IfOk result (λ extent. 0 < length bytes.now → 0 < extent.taken) }
+        ensures ok { IfOk result (λ extent. (pending : List ℕ) → HasBytes self.old.line pending
+            → has_no_feed pending ≡ true → Takes pending (take extent.taken bytes.now)
             self.old self.new (W.contents writer.old) (W.contents writer.new)) }
         ensures err { OnErr result ((pending : List ℕ) → HasBytes self.old.line pending
             → has_no_feed pending ≡ true → StopsIn pending bytes.now self.old
             (W.contents writer.old) (W.contents writer.new)) }
         ensures fault { IfErr result (λ e. e ≡ SessionFault.Write) }
-        ensures calls { IfOk result (λ batch.
-            calls_of self.new.session ≤ calls_of self.old.session + batch.taken) }
+        ensures calls { IfOk result (λ extent.
+            calls_of self.new.session ≤ calls_of self.old.session + extent.taken) }
     {
-        if is_cut {
+        if is_out_of_memory {
             let taken = self.take_line(writer, bytes)?;
-            return Ok(Batch { taken, is_cut });
+            return Ok(Extent {
+                taken,
+                is_out_of_memory,
+            });
         }
-        let batch = self.take_together(writer, bytes)?;
-        let more = self.take_line(writer, &bytes[batch.taken..])?;
-        Ok(Batch {
-            taken: batch.taken + more,
-            is_cut: batch.is_cut,
+        let extent = self.take_together(writer, bytes)?;
+        let more = self.take_line(writer, &bytes[extent.taken..])?;
+        Ok(Extent {
+            taken: extent.taken + more,
+            is_out_of_memory: extent.is_out_of_memory,
         })
     }
 
@@ -225,45 +250,48 @@ impl Run {
         &mut self,
         writer: &mut W,
         bytes: &[u8],
-    ) -> Result<Batch, SessionFault>
+    ) -> Result<Extent, SessionFault>
         requires { calls_of self.old.session + length bytes.now < 2 ^ 64 - 1 }
-        ensures within { IfOk result (λ batch. batch.taken ≤ length bytes.now) }
-        ensures ok { IfOk result (λ batch. (pending : List ℕ) → HasBytes self.old.line pending
-            → has_no_feed pending ≡ true → Takes pending (take batch.taken bytes.now)
+        ensures within { IfOk result (λ extent. extent.taken ≤ length bytes.now) }
+        ensures ok { IfOk result (λ extent. (pending : List ℕ) → HasBytes self.old.line pending
+            → has_no_feed pending ≡ true → Takes pending (take extent.taken bytes.now)
             self.old self.new (W.contents writer.old) (W.contents writer.new)) }
         ensures err { OnErr result ((pending : List ℕ) → HasBytes self.old.line pending
             → has_no_feed pending ≡ true → StopsIn pending bytes.now self.old
             (W.contents writer.old) (W.contents writer.new)) }
         ensures fault { IfErr result (λ e. e ≡ SessionFault.Write) }
-        ensures calls { IfOk result (λ batch.
-            calls_of self.new.session ≤ calls_of self.old.session + batch.taken) }
+        ensures calls { IfOk result (λ extent.
+            calls_of self.new.session ≤ calls_of self.old.session + extent.taken) }
     {
         if !self.line.is_empty() {
-            return Ok(Batch::of(0));
+            return Ok(Extent::of(0));
         }
-        let batch = self.answer_together(bytes);
+        let extent = self.answer_together(bytes);
         self.hand_over_much(writer)?;
-        Ok(batch)
+        Ok(extent)
     }
 
     /// Answers the lines that some bytes begin with together.
-    fn answer_together(&mut self, bytes: &[u8]) -> Batch
+    fn answer_together(&mut self, bytes: &[u8]) -> Extent
         requires { calls_of self.old.session + length bytes.now < 2 ^ 64 - 1 }
         ensures answered { AnswersFront bytes.now result.taken self.old.session self.new.session
             self.old.out.items self.new.out.items }
         ensures line { self.new.line ≡ self.old.line }
     {
-        let batch = self
+        let extent = self
             .session
-            .answer_lines(&mut self.out, bytes, &mut self.scratch);
-        if batch.taken > 0 {
+            .answer_lines(&mut self.out, bytes, &mut self.workspace);
+        if extent.taken > 0 {
             self.retries = MAX_RETRIES;
         }
-        batch
+        if extent.is_out_of_memory {
+            self.workspace = Workspace::new(self.alloc);
+        }
+        extent
     }
 
     /// Takes the bytes up to the first line feed, and answers the line that ends in it. Where there
-    /// is no line feed, the bytes are kept. Tells how many were taken.
+    /// is no line feed, the bytes are kept. Returns how many were taken.
     fn take_line<W: Write>(&mut self, writer: &mut W, bytes: &[u8]) -> Result<usize, SessionFault>
         requires { calls_of self.old.session + length bytes.now < 2 ^ 64 - 1 }
         ensures within { IfOk result (λ n. n ≤ length bytes.now) }
@@ -361,11 +389,12 @@ impl Run {
         if self.answer_with_memory() {
             return Ok(());
         }
+        self.workspace = Workspace::new(self.alloc);
         let answer = self.session.answer_without_memory();
         self.write_short(writer, &answer)
     }
 
-    /// Answers the line, and tells whether there was memory for it. Where there wasn't, nothing is
+    /// Answers the line, and returns whether there was memory for it. Where there wasn't, nothing is
     /// answered.
     fn answer_with_memory(&mut self) -> bool
         requires { calls_of self.old.session < 2 ^ 64 - 1 }
@@ -380,7 +409,10 @@ impl Run {
         ensures session_stays { result ≡ false → self.new.session ≡ self.old.session }
     {
         match self.line.bytes() {
-            Some(line) => self.session.answer(self.alloc, &mut self.out, line).is_ok(),
+            Some(line) => self
+                .session
+                .answer_line(self.alloc, &mut self.out, line, &mut self.workspace)
+                .is_ok(),
             None => false,
         }
     }
@@ -399,11 +431,42 @@ impl Run {
         ensures session { self.new.session ≡ self.old.session }
         ensures fault { IfErr result (λ e. e ≡ SessionFault.Write) }
     {
-        self.hand_over(writer)?;
-        if answer.write_to(writer).is_err() {
+        let mut retries = MAX_RETRIES;
+        self.write_out(writer, &mut retries)?;
+        if answer.write_to(writer, &mut retries).is_err() {
             return Err(SessionFault::Write);
         }
         Ok(())
+    }
+
+    /// Writes the answers that aren't handed over yet, and doesn't flush the writer.
+    fn write_out<W: Write>(&mut self, writer: &mut W, retries: &mut u32) -> Result<(), SessionFault>
+        ensures ok { OnOk result
+            (Appends (W.contents writer.old) (W.contents writer.new) self.old.out.items) }
+        ensures prefix { AppendsPrefix
+            (W.contents writer.old) (W.contents writer.new) self.old.out.items }
+        ensures out { OnOk result (self.new.out.items ≡ []) }
+        ensures session { self.new.session ≡ self.old.session }
+        ensures fault { IfErr result (λ e. e ≡ SessionFault.Write) }
+    {
+        if write_piece(writer, self.out.as_slice(), retries).is_err() {
+            return Err(SessionFault::Write);
+        }
+        self.clear_out();
+        Ok(())
+    }
+
+    /// Forgets the answers that are handed over, and gives the memory of very long ones back.
+    fn clear_out(&mut self)
+        ensures out { self.new.out.items ≡ [] }
+        ensures session { self.new.session ≡ self.old.session }
+        ensures line { self.new.line ≡ self.old.line }
+    {
+        if self.out.capacity() > 2 * MANY_BYTES {
+            self.out = Vec::new(self.alloc);
+        } else {
+            self.out.clear();
+        }
     }
 
     /// Answers the bytes after the last line feed, if there are any, and hands over all answers.
@@ -432,17 +495,11 @@ impl Run {
         ensures line { self.new.line ≡ self.old.line }
         ensures fault { IfErr result (λ e. e ≡ SessionFault.Write) }
     {
-        if write_text(writer, self.out.as_slice()).is_err() {
+        let mut retries = MAX_RETRIES;
+        if write_text(writer, self.out.as_slice(), &mut retries).is_err() {
             return Err(SessionFault::Write);
         }
-        self.out.clear();
+        self.clear_out();
         Ok(())
     }
-}
-
-/// Where the first line feed is.
-pub(crate) fn first_feed(bytes: &[u8]) -> Option<usize>
-    ensures { MatchOption result (has_no_feed bytes.now ≡ true) (HasFirstFeed bytes.now) }
-{
-    memchr(b'\n', bytes)
 }

@@ -4,14 +4,13 @@ ghost use Rattle.tt_requests.specs.LineValue.{value_of_line};
 ghost use Rattle.tt_requests.specs.Opening.{opening_of};
 ghost use Rattle.tt_answers.specs.AnswerText.{opening_text};
 
-use crate::batch::Batch;
-use crate::open_session::OpenSession;
+use crate::open_session::{Extent, OpenSession};
 use crate::repairing::status_of;
 use crate::short_answer::ShortAnswer;
+use crate::workspace::{Workspace, append};
 use std::alloc::{AllocError, Global};
 use tt_answers::{Answer, push_opening};
-use tt_document::DocFault;
-use tt_json::Scratch;
+use tt_grammar::DocFault;
 use tt_requests::{Opening, is_passed_over};
 
 /// A session: a database that is opened by a line, and answers each further line.
@@ -26,7 +25,7 @@ pub enum Session {
 impl Session {
     ghost use Rattle.tt_session.specs.Run.{turn_with_memory, turn_without_memory, turn_of_long_line, calls_of};
     ghost use Rattle.tt_session.specs.ShortAnswers.{short_text};
-    ghost use Rattle.tt_session.specs.Batch.{AnswersFront};
+    ghost use Rattle.tt_session.specs.Together.{AnswersFront};
 
     /// Answers a line: pushes the text of its answer, which is empty where the line is passed over,
     /// and becomes the session after it. Where memory runs out, the session and the text are as
@@ -46,11 +45,32 @@ impl Session {
         ensures text_stays { OnErr result (out.new.items ≡ out.old.items) }
         ensures session_stays { OnErr result (self.new ≡ self.old) }
     {
+        let mut workspace = Workspace::new(alloc);
+        self.answer_line(alloc, out, line, &mut workspace)
+    }
+
+    /// As [`answer`](Session::answer), for a caller that keeps the workspace from line to line.
+    pub(crate) fn answer_line(
+        &mut self,
+        alloc: Global,
+        out: &mut Vec<u8>,
+        line: &[u8],
+        workspace: &mut Workspace,
+    ) -> Result<(), AllocError>
+        requires { calls_of self.old < 2 ^ 64 - 1 }
+        ensures text { OnOk result (out.new.items
+            ≡ out.old.items ++ (turn_with_memory self.old line.now).text) }
+        ensures session { OnOk result
+            (self.new ≡ (turn_with_memory self.old line.now).session) }
+        ensures calls { calls_of self.new ≤ calls_of self.old + 1 }
+        ensures text_stays { OnErr result (out.new.items ≡ out.old.items) }
+        ensures session_stays { OnErr result (self.new ≡ self.old) }
+    {
         if is_passed_over(line) {
             return Ok(());
         }
         if let Session::Open(session) = self {
-            return session.answer(out, line);
+            return session.answer_line(out, line, workspace);
         }
         *self = open(alloc, out, line)?;
         Ok(())
@@ -63,20 +83,20 @@ impl Session {
         &mut self,
         out: &mut Vec<u8>,
         bytes: &[u8],
-        scratch: &mut Scratch,
-    ) -> Batch
+        workspace: &mut Workspace,
+    ) -> Extent
         requires { calls_of self.old + length bytes.now < 2 ^ 64 - 1 }
         ensures { AnswersFront bytes.now result.taken self.old self.new
             out.old.items out.new.items }
     {
         match self {
-            Session::NotOpen => Batch::of(0),
-            Session::Open(session) => session.answer_lines(out, bytes, scratch),
+            Session::NotOpen => Extent::of(0),
+            Session::Open(session) => session.answer_lines(out, bytes, workspace),
         }
     }
 
-    /// Counts a line for which there is no memory as a call, where the session is open, and tells its
-    /// answer. Takes no memory.
+    /// Counts a line for which there is no memory as a call, where the session is open, and returns
+    /// its answer. Takes no memory.
     pub fn answer_without_memory(&mut self) -> ShortAnswer
         requires { calls_of self.old < 2 ^ 64 - 1 }
         ensures text { short_text result ≡ (turn_without_memory self.old).text }
@@ -90,7 +110,7 @@ impl Session {
     }
 
     /// Counts a line that is longer than lines may be as a call, where the session is open, and
-    /// tells its answer. Takes no memory.
+    /// returns its answer. Takes no memory.
     pub fn answer_too_long(&mut self) -> ShortAnswer
         requires { calls_of self.old < 2 ^ 64 - 1 }
         ensures text { short_text result ≡ (turn_of_long_line self.old).text }
@@ -106,7 +126,7 @@ impl Session {
 
 ghost use Rattle.tt_session.specs.Run.{turn_by_opening, calls_of};
 
-/// Answers a line that is an opening. Answers the session after it, which isn't open after a fault.
+/// Answers a line that is an opening. Returns the session after it, which isn't open after a fault.
 fn open(alloc: Global, out: &mut Vec<u8>, line: &[u8]) -> Result<Session, AllocError>
     ensures text { OnOk result (out.new.items ≡ out.old.items
         ++ (turn_by_opening (opening_of (value_of_line line.now))).text) }
@@ -130,12 +150,12 @@ fn open(alloc: Global, out: &mut Vec<u8>, line: &[u8]) -> Result<Session, AllocE
     }
 }
 
-/// Pushes the text of an answer to an opening.
+/// Adds the text of an answer to an opening.
 fn push_opening_answer(alloc: Global, out: &mut Vec<u8>, answer: &Answer) -> Result<(), AllocError>
     ensures text { OnOk result (out.new.items ≡ out.old.items ++ opening_text answer.now) }
     ensures text_stays { OnErr result (out.new.items ≡ out.old.items) }
 {
     let mut text = Vec::new(alloc);
     push_opening(alloc, &mut text, answer)?;
-    out.extend_from_slice(&text)
+    append(out, &mut text)
 }

@@ -3,17 +3,15 @@ ghost use Rattle.std.specs.Prelude.{◌≡◌, IfOk};
 ghost use Rattle.std.specs.Option.{option_copied};
 ghost use Rattle.tt_session.specs.Answers.{Becomes};
 ghost use Rattle.tt_session.specs.Commands.{slots};
-ghost use Rattle.tt_session.specs.SlotEntries.{action_of, if_replaced, entry_of_slot, is_asked_for, row_in, is_unchanged, changes_row, asked_entry, slot_entries};
+ghost use Rattle.tt_session.specs.SlotEntries.{action_of, if_replaced, entry_of_slot, is_asked_for, is_unchanged, changes_row, asked_entry, slot_entries};
 
-use crate::carried_out::CarriedOut;
 use crate::failure::Failure;
 use crate::open_session::OpenSession;
-use crate::same_writes::{is_same_action, is_same_row};
+use crate::response::Response;
 use std::alloc::{AllocError, Global};
 use tt_answers::{Answer, SlotEntry};
 use tt_db::{Db, Entry, Event};
-use tt_values::{Items, Row, RowId, Write};
-use tt_versions::Side;
+use tt_values::{Items, Row, RowId, Same, Write, are_same};
 
 /// An action that was asked for, where its slot has another one now, or none.
 fn if_replaced(
@@ -23,7 +21,7 @@ fn if_replaced(
     ensures { IfOk result (λ replaced. replaced ≡ if_replaced asked.now action.now) }
 {
     match action {
-        Some(action) if is_same_action(asked.as_slice(), action.as_slice()) => Ok(None),
+        Some(action) if are_same(asked.as_slice(), action.as_slice()) => Ok(None),
         _ => Ok(Some(asked.clone()?)),
     }
 }
@@ -77,21 +75,13 @@ fn is_asked_for(wanted: Option<u32>, worker: u32) -> bool
     }
 }
 
-/// A row in the current generation at a time, if its table is declared and it is there.
-fn row_in(db: &Db, row: RowId, time: u64) -> Option<&Row>
-    ensures { option_copied result ≡ row_in db.now row time }
-{
-    let table = db.versions(row.table)?;
-    table.at(row.key, time, Side::Current)
-}
-
 /// Whether a row is as it was.
 fn is_unchanged(before: Option<&Row>, after: Option<&Row>) -> bool
     ensures { result ≡ is_unchanged (option_copied before.entry) (option_copied after.entry) }
 {
     match (before, after) {
         (None, None) => true,
-        (Some(before), Some(after)) => is_same_row(before, after),
+        (Some(before), Some(after)) => before.is_same(after),
         _ => false,
     }
 }
@@ -103,8 +93,8 @@ fn changes_row(db: &Db, row: Option<RowId>, number: u64) -> bool
     let Some(row) = row else {
         return true;
     };
-    let before = row_in(db, row, number.saturating_sub(1));
-    let after = row_in(db, row, number);
+    let before = db.row_at(row, number.saturating_sub(1));
+    let after = db.row_at(row, number);
     !is_unchanged(before, after)
 }
 
@@ -160,11 +150,11 @@ pub(crate) fn slots(
     to: u64,
     worker: Option<u32>,
     row: Option<RowId>,
-) -> Result<CarriedOut, Failure>
+) -> Result<Response, Failure>
     ensures { Becomes session.now result (slots session.now from to worker row) }
 {
     let db = session.db();
     let time = db.now();
     let slots = slot_entries(session.alloc(), db, from, to, worker, row)?;
-    Ok(CarriedOut::telling(Answer::Slots { time, slots }))
+    Ok(Response::unrecorded(Answer::Slots { time, slots }))
 }

@@ -1,64 +1,52 @@
 //! Actions.
-ghost use Rattle.std.specs.Prelude.{◌≡◌, IfOk};
-ghost use Rattle.tt_session.specs.Session.{with_database, with_record};
-ghost use Rattle.tt_session.specs.Answers.{answered_by, Becomes};
+ghost use Rattle.std.specs.Prelude.{◌≡◌, ◌≢◌, Some, IfOk, IfErr, OnOk};
+ghost use Rattle.tt_session.specs.Answers.{Becomes};
 ghost use Rattle.tt_session.specs.Commands.{write};
 
-use crate::carried_out::CarriedOut;
 use crate::failure::Failure;
 use crate::open_session::OpenSession;
-use crate::room::apply_with_room;
+use crate::response::Response;
 use std::alloc::AllocError;
 use tt_answers::Answer;
-use tt_db::{Db, Entry, Event, Outcome};
+use tt_db::{Event, Outcome};
 use tt_records::{Record, What};
 use tt_values::{Items, Reply, Write};
 
-/// What is told and recorded of an action that took a slot.
-fn written(
-    session: &OpenSession,
-    worker: u32,
-    next: Db,
-    slot: u64,
-    replies: Items<Reply>,
-) -> Result<CarriedOut, AllocError>
-    ensures { IfOk result (λ done. answered_by session.now done ≡ record {
+/// The answer to an action of a worker that took a slot, and its record.
+fn written(call: u64, worker: u32, slot: u64, replies: Items<Reply>) -> Result<Response, AllocError>
+    ensures { IfOk result (λ response. response ≡ record {
       answer = Answer.Written slot replies;
-      session = with_record (with_database session.now next) worker (What.Write slot replies);
+      latest = Some (record { call = call; worker = worker; what = What.Write slot replies });
     }) }
 {
     let latest = Record {
-        call: session.calls(),
+        call,
         worker,
         what: What::Write {
             slot,
             replies: replies.clone()?,
         },
     };
-    Ok(CarriedOut {
+    Ok(Response {
         answer: Answer::Written { slot, replies },
-        db: Some(next),
         latest: Some(latest),
     })
 }
 
 /// An action takes the next slot: its replies are told, and recorded.
 pub(crate) fn write(
-    session: &OpenSession,
+    session: &mut OpenSession,
     worker: u32,
     action: Items<Write>,
-) -> Result<CarriedOut, Failure>
-    ensures { Becomes session.now result (write session.now worker action) }
+) -> Result<Response, Failure>
+    ensures becomes { Becomes session.new result (write session.old worker action) }
+    ensures stays { IfErr result (λ f. f ≢ Failure.Memory → session.new ≡ session.old) }
+    ensures calls { OnOk result (session.new.calls ≡ session.old.calls) }
 {
-    let entry = Entry {
-        worker,
-        event: Event::Write(action),
-    };
-    let (next, outcome) = apply_with_room(session.db(), session.limits(), entry)?;
-    match outcome {
+    match session.advance(worker, Event::Write(action))? {
         Outcome::Written { slot, replies } => {
-            let done = written(session, worker, next, slot, replies)?;
-            Ok(done)
+            let response = written(session.calls(), worker, slot, replies)?;
+            Ok(response)
         }
         _ => unreachable!(),
     }

@@ -7,7 +7,7 @@ pub enum Point {
     Locked,
     /// It has published, and still has the lock.
     Published,
-    /// A call has its answer. A store doesn't pass this point: whoever calls it may.
+    /// A call has returned. A store doesn't pass this point: whoever calls it may.
     Answered,
 }
 

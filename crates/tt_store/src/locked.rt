@@ -142,7 +142,7 @@ impl<L: Naming, R: Wait + Drop> Core<L, R> {
         Ok(())
     }
 
-    /// Publishes a draft whole, if its worker has seen all of the history: answers its outcome, or
+    /// Publishes a draft whole, if its worker has seen all of the history: returns its outcome, or
     /// None if it hasn't. Without memory nothing changes either.
     pub(crate) fn commit<G: Gate>(
         &mut self,
@@ -234,7 +234,7 @@ fn publish_by<L: Naming, R: Wait + Drop>(
     }
 }
 
-/// The answer to a call after its last try, under the lock.
+/// What a call returns after its last try, under the lock.
 fn answer_of(committed: Result<Option<Outcome>, AllocError>) -> Result<Option<Outcome>, StoreError>
     ensures { result ≡ answer_of committed }
 {

@@ -76,7 +76,7 @@ impl Snapshot {
         &self.front
     }
 
-    /// A further owner of the same database.
+    /// Another owner of the same database.
     pub(crate) fn share(&self) -> Result<Snapshot, AllocError>
         ensures { IfOk result (λ s. s ≡ self.now) }
     {
@@ -186,7 +186,7 @@ impl<L: Naming, R: Wait + Drop> Publisher<L, R> {
         }
     }
 
-    /// A further reader. It fails where each place for one is taken.
+    /// Another reader. It fails where each place for one is taken.
     pub(crate) fn reader(&self) -> Result<Reader<Snapshot, (), L>, AllocError>
         requires { RuleIsMembership L.holds L.book L.tables L.limits }
     {

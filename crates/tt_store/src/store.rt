@@ -64,7 +64,7 @@ impl<L: Naming, G: Gate + Drop, R: Wait + Drop> Store<L, G, R> {
         (alloc, core.into_inner(), gate)
     }
 
-    /// Carries out an action, as one slot: all of its writes in order. Answers the place of its
+    /// Carries out an action, as one slot: all of its writes in order. Returns the place of its
     /// entry, its slot and the replies to its writes.
     #[tactic(auto, using(crate::proofs::PublicLemmas::wrote, crate::proofs::PublicLemmas::outcome_of_action))]
     pub fn write(
@@ -85,7 +85,7 @@ impl<L: Naming, G: Gate + Drop, R: Wait + Drop> Store<L, G, R> {
         }
     }
 
-    /// Begins a repair with these edits of slots. Answers the place of its entry. No current answer
+    /// Begins a repair with these edits of slots. Returns the place of its entry. No current answer
     /// changes.
     #[tactic(auto, using(crate::proofs::PublicLemmas::placed_begin))]
     pub fn begin(
@@ -106,7 +106,7 @@ impl<L: Naming, G: Gate + Drop, R: Wait + Drop> Store<L, G, R> {
         }
     }
 
-    /// Gives up the repair that is under way, whoever began it. Answers the place of its entry. No
+    /// Gives up the repair that is under way, whoever began it. Returns the place of its entry. No
     /// current answer changes.
     #[tactic(auto, using(crate::proofs::PublicLemmas::placed_abort))]
     pub fn abort(&self, rt: &impl Wait, worker: &mut Worker<L>) -> Result<u64, StoreError>
@@ -122,7 +122,7 @@ impl<L: Naming, G: Gate + Drop, R: Wait + Drop> Store<L, G, R> {
     }
 
     /// Makes steps of the repair that is under way: `most` of them, or as many as it has slots left
-    /// if these are fewer. They are published together, and none publishes nothing. Answers how far
+    /// if these are fewer. They are published together, and none publishes nothing. Returns how far
     /// the repair is then. No current answer changes.
     #[tactic(auto, using(crate::proofs::PublicLemmas::stepped, crate::proofs::PublicLemmas::progress_known))]
     pub fn step(
@@ -158,7 +158,7 @@ impl<L: Naming, G: Gate + Drop, R: Wait + Drop> Store<L, G, R> {
         }
     }
 
-    /// Lets a worker see all that was published when it held the lock. Answers how many entries it
+    /// Lets a worker see all that was published when it held the lock. Returns how many entries it
     /// has seen then. The one refusal is `Memory`.
     pub fn refresh(&self, rt: &impl Wait, worker: &mut Worker<L>) -> Result<u64, StoreError>
         ensures looks { Looks worker.old worker.new }
@@ -171,9 +171,9 @@ impl<L: Naming, G: Gate + Drop, R: Wait + Drop> Store<L, G, R> {
         }
     }
 
-    /// Closes the store with all of its workers, handed in in any order. Leaves the database that
-    /// has the history, and for each worker the places of its entries. A refusal hands the store
-    /// and the workers back as they were.
+    /// Closes the store with all of its workers, handed in in any order. Returns the database that
+    /// has the whole history, and for each worker the places of its entries. A refusal hands the
+    /// store and the workers back as they were.
     pub fn close(
         self,
         _rt: &impl Wait,

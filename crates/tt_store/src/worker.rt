@@ -215,7 +215,8 @@ impl<L: Naming> Worker<L> {
         }
     }
 
-    /// The answer to a select that nothing was reached for.
+    /// Why a select fails for which nothing could be read. A fault of the select comes first, since
+    /// it needs no reading.
     fn unanswered(&self, select: &Select, unread: Unread) -> ReadError
         ensures { IsUnreached L.tables select.now result }
     {
@@ -351,8 +352,8 @@ impl<L: Naming> Worker<L> {
     }
 }
 
-/// A further owner of what is published, where its history has more entries than were seen. Where
-/// it has no more, the counter of owners, which all workers share, stays untouched.
+/// Another owner of what is published, where its history has more entries than were seen. Where it
+/// has no more, the counter of owners, which all workers share, stays untouched.
 fn newer<L: Naming>(
     reader: Reader<Snapshot, (), L>,
     seen: u64,
@@ -369,7 +370,7 @@ fn newer<L: Naming>(
     }
 }
 
-/// A further owner of a snapshot, where its history has more entries than were seen.
+/// Another owner of a snapshot, where its history has more entries than were seen.
 fn owner_of_newer(snapshot: &Snapshot, seen: u64) -> Result<Option<Snapshot>, Unread>
     ensures { IfOk result (λ newer. IfSome newer (λ s. s ≡ snapshot.now)) }
 {

@@ -50,7 +50,7 @@ fn statements(alloc: Global, reader: u32, rows: u32) -> Result<Vec<Select>, Benc
     Ok(statements)
 }
 
-/// Reads a row, and answers the time that it is of.
+/// Reads a row, and returns the time that it is of.
 fn read_one<L: Naming>(
     worker: &mut Worker<L>,
     statement: &Select,

@@ -42,7 +42,7 @@ pub(crate) fn writes_of<L: Naming, R: Wait + Clock>(
     })
 }
 
-/// Makes one write, and answers its time in nanoseconds.
+/// Makes one write, and returns its time in nanoseconds.
 fn write_one<L: Naming, R: Wait + Clock>(
     rt: &R,
     alloc: Global,

@@ -1,10 +1,12 @@
 -- The proofs of the laws, for proofs in other crates. All other lemmas are private to this crate.
 use Rattle.tt_values.specs.Laws.{ShowsLastRowWrite, RowsRise, SlotsFollow, LaterSlotsChangeNothing, PastStays, LastContentStays, NextContent, OneKeyChanges, RowsStayByRisingKey, RowWriteChangesOneRow, LastRowWriteCounts, EarlierSlotsStay, AddedSlotIsNext, AddedSlotLeavesPast, AcceptedInsertsHaveKeys, AcceptedUpdatesKeepKeys}
 use Rattle.tt_values.specs.ActionLaws.{ActionLeavesItsLastContent, ActionOfOneWrite, ActionWritesEachRowOnce, ActionsFollow, AcceptedActionsHaveKeys}
+use Rattle.tt_values.specs.Same.{SameRepliesAreEqual, SameWritesAreEqual}
 use Rattle.tt_values.proofs.ContentLemmas as contents
 use Rattle.tt_values.proofs.RowWritesLemmas as slots
 use Rattle.tt_values.proofs.CheckLemmas as checks
 use Rattle.tt_values.proofs.ActionLemmas as actions
+use Rattle.tt_values.proofs.SameLemmas as comparisons
 
 pub shows_last_row_write : ShowsLastRowWrite
 shows_last_row_write = contents.shows_last_row_write
@@ -68,3 +70,9 @@ actions_follow = actions.actions_follow
 
 pub accepted_actions_have_keys : AcceptedActionsHaveKeys
 accepted_actions_have_keys = checks.accepted_actions_have_keys
+
+pub same_replies_are_equal : SameRepliesAreEqual
+same_replies_are_equal = comparisons.same_replies_are_equal
+
+pub same_writes_are_equal : SameWritesAreEqual
+same_writes_are_equal = comparisons.same_writes_are_equal

@@ -5,5 +5,6 @@ mod ContentLemmas
 mod RowWritesLemmas
 mod CheckLemmas
 mod ActionLemmas
+mod SameLemmas
 pub mod LawProofs
 pub mod worked_rows

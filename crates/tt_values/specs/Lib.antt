@@ -15,5 +15,6 @@ pub mod Content
 pub mod Effect
 pub mod RowWrites
 pub mod Action
+pub mod Same
 pub mod Laws
 pub mod ActionLaws

@@ -2,6 +2,7 @@
 //! the contract of a function with an empty body.
 ghost use Rattle.tt_values.specs.Laws.{ShowsLastRowWrite, RowsRise, SlotsFollow, LaterSlotsChangeNothing, PastStays, LastContentStays, NextContent, OneKeyChanges, RowsStayByRisingKey, RowWriteChangesOneRow, LastRowWriteCounts, EarlierSlotsStay, AddedSlotIsNext, AddedSlotLeavesPast, AcceptedInsertsHaveKeys, AcceptedUpdatesKeepKeys};
 ghost use Rattle.tt_values.specs.ActionLaws.{ActionLeavesItsLastContent, ActionOfOneWrite, ActionWritesEachRowOnce, ActionsFollow, AcceptedActionsHaveKeys};
+ghost use Rattle.tt_values.specs.Same.{SameRepliesAreEqual, SameWritesAreEqual};
 
 /// At each time, table and key the content has the row of the last row write so far, or no row if
 /// there is no row write or the last one is a delete.
@@ -109,4 +110,14 @@ pub fn actions_follow()
 /// Each insert of an action without a fault has a row with a key.
 pub fn accepted_actions_have_keys()
     ensures { AcceptedActionsHaveKeys }
+{}
+
+/// Two lists of replies are the same, item by item, exactly where they are equal.
+pub fn same_replies_are_equal()
+    ensures { SameRepliesAreEqual }
+{}
+
+/// Two lists of writes are the same, item by item, exactly where they are equal.
+pub fn same_writes_are_equal()
+    ensures { SameWritesAreEqual }
 {}

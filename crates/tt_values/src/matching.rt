@@ -2,6 +2,7 @@ ghost use Rattle.std.specs.Prelude.{◌≡◌};
 ghost use Rattle.tt_values.specs.Matches.{holds, matches};
 
 use crate::row::Row;
+use crate::same::Same;
 use crate::statement::Equal;
 
 /// Whether every equality holds in the row. One on a column past the end of the row doesn't.

@@ -4,7 +4,6 @@ ghost use Rattle.std.specs.Arc.{arc_value};
 use std::alloc::{AllocError, Global};
 use std::marker::Model;
 use std::sync::Arc;
-use tt_pages::Kept;
 
 /// A value that its owners share: `clone` doesn't copy it. Contracts see only the value.
 #[derive(Debug, Drop)]
@@ -49,18 +48,6 @@ impl<T: Drop> Shared<T> {
         ensures { result.now ≡ self.now }
     {
         &self.owner
-    }
-}
-
-impl<T: Kept + Drop> Shared<T> {
-    /// The value: moved out if this is its only owner, and otherwise shared by `Kept::kept`.
-    pub fn into_value(self) -> Result<T, AllocError>
-        ensures { IfOk result (λ value. value ≡ self) }
-    {
-        match Arc::try_unwrap(self.owner) {
-            Ok(value) => Ok(value),
-            Err(owner) => owner.kept(),
-        }
     }
 }
 

@@ -18,7 +18,7 @@ pub enum Value {
 }
 
 impl Value {
-    ghost use Rattle.tt_values.specs.Value.{is_of_kind, is_same};
+    ghost use Rattle.tt_values.specs.Value.{is_of_kind};
 
     /// A value of kind Text, with a copy of this text.
     pub fn text(alloc: Global, text: &str) -> Result<Value, AllocError>
@@ -33,17 +33,6 @@ impl Value {
         match (kind, self) {
             (Kind::Int, Value::Int(_)) | (Kind::Text, Value::Text(_)) => true,
             (Kind::Int, Value::Text(_)) | (Kind::Text, Value::Int(_)) => false,
-        }
-    }
-
-    /// Whether both are of the same kind, and the same number or text.
-    pub fn is_same(&self, other: &Value) -> bool
-        ensures { result ≡ is_same self.now other.now }
-    {
-        match (self, other) {
-            (Value::Int(int), Value::Int(other)) => int == other,
-            (Value::Text(text), Value::Text(other)) => text == other,
-            (Value::Int(_), Value::Text(_)) | (Value::Text(_), Value::Int(_)) => false,
         }
     }
 

@@ -25,7 +25,7 @@ use Rattle.tt_versions.specs.Versions.{started_by, started_before, visible_row, 
 use Rattle.tt_versions.specs.Lineage.{unwritten, chain_on, with_write_on, split_back}
 use Rattle.tt_versions.specs.Sides.{LineagesByKey, lineage_at, side_of, is_split, StaysSplit, unsplit_if, UnsplitsKeys}
 use Rattle.tt_values.specs.Digest.{digest_of}
-use Rattle.tt_versions.specs.Index.{KeySet, has_key, keys_under, KeepsKeys, ColumnLists, ColumnsList, IndexState, ListsRow, KeepsRows, IsStored, CoversEqual, CoversMatches, keys_equated, IsAtMost, IsSmallest, SayNoSet, IsKeyOfMatches, ChainHas, LineageHas, ListsTable, ListsTableBut, HaveKeysIn, HaveKey}
+use Rattle.tt_versions.specs.Index.{KeySet, has_key, keys_under, KeepsKeys, ColumnLists, ColumnsList, IndexState, ListsRow, KeepsRows, IsStored, CoversEqual, CoversMatches, keys_equated, IsAtMost, IsSmallest, SayNoSet, IsKeyOfMatches, ChainHas, LineageHas, ListsTable, HaveKeysIn, HaveKey}
 use Rattle.tt_versions.proofs.EntriesLemmas.{first, second}
 use Rattle.tt_versions.proofs.SidesLemmas.{same_key, lineage_at-put, is_split-write_on}
 
@@ -343,20 +343,16 @@ LineageHas-unsplit_if P false side l h = h
 pub ListsTable-empty : (index : IndexState) → ListsTable index []
 ListsTable-empty index key = LineageHas-unwritten (ListsRow index key)
 
--- an index that keeps its rows lists those of the other keys, once a lineage was taken out
-pub ListsTableBut-taken : (key : ℤ) (before after : IndexState) (t left : LineagesByKey) → ListsTable before t → KeepsRows before after
-    → ((l : Lineage) → sorted.put int_cmp key l left ≡ sorted.put int_cmp key l t) → ListsTableBut key after left
-ListsTableBut-taken key before after t left listed keeps same q other =
-    let at : (es : LineagesByKey) → lineage_at (sorted.put int_cmp key unwritten es) q ≡ lineage_at es q = λ es. lineage_at-put es key unwritten q ∙ ap (λ b. cond b unwritten (lineage_at es q)) other in
-    let stays : lineage_at t q ≡ lineage_at left q = sym (at t) ∙ ap (λ es. lineage_at es q) (sym (same unwritten)) ∙ at left in
-    subst (λ l. LineageHas (ListsRow after q) l) stays (LineageHas-map (ListsRow before q) (ListsRow after q) (λ row. keeps q row) (lineage_at t q) (listed q))
+-- an index that keeps its rows still lists a table
+pub ListsTable-keeps : (before after : IndexState) (t : LineagesByKey) → KeepsRows before after → ListsTable before t → ListsTable after t
+ListsTable-keeps before after t keeps listed key = LineageHas-map (ListsRow before key) (ListsRow after key) (λ row. keeps key row) (lineage_at t key) (listed key)
 
-pub ListsTable-put : (key : ℤ) (index : IndexState) (t : LineagesByKey) (l : Lineage) → ListsTableBut key index t → LineageHas (ListsRow index key) l → ListsTable index (sorted.put int_cmp key l t)
+pub ListsTable-put : (key : ℤ) (index : IndexState) (t : LineagesByKey) (l : Lineage) → ListsTable index t → LineageHas (ListsRow index key) l → ListsTable index (sorted.put int_cmp key l t)
 ListsTable-put key index t l others here q = subst (λ x. LineageHas (ListsRow index q) x) (sym (lineage_at-put t key l q)) (by (int_eq q key) refl)
   where
     by : (b : Bool) → int_eq q key ≡ b → LineageHas (ListsRow index q) (cond b l (lineage_at t q))
     by true e = subst (λ k. LineageHas (ListsRow index k) l) (sym (same_key q key e)) here
-    by false e = others q e
+    by false e = others q
 
 pub ListsTable-unsplit : (side : Side) (keys : KeySet) (index : IndexState) (t after : LineagesByKey) → UnsplitsKeys side keys t after → ListsTable index t → ListsTable index after
 ListsTable-unsplit side keys index t after h listed q =
@@ -382,7 +378,6 @@ pub IsStored-write : (side : Side) (key : ℤ) (split_keys : KeySet) (before aft
     → IsStored split_keys after (sorted.put int_cmp key (with_write_on side row time (lineage_at t key)) t)
 IsStored-write side key split_keys before after t row time stays stored keeps lists = record {
   split = λ q. stored.split q ∙ (λ i. sym (is_split-write_on side t key row time stays) i q);
-  listed = ListsTable-put key after t (with_write_on side row time (lineage_at t key)) (ListsTableBut-taken key before after t t stored.listed keeps (λ l. refl))
-      (LineageHas-write (ListsRow after key) side row time (lineage_at t key)
-      (LineageHas-map (ListsRow before key) (ListsRow after key) (λ r. keeps key r) (lineage_at t key) (stored.listed key)) lists);
+  listed = ListsTable-put key after t (with_write_on side row time (lineage_at t key)) (ListsTable-keeps before after t keeps stored.listed)
+      (LineageHas-write (ListsRow after key) side row time (lineage_at t key) (ListsTable-keeps before after t keeps stored.listed key) lists);
 }

@@ -216,5 +216,5 @@ pub ruleset writes_all_next = (current_of-with_next_writes, next_of-with_next_wr
 -- what reading one row rests on
 pub ruleset reads = (to_z-of_z, visible_row-unwritten, next_of-whole)
 
--- what writing one row rests on
-pub ruleset writes = (to_z-of_z, current_of-write, next_of-write, is_split-write, current_of-next_write, next_of-next_write, is_split-next_write, current_of-split_back, next_of-split_back, is_split-split_back)
+-- what splitting a row and rolling it back rests on
+pub ruleset splits_back = (to_z-of_z, current_of-split_back, next_of-split_back, is_split-split_back)

@@ -1,11 +1,10 @@
 -- A table whose split rows are unsplit, one after another, and the set of their keys.
-use Rattle.std.proofs.Common.{◌≡◌, ℤ, Bool, true, false, cond, not, List, [], ◌∷◌, Option, None, Some, is_some, if◌then◌else◌, refl, sym, ap, ◌∙◌}
+use Rattle.std.proofs.Common.{◌≡◌, ℤ, Bool, true, false, cond, ◌||◌, List, [], ◌∷◌, Option, None, Some, is_some, if◌then◌else◌, refl, sym, ap, ◌∙◌}
 use Rattle.std.proofs.lemmas.Int.{to_z-of_z}
 use Rattle.std.specs.Ordering.{int_cmp, int_eq}
 use Rattle.std.specs.Cmp.{int_cmp_total}
-use Rattle.std.specs.FinMap.{int_cmp-IsAntisymmetric}
 use Rattle.std.specs.FinMap.Entries as sorted
-use Rattle.tt_pages.specs.MapEntries.{entries_without}
+use Rattle.tt_pages.specs.MapEntries.{ChangesAt}
 use Rattle.std.specs.Option.{unwrap_or}
 use Rattle.tt_versions.specs.declared.side.Side.{Side}
 use Rattle.tt_versions.specs.declared.side.Side.TheVariants.{Current, Next}
@@ -13,7 +12,7 @@ use Rattle.tt_versions.specs.declared.version.Version.{Version}
 use Rattle.tt_versions.specs.declared.lineage.Lineage.{Lineage}
 use Rattle.tt_versions.specs.Versions.{visible_row}
 use Rattle.tt_versions.specs.Lineage.{unwritten, chain_on, unsplit}
-use Rattle.tt_versions.specs.Sides.{LineagesByKey, lineage_at, side_of, current_of, next_of, is_split, none_split, HasSplitKeys, HasSplitKeysBut, MarksKey, unsplit_if, UnsplitsKeys, UnsplitsRow, UnsplitsRows}
+use Rattle.tt_versions.specs.Sides.{LineagesByKey, lineage_at, side_of, current_of, next_of, is_split, none_split, HasSplitKeys, MarksKey, unsplit_if, UnsplitsKeys, UnsplitsRow, UnsplitsRows}
 use Rattle.tt_versions.proofs.SidesLemmas.{same_key, lineage_at-put}
 
 unsplit-again : (b : Bool) (side : Side) (l : Lineage) → unsplit_if b side (unsplit side l) ≡ unsplit side l
@@ -36,8 +35,8 @@ UnsplitsRow-unwritten side key t none q = by (int_eq q key) refl
     by true e = ap (lineage_at t) (same_key q key e) ∙ missing ∙ nothing side ∙ ap (unsplit side) (sym missing)
     by false e = refl
 
-pub UnsplitsRow-put : (side : Side) (key : ℤ) (t : LineagesByKey) (l : Lineage) → sorted.find int_cmp key t ≡ Some l → UnsplitsRow side key t (sorted.put int_cmp key (unsplit side l) t)
-UnsplitsRow-put side key t l there q = lineage_at-put t key (unsplit side l) q ∙ by (int_eq q key)
+pub UnsplitsRow-changed : (side : Side) (key : ℤ) (t after : LineagesByKey) (l : Lineage) → sorted.find int_cmp key t ≡ Some l → ChangesAt key (unsplit side) t after → UnsplitsRow side key t after
+UnsplitsRow-changed side key t after l there changes q = ap (λ (es : LineagesByKey). lineage_at es q) (changes l there) ∙ lineage_at-put t key (unsplit side l) q ∙ by (int_eq q key)
   where
     by : (b : Bool) → cond b (unsplit side l) (lineage_at t q) ≡ (if b then unsplit side (lineage_at t key) else lineage_at t q)
     by true = ap (λ o. unsplit side (unwrap_or o unwritten)) (sym there)
@@ -101,41 +100,25 @@ pub HasSplitKeys-empty : HasSplitKeys [] []
 unfolding is_split
 HasSplitKeys-empty key = refl
 
--- a lineage was taken out at the key
-pub HasSplitKeysBut-taken : (key : ℤ) (keys : List (ℤ × Unit {0})) (t left : LineagesByKey) → HasSplitKeys keys t
-    → ((l : Lineage) → sorted.put int_cmp key l left ≡ sorted.put int_cmp key l t) → HasSplitKeysBut key keys left
+-- the set has the keys of the split rows again, once that of a row that gets split is put into it
+pub HasSplitKeys-put : (key : ℤ) (before after : List (ℤ × Unit {0})) (t : LineagesByKey) (l : Lineage) → is_some l.next ≡ true → HasSplitKeys before t
+    → MarksKey key before after → HasSplitKeys after (sorted.put int_cmp key l t)
 unfolding is_split
-HasSplitKeysBut-taken key keys t left split same q other =
-    let at : (es : LineagesByKey) → lineage_at (sorted.put int_cmp key unwritten es) q ≡ lineage_at es q = λ es. lineage_at-put es key unwritten q ∙ ap (λ b. cond b unwritten (lineage_at es q)) other in
-    split q ∙ ap (λ l. is_some l.next) (sym (at t) ∙ ap (λ es. lineage_at es q) (sym (same unwritten)) ∙ at left)
-
--- the set has the keys of the split rows again, once the key is marked as the row is
-pub HasSplitKeys-put : (key : ℤ) (before after : List (ℤ × Unit {0})) (t : LineagesByKey) (l : Lineage) → HasSplitKeysBut key before t
-    → MarksKey key (is_some l.next) before after → HasSplitKeys after (sorted.put int_cmp key l t)
-unfolding is_split
-HasSplitKeys-put key before after t l others marks q = marks q ∙ by (int_eq q key) refl ∙ ap (λ x. is_some x.next) (sym (lineage_at-put t key l q))
+HasSplitKeys-put key before after t l splits split marks q = marks q ∙ by (int_eq q key) ∙ ap (λ x. is_some x.next) (sym (lineage_at-put t key l q))
   where
-    by : (b : Bool) → int_eq q key ≡ b → (if b then is_some l.next else is_some (sorted.find int_cmp q before)) ≡ is_some (cond b l (lineage_at t q)).next
-    by true e = refl
-    by false e = others q e
+    by : (b : Bool) → (b || is_some (sorted.find int_cmp q before)) ≡ is_some (cond b l (lineage_at t q)).next
+    by true = sym splits
+    by false = split q
 
-pub MarksKey-put : (key : ℤ) (keys : List (ℤ × Unit {0})) (u : Unit {0}) → MarksKey key true keys (sorted.put int_cmp key u keys)
+pub MarksKey-put : (key : ℤ) (keys : List (ℤ × Unit {0})) (u : Unit {0}) → MarksKey key keys (sorted.put int_cmp key u keys)
 MarksKey-put key keys u q = ap is_some (sorted.find-put int_cmp int_cmp_total q key u keys) ∙ by (int_eq q key)
   where
-    by : (b : Bool) → is_some (cond b (Some u) (sorted.find int_cmp q keys)) ≡ (if b then true else is_some (sorted.find int_cmp q keys))
-    by true = refl
-    by false = refl
-
-pub MarksKey-without : (key : ℤ) (keys : List (ℤ × Unit {0})) → MarksKey key false keys (entries_without key keys)
-MarksKey-without key keys q =
-    ap is_some (sorted.find-where_key int_cmp (λ k. not (int_eq k key)) q (λ x tied. ap (λ k. not (int_eq k key)) (sym (int_cmp-IsAntisymmetric q x tied))) keys) ∙ by (int_eq q key)
-  where
-    by : (b : Bool) → is_some (cond (not b) (sorted.find int_cmp q keys) None) ≡ (if b then false else is_some (sorted.find int_cmp q keys))
+    by : (b : Bool) → is_some (cond b (Some u) (sorted.find int_cmp q keys)) ≡ (b || is_some (sorted.find int_cmp q keys))
     by true = refl
     by false = refl
 
 -- what marking a key rests on
-pub ruleset marks = (to_z-of_z, MarksKey-put, MarksKey-without)
+pub ruleset marks = (to_z-of_z, MarksKey-put)
 
 -- and unsplitting one row
-pub ruleset unsplits = (to_z-of_z, UnsplitsRow-put, UnsplitsRow-unwritten)
+pub ruleset unsplits = (to_z-of_z, UnsplitsRow-unwritten)

@@ -1,7 +1,7 @@
 -- Keys of rows, listed by the values that the rows ever had in some columns. The lists may have too many keys, never too few.
-use Rattle.std.specs.Prelude.{◌≡◌, ℕ, ◌≤◌, ◌==◌, ℤ, List, [], ◌∷◌, length, All, Bool, if◌then◌else◌, slice_get, IsTrue, IfSome, Option, None, Some, is_some, false}
+use Rattle.std.specs.Prelude.{◌≡◌, ℕ, ◌≤◌, ◌==◌, ℤ, List, [], ◌∷◌, length, All, Bool, if◌then◌else◌, slice_get, IsTrue, IfSome, Option, None, Some, is_some}
 use Rattle.std.specs.Option.{unwrap_or}
-use Rattle.std.specs.Ordering.{int_cmp, int_eq}
+use Rattle.std.specs.Ordering.{int_cmp}
 use Rattle.std.specs.FinMap.Entries as sorted
 use Rattle.tt_values.specs.declared.row.Row.{Row}
 use Rattle.tt_values.specs.declared.statement.Equal.{Equal}
@@ -96,10 +96,6 @@ LineageHas P l = ChainHas P l.current × IfSome l.next (λ vs. ChainHas P vs)
 -- an index lists each row of a table, of all times and both sides
 abbrev pub ListsTable : IndexState → LineagesByKey → Type 0
 ListsTable index t = (key : ℤ) → LineageHas (ListsRow index key) (lineage_at t key)
-
--- an index lists each row of a table, of all times and both sides, except those with one key
-abbrev pub ListsTableBut : ℤ → IndexState → LineagesByKey → Type 0
-ListsTableBut but index t = (key : ℤ) → int_eq key but ≡ false → LineageHas (ListsRow index key) (lineage_at t key)
 
 -- what is stored with the lineages of a table: the keys of the split rows, and an index
 pub record IsStored (split_keys : KeySet) (index : IndexState) (t : LineagesByKey) : Type 0 where

@@ -47,13 +47,9 @@ is_split t key = is_some (lineage_at t key).next
 abbrev pub HasSplitKeys : List (ℤ × Unit {0}) → LineagesByKey → Type 0
 HasSplitKeys keys t = (key : ℤ) → is_some (sorted.find int_cmp key keys) ≡ is_split t key
 
--- a set of keys has those of the split rows, and no others, except for one key
-abbrev pub HasSplitKeysBut : ℤ → List (ℤ × Unit {0}) → LineagesByKey → Type 0
-HasSplitKeysBut key keys t = (q : ℤ) → int_eq q key ≡ false → is_some (sorted.find int_cmp q keys) ≡ is_split t q
-
--- a key is in a set, or not, and the others stay
-abbrev pub MarksKey : ℤ → Bool → List (ℤ × Unit {0}) → List (ℤ × Unit {0}) → Type 0
-MarksKey key member before after = (q : ℤ) → is_some (sorted.find int_cmp q after) ≡ (if int_eq q key then member else is_some (sorted.find int_cmp q before))
+-- a key is in a set, and the others stay
+abbrev pub MarksKey : ℤ → List (ℤ × Unit {0}) → List (ℤ × Unit {0}) → Type 0
+MarksKey key before after = (q : ℤ) → is_some (sorted.find int_cmp q after) ≡ (int_eq q key || is_some (sorted.find int_cmp q before))
 
 -- one row is unsplit, and the others stay
 abbrev pub UnsplitsRow : Side → ℤ → LineagesByKey → LineagesByKey → Type 0

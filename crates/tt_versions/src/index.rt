@@ -8,7 +8,7 @@ use crate::indexed_column::{IndexedColumn, KeySet};
 use std::alloc::{AllocError, Global};
 use std::marker::Model;
 use tt_pages::PagedMap;
-use tt_values::{Equal, Row, Value, digest};
+use tt_values::{Equal, Row, Same, Value, digest};
 
 /// Where the rows of a table are to be found, by their values. It lists each row that the table
 /// ever had on either side, and forgets none.
@@ -46,7 +46,7 @@ impl Index {
         }
     }
 
-    /// A further owner of the same sets.
+    /// Another owner of the same sets.
     pub(crate) fn share(&self) -> Result<Index, AllocError>
         ensures { IfOk result (λ i. i ≡ self.now) }
     {

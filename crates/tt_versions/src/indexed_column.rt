@@ -28,7 +28,7 @@ impl IndexedColumn {
         }
     }
 
-    /// A further owner of the same sets.
+    /// Another owner of the same sets.
     pub(crate) fn share(&self) -> Result<IndexedColumn, AllocError>
         ensures { IfOk result (λ c. c ≡ self.now) }
     {

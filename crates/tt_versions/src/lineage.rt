@@ -1,4 +1,4 @@
-ghost use Rattle.std.specs.Prelude.{◌≡◌, None, is_some, IfOk, OnOk};
+ghost use Rattle.std.specs.Prelude.{◌≡◌, is_some, OnOk};
 ghost use Rattle.std.specs.Option.{option_copied};
 
 use crate::next_chain::NextChain;
@@ -124,15 +124,16 @@ impl Lineage {
         Ok(())
     }
 
-    /// Both sides share the chain that this one shows.
-    pub(crate) fn unsplit(&self, side: Side) -> Result<Lineage, AllocError>
-        ensures { IfOk result (λ l. l ≡ unsplit side self.now) }
+    /// Both sides share the chain that this one shows. Without memory the lineage may be any.
+    pub(crate) fn unsplit(&mut self, side: Side) -> Result<(), AllocError>
+        ensures { OnOk result (self.new ≡ unsplit side self.old) }
     {
-        let current = self.chain(side).share()?;
-        Ok(Lineage {
-            current,
-            next: None,
-        })
+        match side {
+            Side::Current => {}
+            Side::Next => self.current = self.next_chain().share()?,
+        }
+        self.next = None;
+        Ok(())
     }
 }
 

@@ -1,13 +1,12 @@
-ghost use Rattle.std.specs.Prelude.{◌≡◌, [], ℤ, true, IsTrue, IsSome, IfOk, IfSome, OnOk};
+ghost use Rattle.std.specs.Prelude.{◌≡◌, [], ℤ, IsTrue, IfOk, IfSome, OnOk};
 ghost use Rattle.std.specs.List.{All};
 ghost use Rattle.std.specs.Option.{option_copied};
 ghost use Rattle.std.specs.Ordering.{int_cmp};
 ghost use Rattle.std.specs.FinMap.Entries.{find, put, is_sorted};
-ghost use Rattle.tt_versions.specs.declared.lineage.Lineage.{Lineage};
 ghost use Rattle.tt_versions.specs.Lineage.{with_write_on, split_back};
-ghost use Rattle.tt_versions.specs.Index.{IsStored, ListsRow, KeepsRows, LineageHas, ListsTableBut, HaveKey, HaveKeysIn};
+ghost use Rattle.tt_versions.specs.Index.{IsStored, ListsRow, KeepsRows, LineageHas, HaveKey, HaveKeysIn};
 ghost use Rattle.tt_versions.specs.Pages.{those_after};
-ghost use Rattle.tt_versions.specs.Sides.{lineage_at, is_split, with_writes, StaysSplit, HasSplitKeysBut, MarksKey, UnsplitsKeys, UnsplitsRow};
+ghost use Rattle.tt_versions.specs.Sides.{lineage_at, is_split, with_writes, StaysSplit, MarksKey, UnsplitsKeys, UnsplitsRow};
 
 use crate::index::Index;
 use crate::indexed_column::{IndexedColumn, KeySet};
@@ -15,7 +14,7 @@ use crate::lineage::Lineage;
 use crate::row_write::RowWrite;
 use crate::side::Side;
 use crate::split_back::SplitBack;
-use crate::taking::{put_value, take_value};
+use crate::unsplit::Unsplit;
 use crate::walk::iter_after;
 use std::alloc::{AllocError, Global};
 use std::marker::Model;
@@ -84,7 +83,7 @@ impl Lineages {
         iter_after(&self.entries, after)
     }
 
-    /// A further owner of the same pages.
+    /// Another owner of the same pages.
     pub(crate) fn share(&self) -> Result<Lineages, AllocError>
         ensures { IfOk result (λ m. m ≡ self.now) }
     {
@@ -111,32 +110,6 @@ impl Lineages {
         ensures { IfSome result (λ keys. HaveKeysIn self.now keys.now equals.now) }
     {
         self.index.keys_for(equals)
-    }
-
-    /// The row with the key, or none, is written at the time on that side.
-    pub(crate) fn with_write(
-        self,
-        side: Side,
-        key: i64,
-        row: Option<Row>,
-        time: u64,
-    ) -> Result<Lineages, AllocError>
-        ensures { IfOk result (λ m.
-            let lineage = with_write_on side row time (lineage_at self key) in
-            m ≡ put int_cmp key lineage self) }
-    {
-        let Lineages {
-            alloc,
-            mut entries,
-            split_keys,
-            mut index,
-        } = self;
-        let (mut lineage, is_there) = take_lineage(alloc, &mut entries, key)?;
-        let write = RowWrite { side, row, time };
-        list_row(&mut index, &lineage, key, &write)?;
-        lineage.write(write)?;
-        let taken = TakenLineage { lineage, is_there };
-        with_lineage(alloc, entries, split_keys, index, key, taken)
     }
 
     /// Writes rows with these keys, or none, at the time on that side. On the next side they are
@@ -191,23 +164,22 @@ impl Lineages {
         }
     }
 
-    /// Each lineage is unsplit: both sides show what this one shows.
-    pub(crate) fn unsplit(self, side: Side) -> Result<Lineages, AllocError>
-        ensures { IfOk result (UnsplitsRows side self) }
+    /// Unsplits each lineage: both sides show what this one shows. Without memory there are no
+    /// lineages afterwards.
+    pub(crate) fn unsplit(&mut self, side: Side) -> Result<(), AllocError>
+        ensures { OnOk result (UnsplitsRows side self.old self.new) }
     {
-        let Lineages {
-            alloc,
-            mut entries,
-            split_keys,
-            index,
-        } = self;
-        unsplit_keys(&mut entries, &split_keys, side)?;
-        Ok(Lineages {
-            alloc,
-            entries,
-            split_keys: PagedMap::new(alloc),
-            index,
-        })
+        match unsplit_keys(&mut self.entries, &self.split_keys, side) {
+            Ok(()) => {
+                self.split_keys = PagedMap::new(self.alloc);
+                Ok(())
+            }
+            Err(AllocError) => {
+                self.entries = PagedMap::new(self.alloc);
+                self.split_keys = PagedMap::new(self.alloc);
+                Err(AllocError)
+            }
+        }
     }
 }
 
@@ -293,22 +265,6 @@ fn write_row(
     }
 }
 
-/// Takes the lineage of a row out of the map, and leaves an empty one. Answers whether the map has
-/// the key.
-fn take_lineage(
-    alloc: Global,
-    entries: &mut PagedMap<Lineage>,
-    key: i64,
-) -> Result<(Lineage, bool), AllocError>
-    ensures lineage { IfOk result (λ r. r.0 ≡ lineage_at entries.old key) }
-    ensures there { IfOk result (λ r. IsTrue r.1 → IsSome (find int_cmp key entries.new)) }
-    ensures others { OnOk result ((l : Lineage)
-        → put int_cmp key l entries.new ≡ put int_cmp key l entries.old) }
-{
-    let (lineage, is_there) = take_value(entries, key, Lineage::new(alloc))?;
-    Ok((lineage, is_there))
-}
-
 /// Lists the row of a write in the index, if there is one. The lineage is the one that is to get
 /// it.
 fn list_row(
@@ -342,52 +298,12 @@ fn is_listed(index: &Index, lineage: &Lineage, side: Side, row: &Row, time: u64)
     }
 }
 
-/// A lineage that was taken out of a map, and whether the map has its key.
-#[derive(Drop)]
-struct TakenLineage {
-    lineage: Lineage,
-    is_there: bool,
-}
-
-/// The map with that lineage at the key.
-fn with_lineage(
-    alloc: Global,
-    entries: PagedMap<Lineage>,
-    split_keys: KeySet,
-    index: Index,
-    key: i64,
-    taken: TakenLineage,
-) -> Result<Lineages, AllocError>
-    requires there { IsTrue taken.is_there → IsSome (find int_cmp key entries) }
-    requires others { HasSplitKeysBut key split_keys entries }
-    requires listed_others { ListsTableBut key index entries }
-    requires listed { LineageHas (ListsRow index key) taken.lineage }
-    ensures { IfOk result (λ m. m ≡ put int_cmp key taken.lineage entries) }
-{
-    let TakenLineage { lineage, is_there } = taken;
-    let mut entries = entries;
-    let mut split_keys = split_keys;
-    mark(&mut split_keys, key, lineage.is_split())?;
-    put_value(&mut entries, key, lineage, is_there)?;
-    Ok(Lineages {
-        alloc,
-        entries,
-        split_keys,
-        index,
-    })
-}
-
-/// Puts a key into a set, or removes it.
+/// Puts the key of a split row into the set.
 #[tactic(auto, using(crate::proofs::UnsplitLemmas::marks))]
-fn mark(keys: &mut KeySet, key: i64, is_member: bool) -> Result<(), AllocError>
-    ensures { OnOk result (MarksKey key is_member keys.old keys.new) }
+fn mark(keys: &mut KeySet, key: i64) -> Result<(), AllocError>
+    ensures { OnOk result (MarksKey key keys.old keys.new) }
 {
-    if is_member {
-        keys.put(key, ())?;
-    } else {
-        keys.remove(key)?;
-    }
-    Ok(())
+    keys.put(key, ())
 }
 
 /// Lists the key as split, splits its lineage, and rolls the next side of that back to before the
@@ -399,11 +315,11 @@ fn split_row_back(
     key: i64,
     time: u64,
 ) -> Result<(), AllocError>
-    ensures keys { OnOk result (MarksKey key true split_keys.old split_keys.new) }
+    ensures keys { OnOk result (MarksKey key split_keys.old split_keys.new) }
     ensures entries { OnOk result (entries.new
         ≡ put int_cmp key (split_back time (lineage_at entries.old key)) entries.old) }
 {
-    mark(split_keys, key, true)?;
+    mark(split_keys, key)?;
     split_entry(alloc, entries, key, time)?;
     Ok(())
 }
@@ -447,9 +363,8 @@ fn unsplit_keys(
 fn unsplit_at(entries: &mut PagedMap<Lineage>, key: i64, side: Side) -> Result<(), AllocError>
     ensures { OnOk result (UnsplitsRow side key entries.old entries.new) }
 {
-    let Some(lineage) = entries.get(key) else {
-        return Ok(());
-    };
-    let lineage = lineage.unsplit(side)?;
-    entries.put(key, lineage)
+    match entries.get(key) {
+        Some(_) => entries.change(key, Unsplit { side }),
+        None => Ok(()),
+    }
 }

@@ -44,7 +44,7 @@ impl NextChain {
         Arc::make_mut(&mut self.chain)?.write(row, time)
     }
 
-    /// A further owner of the same chain.
+    /// Another owner of the same chain.
     #[inline(always)]
     pub(crate) fn share(&self) -> Result<NextChain, AllocError>
         ensures { IfOk result (λ n. n ≡ self.now) }

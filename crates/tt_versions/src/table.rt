@@ -1,10 +1,9 @@
-ghost use Rattle.std.specs.Prelude.{◌≡◌, true, false, IsTrue, IfOk, OnOk, if◌then◌else◌};
+ghost use Rattle.std.specs.Prelude.{◌≡◌, true, false, IfOk, OnOk};
 ghost use Rattle.std.specs.List.{All};
 ghost use Rattle.std.specs.Option.{option_copied, unwrap_or};
-ghost use Rattle.std.specs.Ordering.{int_cmp};
-ghost use Rattle.std.specs.FinMap.Entries as sorted;
 
 mod page;
+mod persistent;
 
 use crate::indexed_column::{IndexedColumn, KeySet};
 use crate::lineage::Lineage;
@@ -17,9 +16,9 @@ use tt_values::{Equal, Few, Row, matches};
 /// A table of multi-version rows, with a current and a next side. Contracts see the lineages of its
 /// rows by key, and speak of them by `side_of` and `is_split`.
 ///
-/// A changing call answers a new table, and its only error is that there is no memory. Tables share
-/// what they have in common. A call on `&self` leaves this table as it is; one whose name begins
-/// with `into` takes it over, and copies only what other tables share with it.
+/// Tables share what they have in common. A call on `&mut self` changes in place what no other table
+/// shares, and copies the rest; a call on `&self` leaves this table as it is, and changes another
+/// owner of the same rows. The only error is that there is no memory.
 #[derive(Debug)]
 pub struct Table {
     alloc: Global,
@@ -45,11 +44,11 @@ impl Model for Table {
 }
 
 impl Table {
-    ghost use Rattle.tt_versions.specs.Lineage.{unwritten, with_write_on};
-    ghost use Rattle.tt_versions.specs.Sides.{no_lineages, lineage_at, side_of, current_of, next_of, is_split, written_from, all_written_from, whole_among, rolled_back_from, just_before, no_rows, none_split, with_key, rows_behind, ListsRows};
+    ghost use Rattle.tt_versions.specs.Lineage.{unwritten};
+    ghost use Rattle.tt_versions.specs.Sides.{no_lineages, lineage_at, side_of, current_of, next_of, is_split, all_written_from, whole_among, rolled_back_from, just_before, no_rows, none_split, with_key, rows_behind, ListsRows};
     ghost use Rattle.tt_versions.specs.Matching.{if_matching, ListsMatches, ListsMatchingRows};
     ghost use Rattle.tt_versions.specs.Index.{HaveKey, HaveKeysIn};
-    ghost use Rattle.tt_versions.specs.RowsByWrites.{AddsRowWrite, AddsRowWritesOf, DropsRowWrites, ListsContent};
+    ghost use Rattle.tt_versions.specs.RowsByWrites.{AddsRowWritesOf, DropsRowWrites, ListsContent};
 
     /// A table without rows. Takes no memory; what the other calls take comes from this allocator.
     #[tactic(auto, using(crate::proofs::LawProofs::empty_table))]
@@ -239,7 +238,7 @@ impl Table {
         }
     }
 
-    /// A further owner of the same rows. Copies none of them.
+    /// Another owner of the same rows. Copies none of them.
     pub fn share(&self) -> Result<Table, AllocError>
         ensures { IfOk result (λ t. t ≡ self.now) }
     {
@@ -250,101 +249,8 @@ impl Table {
         })
     }
 
-    /// As [`written`](Table::written), of a table that isn't needed any more.
-    #[tactic(auto, using(crate::proofs::SidesLemmas::writes))]
-    pub fn into_written(self, key: i64, row: Option<Row>, time: u64) -> Result<Table, AllocError>
-        ensures current { IfOk result (λ t.
-            current_of t ≡ written_from key row time (current_of self)) }
-        ensures next { IfOk result (λ t. next_of t ≡ (if is_split self key
-            then next_of self else written_from key row time (next_of self))) }
-        ensures split { IfOk result (λ t. is_split t ≡ is_split self) }
-        ensures current_adds { IfOk result (λ t.
-            AddsRowWrite (current_of self) (current_of t) key row time) }
-        ensures next_adds { IfOk result (λ t. is_split self key ≡ false
-            → AddsRowWrite (next_of self) (next_of t) key row time) }
-    {
-        let table = self.with_write(Side::Current, key, row, time)?;
-        Ok(table)
-    }
-
-    /// Each of these keys has its row, or none, from the time on, as by one
-    /// [`written`](Table::written) after another, of a table that isn't needed any more.
-    pub fn into_all_written(
-        self,
-        rows: Few<(i64, Option<Row>)>,
-        time: u64,
-    ) -> Result<Table, AllocError>
-        ensures current { IfOk result (λ t.
-            current_of t ≡ all_written_from rows time (current_of self)) }
-        ensures next { IfOk result (λ t. next_of t
-            ≡ all_written_from (whole_among (is_split self) rows) time (next_of self)) }
-        ensures split { IfOk result (λ t. is_split t ≡ is_split self) }
-        ensures current_adds { IfOk result (λ t.
-            AddsRowWritesOf (current_of self) (current_of t) rows time) }
-        ensures next_adds { IfOk result (λ t. AddsRowWritesOf (next_of self) (next_of t)
-            (whole_among (is_split self) rows) time) }
-    {
-        let mut table = self;
-        table.write_all(rows, time)?;
-        Ok(table)
-    }
-
-    /// As [`split_back`](Table::split_back), of a table that isn't needed any more.
-    pub fn into_split_back(self, key: i64, time: u64) -> Result<Table, AllocError>
-        ensures current { IfOk result (λ t. current_of t ≡ current_of self) }
-        ensures next { IfOk result (λ t. next_of t ≡ rolled_back_from key time (next_of self)) }
-        ensures split { IfOk result (λ t. is_split t ≡ with_key key (is_split self)) }
-        ensures next_drops { IfOk result (λ t.
-            DropsRowWrites (next_of self) (next_of t) key time) }
-    {
-        let mut table = self;
-        table.split_row_back(key, time)?;
-        Ok(table)
-    }
-
-    /// As [`next_written`](Table::next_written), of a table that isn't needed any more.
-    #[tactic(auto, using(crate::proofs::SidesLemmas::writes))]
-    pub fn into_next_written(
-        self,
-        key: i64,
-        row: Option<Row>,
-        time: u64,
-    ) -> Result<Table, AllocError>
-        requires { IsTrue (is_split self key) }
-        ensures current { IfOk result (λ t. current_of t ≡ current_of self) }
-        ensures next { IfOk result (λ t. next_of t ≡ written_from key row time (next_of self)) }
-        ensures split { IfOk result (λ t. is_split t ≡ is_split self) }
-        ensures next_adds { IfOk result (λ t.
-            AddsRowWrite (next_of self) (next_of t) key row time) }
-    {
-        let table = self.with_write(Side::Next, key, row, time)?;
-        Ok(table)
-    }
-
-    /// Each of these keys, whose rows are split, has its row, or none, from the time on, only on
-    /// the next side, as by one [`next_written`](Table::next_written) after another, of a table
-    /// that isn't needed any more.
-    pub fn into_all_next_written(
-        self,
-        rows: Few<(i64, Option<Row>)>,
-        time: u64,
-    ) -> Result<Table, AllocError>
-        requires { All (λ e. is_split self e.0 ≡ true) rows }
-        ensures current { IfOk result (λ t. current_of t ≡ current_of self) }
-        ensures next { IfOk result (λ t.
-            next_of t ≡ all_written_from rows time (next_of self)) }
-        ensures split { IfOk result (λ t. is_split t ≡ is_split self) }
-        ensures next_adds { IfOk result (λ t.
-            AddsRowWritesOf (next_of self) (next_of t) rows time) }
-    {
-        let mut table = self;
-        table.write_all_next(rows, time)?;
-        Ok(table)
-    }
-
-    /// Gives each of these keys its row, or none, from the time on, in place: as
-    /// [`into_all_written`](Table::into_all_written). Without memory nothing is promised of the
-    /// rows.
+    /// Gives each of these keys its row, or none, from the time on, in place: as by one
+    /// [`written`](Table::written) after another. Without memory nothing is promised of the rows.
     #[tactic(auto, using(crate::proofs::SidesLemmas::writes_all))]
     pub fn write_all(&mut self, rows: Few<(i64, Option<Row>)>, time: u64) -> Result<(), AllocError>
         ensures current { OnOk result
@@ -363,7 +269,7 @@ impl Table {
 
     /// Splits a row, and rolls its next side back to before the time, in place: as
     /// [`split_back`](Table::split_back). Without memory nothing is promised of the rows.
-    #[tactic(auto, using(crate::proofs::SidesLemmas::writes))]
+    #[tactic(auto, using(crate::proofs::SidesLemmas::splits_back))]
     pub fn split_row_back(&mut self, key: i64, time: u64) -> Result<(), AllocError>
         ensures current { OnOk result (current_of self.new ≡ current_of self.old) }
         ensures next { OnOk result
@@ -377,8 +283,8 @@ impl Table {
     }
 
     /// Gives each of these keys, whose rows are split, its row, or none, from the time on, only on
-    /// the next side, in place: as [`into_all_next_written`](Table::into_all_next_written). Without
-    /// memory nothing is promised of the rows.
+    /// the next side, in place: as by one [`next_written`](Table::next_written) after another.
+    /// Without memory nothing is promised of the rows.
     #[tactic(auto, using(crate::proofs::SidesLemmas::writes_all_next))]
     pub fn write_all_next(
         &mut self,
@@ -397,51 +303,35 @@ impl Table {
         Ok(())
     }
 
-    /// As [`switched`](Table::switched), of a table that isn't needed any more.
-    pub fn into_switched(self) -> Result<Table, AllocError>
-        ensures current { IfOk result (λ t. current_of t ≡ next_of self) }
-        ensures next { IfOk result (λ t. next_of t ≡ next_of self) }
-        ensures split { IfOk result (λ t. is_split t ≡ none_split) }
+    /// Makes the next side the current one, in place: as [`switched`](Table::switched). Without
+    /// memory nothing is promised of the rows.
+    pub fn switch(&mut self) -> Result<(), AllocError>
+        ensures current { OnOk result (current_of self.new ≡ next_of self.old) }
+        ensures next { OnOk result (next_of self.new ≡ next_of self.old) }
+        ensures split { OnOk result (is_split self.new ≡ none_split) }
     {
         self.unsplit(Side::Next)
     }
 
-    /// As [`aborted`](Table::aborted), of a table that isn't needed any more.
-    pub fn into_aborted(self) -> Result<Table, AllocError>
-        ensures current { IfOk result (λ t. current_of t ≡ current_of self) }
-        ensures next { IfOk result (λ t. next_of t ≡ current_of self) }
-        ensures split { IfOk result (λ t. is_split t ≡ none_split) }
+    /// Gives up the next side for the current one, in place: as [`aborted`](Table::aborted).
+    /// Without memory nothing is promised of the rows.
+    pub fn abort(&mut self) -> Result<(), AllocError>
+        ensures current { OnOk result (current_of self.new ≡ current_of self.old) }
+        ensures next { OnOk result (next_of self.new ≡ current_of self.old) }
+        ensures split { OnOk result (is_split self.new ≡ none_split) }
     {
         self.unsplit(Side::Current)
     }
 
-    /// The row, or none, is written at the time on that side.
-    fn with_write(
-        self,
-        side: Side,
-        key: i64,
-        row: Option<Row>,
-        time: u64,
-    ) -> Result<Table, AllocError>
-        ensures { IfOk result (λ t.
-            let lineage = with_write_on side row time (lineage_at self key) in
-            t ≡ sorted.put int_cmp key lineage self) }
-    {
-        let Table { alloc, lineages } = self;
-        let lineages = lineages.with_write(side, key, row, time)?;
-        Ok(Table { alloc, lineages })
-    }
-
     /// Both sides show what this one shows, and no row is split.
     #[tactic(auto, using(crate::proofs::UnsplitLemmas::unsplit_sides))]
-    fn unsplit(self, side: Side) -> Result<Table, AllocError>
-        ensures current { IfOk result (λ t. current_of t ≡ side_of self side) }
-        ensures next { IfOk result (λ t. next_of t ≡ side_of self side) }
-        ensures split { IfOk result (λ t. is_split t ≡ none_split) }
+    fn unsplit(&mut self, side: Side) -> Result<(), AllocError>
+        ensures current { OnOk result (current_of self.new ≡ side_of self.old side) }
+        ensures next { OnOk result (next_of self.new ≡ side_of self.old side) }
+        ensures split { OnOk result (is_split self.new ≡ none_split) }
     {
-        let Table { alloc, lineages } = self;
-        let lineages = lineages.unsplit(side)?;
-        Ok(Table { alloc, lineages })
+        self.lineages.unsplit(side)?;
+        Ok(())
     }
 
     /// The lineage of the row with the key, if it was ever written.

@@ -83,7 +83,7 @@ impl VersionChain {
         keep_before(self.alloc, &mut self.older, time)
     }
 
-    /// A further owner of the same versions.
+    /// Another owner of the same versions.
     #[inline(always)]
     pub(crate) fn share(&self) -> Result<VersionChain, AllocError>
         ensures { IfOk result (λ c. c ≡ self.now) }
@@ -104,7 +104,7 @@ impl VersionChain {
     }
 }
 
-/// A clone is a further owner of the same versions.
+/// A clone is another owner of the same versions.
 impl Clone for VersionChain {
     ghost use Rattle.std.specs.Prelude.{◌≡◌};
 

@@ -132,7 +132,7 @@ impl VersionLog {
     }
 }
 
-/// A clone is a further owner of the same versions.
+/// A clone is another owner of the same versions.
 impl Clone for VersionLog {
     ghost use Rattle.std.specs.Prelude.{◌≡◌};
 

@@ -12,7 +12,7 @@ use Rattle.std.specs.contracts.alloc.Global as heap
 use Rattle.tt_values.specs.contracts.statement.Select as select_type
 use Rattle.tt_document.specs.contracts.document.Ask as ask_type
 use Rattle.tt_document.specs.contracts.document.Call as call_type
-use Rattle.tt_document.specs.contracts.fault.DocFault as document_fault_type
+use Rattle.tt_grammar.specs.contracts.fault.DocFault as document_fault_type
 use Rattle.tt_records.specs.contracts.record.What as what_type
 use Rattle.tt_records.specs.contracts.record.Record as record_type
 use Rattle.tt_workload.specs.contracts.run_fault.RunFault as fault_type

@@ -1,7 +1,7 @@
 use tt_repair::Record;
 
-/// A call with its answer, as it is recorded, and the length of the front of the history at which
-/// the answer is right.
+/// A call as it is recorded, with its reply, and the length of the front of the history at which
+/// the record is right.
 #[derive(Drop)]
 pub(crate) struct AnsweredCall {
     pub(crate) answer: Record,

@@ -21,7 +21,7 @@ use tt_store::{Answer, Gate, Naming, Store, Worker, Written};
 use tt_values::{Items, Select, Write};
 use tt_workload::RunFault;
 
-/// What a call is answered, and the length of the front at which the answer is right.
+/// What is recorded of a call, and the length of the front at which this is right.
 #[derive(Drop)]
 pub(crate) struct Made {
     pub(crate) what: What,
@@ -103,7 +103,7 @@ fn write<L: Naming, G: Gate + Drop, R: Wait + Drop>(
     }
 }
 
-/// Answers a select: at a time, or now where none is given.
+/// Makes a select: at a time, or now where none is given.
 #[tactic(auto, using(crate::proofs::CallLemmas::made_read))]
 fn read<L: Naming>(
     alloc: Global,
@@ -182,7 +182,7 @@ fn preview<L: Naming>(
     })
 }
 
-/// What a read is answered: rows, or the refusal of a time that is still to come.
+/// What is recorded of a read: rows, or the refusal of a time that is still to come.
 fn what_of_read(
     alloc: Global,
     select: Select,
@@ -203,7 +203,7 @@ fn what_of_read(
     }
 }
 
-/// What a preview is answered: rows, or the refusal where no repair is under way.
+/// What is recorded of a preview: rows, or the refusal where no repair is under way.
 fn what_of_preview(alloc: Global, answer: Result<Answer, ReadError>) -> Result<What, RunFault>
     ensures answer { IfOk result (λ what. what_of_preview answer ≡ Some what) }
     ensures none { IfErr result (λ e. what_of_preview answer ≡ None) }

@@ -13,7 +13,7 @@ use tt_store::{Closed, Gate, Naming, Store, Worker};
 use tt_values::Shared;
 use tt_workload::RunFault;
 
-/// Closes a store with all of its workers. Answers the last database.
+/// Closes a store with all of its workers. Returns the last database.
 pub(crate) fn close<L: Naming, G: Gate + Drop, R: Wait + Drop>(
     rt: &impl Wait,
     alloc: Global,

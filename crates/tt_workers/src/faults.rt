@@ -31,7 +31,7 @@ pub(crate) fn fault_of_call(alloc: Global, error: StoreError) -> RunFault
     }
 }
 
-/// The fault where a read isn't answered.
+/// The fault where a read fails.
 pub(crate) fn fault_of_read(alloc: Global, error: ReadError) -> RunFault
     ensures fault { IsStoreFault result }
     ensures memory { error ≡ ReadError.Memory → result ≡ RunFault.Memory }

@@ -8,13 +8,13 @@ use tt_values::Shared;
 /// The result of a run in threads. The records stand by rising call.
 #[derive(Drop)]
 pub struct Report {
-    /// The calls as they were answered, by number from 1 on.
+    /// The calls with their replies, by number from 1 on.
     pub records: Vec<Record>,
-    /// For each record in turn, the length of the front of the history at which its answer is right.
+    /// For each record in turn, the length of the front of the history at which it is right.
     pub fronts: Vec<u64>,
     /// The repair, if the document has one.
     pub repaired: Option<Repaired>,
-    /// The calls that would be answered otherwise now.
+    /// The calls that have other replies now.
     pub changes: Vec<Changed>,
     /// The last database, with the one history.
     pub db: Shared<Db>,

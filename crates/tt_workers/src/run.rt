@@ -37,7 +37,7 @@ use tt_workload::{Options, RunFault, edits_of_slots};
 /// Runs a document in threads, on a store of its own: each worker makes its calls in a thread of
 /// its own. If the document has a repair, an administrator, numbered after the last worker, makes
 /// it: its beginning, its steps and its switch, and nothing else. Each call of a worker passes the
-/// gate at `Point::Answered` when it has its answer. All threads are joined, also where the store
+/// gate at `Point::Answered` when it has returned. All threads are joined, also where the store
 /// refuses a call; then there is no report.
 pub fn run_workers<R: Threads + Wait + Sync, G: Gate + Copy + Drop + Send + Sync>(
     rt: &R,
@@ -134,7 +134,7 @@ fn run_on<
     report_of(alloc, records, repaired, db)
 }
 
-/// Makes the calls of a document, and its repair if it has one. Answers the workers, the
+/// Makes the calls of a document, and its repair if it has one. Returns the workers, the
 /// administrator last.
 fn make_all<L: Naming + Send + Sync, R: Threads + Wait + Sync, G: Gate + Copy + Drop + Send + Sync>(
     context: &RunContext<'_, '_, L, G, R>,
@@ -200,7 +200,7 @@ fn make_calls<
 }
 
 /// Lets the administrator make the repair of a document beside the workers' calls of `meanwhile`,
-/// and pushes the records of these. Answers the workers, the administrator last.
+/// and pushes the records of these. Returns the workers, the administrator last.
 fn make_repair<
     L: Naming + Send + Sync,
     R: Threads + Wait + Sync,

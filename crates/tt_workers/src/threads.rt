@@ -69,7 +69,7 @@ fn in_threads<
     Ok(results)
 }
 
-/// Collects the runs into an empty list that has room for them, or answers the first fault.
+/// Collects the runs into an empty list that has room for them, or returns the first fault.
 fn collect_runs<L: Naming>(
     runs: Vec<WorkerRun<L>>,
     results: Vec<Result<WorkerRun<L>, RunFault>>,

@@ -23,7 +23,7 @@ use Rattle.tt_document.specs.declared.document.Plan.{Plan}
 use Rattle.tt_document.specs.Document.{edit_fault, IsValidEdit, AreForOtherCalls, IsValidPlan}
 use Rattle.tt_workload.specs.History.{before_calls, after_calls, records_of_calls, slot_of_call, edit_of_slot}
 use Rattle.tt_workload.specs.Room.{IsBefore}
-use Rattle.tt_workload.proofs.RepairLemmas.{full_at-below}
+use Rattle.tt_db.proofs.EntryLemmas.{full_at-below}
 use Rattle.tt_workload.proofs.SlotLemmas.{asking, asks_at, slot_at, slots_of, slot_at-least, slot_at-most, slot_at-once, records_of-slot, asks_at-action, now-after_calls}
 
 -- an edit of a call that asks for an action

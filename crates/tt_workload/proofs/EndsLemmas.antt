@@ -7,9 +7,9 @@ use Rattle.std.proofs.lemmas.Bool.{lt-ltb, le-ltb}
 use Rattle.std.proofs.lemmas.Str.{IsUtf8-from_is_utf8, is_utf8-from_IsUtf8}
 use Rattle.std.specs.Io.KnownBytes.{Consumes, IsAtEnd}
 use Rattle.std.proofs.KnownBytes.{Consumes-trans}
-use Rattle.tt_document.specs.Fault.{document_fault}
+use Rattle.tt_grammar.specs.Fault.{document_fault}
 use Rattle.std.specs.Prelude.{Err}
-use Rattle.tt_document.specs.TextValue.{json_of_bytes}
+use Rattle.tt_grammar.specs.TextValue.{json_of_bytes}
 use Rattle.tt_document.specs.Document.{document_of_text}
 use Rattle.tt_workload.specs.Ends.{max_document_bytes, document_of_bytes, ConsumesAtMost}
 

@@ -5,12 +5,12 @@ use Rattle.std.proofs.lemmas.List.{replicate-append-replicate}
 use Rattle.tt_values.specs.declared.statement.Write.{Write}
 use Rattle.tt_values.specs.RowWrites.{Slots}
 use Rattle.tt_values.specs.Check.{action_fault}
+use Rattle.tt_repair_laws.specs.declared.edit.Edit.{Edit}
 use Rattle.tt_generations.specs.TwoGenerations.{Phase, Idle, Repairing, is_repairing, left_of, phase_after_step}
 use Rattle.tt_db.specs.declared.event.Entry.{Entry}
 use Rattle.tt_db.specs.declared.event.Event.TheVariants as events
 use Rattle.tt_db.specs.declared.errors.DbError.TheVariants as errors
 use Rattle.tt_db.specs.declared.limits.Limits.{Limits}
-use Rattle.tt_repair_laws.specs.declared.edit.Edit.{Edit}
 use Rattle.tt_db.specs.State.{State, after, next_state, now_of, slots_left, full_at}
 use Rattle.tt_db.specs.Database.{Database, state_of, with_entry, refusal_of}
 use Rattle.tt_records.specs.declared.record.Record.{Record}
@@ -20,14 +20,7 @@ use Rattle.tt_document.specs.declared.document.Ask.TheVariants as asks
 use Rattle.tt_workload.specs.Records.{record_in, kept}
 use Rattle.tt_workload.specs.History.{with_entries, entries_of_ask, entries_of, repair_entry, steps, with_batch, with_meanwhile, records_of, records_meanwhile}
 use Rattle.tt_workload.specs.Room.{HasRoom, IsBefore, IsUnderWay}
-use Rattle.tt_workload.proofs.SlotLemmas.{after-push}
-
-pub full_at-below : (count limit : ℕ) → count < limit → full_at count limit ≡ None
-full_at-below count limit below = by (count == limit) refl
-  where
-    by : (b : Bool) → (count == limit) ≡ b → (if b then Some (errors.Full limit) else None) ≡ None
-    by true e = let clash : count ≡ limit = grind (arith, nat_tests) in absurd (omega (arith, clash, below))
-    by false e = refl
+use Rattle.tt_db.proofs.EntryLemmas.{after-push, full_at-below, is_after_step}
 
 -- where there is room, an action that the tables accept isn't refused
 pub is_accepted : (db : Database) (action : List Write) → action_fault db.catalog action ≡ None → HasRoom db → refusal_of db (events.Write action) ≡ None
@@ -117,33 +110,6 @@ under_way-begun calls db worker edits is =
     }
 
 -- ---- steps
-
-left-step : (p : Phase) (W : Slots) → is_repairing p ≡ true → 0 < left_of p W → left_of (phase_after_step p) W + 1 ≡ left_of p W
-left-step Idle W repairing some = cc
-left-step (Repairing edits n) W repairing some = omega (arith, some)
-
-repairing-step : (p : Phase) → is_repairing (phase_after_step p) ≡ is_repairing p
-repairing-step Idle = refl
-repairing-step (Repairing edits n) = refl
-
--- what a step adds: an entry, for a slot that was left
-pub record IsAfterStep (S T : State) : Type 0 where
-  pub repairing : is_repairing T.phase ≡ true
-  pub slots : now_of T ≡ now_of S
-  pub events : T.events ≡ S.events + 1
-  pub left : slots_left T + 1 ≡ slots_left S
-
-pub is_after_step : (db : Database) (worker : ℕ) → is_repairing (state_of db).phase ≡ true → 0 < slots_left (state_of db)
-    → IsAfterStep (state_of db) (state_of (with_entry db (repair_entry worker events.Step)))
-is_after_step db worker repairing some =
-    let S = state_of db in
-    let next : IsAfterStep S (next_state db.limits S events.Step) = record {
-      repairing = repairing-step S.phase ∙ repairing;
-      slots = refl;
-      events = refl;
-      left = left-step S.phase S.slots repairing some;
-    } in
-    subst (IsAfterStep S) (sym (after-push db.limits db.history _)) next
 
 pub under_way-step : (calls : ℕ) (db : Database) (worker : ℕ) → 0 < slots_left (state_of db) → IsUnderWay calls db → IsUnderWay calls (with_entry db (repair_entry worker events.Step))
 under_way-step calls db worker some is =

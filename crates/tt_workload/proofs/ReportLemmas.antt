@@ -3,24 +3,24 @@ use Rattle.std.proofs.Common.{◌≡◌, ℕ, zero, suc, ◌<◌, ◌+◌, ◌==
 use Rattle.std.proofs.lemmas.Bool.Decides.{nat_tests}
 use Rattle.tt_values.specs.declared.statement.Write.{Write}
 use Rattle.tt_values.specs.Check.{action_fault}
+use Rattle.tt_values.specs.declared.table.TableDef.{TableDef}
+use Rattle.tt_values.specs.Tables.{Tables}
 use Rattle.tt_db.specs.declared.event.Event.TheVariants as events
 use Rattle.tt_db.specs.declared.errors.DbError.TheVariants as errors
 use Rattle.tt_db.specs.State.{full_at, now_of}
-use Rattle.tt_values.specs.declared.table.TableDef.{TableDef}
-use Rattle.tt_values.specs.Tables.{Tables}
 use Rattle.tt_db.specs.State.{State}
 use Rattle.std.specs.Option.{option_map}
 use Rattle.tt_db.specs.Limits.{max_limits}
 use Rattle.tt_db.specs.Database.{Database, state_of, refusal_of}
+use Rattle.tt_records.specs.declared.changed.Changed.{Changed}
 use Rattle.tt_document.specs.declared.document.Document.{Document}
 use Rattle.tt_document.specs.declared.document.Call.{Call}
-use Rattle.tt_document.specs.Document.{IsValidCall, IsValidDocument}
 use Rattle.std.specs.List.{AllByRecursion}
 use Rattle.std.proofs.lemmas.List.Elements.{recursion_from_All}
+use Rattle.tt_document.specs.Document.{IsValidCall, IsValidDocument}
 use Rattle.tt_workload.specs.declared.run_fault.RunFault.{RunFault}
-use Rattle.tt_workload.specs.declared.run_fault.RunFault.TheVariants.{Memory}
 use Rattle.std.specs.Fmt.{decimal}
-use Rattle.tt_records.specs.declared.changed.Changed.{Changed}
+use Rattle.tt_workload.specs.declared.run_fault.RunFault.TheVariants.{Memory}
 use Rattle.tt_workload.specs.Printing.{replies_text}
 use Rattle.tt_workload.specs.Records.{after_text, text_of_change}
 use Rattle.tt_workload.specs.Room.{AreAccepted}

@@ -1,11 +1,12 @@
 -- A run that ends while its report is written.
 use Rattle.std.proofs.Common.{◌≡◌, List, ℕ, Option, Some, None, Result, Ok, Err, IfErr, IfSome, sym, subst}
+use Rattle.tt_streams.specs.Writing.{AppendsPrefix}
 use Rattle.tt_document.specs.declared.document.Document.{Document}
 use Rattle.tt_workload.specs.declared.run_fault.RunFault.{RunFault}
 use Rattle.tt_workload.specs.declared.run_fault.RunFault.TheVariants as faults
 use Rattle.tt_workload.specs.declared.options.Options.{Options}
 use Rattle.tt_workload.specs.Report.{report_of}
-use Rattle.tt_workload.specs.Ends.{AppendsPrefix, ReadsDocument}
+use Rattle.tt_workload.specs.Ends.{ReadsDocument}
 use Rattle.tt_workload.specs.Run.{EndsEarly, WritesPrefix}
 
 -- a prefix of the report was written

@@ -7,6 +7,7 @@ use Rattle.tt_db.specs.declared.event.Entry.{Entry}
 use Rattle.tt_db.specs.declared.limits.Limits.{Limits}
 use Rattle.tt_db.specs.State.{State, start, after, next_state, now_of}
 use Rattle.tt_db.specs.Database.{Database, state_of}
+use Rattle.tt_db.proofs.EntryLemmas.{after-push}
 use Rattle.tt_records.specs.declared.record.Record.{Record}
 use Rattle.tt_document.specs.declared.document.Call.{Call}
 use Rattle.tt_document.specs.declared.document.Ask.{Ask}
@@ -14,10 +15,6 @@ use Rattle.tt_document.specs.declared.document.Ask.TheVariants as asks
 use Rattle.tt_document.specs.Repair.{is_action, is_action_of}
 use Rattle.tt_workload.specs.Records.{answer_in, read_in, preview_in}
 use Rattle.tt_workload.specs.History.{with_entries, entries_of_ask, entries_of, history_of, records_of, slot_in, slot_in_record}
-
--- one entry more leads to the next state
-pub after-push : (limits : Limits) (history : List Entry) (e : Entry) → after limits (history ++ e ∷ []) ≡ next_state limits (after limits history) e.event
-after-push limits history e = fold-append (λ S e. next_state limits S e.event) start history (e ∷ [])
 
 -- the slots so far, with that of a call if it asks for an action
 abbrev pub with_slot : ℕ → Bool → ℕ

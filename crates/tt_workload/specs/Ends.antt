@@ -1,11 +1,11 @@
 -- The two ends of a run: the document of some bytes, the bytes that a reader gives, and those that a writer gets.
 use Rattle.std.specs.Prelude.{◌≡◌, ◌⊎◌, ℕ, ◌≤◌, nat_lt, if◌then◌else◌, List, length, take, Option, Result, Ok, Err, codes}
-use Rattle.std.specs.Io.KnownBytes.{Consumes, Appends}
+use Rattle.std.specs.Io.KnownBytes.{Consumes}
+use Rattle.tt_grammar.specs.declared.fault.DocFault.{DocFault}
+use Rattle.tt_grammar.specs.declared.fault.DocFault.TheVariants as doc
+use Rattle.tt_grammar.specs.Fault.{document_fault}
+use Rattle.tt_grammar.specs.TextValue.{json_of_bytes}
 use Rattle.tt_document.specs.declared.document.Document.{Document}
-use Rattle.tt_document.specs.declared.fault.DocFault.{DocFault}
-use Rattle.tt_document.specs.declared.fault.DocFault.TheVariants as doc
-use Rattle.tt_document.specs.Fault.{document_fault}
-use Rattle.tt_document.specs.TextValue.{json_of_bytes}
 use Rattle.tt_document.specs.Document.{document_of_json}
 use Rattle.tt_workload.specs.declared.run_fault.RunFault.{RunFault}
 use Rattle.tt_workload.specs.declared.run_fault.RunFault.TheVariants as run
@@ -32,11 +32,6 @@ pub record ConsumesAtMost (n : ℕ) (old new : Option (List ℕ)) : Type 0 where
   pub bytes : List ℕ
   pub consumed : Consumes old new bytes
   pub short : length bytes ≤ n
-
--- a writer got a prefix of the text
-pub record AppendsPrefix (old new : Option (List ℕ)) (text : List ℕ) : Type 0 where
-  pub count : ℕ
-  pub appended : Appends old new (take count text)
 
 -- a fault of a document is the one that reading gives, and never that memory ran out
 abbrev pub Refuses : DocFault → Result Document DocFault → Type 0

@@ -1,13 +1,14 @@
 -- The outcome of a run on a writer.
 use Rattle.std.specs.Prelude.{◌≡◌, ℕ, List, Option}
 use Rattle.std.specs.Io.KnownBytes.{Appends, Keeps}
+use Rattle.tt_streams.specs.Writing.{AppendsPrefix}
+use Rattle.tt_db.specs.Database.{Database}
 use Rattle.tt_document.specs.declared.document.Document.{Document}
 use Rattle.tt_workload.specs.declared.run_fault.RunFault.{RunFault}
 use Rattle.tt_workload.specs.declared.run_fault.RunFault.TheVariants as faults
-use Rattle.tt_db.specs.Database.{Database}
 use Rattle.tt_workload.specs.declared.options.Options.{Options}
 use Rattle.tt_workload.specs.Report.{report_of, database_after}
-use Rattle.tt_workload.specs.Ends.{AppendsPrefix, ReadsDocument, EndsReading, HasText, IsReadingFault}
+use Rattle.tt_workload.specs.Ends.{ReadsDocument, EndsReading, HasText, IsReadingFault}
 
 -- the report of the document that the remaining bytes of the reader spell was written, and nothing else
 pub record WritesReport (options : Options) (remaining : List ℕ) (old new : Option (List ℕ)) : Type 0 where

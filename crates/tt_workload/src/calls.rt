@@ -17,7 +17,7 @@ use tt_document::{Ask, Call};
 use tt_records::{Record, What};
 use tt_values::{Items, Select, Write};
 
-/// Carries out an event that isn't refused, and answers its outcome.
+/// Carries out an event that isn't refused, and returns its outcome.
 pub(crate) fn carry_out(db: &mut Db, entry: Entry) -> Result<Outcome, RunFault>
     requires { refusal_of db.old entry.event ≡ None }
     ensures state { OnOk result (db.new ≡ with_entry db.old entry) }
@@ -31,7 +31,7 @@ pub(crate) fn carry_out(db: &mut Db, entry: Entry) -> Result<Outcome, RunFault>
     }
 }
 
-/// Carries out an action. Answers the slot with the replies.
+/// Carries out an action. Returns the slot with the replies.
 fn make_action(db: &mut Db, worker: u32, action: Items<Write>) -> Result<What, RunFault>
     requires accepted { action_fault db.old.catalog action ≡ None }
     requires room { HasRoom db.old }
@@ -51,7 +51,7 @@ fn make_action(db: &mut Db, worker: u32, action: Items<Write>) -> Result<What, R
     }
 }
 
-/// Answers a select: at a time, or now where none is given.
+/// Reads what a select asks for: at a time, or now where none is given.
 fn read(alloc: Global, db: &Db, select: Select, at: Option<u64>) -> Result<What, RunFault>
     requires accepted { select_fault db.now.catalog select ≡ None }
     ensures answer { IfOk result (λ what. what ≡ read_in (state_of db.now) select at) }
@@ -126,7 +126,7 @@ fn slots_done(db: &Db) -> u64
     }
 }
 
-/// Answers what a call asks for, and carries it out.
+/// Carries out what a call asks for, and returns its answer.
 fn answer(alloc: Global, db: &mut Db, worker: u32, ask: Ask) -> Result<What, RunFault>
     requires accepted { ask_fault db.old.catalog ask ≡ None }
     requires room { HasRoom db.old }
@@ -141,7 +141,7 @@ fn answer(alloc: Global, db: &mut Db, worker: u32, ask: Ask) -> Result<What, Run
     }
 }
 
-/// Makes a call, pushes its line, and answers its record.
+/// Makes a call, pushes its line, and returns its record.
 pub(crate) fn make_call(
     alloc: Global,
     out: &mut Vec<u8>,
@@ -179,7 +179,7 @@ fn keep(records: &mut Vec<Record>, are_kept: bool, latest: Record) -> Result<(),
 }
 
 /// Makes the calls of a document, in order, pushes their lines, and keeps their records if these
-/// are wanted. Answers the last database.
+/// are wanted. Returns the last database.
 pub(crate) fn make_calls(
     alloc: Global,
     out: &mut Vec<u8>,

@@ -8,12 +8,12 @@ ghost use Rattle.tt_db.specs.State.{slots_in};
 ghost use Rattle.tt_db.specs.Database.{state_of};
 ghost use Rattle.tt_workload.specs.Report.{all_rows, slots_or_none, closed_text, closed_table_line, closed_table_lines, closed_lines, closed_lines_if};
 
-use crate::printing::push_labelled;
 use crate::report::push_named;
 use crate::run_fault::RunFault;
 use std::alloc::{AllocError, Global};
 use tt_db::Db;
 use tt_db::laws::last_generations_are_kept;
+use tt_grammar::push_labelled;
 use tt_values::{Items, Reply, Select};
 
 /// Pushes the lines of the closed generations that are kept, if these are asked for.

@@ -1,29 +1,23 @@
 //! The two ends of a run: the document that is read, and the text that is written.
-ghost use Rattle.std.specs.Prelude.{◌≡◌, ◌+◌, ◌-◌, ◌<◌, ◌≤◌, ◌↔◌, ◌++◌, Ok, Some, IfOk, IfErr, IfSome, OnOk, OnErr, IsTrue, if◌then◌else◌, length, take};
-ghost use Rattle.std.specs.IoError.{error_kind};
-ghost use Rattle.std.specs.Io.{ReadsAtMost, WritesAtMost};
-ghost use Rattle.std.specs.Io.KnownBytes.{Keeps, Appends, Consumes, IsAtEnd};
-ghost use Rattle.tt_document.specs.Fault.{FailsWith};
+ghost use Rattle.std.specs.Prelude.{◌≡◌, Ok, Some, IfOk, IfErr, IfSome, OnOk};
+ghost use Rattle.std.specs.Io.KnownBytes.{Appends, Consumes};
+ghost use Rattle.tt_streams.specs.Writing.{AppendsPrefix};
+ghost use Rattle.tt_grammar.specs.Fault.{FailsWith};
 ghost use Rattle.tt_document.specs.Document.{IsValidDocument};
-ghost use Rattle.tt_workload.specs.Ends.{max_bytes_read, bytes_read, document_of_bytes, ConsumesAtMost, AppendsPrefix, ReadsDocument, EndsReading, HasText, IsReadingFault, IsReaderFault};
+ghost use Rattle.tt_workload.specs.Ends.{max_bytes_read, bytes_read, document_of_bytes, ConsumesAtMost, ReadsDocument, EndsReading, HasText, IsReadingFault, IsReaderFault};
 
 use crate::run_fault::RunFault;
 use std::alloc::Global;
-use std::io::{Error, ErrorKind, Read, Write};
+use std::io::{Read, Write};
 use tt_document::{DocFault, Document};
+use tt_grammar::decoding::{NOT_JSON, TOO_LONG};
+use tt_streams::{MAX_RETRIES, read_once};
 
 const MAX_DOCUMENT_BYTES: usize = 16_777_216;
 
 const MAX_BYTES_READ: usize = MAX_DOCUMENT_BYTES + 1;
 
-/// The largest number of interrupted reads, or writes, that a call survives.
-pub const MAX_RETRIES: u32 = 1_000;
-
 const BUFFER_BYTES: usize = 65_536;
-
-const TOO_LONG: &str = "longer than 16777216 bytes";
-
-const NOT_JSON: &str = "not JSON";
 
 /// Reads a document from a reader, to its end. A longer document than 16,777,216 bytes is refused
 /// after one byte more. An interrupted read is tried again, 1,000 times at most in one call.
@@ -87,48 +81,6 @@ fn read_bytes<R: Read>(alloc: Global, reader: &mut R) -> Result<Vec<u8>, RunFaul
     Ok(bytes)
 }
 
-/// One read, tried again where it's interrupted, as long as there are retries. Answers how many bytes
-/// it has put at the front of the buffer: none at the end of the input.
-pub fn read_once<R: Read>(
-    reader: &mut R,
-    buffer: &mut [u8],
-    retries: &mut u32,
-) -> Result<usize, RunFault>
-    ensures bound { ReadsAtMost result buffer.new }
-    ensures consumed { IfOk result (λ n.
-        Consumes (R.remaining reader.old) (R.remaining reader.new) (take n buffer.new)) }
-    ensures end { IfOk result (λ n.
-        n ≡ 0 → 0 < length buffer.old → IsAtEnd (R.remaining reader.new)) }
-    ensures unchanged { OnErr result (Keeps (R.remaining reader.old) (R.remaining reader.new)) }
-    ensures fault { IfErr result (λ e. e ≡ RunFault.Read) }
-    ensures retries { retries.new ≤ retries.old }
-{
-    loop {
-        match reader.read(buffer) {
-            Ok(count) => return Ok(count),
-            Err(error) => {
-                if !use_retry(&error, retries) {
-                    return Err(RunFault::Read);
-                }
-            }
-        }
-    }
-}
-
-/// Whether a failed call is made again: it was interrupted, and there are retries left, of which
-/// this uses one.
-fn use_retry(error: &Error, retries: &mut u32) -> bool
-    ensures retried { IsTrue result
-        ↔ (error_kind error.now ≡ ErrorKind.Interrupted) × (0 < retries.old) }
-    ensures counted { retries.new ≡ (if result then retries.old - 1 else retries.old) }
-{
-    if error.kind() != ErrorKind::Interrupted || *retries == 0 {
-        return false;
-    }
-    *retries -= 1;
-    true
-}
-
 /// Writes a text, and flushes the writer. After a fault a prefix of the text is written.
 /// An interrupted write is tried again, 1,000 times at most in one call. Needs no memory.
 pub fn write_text<W: Write>(writer: &mut W, text: &[u8]) -> Result<(), RunFault>
@@ -140,43 +92,6 @@ pub fn write_text<W: Write>(writer: &mut W, text: &[u8]) -> Result<(), RunFault>
     ensures err { IfErr result (λ e. e ≡ RunFault.Write) }
 {
     let mut retries = MAX_RETRIES;
-    let mut written = 0;
-    while written < text.len() {
-        written += write_once(writer, &text[written..], &mut retries)?;
-    }
-    flush(writer)
-}
-
-/// One write of at least one byte, tried again where it's interrupted, as long as there are
-/// retries.
-fn write_once<W: Write>(writer: &mut W, text: &[u8], retries: &mut u32) -> Result<usize, RunFault>
-    ensures bound { WritesAtMost result text.now }
-    ensures some { IfOk result (λ n. 0 < n) }
-    ensures ok { IfOk result (λ n.
-        Appends (W.contents writer.old) (W.contents writer.new) (take n text.now)) }
-    ensures unchanged { OnErr result (Keeps (W.contents writer.old) (W.contents writer.new)) }
-    ensures fault { IfErr result (λ e. e ≡ RunFault.Write) }
-    ensures retries { retries.new ≤ retries.old }
-{
-    loop {
-        match writer.write(text) {
-            Ok(0) => return Err(RunFault::Write),
-            Ok(count) => return Ok(count),
-            Err(error) => {
-                if !use_retry(&error, retries) {
-                    return Err(RunFault::Write);
-                }
-            }
-        }
-    }
-}
-
-fn flush<W: Write>(writer: &mut W) -> Result<(), RunFault>
-    ensures unchanged { Keeps (W.contents writer.old) (W.contents writer.new) }
-    ensures fault { IfErr result (λ e. e ≡ RunFault.Write) }
-{
-    match writer.flush() {
-        Ok(()) => Ok(()),
-        Err(_) => Err(RunFault::Write),
-    }
+    tt_streams::write_text(writer, text, &mut retries)?;
+    Ok(())
 }

@@ -13,9 +13,8 @@ mod report;
 mod run;
 mod run_fault;
 
-pub use ends::{MAX_RETRIES, read_document, read_once, write_text};
+pub use ends::{read_document, write_text};
 pub use options::Options;
-pub use printing::{push_decimal, push_int, push_row, push_value};
 pub use record_text::{push_changes, push_records, text_of, text_of_change};
 pub use repair::{edits_of_slots, push_repair};
 pub use report::push_end_of_run;

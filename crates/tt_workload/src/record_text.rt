@@ -3,8 +3,9 @@ ghost use Rattle.std.specs.Prelude.{◌≡◌, ◌++◌, OnOk, IfOk};
 ghost use Rattle.std.specs.Fmt.{decimal};
 ghost use Rattle.tt_workload.specs.Records.{caller_text, answer_text, reply_at, after_text, text_of_record, text_of_records, text_of_change, text_of_changes};
 
-use crate::printing::{push_decimal, push_labelled, push_replies, push_reply};
+use crate::printing::{push_replies, push_reply};
 use std::alloc::{AllocError, Global};
+use tt_grammar::{push_decimal, push_labelled};
 use tt_records::{After, Changed, Record, What};
 use tt_values::Reply;
 

@@ -9,11 +9,11 @@ ghost use Rattle.tt_workload.specs.Report.{repair_line, repair_text, outcome_tex
 ghost use Rattle.tt_workload.specs.Room.{AreAccepted, IsUnderWay};
 
 use crate::calls::{carry_out, make_call};
-use crate::printing::push_labelled;
 use crate::run_fault::RunFault;
 use std::alloc::{AllocError, Global};
 use tt_db::{Db, Edit, Entry, Event, Outcome};
 use tt_document::Call;
+use tt_grammar::push_labelled;
 use tt_records::{Record, What};
 use tt_values::Items;
 
@@ -209,7 +209,7 @@ pub(crate) fn finish(
     Ok(())
 }
 
-/// Switches to the repaired generation, and answers the outcome.
+/// Switches to the repaired generation, and returns the outcome.
 fn switch(db: &mut Db, worker: u32) -> Result<Outcome, RunFault>
     requires { refusal_of db.old Event.Switch ≡ None }
     ensures state { OnOk result (db.new ≡ with_entry db.old (repair_entry worker Event.Switch)) }

@@ -12,13 +12,14 @@ ghost use Rattle.tt_workload.specs.Report.{all_rows, table_text, table_line, tab
 use crate::calls::make_calls;
 use crate::closed::push_closed_if;
 use crate::options::Options;
-use crate::printing::{push_decimal, push_labelled, push_reply};
+use crate::printing::push_reply;
 use crate::record_text::push_changes;
 use crate::repair::{Administrator, begin, edits_of_slots, finish, make_meanwhile};
 use crate::run_fault::RunFault;
 use std::alloc::{AllocError, Global};
 use tt_db::{Db, Event, Limits};
 use tt_document::{Document, Plan};
+use tt_grammar::{push_decimal, push_labelled};
 use tt_records::{Record, changes};
 use tt_values::{Items, Reply, Select};
 
@@ -121,7 +122,7 @@ fn push_changed(
 }
 
 /// Carries out the repair of a document, and pushes the lines of the calls that are made meanwhile
-/// and those of the repair. Answers the database after its switch.
+/// and those of the repair. Returns the database after its switch.
 fn run_repair(
     alloc: Global,
     out: &mut Vec<u8>,
@@ -158,7 +159,7 @@ fn run_repair(
     Ok(db)
 }
 
-/// Makes the calls of a document and its repair, and pushes their lines. Answers the last
+/// Makes the calls of a document and its repair, and pushes their lines. Returns the last
 /// database.
 fn run_document(
     alloc: Global,

@@ -1,7 +1,8 @@
 //! Runs of a workload, from the document that is read to the report that is written.
 ghost use Rattle.std.specs.Prelude.{◌≡◌, ◌≢◌, IfOk, IfErr, IfSome, OnOk};
 ghost use Rattle.std.specs.Io.KnownBytes.{Appends, Keeps};
-ghost use Rattle.tt_workload.specs.Ends.{max_bytes_read, AppendsPrefix, ConsumesAtMost};
+ghost use Rattle.tt_streams.specs.Writing.{AppendsPrefix};
+ghost use Rattle.tt_workload.specs.Ends.{max_bytes_read, ConsumesAtMost};
 ghost use Rattle.tt_workload.specs.Options.{AreWithin};
 ghost use Rattle.tt_workload.specs.Run.{LeavesDatabase, IsLeftByDocument, WritesReport, EndsEarly, IsFaultOfRun};
 
@@ -78,7 +79,7 @@ pub fn run_to_end<R: Read, W: Write>(
     write_report(writer, &report, RunEnd { db })
 }
 
-/// Writes a report, and answers what the run leaves.
+/// Writes a report, and returns what the run leaves.
 fn write_report<W: Write>(writer: &mut W, report: &[u8], end: RunEnd) -> Result<RunEnd, RunFault>
     ensures ok { OnOk result (Appends (W.contents writer.old) (W.contents writer.new) report.now) }
     ensures database { IfOk result (λ left. left.db ≡ end.db) }

@@ -3,6 +3,7 @@ ghost use Rattle.std.specs.Prelude.{◌≡◌};
 use std::alloc::{AllocError, AllocFailed, Global};
 use tt_db::ReadError;
 use tt_document::DocFault;
+use tt_streams::StreamError;
 use tt_values::Text;
 
 /// Why a run of a workload failed.
@@ -73,6 +74,19 @@ impl From<DocFault> for RunFault {
         match fault {
             DocFault::Memory => RunFault::Memory,
             fault => RunFault::Document(fault),
+        }
+    }
+}
+
+impl From<StreamError> for RunFault {
+    ghost use Rattle.tt_workload.specs.RunFault.{run_fault_of_stream};
+
+    ghost from_gives = { λ error e. e ≡ run_fault_of_stream error };
+
+    fn from(error: StreamError) -> RunFault {
+        match error {
+            StreamError::Read => RunFault::Read,
+            StreamError::Write => RunFault::Write,
         }
     }
 }

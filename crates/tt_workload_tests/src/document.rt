@@ -3,7 +3,8 @@ use crate::same::same;
 use serde_json::Value as Json;
 use std::alloc::Global;
 use std::process::Abort;
-use tt_document::{Ask, Call, DocFault, Document, push_quoted};
+use tt_document::{Ask, Call, DocFault, Document};
+use tt_grammar::push_quoted;
 use tt_values::{Catalog, Change, Column, Equal, Items, Select, Value, Write};
 
 const STORED: &str =

@@ -3,12 +3,12 @@ use Rattle.std.specs.Prelude.{◌≡◌, ◌++◌, codes, refl}
 use Rattle.std.specs.Fmt.{digits}
 use Rattle.tt_db.specs.declared.errors.DbError.TheVariants as errors
 use Rattle.tt_db.specs.declared.errors.ReadError.TheVariants as read_errors
-use Rattle.tt_document.specs.declared.fault.DocFault.TheVariants as faults
+use Rattle.tt_grammar.specs.declared.fault.DocFault.TheVariants as faults
+use Rattle.tt_grammar.proofs.worked_texts.Accounts.{accounts}
 use Rattle.tt_answers.specs.declared.answer.Refusal.TheVariants as refusals
 use Rattle.tt_answers.specs.declared.answer.Answer.TheVariants as answers
 use Rattle.tt_answers.specs.RefusalText.{too_long}
 use Rattle.tt_answers.specs.AnswerText.{opening_text, call_text}
-use Rattle.tt_answers.proofs.worked_answers.Accounts.{accounts}
 
 later : call_text accounts 4 (answers.Refused (refusals.Read (read_errors.Later 2))) ≡ codes "{\"call\":4,\"refused\":\"later\",\"now\":2}\n"
 unfolding digits

@@ -3,10 +3,10 @@ use Rattle.std.specs.Prelude.{◌≡◌, pos, [], ◌∷◌, ◌++◌, None, Som
 use Rattle.std.specs.Fmt.{digits}
 use Rattle.tt_values.specs.declared.reply.Reply.TheVariants as replies
 use Rattle.tt_records.specs.declared.changed.After.TheVariants as afters
+use Rattle.tt_grammar.proofs.worked_texts.Accounts.{accounts, account}
 use Rattle.tt_answers.specs.declared.answer.Answer.TheVariants as answers
 use Rattle.tt_answers.specs.declared.answer.Place.TheVariants as places
 use Rattle.tt_answers.specs.AnswerText.{call_text}
-use Rattle.tt_answers.proofs.worked_answers.Accounts.{accounts, account}
 
 begun : call_text accounts 6 (answers.Repairing (record { done = 0; left = 2; rerun = 0 })) ≡ codes "{\"call\":6,\"done\":0,\"left\":2,\"rerun\":0}\n"
 unfolding digits

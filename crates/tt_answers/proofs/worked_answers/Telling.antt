@@ -5,9 +5,9 @@ use Rattle.tt_values.specs.declared.value.Value.TheVariants as values
 use Rattle.tt_values.specs.declared.statement.Change.TheVariants as changes
 use Rattle.tt_values.specs.declared.statement.Write.TheVariants as writes
 use Rattle.tt_values.specs.declared.reply.Reply.TheVariants as replies
+use Rattle.tt_grammar.proofs.worked_texts.Accounts.{accounts, account}
 use Rattle.tt_answers.specs.declared.answer.Answer.TheVariants as answers
 use Rattle.tt_answers.specs.AnswerText.{call_text}
-use Rattle.tt_answers.proofs.worked_answers.Accounts.{accounts, account}
 
 slots : call_text accounts 18 (answers.Slots 4 (
     record {

@@ -2,9 +2,9 @@
 use Rattle.std.specs.Prelude.{◌≡◌, pos, negsuc, true, false, [], ◌∷◌, None, Some, codes, refl}
 use Rattle.std.specs.Fmt.{digits}
 use Rattle.tt_values.specs.declared.reply.Reply.TheVariants as replies
+use Rattle.tt_grammar.proofs.worked_texts.Accounts.{accounts, account}
 use Rattle.tt_answers.specs.declared.answer.Answer.TheVariants as answers
 use Rattle.tt_answers.specs.AnswerText.{opening_text, call_text}
-use Rattle.tt_answers.proofs.worked_answers.Accounts.{accounts, account}
 
 opened : opening_text (answers.Standing (record { time = 0; generation = 0; oldest = 0; entries = 0; repair = None }))
     ≡ codes "{\"time\":0,\"generation\":0,\"oldest\":0,\"entries\":0,\"repair\":null}\n"

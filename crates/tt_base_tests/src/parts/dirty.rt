@@ -34,7 +34,6 @@ const BY_ANN_AND_EVE: Clear = &[
 fn a_row_gets_dirty_with_its_partitions(rt: HostRuntime) {
     let alloc = rt.alloc();
     let nothing = nothing_dirty(&rt, alloc);
-    same(&rt, &nothing.catalog().len(), &2);
     let (ann, eve) = (row(&rt, alloc, ANN), row(&rt, alloc, EVE));
     let dirty = nothing.with_row(0, 1, Some(&ann), Some(&eve));
     let dirty = dirty.expect(&rt, "memory");

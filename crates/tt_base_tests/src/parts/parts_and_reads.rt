@@ -34,25 +34,6 @@ fn a_row_lies_in_one_partition_for_each_partition_column(rt: HostRuntime) {
     }
 }
 
-/// Partitions, each with whether it is that of the parcels in Ulm.
-const OF_ULM: &[(PlainPartition, bool)] = &[
-    ((1, 1, Words("ulm")), true),
-    ((0, 1, Words("ulm")), false),
-    ((1, 2, Words("ulm")), false),
-    ((1, 1, Words("bonn")), false),
-    ((1, 1, Number(0)), false),
-];
-
-#[test]
-fn the_same_partition_has_the_same_table_column_and_value(rt: HostRuntime) {
-    let alloc = rt.alloc();
-    let ulm = partition(&rt, alloc, (1, 1, Words("ulm")));
-    for (plain, want) in OF_ULM {
-        let other = partition(&rt, alloc, *plain);
-        assert_eq!(rt; ulm.is_same(&other), *want, "{plain:?}");
-    }
-}
-
 /// The equalities of a write on parcels, and the partitions that it reads.
 type WriteCase = (&'static [(u16, Plain)], &'static [PlainPartition]);
 

@@ -7,8 +7,8 @@ use std::alloc::Global;
 use std::process::Abort;
 use std::sync::Arc;
 use tt_values::{
-    Catalog, CatalogError, Change, CheckError, Items, Kind, Reply, Select, Shared, Text, Value,
-    Write, changed, check, check_action, check_select, laws, matches,
+    Catalog, CatalogError, Change, CheckError, Items, Kind, Reply, Same, Select, Shared, Text,
+    Value, Write, are_same, changed, check, check_action, check_select, matches,
 };
 
 #[test]
@@ -47,14 +47,6 @@ fn the_owner_of_a_shared_int(rt: HostRuntime) {
 }
 
 #[test]
-fn the_value_of_a_shared_int(rt: HostRuntime) {
-    let shared = Shared::new(rt.alloc(), 9_u64).expect(&rt, "memory");
-    let further = shared.clone().expect(&rt, "memory");
-    same(&rt, &shared.into_value().expect(&rt, "memory"), &9);
-    same(&rt, &further.into_value().expect(&rt, "memory"), &9);
-}
-
-#[test]
 fn values_and_rows(rt: HostRuntime) {
     let alloc = rt.alloc();
     let int = Value::Int(-7);
@@ -63,7 +55,9 @@ fn values_and_rows(rt: HostRuntime) {
     assert!(rt; int.is_same(&int.copy().expect(&rt, "memory")));
     same(&rt, &ann.key(), &-7);
     assert!(rt; ann == ann.copy().expect(&rt, "memory"));
-    assert!(rt; ann != row(&rt, alloc, -7, "eve"));
+    let eve = row(&rt, alloc, -7, "eve");
+    assert!(rt; ann != eve && !ann.is_same(&eve));
+    assert!(rt; are_same(&[ann.copy().expect(&rt, "memory")], &[ann]));
 }
 
 #[test]
@@ -134,29 +128,4 @@ fn selects(rt: HostRuntime) {
     let select = select.copy().expect(&rt, "memory");
     same(&rt, &check_select(&catalog(&rt, alloc), &select), &Ok(()));
     assert!(rt; check_select(&Catalog::new(alloc), &select).is_err());
-}
-
-#[test]
-fn all_laws() {
-    laws::shows_last_row_write();
-    laws::rows_rise();
-    laws::slots_follow();
-    laws::later_slots_change_nothing();
-    laws::past_stays();
-    laws::last_content_stays();
-    laws::next_content();
-    laws::one_key_changes();
-    laws::rows_stay_by_rising_key();
-    laws::row_write_changes_one_row();
-    laws::last_row_write_counts();
-    laws::earlier_slots_stay();
-    laws::added_slot_is_next();
-    laws::added_slot_leaves_past();
-    laws::accepted_inserts_have_keys();
-    laws::accepted_updates_keep_keys();
-    laws::action_leaves_its_last_content();
-    laws::action_of_one_write();
-    laws::action_writes_each_row_once();
-    laws::actions_follow();
-    laws::accepted_actions_have_keys();
 }

@@ -1,5 +1,5 @@
 -- Histories of accounts, computed.
-use Rattle.std.proofs.Common.{◌≡◌, ℕ, pos, List, [], ◌∷◌, map, None, Some, Ok, Err, replicate, refl}
+use Rattle.std.proofs.Common.{◌≡◌, ℕ, pos, List, [], ◌∷◌, ◌++◌, map, None, Some, Result, Ok, Err, replicate, refl}
 use Rattle.tt_values.specs.declared.row.Row.{Row}
 use Rattle.tt_values.specs.declared.statement.Change.TheVariants.{Set}
 use Rattle.tt_values.specs.declared.statement.Write.{Write}
@@ -8,6 +8,7 @@ use Rattle.tt_values.specs.declared.statement.Select.{Select}
 use Rattle.tt_values.specs.declared.value.Value.TheVariants as values
 use Rattle.tt_values.specs.declared.reply.Reply.TheVariants.{Inserted, Duplicate, Updated, Deleted, Rows}
 use Rattle.tt_values.specs.declared.checking.CheckError.TheVariants as faults
+use Rattle.tt_values.specs.Tables.{Tables}
 use Rattle.tt_values.specs.Row.{first_int}
 use Rattle.tt_values.specs.RowWrites.{row_writes}
 use Rattle.tt_values.specs.Content.{row_at}
@@ -15,7 +16,9 @@ use Rattle.tt_values.proofs.worked_rows.Accounts.{tables, ann, bob, zed, min_int
 use Rattle.tt_db.specs.declared.limits.Limits.{Limits}
 use Rattle.tt_db.specs.declared.event.Event.TheVariants as events
 use Rattle.tt_db.specs.declared.event.Entry.{Entry}
+use Rattle.tt_db.specs.declared.outcome.Outcome.{Outcome}
 use Rattle.tt_db.specs.declared.outcome.Outcome.TheVariants.{Written}
+use Rattle.tt_db.specs.declared.errors.DbError.{DbError}
 use Rattle.tt_db.specs.declared.errors.DbError.TheVariants as errors
 use Rattle.tt_db.specs.declared.errors.ReadError.TheVariants as read_errors
 use Rattle.tt_db.specs.Limits.{max_limits}
@@ -23,7 +26,17 @@ use Rattle.tt_db.specs.State.{State, after, now_of, current_at, refusal, outcome
 use Rattle.tt_generations.specs.KeptSlots.{slot_at}
 use Rattle.tt_db.specs.Database.{nth_item}
 use Rattle.tt_db.specs.RightAnswers.{right_select, right_select_at}
-use Rattle.tt_db.specs.Run.{IsRun}
+use Rattle.tt_db.specs.Errors.{refusal_of_error}
+
+-- entries are applied in order after a history. An accepted one joins the history; for one that isn't, the history stays
+abbrev IsRun : Tables → Limits → List Entry → List Entry → List (Result Outcome DbError) → List Entry → Type 0
+IsRun tables limits before [] [] last = last ≡ before
+IsRun tables limits before (e ∷ entries) (Ok outcome ∷ answers) last =
+    (refusal tables limits (after limits before) e.event ≡ None) × (outcome ≡ outcome_of tables (after limits before) e.event) × IsRun tables limits (before ++ e ∷ []) entries answers last
+IsRun tables limits before (e ∷ entries) (Err error ∷ answers) last =
+    (refusal tables limits (after limits before) e.event ≡ refusal_of_error error) × IsRun tables limits before entries answers last
+IsRun tables limits before [] (answer ∷ answers) last = ⊥
+IsRun tables limits before (e ∷ entries) [] last = ⊥
 
 -- an entry of an action
 abbrev action_entry : ℕ → List Write → Entry

@@ -2,6 +2,7 @@
 ghost use Rattle.std.specs.Prelude.{◌≡◌, IfOk};
 ghost use Rattle.tt_db.specs.Database.{right_answer_in, right_preview_of, preview_for};
 ghost use Rattle.tt_db.specs.Pages.{first_rows, rows_in, AnswersPage};
+ghost use Rattle.tt_db.specs.RightAnswers.{HaveRisingKeys};
 
 use super::Db;
 use crate::errors::ReadError;
@@ -10,7 +11,7 @@ use tt_generations::FirstRows;
 use tt_values::{Select, check_select};
 
 impl Db {
-    /// Of the rows that [`select_in`](Db::select_in) answers, those with greater keys than `after`,
+    /// Of the rows that [`select_in`](Db::select_in) returns, those with greater keys than `after`,
     /// if that is given: the first `most` of them, and whether more follow. Refuses what that
     /// refuses. Reads none of the rows before them, and none behind the first that follows.
     pub fn page_in(
@@ -21,8 +22,9 @@ impl Db {
         after: Option<i64>,
         most: usize,
     ) -> Result<FirstRows, ReadError>
-        ensures { AnswersPage after most
+        ensures right { AnswersPage after most
             (right_answer_in self.now generation select.now time) result }
+        ensures keyed { IfOk result (λ page. HaveRisingKeys page.rows) }
     {
         if let Err(fault) = check_select(self.catalog(), select) {
             return Err(ReadError::Statement(fault));
@@ -43,7 +45,7 @@ impl Db {
         }
     }
 
-    /// Of the rows that [`preview`](Db::preview) answers, those with greater keys than `after`, if
+    /// Of the rows that [`preview`](Db::preview) returns, those with greater keys than `after`, if
     /// that is given: the first `most` of them, and whether more follow. Refuses what that refuses.
     /// Reads none of the rows before them, and none behind the first that follows.
     pub fn preview_page(
@@ -52,7 +54,8 @@ impl Db {
         after: Option<i64>,
         most: usize,
     ) -> Result<FirstRows, ReadError>
-        ensures { AnswersPage after most (right_preview_of self.now select.now) result }
+        ensures right { AnswersPage after most (right_preview_of self.now select.now) result }
+        ensures keyed { IfOk result (λ page. HaveRisingKeys page.rows) }
     {
         if let Err(fault) = check_select(self.catalog(), select) {
             return Err(ReadError::Statement(fault));
@@ -74,8 +77,9 @@ impl Db {
         after: Option<i64>,
         most: usize,
     ) -> Result<FirstRows, AllocError>
-        ensures { IfOk result (λ p.
-            p ≡ first_rows after most (rows_in (preview_for self.now select.now))) }
+        ensures right { IfOk result (λ page.
+            page ≡ first_rows after most (rows_in (preview_for self.now select.now))) }
+        ensures keyed { IfOk result (λ page. HaveRisingKeys page.rows) }
     {
         let page = self.generations.preview_page(select, after, most)?;
         Ok(page)

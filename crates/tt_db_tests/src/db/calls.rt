@@ -32,16 +32,14 @@ fn has_an_exact_slot(rt: &impl Abort, alloc: Global, db: &Db) {
     same(rt, &copy, &want);
 }
 
-/// Applies a list of one entry, which inserts `BOB` by the second slot.
-fn takes_a_list(rt: &impl Abort, alloc: Global, db: &mut Db) {
-    let answers = db
-        .apply_all(&[entry(rt, alloc, 2, BOB)])
-        .expect(rt, "memory");
+/// Applies an entry in place, which inserts `BOB` by the second slot.
+fn takes_a_second_entry(rt: &impl Abort, alloc: Global, db: &mut Db) {
+    let answer = db.advance(entry(rt, alloc, 2, BOB));
     let want = Outcome::Written {
         slot: 2,
         replies: replies(rt, alloc, [Reply::Inserted]),
     };
-    same(rt, &answers.as_slice(), &[Ok(want)].as_slice());
+    same(rt, &answer, &Ok(want));
 }
 
 #[test]
@@ -56,7 +54,7 @@ fn each_call_has_enough_memory(rt: HostRuntime) {
     has_one_slot(&rt, &db);
     has_an_exact_entry(&rt, alloc, &db);
     has_an_exact_slot(&rt, alloc, &db);
-    takes_a_list(&rt, alloc, &mut db);
+    takes_a_second_entry(&rt, alloc, &mut db);
     has(&rt, alloc, &db, &[ANN, BOB]);
     had(&rt, alloc, &db, 1, &[ANN]);
     done(db);

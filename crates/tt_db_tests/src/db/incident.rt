@@ -39,7 +39,7 @@ fn payment(rt: &impl Abort, alloc: Global) -> [Write; 2] {
     ]
 }
 
-/// Does a step, and asserts what it answers, how far the repair is, and what the preview shows.
+/// Does a step, and asserts what it returns, how far the repair is, and what the preview shows.
 fn steps(
     rt: &impl Abort,
     alloc: Global,
@@ -81,7 +81,7 @@ fn the_account_is_given_back(rt: HostRuntime) {
     has(&rt, alloc, &db, &[(1, "eve", 0), BOB_45]);
     let updated = [Reply::Updated(1), Reply::Updated(1)];
     write(&rt, alloc, &mut db, payment(&rt, alloc), updated);
-    let early = answer_to(&rt, &mut db, Event::Switch);
+    let early = answer_to(&mut db, Event::Switch);
     same(&rt, &early, &Err(DbError::NotCaughtUp { left: 3 }));
     steps(&rt, alloc, &mut db, true, (4, 2, 2), &interest);
     steps(

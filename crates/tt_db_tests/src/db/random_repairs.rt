@@ -1,5 +1,5 @@
 //! Long runs of all events, beside a plain list of the slots. A fresh database that is given the
-//! slots of the list as actions, and never a repair, has to answer the same.
+//! slots of the list as actions, and never a repair, has to return the same.
 use super::random::{Random, edit_of};
 use super::{ACCT, action, answer_to, done, made, new_db, same, select_all};
 use std::alloc::Global;
@@ -162,7 +162,7 @@ fn is_next(rt: &impl Abort, alloc: Global, run: &Run) {
 /// Applies an event, or asserts that it is refused.
 fn advance(rt: &impl Abort, alloc: Global, run: &mut Run, event: Event) {
     if !is_accepted(&run.db, &event) {
-        assert!(rt; answer_to(rt, &mut run.db, event).is_err());
+        assert!(rt; answer_to(&mut run.db, event).is_err());
         return;
     }
     let is_switch = matches!(&event, Event::Switch);

@@ -11,7 +11,7 @@ use tt_db::{
 fn refused(rt: &impl Abort, db: &mut Db, event: Event, want: DbError) {
     let events = db.events();
     let repair = db.repair();
-    same(rt, &answer_to(rt, db, event), &Err(want));
+    same(rt, &answer_to(db, event), &Err(want));
     same(rt, &db.events(), &events);
     same(rt, &db.repair(), &repair);
 }

@@ -11,7 +11,7 @@ pub(super) fn entry(event: Event) -> Entry {
 }
 
 /// The database after an event, whose outcome is that one. If the call finds no memory, the old
-/// database answers as before, and the call is made again.
+/// database is as before, and the call is made again.
 fn apply(rt: &impl Abort, alloc: Global, db: &Db, event: Event, want: &Outcome) -> Db {
     let again = event.clone().expect(rt, "memory");
     let before = all(rt, alloc, db);
@@ -162,7 +162,7 @@ fn a_write_in_place(rt: HostRuntime) {
     advances(&rt, alloc, repairing(&rt, alloc, 4));
 }
 
-/// What a read answers, made again where it finds no memory.
+/// What a read returns, made again where it finds no memory.
 fn reads(
     rt: &impl Abort,
     first: Result<Reply, ReadError>,
@@ -219,27 +219,24 @@ fn reads_of_a_closed_generation(rt: HostRuntime) {
     has_rows(&rt, alloc, &closed, &[(3, "bob", 8)]);
 }
 
-/// Answers to a list of entries; an entry without memory is left out.
+/// An event in place, which leaves no history where memory runs out.
 #[test]
-fn a_list_of_entries(rt: HostRuntime) {
+fn an_event_in_place(rt: HostRuntime) {
     let alloc = rt.alloc();
     let _tally = Tally::new(alloc);
     let mut db = five_slots(&rt, alloc);
-    let entries = [
-        entry(Event::Begin(delete_bob(&rt, alloc))),
-        entry(Event::Abort),
-    ];
+    let event = Event::Begin(delete_bob(&rt, alloc));
     mark(alloc);
-    let answers = db.apply_all(&entries);
+    let answer = db.advance(entry(event));
     mark(alloc);
-    match answers {
-        Ok(answers) => is_begun_or_refused(&rt, &answers, &db),
-        Err(AllocError) => same(&rt, &db.events(), &5),
+    match answer {
+        Ok(outcome) => {
+            same(&rt, &outcome, &Outcome::Begun);
+            same(&rt, &db.events(), &6);
+        }
+        Err(error) => {
+            same(&rt, &error, &DbError::Memory);
+            same(&rt, &db.events(), &0);
+        }
     }
-}
-
-/// The first entry was accepted, and maybe the second; or neither was.
-fn is_begun_or_refused(rt: &impl Abort, answers: &[Result<Outcome, DbError>], db: &Db) {
-    let accepted = answers.iter().filter(|answer| answer.is_ok()).count();
-    same(rt, &db.events(), &(5 + accepted as u64));
 }

@@ -88,7 +88,7 @@ fn maps_beside_the_old_one(rt: HostRuntime) {
     has_all_but(&rt, &longer, MANY);
 }
 
-/// A further owner of the same map, though the first call may find no memory.
+/// Another owner of the same map, though the first call may find no memory.
 fn shared(rt: &impl Abort, alloc: Global, map: &PagedMap<u64>) -> PagedMap<u64> {
     mark(alloc);
     let copy = map.share();
@@ -114,20 +114,6 @@ impl Modify<u64> for Replace {
     }
 }
 
-/// Exchanges 20 for 7 in a map that shares its pages.
-fn swaps(rt: &impl Abort, alloc: Global, map: &mut PagedMap<u64>) {
-    let mut number = 7;
-    map.get(20).expect(rt, "a number");
-    mark(alloc);
-    let swapped = map.swap(20, &mut number);
-    mark(alloc);
-    if swapped.is_err() {
-        same(rt, &(map.get(20), number), &(Some(&20), 7));
-        map.swap(20, &mut number).expect(rt, "a second call");
-    }
-    same(rt, &(map.get(20), number), &(Some(&7), 20));
-}
-
 /// Changes 20 to 7 in a map that shares its pages. Without memory nothing is promised of it.
 fn changes(rt: &impl Abort, alloc: Global, map: &mut PagedMap<u64>) {
     let change = Replace { by: 7 };
@@ -147,9 +133,6 @@ fn values_of_maps(rt: HostRuntime) {
     let alloc = rt.alloc();
     let _tally = Tally::new(alloc);
     let old = numbers(&rt, alloc);
-    let mut other = shared(&rt, alloc, &old);
-    swaps(&rt, alloc, &mut other);
-    has_all_but(&rt, &old, MANY);
     let mut other = shared(&rt, alloc, &old);
     changes(&rt, alloc, &mut other);
     has_all_but(&rt, &old, MANY);
@@ -242,7 +225,7 @@ fn front_of(rt: &impl Abort, alloc: Global, log: &PagedLog<u64>, count: usize) -
     }
 }
 
-/// Replaces 7 by 0 in a log of 68 numbers, which shares its pages, and in one more owner of it.
+/// Replaces 7 by 0 in a log of 68 numbers, which shares its pages, and in another owner of it.
 fn replaces(rt: &impl Abort, alloc: Global, mut log: PagedLog<u64>) {
     assert!(rt; log.len() > 7);
     mark(alloc);

@@ -14,10 +14,10 @@ fn nothing_dirty(rt: &impl Abort, alloc: Global) -> Dirty
     ensures { 0 < length result.catalog }
 {
     let catalog = accounts(rt, alloc);
+    assert!(rt; !catalog.is_empty());
     quiet(alloc);
     let dirty = Dirty::new(alloc, catalog);
     quiet(alloc);
-    assert!(rt; !dirty.catalog().is_empty());
     dirty
 }
 
@@ -49,7 +49,7 @@ fn with_one(rt: &impl Abort, alloc: Global) -> Dirty
     }
 }
 
-/// One more owner of the same members, which takes no memory.
+/// Another owner of the same members, which takes no memory.
 fn shared(rt: &impl Abort, alloc: Global, dirty: &Dirty) -> Dirty
     ensures { result ≡ dirty.now }
 {
@@ -59,7 +59,7 @@ fn shared(rt: &impl Abort, alloc: Global, dirty: &Dirty) -> Dirty
     copy.expect(rt, "an owner")
 }
 
-/// The set in which the row of key 2 is dirty too, made in place of one more owner of the old one.
+/// The set in which the row of key 2 is dirty too, made in place of another owner of the old one.
 /// Without memory nothing is promised of that owner, and it's made again.
 fn with_two(rt: &impl Abort, alloc: Global, old: &Dirty) -> Dirty
     requires { 0 < length old.now.catalog }
@@ -145,9 +145,6 @@ fn partitions(rt: HostRuntime) {
         column: 0,
         value: Value::Int(1),
     };
-    quiet(alloc);
-    let first = parts.get(0).expect(&rt, "a partition");
-    assert!(rt; first.is_same(&want));
-    quiet(alloc);
+    same(&rt, parts.get(0).expect(&rt, "a partition"), &want);
     same(&rt, &parts.len(), &2);
 }

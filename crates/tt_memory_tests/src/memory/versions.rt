@@ -168,21 +168,21 @@ fn searchable(rt: &impl Abort, alloc: Global) -> Table {
 
 /// The same with the rows of ann and of bob, made in place.
 fn with_two_rows(rt: &impl Abort, alloc: Global) -> Table {
-    let table = searchable(rt, alloc);
+    let mut table = searchable(rt, alloc);
     let kept = table.share().expect(rt, "memory");
     let bob = Some(row(rt, alloc, 2, "bob", 6));
     let mut rows = Few::new(alloc);
     rows.push((1, ann(rt, alloc, 5))).expect(rt, "memory");
     rows.push((2, bob)).expect(rt, "memory");
     mark(alloc);
-    let written = table.into_all_written(rows, 1);
+    let written = table.write_all(rows, 1);
     mark(alloc);
     match written {
-        Ok(table) => with_no_further_rows(rt, alloc, table),
+        Ok(()) => with_no_further_rows(rt, alloc, table),
         Err(AllocError) => {
-            let table = kept.into_written(1, ann(rt, alloc, 5), 1);
+            let table = kept.written(1, ann(rt, alloc, 5), 1);
             let bob = Some(row(rt, alloc, 2, "bob", 6));
-            let table = table.expect(rt, "a second call").into_written(2, bob, 1);
+            let table = table.expect(rt, "a second call").written(2, bob, 1);
             table.expect(rt, "a second call")
         }
     }
@@ -190,9 +190,11 @@ fn with_two_rows(rt: &impl Abort, alloc: Global) -> Table {
 
 /// The same, once no further rows are written on the next side.
 fn with_no_further_rows(rt: &impl Abort, alloc: Global, table: Table) -> Table {
-    let none = Few::new(alloc);
-    let same = table.into_all_next_written(none, 1);
-    same.expect(rt, "no memory is needed")
+    let mut table = table;
+    table
+        .write_all_next(Few::new(alloc), 1)
+        .expect(rt, "no memory is needed");
+    table
 }
 
 /// How many rows bob has, though the first call may find no memory.

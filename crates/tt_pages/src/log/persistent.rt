@@ -1,4 +1,4 @@
-// Calls that answer a changed copy and leave the log as it was. They are part of the public
+// Calls that return a changed copy and leave the log as it was. They are part of the public
 // surface, and nothing in the libraries above calls them.
 ghost use Rattle.std.specs.Prelude.{◌≡◌, ◌<◌, [], ◌∷◌, ◌++◌, length, slice_set, IfOk};
 

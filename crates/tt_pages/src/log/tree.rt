@@ -115,7 +115,7 @@ impl<T: Drop> Tree<T> {
         }
     }
 
-    /// A further owner of the same nodes and pages.
+    /// Another owner of the same nodes and pages.
     pub(super) fn share(&self) -> Result<Self, AllocError>
         ensures { IfOk result (λ tree. tree ≡ self.now) }
     {

@@ -21,7 +21,7 @@ pub(super) fn branch_for<V>(branches: &[Branch<V>], key: &i64) -> usize
     at
 }
 
-// Further owners of the same trees.
+// Other owners of the same trees.
 pub(super) fn share_branches<V: Drop>(
     alloc: Global,
     branches: &[Branch<V>],

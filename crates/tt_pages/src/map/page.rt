@@ -1,5 +1,5 @@
 // A page of a map: a list of entries in ascending key order.
-ghost use Rattle.std.specs.Prelude.{◌≡◌, ◌++◌, IsTrue, IsSome, Some, IfOk, IfErr, OnOk, OnErr};
+ghost use Rattle.std.specs.Prelude.{◌≡◌, ◌++◌, IsTrue, IsSome, IfOk, IfErr, OnOk, OnErr};
 ghost use Rattle.std.specs.Option.{is_none};
 ghost use Rattle.std.specs.Option.{option_copied};
 ghost use Rattle.std.specs.Ordering.{int_cmp};
@@ -9,7 +9,6 @@ ghost use Rattle.tt_pages.specs.MapEntries.{rank_of, entries_without, keys_of, C
 use crate::kept::Kept;
 use crate::modify::Modify;
 use std::alloc::{AllocError, Global};
-use std::mem;
 
 // The most entries of a page, and the most branches of a fork.
 pub(super) const MAX_WIDTH: usize = 16;
@@ -54,7 +53,7 @@ pub(super) fn get_in<'a, V>(page: &'a [(i64, V)], key: &i64) -> Option<&'a V>
     }
 }
 
-// Sets the value at the key, and inserts an entry if there is none. Answers whether the key is new.
+// Sets the value at the key, and inserts an entry if there is none. Returns whether the key is new.
 pub(super) fn put_in<V: Drop>(page: &mut Page<V>, key: &i64, value: V) -> Result<bool, AllocError>
     requires { IsTrue (is_sorted int_cmp page.old.items) }
     ensures ok { OnOk result (page.new.items ≡ put int_cmp key.now value page.old.items) }
@@ -79,17 +78,6 @@ fn entry_of<V>(key: &i64, value: V) -> (i64, V)
 {
     let key = *key;
     (key, value)
-}
-
-// Exchanges the value at a key of the page.
-pub(super) fn swap_in<V>(page: &mut Page<V>, key: &i64, value: &mut V)
-    requires sorted { IsTrue (is_sorted int_cmp page.old.items) }
-    requires present { IsSome (find int_cmp key.now page.old.items) }
-    ensures page { page.new.items ≡ put int_cmp key.now value.old page.old.items }
-    ensures value { find int_cmp key.now page.old.items ≡ Some value.new }
-{
-    let at = rank_in(page, key);
-    mem::swap(&mut page[at].1, value);
 }
 
 // Changes the value at a key of the page. After an error nothing is promised about the value.

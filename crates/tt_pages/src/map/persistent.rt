@@ -1,4 +1,4 @@
-// Calls that answer a changed copy and leave the map as it was. They are part of the public
+// Calls that return a changed copy and leave the map as it was. They are part of the public
 // surface, and nothing in the libraries above calls them.
 ghost use Rattle.std.specs.Prelude.{◌≡◌, IfOk};
 ghost use Rattle.std.specs.Ordering.{int_cmp};

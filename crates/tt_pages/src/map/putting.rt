@@ -19,7 +19,7 @@ use std::alloc::{AllocError, Global};
 use std::sync::Arc;
 
 impl<V: Kept + Drop> Tree<V> {
-    // Sets the value at the key. Answers whether the key is new.
+    // Sets the value at the key. Returns whether the key is new.
     #[cycle(map_put)]
     pub(super) fn put(&mut self, alloc: Global, key: &i64, value: V) -> Result<bool, AllocError>
         requires { self.old.width < max_width }
@@ -145,7 +145,7 @@ fn make_room<V: Kept + Drop>(
     insert_halves(branches, at, halves, key)
 }
 
-// Puts two halves in place of the branch that they come from. Answers the place of the one that the
+// Puts two halves in place of the branch that they come from. Returns the place of the one that the
 // key belongs to.
 fn insert_halves<V: Drop>(
     branches: &mut Vec<Branch<V>>,

@@ -173,7 +173,7 @@ fn put_one<V: Drop>(branches: &mut Vec<Branch<V>>, left: usize, branch: Branch<V
     drop(branches.remove(left + 1));
 }
 
-// Puts two branches in place of those that they come from. Answers the place of the one that the
+// Puts two branches in place of those that they come from. Returns the place of the one that the
 // key belongs to.
 fn put_two<V: Drop>(
     branches: &mut Vec<Branch<V>>,

@@ -1,127 +1,18 @@
-// How the value at a key of a tree is exchanged or changed. The keys stay, and so does the shape of
-// the tree.
-ghost use Rattle.std.specs.Prelude.{◌≡◌, length, IsSome, Some, OnOk, OnErr};
+// How the value at a key of a tree is changed. The keys stay, and so does the shape of the tree.
+ghost use Rattle.std.specs.Prelude.{◌≡◌, length, IsSome, OnOk};
 ghost use Rattle.std.specs.Arc.{arc_value};
 ghost use Rattle.std.specs.Ordering.{int_cmp};
-ghost use Rattle.std.specs.FinMap.Entries.{find, put};
+ghost use Rattle.std.specs.FinMap.Entries.{find};
 ghost use Rattle.tt_pages.specs.MapEntries.{keys_of, ChangesAt};
 ghost use Rattle.tt_pages.specs.MapTree.{node_value, branch_entries, branch_depth, IsNode, AreBranches};
 
 use super::branches::branch_for;
-use super::page::{change_in, swap_in};
+use super::page::change_in;
 use super::tree::{Branch, Node, Tree, unshare};
 use crate::kept::Kept;
 use crate::modify::Modify;
 use std::alloc::{AllocError, Global};
 use std::sync::Arc;
-
-impl<V: Kept + Drop> Tree<V> {
-    // Exchanges the value at a key of the tree.
-    #[cycle(map_swap)]
-    fn swap(&mut self, alloc: Global, key: &i64, value: &mut V) -> Result<(), AllocError>
-        requires present { IsSome (find int_cmp key.now self.old.entries) }
-        ensures depth { self.new.depth ≡ self.old.depth }
-        ensures width { self.new.width ≡ self.old.width }
-        ensures tree { OnOk result
-            (self.new.entries ≡ put int_cmp key.now value.old self.old.entries) }
-        ensures value { OnOk result (find int_cmp key.now self.old.entries ≡ Some value.new) }
-        ensures err { OnErr result (self.new.entries ≡ self.old.entries) }
-        ensures err_value { OnErr result (value.new ≡ value.old) }
-    {
-        self.node.swap(alloc, key, value)
-    }
-}
-
-impl<V: Kept + Drop> Node<V> {
-    #[cycle(map_swap)]
-    fn swap(&mut self, alloc: Global, key: &i64, value: &mut V) -> Result<(), AllocError>
-        requires node { IsNode self.old }
-        requires present { IsSome (find int_cmp key.now (node_value self.old).entries) }
-        ensures node { IsNode self.new }
-        ensures depth { (node_value self.new).depth ≡ (node_value self.old).depth }
-        ensures width { (node_value self.new).width ≡ (node_value self.old).width }
-        ensures tree { OnOk result ((node_value self.new).entries
-            ≡ put int_cmp key.now value.old (node_value self.old).entries) }
-        ensures value { OnOk result
-            (find int_cmp key.now (node_value self.old).entries ≡ Some value.new) }
-        ensures err { OnErr result
-            ((node_value self.new).entries ≡ (node_value self.old).entries) }
-        ensures err_value { OnErr result (value.new ≡ value.old) }
-    {
-        match self {
-            Node::Leaf(page) => {
-                swap_in(page, key, value);
-                Ok(())
-            }
-            Node::Fork(branches) => swap_in_fork(alloc, branches, key, value),
-        }
-    }
-}
-
-#[cycle(map_swap)]
-fn swap_in_fork<V: Kept + Drop>(
-    alloc: Global,
-    branches: &mut Vec<Branch<V>>,
-    key: &i64,
-    value: &mut V,
-) -> Result<(), AllocError>
-    requires fork { AreBranches (branch_depth branches.old.items) branches.old.items }
-    requires present { IsSome (find int_cmp key.now (branch_entries branches.old.items)) }
-    ensures fork { AreBranches (branch_depth branches.old.items) branches.new.items }
-    ensures width { length branches.new.items ≡ length branches.old.items }
-    ensures tree { OnOk result (branch_entries branches.new.items
-        ≡ put int_cmp key.now value.old (branch_entries branches.old.items)) }
-    ensures value { OnOk result
-        (find int_cmp key.now (branch_entries branches.old.items) ≡ Some value.new) }
-    ensures err { OnErr result
-        (branch_entries branches.new.items ≡ branch_entries branches.old.items) }
-    ensures err_value { OnErr result (value.new ≡ value.old) }
-{
-    let at = branch_for(branches, key);
-    branches[at].swap(alloc, key, value)
-}
-
-impl<V: Kept + Drop> Branch<V> {
-    #[cycle(map_swap)]
-    fn swap(&mut self, alloc: Global, key: &i64, value: &mut V) -> Result<(), AllocError>
-        requires present { IsSome (find int_cmp key.now self.old.tree.entries) }
-        ensures first { self.new.first ≡ self.old.first }
-        ensures depth { self.new.tree.depth ≡ self.old.tree.depth }
-        ensures width { self.new.tree.width ≡ self.old.tree.width }
-        ensures tree { OnOk result
-            (self.new.tree.entries ≡ put int_cmp key.now value.old self.old.tree.entries) }
-        ensures value { OnOk result
-            (find int_cmp key.now self.old.tree.entries ≡ Some value.new) }
-        ensures err { OnErr result (self.new.tree.entries ≡ self.old.tree.entries) }
-        ensures err_value { OnErr result (value.new ≡ value.old) }
-    {
-        swap_shared(alloc, &mut self.tree, key, value)
-    }
-}
-
-#[cycle(map_swap)]
-pub(super) fn swap_shared<V: Kept + Drop>(
-    alloc: Global,
-    this: &mut Arc<Tree<V>>,
-    key: &i64,
-    value: &mut V,
-) -> Result<(), AllocError>
-    requires present { IsSome (find int_cmp key.now (arc_value this.old).entries) }
-    ensures depth { (arc_value this.new).depth ≡ (arc_value this.old).depth }
-    ensures width { (arc_value this.new).width ≡ (arc_value this.old).width }
-    ensures tree { OnOk result ((arc_value this.new).entries
-        ≡ put int_cmp key.now value.old (arc_value this.old).entries) }
-    ensures value { OnOk result
-        (find int_cmp key.now (arc_value this.old).entries ≡ Some value.new) }
-    ensures err { OnErr result ((arc_value this.new).entries ≡ (arc_value this.old).entries) }
-    ensures err_value { OnErr result (value.new ≡ value.old) }
-{
-    unshare(alloc, this)?;
-    match Arc::get_mut(this) {
-        Some(tree) => tree.swap(alloc, key, value),
-        None => Err(AllocError),
-    }
-}
 
 impl<V: Kept + Drop> Tree<V> {
     // Changes the value at a key of the tree. After an error nothing is promised about the value.

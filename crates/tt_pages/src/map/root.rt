@@ -1,5 +1,5 @@
 // The tree of a whole map, which grows and shrinks at its root.
-ghost use Rattle.std.specs.Prelude.{◌≡◌, ◌+◌, ◌<◌, ◌≤◌, [], ◌∷◌, length, IsSome, Some, IfOk, IfSome, IfNone, OnOk, OnErr};
+ghost use Rattle.std.specs.Prelude.{◌≡◌, ◌+◌, ◌<◌, ◌≤◌, [], ◌∷◌, length, IsSome, IfOk, IfSome, IfNone, OnOk, OnErr};
 ghost use Rattle.std.specs.Arc.{arc_value};
 ghost use Rattle.std.specs.Option.{is_none, is_some};
 ghost use Rattle.std.specs.Ordering.{int_cmp};
@@ -10,7 +10,6 @@ ghost use Rattle.tt_pages.specs.MapTree.{entries_of_root as entries, max_width};
 use super::page::{MAX_WIDTH, put_in};
 use super::putting::put_shared;
 use super::removal::remove_shared;
-use super::replacing::swap_shared;
 use super::splitting::Halves;
 use super::tree::{Node, Tree};
 use crate::kept::Kept;
@@ -18,7 +17,7 @@ use crate::modify::Modify;
 use std::alloc::{AllocError, Global};
 use std::sync::Arc;
 
-// Sets the value at the key. Answers whether the key is new.
+// Sets the value at the key. Returns whether the key is new.
 pub(super) fn put_in_root<V: Kept + Drop>(
     alloc: Global,
     root: &mut Option<Arc<Tree<V>>>,
@@ -42,25 +41,6 @@ pub(super) fn put_in_root<V: Kept + Drop>(
     }
 }
 
-pub(super) fn swap_in_root<V: Kept + Drop>(
-    alloc: Global,
-    root: &mut Option<Arc<Tree<V>>>,
-    key: &i64,
-    value: &mut V,
-) -> Result<(), AllocError>
-    requires { IsSome (find int_cmp key.now (entries root.old)) }
-    ensures map { OnOk result
-        (entries root.new ≡ put int_cmp key.now value.old (entries root.old)) }
-    ensures value { OnOk result (find int_cmp key.now (entries root.old) ≡ Some value.new) }
-    ensures err { OnErr result (entries root.new ≡ entries root.old) }
-    ensures err_value { OnErr result (value.new ≡ value.old) }
-{
-    match root {
-        Some(tree) => swap_shared(alloc, tree, key, value),
-        None => unreachable!(),
-    }
-}
-
 pub(super) fn change_in_root<V: Kept + Drop, M: Modify<V>>(
     alloc: Global,
     root: &mut Option<Arc<Tree<V>>>,
@@ -78,7 +58,7 @@ pub(super) fn change_in_root<V: Kept + Drop, M: Modify<V>>(
     }
 }
 
-// Removes the key, if the map has it. Answers whether it did.
+// Removes the key, if the map has it. Returns whether it did.
 pub(super) fn remove_from_root<V: Kept + Drop>(
     alloc: Global,
     root: &mut Option<Arc<Tree<V>>>,

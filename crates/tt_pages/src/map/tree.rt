@@ -190,7 +190,7 @@ impl<V: Drop> Branch<V> {
         })
     }
 
-    // A further owner of the same tree.
+    // Another owner of the same tree.
     #[inline(always)]
     pub(super) fn share(&self) -> Result<Branch<V>, AllocError>
         ensures { IfOk result (λ copy. copy ≡ self.now) }

@@ -40,7 +40,7 @@ fn repairs<L: Naming, T: Wait + Abort>(rt: &T, alloc: Global, opened: Opened, ca
     tells_changes(rt, alloc, db.get());
 }
 
-/// Asserts what a repair of the five slots answers.
+/// Asserts what a repair of the five slots returns.
 fn repairs_slot_four<L: Naming, T: Wait + Abort>(
     rt: &T,
     alloc: Global,

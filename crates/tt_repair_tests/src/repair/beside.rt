@@ -1,4 +1,5 @@
-//! Repairs of worker 1 that are held before their first step, until worker 2 has its answers.
+//! Repairs of worker 1 that are held before their first step, until the calls of worker 2 have
+//! returned.
 ghost use Rattle.std.specs.Prelude.{◌≡◌, ◌≤◌};
 ghost use Rattle.std.specs.Arc.{arc_value};
 ghost use Rattle.tt_db.specs.Limits.{usual_limits};
@@ -95,7 +96,7 @@ fn repairs_beside_an_insert<L: Naming + Send + Sync, T: Threads + Wait + Abort +
     done(store);
 }
 
-/// Asserts what a repair answers during which a slot is added.
+/// Asserts what a repair returns during which a slot is added.
 fn repairs_six_slots<L: Naming, T: Wait + Abort>(
     rt: &T,
     alloc: Global,

@@ -25,7 +25,7 @@ fn room_for(events: u64) -> Limits {
     }
 }
 
-/// What a repair answers that stops in this phase, since there is no room for another entry.
+/// What a repair returns that stops in this phase, since there is no room for another entry.
 fn stopped(phase: Phase, limit: u64) -> RepairFault {
     RepairFault {
         phase,
@@ -75,7 +75,7 @@ fn fills<L: Naming, T: Wait + Abort>(
     done(store);
 }
 
-/// Asserts what a repair answers that steps by two, in no round.
+/// Asserts what a repair returns that steps by two, in no round.
 fn is_stopped<L: Naming, T: Wait + Abort>(
     rt: &T,
     alloc: Global,

@@ -10,10 +10,7 @@ use tt_values::Reply;
 
 /// Applies an event that isn't refused.
 fn apply(rt: &impl Abort, db: &mut Db, event: Event) {
-    let answers = db
-        .apply_all(&[Entry { worker: 1, event }])
-        .expect(rt, "memory");
-    assert!(rt; answers.iter().all(|answer| answer.is_ok()));
+    assert!(rt; db.advance(Entry { worker: 1, event }).is_ok());
 }
 
 /// A database of the five slots.

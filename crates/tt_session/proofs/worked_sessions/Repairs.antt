@@ -11,12 +11,12 @@ use Rattle.json.specs.Word.{word, after_number}
 use Rattle.serde_json.specs.Read.{number_of}
 use Rattle.tt_values.specs.RowWrites.{row_writes}
 use Rattle.tt_repair_laws.specs.Due.{dirty_after, reexecuted_count}
-use Rattle.tt_document.specs.Tables.{column, table_after}
-use Rattle.tt_document.specs.Conditions.{condition}
-use Rattle.tt_document.specs.Statements as statements
-use Rattle.tt_document.specs.Actions as actions
-use Rattle.tt_document.specs.Repair.{replacement}
-use Rattle.tt_document.specs.TextValue.{value_of_json}
+use Rattle.tt_grammar.specs.Tables.{column, table_after}
+use Rattle.tt_grammar.specs.Conditions.{condition}
+use Rattle.tt_grammar.specs.Statements as statements
+use Rattle.tt_grammar.specs.Actions as actions
+use Rattle.tt_grammar.specs.Edits.{replacement}
+use Rattle.tt_grammar.specs.TextValue.{value_of_json}
 use Rattle.tt_requests.specs.LineValue.{value_of_line}
 use Rattle.tt_requests.specs.Opening.{members_of_opening}
 use Rattle.tt_requests.specs.Edits.{cancel, replace, edit}

@@ -13,9 +13,9 @@ use Rattle.tt_values.proofs.worked_rows.Accounts.{tables}
 use Rattle.tt_values.specs.RowWrites.{row_writes}
 use Rattle.tt_repair_laws.specs.Due.{dirty_after, reexecuted_count}
 use Rattle.tt_db.specs.Limits.{usual_limits}
-use Rattle.tt_document.specs.Changes.{change}
-use Rattle.tt_document.specs.Statements as statements
-use Rattle.tt_document.specs.TextValue.{value_of_json}
+use Rattle.tt_grammar.specs.Changes.{change}
+use Rattle.tt_grammar.specs.Statements as statements
+use Rattle.tt_grammar.specs.TextValue.{value_of_json}
 use Rattle.tt_requests.specs.LineValue.{value_of_line}
 use Rattle.tt_requests.specs.Edits.{cancel, edit}
 use Rattle.tt_requests.specs.Requests.{one_write, begin, bare, only_true, members_of_request}

@@ -34,7 +34,7 @@ pub(super) fn repairs_at_once<L: Naming, T: Wait + Abort>(scene: Scene<'_, L, T>
     has(rt, alloc, &mut first, &[(1, "ann", 6), (2, "ann", 7)]);
 }
 
-/// What a repair answers whose switch has this place.
+/// What a repair returns whose switch has this place.
 fn repaired_at(place: u64) -> Repaired {
     Repaired {
         generation: 1,
@@ -44,8 +44,8 @@ fn repaired_at(place: u64) -> Repaired {
     }
 }
 
-/// Ends a repair that found no memory: finishes it where the last call did, gives it up and makes it
-/// anew where a step did, and otherwise makes it anew.
+/// Ends a repair that found no memory: finishes it where the last call did, gives it up and makes
+/// it anew where a step did, and otherwise makes it anew.
 fn ends<L: Naming, T: Wait + Abort>(
     rt: &T,
     alloc: Global,

@@ -29,8 +29,8 @@ pub(super) fn writes_five<L: Naming, T: Wait + Abort>(scene: Scene<'_, L, T>) {
     has(rt, alloc, &mut first, &[(3, "bob", 8)]);
 }
 
-/// An action is written into the next slot. If the call finds no memory it has added nothing, and is
-/// made again.
+/// An action is written into the next slot. If the call finds no memory, it has added nothing, and
+/// is made again.
 fn writes<L: Naming, T: Wait + Abort>(
     rt: &T,
     alloc: Global,

@@ -1,4 +1,4 @@
-//! Calls of worker 1 that are held at some of their points until worker 2 has its answer.
+//! Calls of worker 1 that are held at some of their points until a call of worker 2 has returned.
 ghost use Rattle.std.specs.Prelude.{◌≡◌};
 ghost use Rattle.std.specs.Arc.{arc_value};
 ghost use Rattle.tt_db.specs.Limits.{usual_limits};
@@ -107,8 +107,8 @@ impl Marks {
     }
 }
 
-/// Holds worker 1 at these points, one after another. In the try of this number, if there is one, it
-/// watches the lock.
+/// Holds worker 1 at these points, one after another. In the try of this number, if there is one,
+/// it watches the lock.
 #[derive(Clone, Copy)]
 struct Held<'a> {
     marks: &'a Marks,

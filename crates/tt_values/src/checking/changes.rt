@@ -66,7 +66,7 @@ pub(super) fn changes_key(changes: &[Change]) -> bool
 }
 
 /// Whether two changes are of the same column. Where all columns are in the table, this looks at
-/// no more changes than the table has columns before it answers `true`.
+/// no more changes than the table has columns before it returns `true`.
 pub(super) fn changes_twice(changes: &[Change]) -> bool
     ensures { result ≡ changes_twice changes.now }
 {

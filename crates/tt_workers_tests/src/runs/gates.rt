@@ -51,7 +51,7 @@ impl Marks {
     }
 }
 
-/// Holds worker 1 where it builds a state until a call of worker 2 is answered.
+/// Holds worker 1 where it builds a state until a call of worker 2 has returned.
 #[derive(Clone, Copy)]
 pub(crate) struct AfterTheOther<'a> {
     pub(crate) marks: &'a Marks,
@@ -68,7 +68,7 @@ impl Gate for AfterTheOther<'_> {
     }
 }
 
-/// Holds each of two workers where its call is answered until the other's is, too.
+/// Holds each of two workers where its call has returned until the other's has, too.
 #[derive(Clone, Copy)]
 pub(crate) struct Together<'a> {
     pub(crate) marks: &'a Marks,

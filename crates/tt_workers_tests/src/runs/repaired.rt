@@ -148,7 +148,7 @@ fn has_slot(records: &[Record], call: u64, slot: u64) -> bool {
     }
 }
 
-/// Asserts that the report lists the records that a database answers otherwise, and no others.
+/// Asserts that the report lists the records that have other replies now, and no others.
 pub(super) fn tells_changes(rt: &impl Abort, db: &Db, report: &Report) {
     let mut position = 0usize;
     for record in report.records.as_slice() {
@@ -161,7 +161,7 @@ pub(super) fn tells_changes(rt: &impl Abort, db: &Db, report: &Report) {
     same(rt, &position, &report.changes.len());
 }
 
-/// Whether a database answers otherwise now.
+/// Whether a record has another reply in a database now.
 fn has_changed(db: &Db, what: &What) -> bool {
     match what {
         What::Write { slot, replies } => match db.slot(*slot) {

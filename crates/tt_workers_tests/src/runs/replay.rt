@@ -50,8 +50,8 @@ fn has_records(rt: &impl Abort, calls: &[&Call], records: &[Record]) {
     }
 }
 
-/// Asserts that no worker answers at a front before that of its call before, nor before the entry
-/// that it wrote by that.
+/// Asserts that no call is right at a front before that of its worker's previous call, nor before
+/// the entry that the previous call has added.
 fn has_rising_fronts(rt: &impl Abort, alloc: Global, report: &Report) {
     let mut seen = vec![in alloc; 0u64; NUMBERS].expect(rt, "memory");
     for (record, front) in report.records.iter().zip(report.fronts.as_slice()) {
@@ -77,7 +77,7 @@ fn records_by_front(rt: &impl Abort, alloc: Global, report: &Report) -> Vec<Vec<
     all
 }
 
-/// Asserts that each record is right at its front of the history, and answers the database with the
+/// Asserts that each record is right at its front of the history, and returns the database with the
 /// whole history.
 fn replays(
     rt: &impl Abort,

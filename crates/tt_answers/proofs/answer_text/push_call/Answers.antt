@@ -2,7 +2,7 @@
 use Rattle.std.proofs.Common.{map, codes}
 use Rattle.std.specs.List.{flat_map}
 use Rattle.std.specs.Fmt.{decimal}
-use Rattle.tt_answers.specs.JsonText.{further_item, member_text, members_text}
+use Rattle.tt_grammar.specs.JsonText.{further_item, member_text, members_text}
 use Rattle.tt_answers.specs.AnswerText.{answer_members}
 use Rattle.tt_answers.proofs.PieceLemmas.{call-pieces}
 use Rattle.tt_answers.proofs.AnswerLemmas.{further-members}

@@ -1,7 +1,7 @@
 -- The pieces of the members, one after another.
 use Rattle.std.proofs.Common.{◌++◌, ap, ◌∙◌, codes}
 use Rattle.std.specs.Fmt.{decimal}
-use Rattle.tt_answers.specs.WriteText.{tables_text}
+use Rattle.tt_grammar.specs.WriteText.{tables_text}
 use Rattle.tt_answers.proofs.PieceLemmas.{declared-pieces}
 use Rattle.tt_answers.proofs.answer_text.push_declared.Goals as goal
 

@@ -1,7 +1,7 @@
 -- The pieces of the line, one after another.
 use Rattle.std.proofs.Common.{[], ◌++◌, ap, ◌∙◌, codes}
 use Rattle.tt_values.specs.Tables.{Tables}
-use Rattle.tt_answers.specs.JsonText.{members_text}
+use Rattle.tt_grammar.specs.JsonText.{members_text}
 use Rattle.tt_answers.specs.AnswerText.{answer_members}
 use Rattle.tt_answers.proofs.PieceLemmas.{opening-pieces}
 use Rattle.tt_answers.proofs.answer_text.push_opening.Goals as goal

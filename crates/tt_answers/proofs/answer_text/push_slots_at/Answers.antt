@@ -1,7 +1,7 @@
 -- The pieces of the members, one after another.
 use Rattle.std.proofs.Common.{map, codes}
 use Rattle.std.specs.Fmt.{decimal}
-use Rattle.tt_answers.specs.JsonText.{array_text}
+use Rattle.tt_grammar.specs.JsonText.{array_text}
 use Rattle.tt_answers.specs.AnswerText.{slot_text}
 use Rattle.tt_answers.proofs.PieceLemmas.{number-value}
 use Rattle.tt_answers.proofs.answer_text.push_slots_at.Goals as goal

@@ -1,6 +1,6 @@
 -- The pieces of the member, one after another.
 use Rattle.std.proofs.Common.{codes}
-use Rattle.tt_document.specs.Quoting.{quoted}
+use Rattle.tt_grammar.specs.Quoting.{quoted}
 use Rattle.tt_answers.proofs.PieceLemmas.{object-member}
 use Rattle.tt_answers.proofs.fault_text.push_fault_at.Goals as goal
 

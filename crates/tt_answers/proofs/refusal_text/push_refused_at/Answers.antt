@@ -1,7 +1,7 @@
 -- The pieces of the members, one after another.
 use Rattle.std.proofs.Common.{◌++◌, ap, ◌∙◌, codes}
 use Rattle.std.specs.Fmt.{decimal}
-use Rattle.tt_document.specs.Quoting.{quoted}
+use Rattle.tt_grammar.specs.Quoting.{quoted}
 use Rattle.tt_answers.proofs.PieceLemmas.{value-number}
 use Rattle.tt_answers.proofs.refusal_text.push_refused_at.Goals as goal
 

@@ -1,4 +1,4 @@
-use Rattle.tt_answers.proofs.ItemLemmas.{items_at-reply}
+use Rattle.tt_answers.proofs.ReplyLemmas.{items_at-reply}
 use Rattle.tt_answers.proofs.reply_text.push_reply_items.Goals as goal
 
 pub loop-reply-preserved : goal.loop-reply-preserved

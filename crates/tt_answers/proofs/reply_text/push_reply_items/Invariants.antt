@@ -1,7 +1,7 @@
 -- the text so far and that of the items that are left are the whole
 use Rattle.std.proofs.Common.{◌≡◌, ◌++◌, drop}
 use Rattle.std.specs.List.{flat_map}
-use Rattle.tt_answers.specs.JsonText.{items_text, items_at}
+use Rattle.tt_grammar.specs.JsonText.{items_text, items_at}
 use Rattle.tt_answers.specs.AnswerText.{reply_items}
 use Rattle.tt_answers.proofs.reply_text.push_reply_items.Given as goal
 

@@ -1,7 +1,7 @@
 -- The pieces of the object, one after another.
 use Rattle.std.proofs.Common.{◌++◌, ap, ◌∙◌, codes}
 use Rattle.std.specs.Fmt.{decimal}
-use Rattle.tt_answers.specs.JsonText.{further_item, member_text}
+use Rattle.tt_grammar.specs.JsonText.{further_item, member_text}
 use Rattle.tt_answers.specs.AnswerText.{replies_text, place_member, after_text}
 use Rattle.tt_answers.proofs.PieceLemmas.{changed-pieces}
 use Rattle.tt_answers.proofs.slot_text.push_change.Goals as goal

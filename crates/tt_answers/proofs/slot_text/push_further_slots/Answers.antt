@@ -1,5 +1,5 @@
+use Rattle.tt_grammar.proofs.ItemLemmas.{further-next}
 use Rattle.tt_answers.specs.AnswerText.{slot_text}
-use Rattle.tt_answers.proofs.ItemLemmas.{further-next}
 use Rattle.tt_answers.proofs.slot_text.push_further_slots.Goals as goal
 
 pub loop-slot-preserved : goal.loop-slot-preserved

@@ -1,8 +1,8 @@
 -- the text so far and that of the items that are left are the whole
 use Rattle.std.proofs.Common.{◌≡◌, ◌++◌, map, drop}
 use Rattle.std.specs.List.{flat_map}
+use Rattle.tt_grammar.specs.JsonText.{further_item}
 use Rattle.tt_answers.specs.AnswerText.{slot_text}
-use Rattle.tt_answers.specs.JsonText.{further_item}
 use Rattle.tt_answers.proofs.slot_text.push_further_slots.Given as goal
 
 abbrev pub invariant-loop-slot : goal.invariant-loop-slot

@@ -3,8 +3,8 @@ use Rattle.std.proofs.Common.{◌++◌, map, ap, ◌∙◌, codes}
 use Rattle.std.specs.List.{flat_map}
 use Rattle.std.specs.Option.{option_map}
 use Rattle.std.specs.Fmt.{decimal}
-use Rattle.tt_answers.specs.JsonText.{further_item, member_text, text_or_null}
-use Rattle.tt_answers.specs.WriteText.{action_text}
+use Rattle.tt_grammar.specs.JsonText.{further_item, member_text, text_or_null}
+use Rattle.tt_grammar.specs.WriteText.{action_text}
 use Rattle.tt_answers.specs.AnswerText.{replies_text, asked_members}
 use Rattle.tt_answers.proofs.PieceLemmas.{slot-pieces}
 use Rattle.tt_answers.proofs.slot_text.push_slot.Goals as goal

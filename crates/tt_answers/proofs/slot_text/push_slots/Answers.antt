@@ -1,10 +1,10 @@
 -- The pieces of the array, one after another.
 use Rattle.std.proofs.Common.{◌≡◌, ◌-◌, ◌++◌, length, map, take, drop, subst, codes}
 use Rattle.std.specs.List.{flat_map}
-use Rattle.tt_answers.specs.JsonText.{further_item}
+use Rattle.tt_grammar.specs.JsonText.{further_item}
+use Rattle.tt_grammar.proofs.PieceLemmas.{four-pieces}
+use Rattle.tt_grammar.proofs.ItemLemmas.{array_text-first}
 use Rattle.tt_answers.specs.AnswerText.{slot_text}
-use Rattle.tt_answers.proofs.PieceLemmas.{four-pieces}
-use Rattle.tt_answers.proofs.ItemLemmas.{array_text-first}
 use Rattle.tt_answers.proofs.slot_text.push_slots.Goals as goal
 
 pub returns : goal.returns

@@ -1,8 +1,16 @@
 -- The columns of the table get one value more.
-use Rattle.tt_parts.proofs.SearchLemmas.{AddsPartition-taken}
+use Rattle.std.proofs.Common.{pos, sym, ap, subst, ◌∙◌}
+use Rattle.std.specs.Option.{unwrap_or}
+use Rattle.std.specs.Ordering.{int_cmp}
+use Rattle.std.specs.FinMap.Entries as sorted
+use Rattle.tt_parts.specs.Sets.{ValuesByColumn, ValuesByTable, with_value_in, AddsPartition}
+use Rattle.tt_parts.proofs.SearchLemmas.{AddsPartition-put}
 use Rattle.tt_parts.proofs.dirty_partitions.add_partition.Goals as goal
 
 pub returns : goal.returns
 returns c =
-    AddsPartition-taken c.args.tables.now c.take_value.new.map c.put_value.new.map c.in_ok-columns.columns c.add_in_column.new.columns c.new.result c.args.partition.now
-    c.new.ensures c.in_ok-columns.ensures.value c.in_ok-add_in_column.ensures c.in_ok-columns.ensures.others c.in_ok-put_value.ensures
+    let before = c.args.tables.now in
+    let p = c.args.partition in
+    let is = c.in_ok-change_at.ensures
+    ∙ ap (λ (empty : ValuesByColumn). sorted.put int_cmp (pos p.table) (with_value_in p.column p.value (unwrap_or (sorted.find int_cmp (pos p.table) before) empty)) before) c.new.ensures in
+    subst (λ (t : ValuesByTable). AddsPartition before p t) (sym is) (AddsPartition-put before p)

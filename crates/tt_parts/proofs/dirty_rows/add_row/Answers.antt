@@ -1,13 +1,19 @@
 -- The keys of the table get one more.
-use Rattle.std.proofs.Common.{ℤ, w64, subst}
+use Rattle.std.proofs.Common.{ℤ, pos, w64, sym, ap, subst, ◌∙◌}
 use mir.Val.{to_z, of_z}
 use Rattle.std.proofs.lemmas.Int.{to_z-of_z}
-use Rattle.tt_parts.specs.Sets.{AddsRow}
-use Rattle.tt_parts.proofs.SearchLemmas.{AddsRow-taken}
+use Rattle.std.specs.Option.{unwrap_or}
+use Rattle.std.specs.Ordering.{int_cmp}
+use Rattle.std.specs.FinMap.Entries as sorted
+use Rattle.tt_parts.specs.Sets.{KeySet, KeysByTable, with_key, AddsRow}
+use Rattle.tt_parts.proofs.SearchLemmas.{AddsRow-put}
 use Rattle.tt_parts.proofs.dirty_rows.add_row.Goals as goal
 
 pub returns : goal.returns
 returns c =
-    subst (λ (key : ℤ). AddsRow c.args.tables.now c.args.table key c.put_value.new.map) (to_z-of_z w64 c.args.key c.ranges.key)
-    (AddsRow-taken c.args.tables.now c.take_value.new.map c.put_value.new.map c.in_ok-keys.keys c.put.new.self c.new.result c.args.table (to_z w64 (of_z w64 c.args.key)) tt
-    c.new.ensures c.in_ok-keys.ensures.value c.in_ok-put.ensures.ok c.in_ok-keys.ensures.others c.in_ok-put_value.ensures)
+    let before = c.args.tables.now in
+    let table = c.args.table in
+    let key = to_z w64 (of_z w64 c.args.key) in
+    let is = c.in_ok-change_at.ensures ∙ ap (λ (empty : KeySet). sorted.put int_cmp (pos table) (with_key key (unwrap_or (sorted.find int_cmp (pos table) before) empty)) before) c.new.ensures in
+    subst (λ (k : ℤ). AddsRow before table k c.change_at.new.map) (to_z-of_z w64 c.args.key c.ranges.key)
+    (subst (λ (t : KeysByTable). AddsRow before table key t) (sym is) (AddsRow-put before table key))

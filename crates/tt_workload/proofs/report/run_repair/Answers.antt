@@ -1,9 +1,9 @@
 -- The beginning of the repair, the calls beside its steps, the switch and the changed replies, one after another.
 use Rattle.std.proofs.Common.{rules, ◌≡◌, ◌+◌, ◌++◌, List, None, map, sym, ap, subst, ◌∙◌}
 use Rattle.std.specs.Prelude.{IsErrAnd}
-use Rattle.tt_workload.specs.declared.run_fault.RunFault.{RunFault}
 use Rattle.tt_db.specs.declared.event.Event.TheVariants as events
 use Rattle.tt_db.specs.Database.{refusal_of}
+use Rattle.tt_workload.specs.declared.run_fault.RunFault.{RunFault}
 use Rattle.tt_workload.specs.History.{edit_of_slot}
 use Rattle.tt_workload.proofs.ReportLemmas.{is_memory}
 use Rattle.tt_workload.proofs.RepairReportLemmas.{repair-state, repair-pieces}

@@ -8,5 +8,5 @@ use Rattle.tt_parts.proofs.dirty_partitions.DirtyPartitions.add.Goals as goal
 
 pub returns : goal.returns
 returns c =
-    subst (λ (ps : List Partition). SamePartitions (partitions_found c.add_partition.new.tables) (c.args.partition.now ∷ ps)) c.self.view_is
-    (same_partitions-add c.self.inside.tables c.add_partition.new.tables c.args.partition.now c.in_ok-add_partition.ensures)
+    subst (λ (ps : List Partition). SamePartitions (partitions_found c.add_partition.new.tables) (c.args.partition ∷ ps)) c.self.view_is
+    (same_partitions-add c.self.inside.tables c.add_partition.new.tables c.args.partition c.in_ok-add_partition.ensures)

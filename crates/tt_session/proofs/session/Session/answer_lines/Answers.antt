@@ -1,12 +1,12 @@
 -- Before the session is open, nothing is answered together.
 use Rattle.std.proofs.Common.{subst, sym, ap}
-use Rattle.tt_session.specs.declared.batch.Batch.{Batch}
-use Rattle.tt_session.specs.Batch.{AnswersFront}
-use Rattle.tt_session.proofs.BatchLemmas.{front-nil}
+use Rattle.tt_session.specs.declared.open_session.together.Extent.{Extent}
+use Rattle.tt_session.specs.Together.{AnswersFront}
+use Rattle.tt_session.proofs.TogetherLemmas.{front-nil}
 use Rattle.tt_session.proofs.session.Session.answer_lines.Goals as goal
 
 pub returns-in-NotOpen : goal.returns-in-NotOpen
 returns-in-NotOpen c =
     let session = c.args.self.now in
     let out = c.args.out.now.items in
-    subst (λ n. AnswersFront c.args.bytes.now n session session out out) (sym (ap (λ (b : Batch). b.taken) c.of.ensures)) (front-nil c.args.bytes.now session out)
+    subst (λ n. AnswersFront c.args.bytes.now n session session out out) (sym (ap (λ (b : Extent). b.taken) c.of.ensures)) (front-nil c.args.bytes.now session out)

@@ -1,6 +1,6 @@
 -- The line of a call is its label, its number and its end.
 use Rattle.std.proofs.Common.{◌≡◌, ℕ, List, ◌++◌, codes, decimal, append_assoc, sym, ap, subst, ◌∙◌}
-use Rattle.tt_workload.specs.Ends.{AppendsPrefix}
+use Rattle.tt_streams.specs.Writing.{AppendsPrefix}
 use Rattle.tt_session.specs.declared.short_answer.ShortAnswer.TheVariants.{CallOutOfMemory, CallTooLong}
 use Rattle.tt_session.specs.ShortAnswers.{short_text}
 use Rattle.tt_session.proofs.short_answer.ShortAnswer.write_to.Goals as goal

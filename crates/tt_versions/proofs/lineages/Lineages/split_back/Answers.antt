@@ -5,7 +5,7 @@ use Rattle.tt_versions.specs.Lineage.{split_back}
 use Rattle.tt_versions.specs.Sides.{LineagesByKey, lineage_at}
 use Rattle.tt_versions.specs.Index.{ListsRow, IsStored}
 use Rattle.tt_versions.proofs.UnsplitLemmas.{HasSplitKeys-put, HasSplitKeys-empty}
-use Rattle.tt_versions.proofs.IndexLemmas.{ListsTableBut-taken, ListsTable-put, ListsTable-empty, LineageHas-split_back}
+use Rattle.tt_versions.proofs.IndexLemmas.{ListsTable-put, ListsTable-empty, LineageHas-split_back}
 use Rattle.tt_versions.proofs.lineages.Lineages.split_back.Goals as goal
 
 pub invariant_of-self : goal.invariant_of-self
@@ -15,8 +15,8 @@ invariant_of-self c =
     let key = to_z w64 (of_z w64 c.args.key) in
     let lineage = split_back c.args.time (lineage_at before.entries key) in
     subst (λ (t : LineagesByKey). IsStored c.split_row_back.new.split_keys before.index t) (sym c.in-Ok.ensures.entries) (record {
-      split = HasSplitKeys-put key before.split_keys c.split_row_back.new.split_keys before.entries lineage (λ q _. stored.split q) c.in-Ok.ensures.keys;
-      listed = ListsTable-put key before.index before.entries lineage (ListsTableBut-taken key before.index before.index before.entries before.entries stored.listed (λ k row h. h) (λ l. refl))
+      split = HasSplitKeys-put key before.split_keys c.split_row_back.new.split_keys before.entries lineage refl stored.split c.in-Ok.ensures.keys;
+      listed = ListsTable-put key before.index before.entries lineage stored.listed
           (LineageHas-split_back (ListsRow before.index key) c.args.time (lineage_at before.entries key) (stored.listed key));
     })
 

@@ -7,5 +7,5 @@ use Rattle.tt_versions.proofs.table.Table.split_back.Goals as goal
 
 pub returns-clause-next_drops : goal.returns-clause-next_drops
 returns-clause-next_drops c =
-    subst (λ (t : LineagesByKey). DropsRowWrites (next_of t) (next_of c.in_ok-table.table) c.args.key c.args.time) c.in_ok-shared.ensures
-    (subst (λ (k : ℤ). DropsRowWrites (next_of c.in_ok-shared.shared) (next_of c.in_ok-table.table) k c.args.time) (to_z-of_z w64 c.args.key c.ranges.key) c.in_ok-table.ensures.next_drops)
+    subst (λ (t : LineagesByKey). DropsRowWrites (next_of t) (next_of c.split_row_back.new.self) c.args.key c.args.time) c.in_ok-table.ensures
+    (subst (λ (k : ℤ). DropsRowWrites (next_of c.in_ok-table.table) (next_of c.split_row_back.new.self) k c.args.time) (to_z-of_z w64 c.args.key c.ranges.key) c.in_ok-split_row_back.ensures.next_drops)

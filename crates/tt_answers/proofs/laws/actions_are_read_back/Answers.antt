@@ -1,5 +1,0 @@
-use Rattle.tt_answers.proofs.ActionReadLemmas.{actions_are_read_back}
-use Rattle.tt_answers.proofs.laws.actions_are_read_back.Goals as goal
-
-pub returns : goal.returns
-returns c = actions_are_read_back

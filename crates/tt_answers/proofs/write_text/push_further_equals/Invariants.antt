@@ -1,9 +1,0 @@
--- the text so far and that of the items that are left are the whole
-use Rattle.std.proofs.Common.{◌≡◌, ◌++◌, map, drop}
-use Rattle.std.specs.List.{flat_map}
-use Rattle.tt_answers.specs.WriteText.{equal_text}
-use Rattle.tt_answers.specs.JsonText.{further_item}
-use Rattle.tt_answers.proofs.write_text.push_further_equals.Given as goal
-
-abbrev pub invariant-loop-equal : goal.invariant-loop-equal
-invariant-loop-equal l = l.out.items ++ flat_map further_item (map (equal_text l.catalog l.table) (drop l.equal-index l.equals)) ≡ l.fn.out.items ++ flat_map further_item (map (equal_text l.catalog l.table) l.equals)

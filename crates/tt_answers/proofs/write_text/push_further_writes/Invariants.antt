@@ -1,9 +1,0 @@
--- the text so far and that of the items that are left are the whole
-use Rattle.std.proofs.Common.{◌≡◌, ◌++◌, map, drop}
-use Rattle.std.specs.List.{flat_map}
-use Rattle.tt_answers.specs.WriteText.{write_text}
-use Rattle.tt_answers.specs.JsonText.{further_item}
-use Rattle.tt_answers.proofs.write_text.push_further_writes.Given as goal
-
-abbrev pub invariant-loop-write : goal.invariant-loop-write
-invariant-loop-write l = l.out.items ++ flat_map further_item (map (write_text l.catalog) (drop l.write-index l.writes)) ≡ l.fn.out.items ++ flat_map further_item (map (write_text l.catalog) l.writes)

@@ -1,0 +1,16 @@
+-- The pieces of the array, one after another.
+use Rattle.std.proofs.Common.{◌≡◌, ◌++◌, ◌-◌, length, map, take, drop, subst, codes}
+use Rattle.std.specs.List.{flat_map}
+use Rattle.tt_grammar.specs.JsonText.{further_item}
+use Rattle.tt_grammar.specs.WriteText.{column_text}
+use Rattle.tt_grammar.proofs.PieceLemmas.{four-pieces}
+use Rattle.tt_grammar.proofs.ItemLemmas.{array_text-first}
+use Rattle.tt_grammar.proofs.table_text.push_columns.Goals as goal
+
+pub returns : goal.returns
+returns c =
+    subst (λ t. c.push-2.new.self.items ≡ c.args.out.now.items ++ t)
+    (array_text-first column_text c.args.columns.now c.first-item.result c.in-len1-up.len_at_least c.first-item.is)
+    (four-pieces c.args.out.now.items c.push.new.self.items c.push_column.new.out.items c.push_further_columns.new.out.items c.push-2.new.self.items
+    (codes "[") (column_text c.first-item.result) (flat_map further_item (map column_text (take (length c.args.columns.now - 1) (drop 1 c.args.columns.now)))) (codes "]")
+    c.in_ok-push.ensures.items c.in_ok-push_column.ensures c.in_ok-push_further_columns.ensures c.in_ok-push-2.ensures.items)

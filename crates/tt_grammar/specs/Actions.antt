@@ -1,0 +1,49 @@
+-- Actions: lists of writes, each an insert, an update or a delete.
+use Rattle.std.specs.Prelude.{Bool, false, List, [], ◌∷◌, Option, Some, None, if◌then◌else◌, Result, Ok, codes}
+use Rattle.serde_json.specs.Data.{Data}
+use Rattle.tt_values.specs.declared.statement.Write.{Write}
+use Rattle.tt_values.specs.Limits.{max_writes}
+use Rattle.tt_values.specs.Tables.{Tables}
+use Rattle.tt_grammar.specs.declared.fault.DocFault.{DocFault}
+use Rattle.tt_grammar.specs.declared.statements.Context.{Context}
+use Rattle.tt_grammar.specs.declared.statements.Context.TheVariants as contexts
+use Rattle.tt_grammar.specs.Fault.{◌>>=◌, or_refuse}
+use Rattle.tt_grammar.specs.Decoder.{object, array, within_limit, has, member}
+use Rattle.tt_grammar.specs.Arrays.{each}
+use Rattle.tt_grammar.specs.declared.version.Version.{Version}
+use Rattle.tt_grammar.specs.declared.version.Version.TheVariants as versions
+use Rattle.tt_grammar.specs.Statements.{no_members_at, insert, update, delete}
+
+-- the write of an object, by the first of the members insert, update and delete that it has; or None, where it has none of them
+unfoldable pub write : Tables → Context → Data → Result (Option Write) DocFault
+write tables context v =
+    if has (codes "insert") v then (insert tables context v >>= λ write. Ok (Some write)) else (
+    if has (codes "update") v then (update tables context v >>= λ write. Ok (Some write)) else (
+    if has (codes "delete") v then (delete tables context v >>= λ write. Ok (Some write)) else
+    Ok None))
+
+-- an item of an action: a write without a worker
+unfoldable pub item_of_action : Tables → Data → Result Write DocFault
+item_of_action tables v = do
+  _ ← object v
+  write ← write tables contexts.Nested v
+  or_refuse (codes "missing one of insert, update, delete") write
+
+-- the writes of an action, or the fault that there are too many
+abbrev pub writes : Tables → Data → Result (List Write) DocFault
+writes tables v = do
+  ds ← array v
+  _ ← within_limit max_writes ds
+  each (item_of_action tables) 0 ds
+
+-- the action of an object: the writes of its member do
+unfoldable pub action : Tables → Context → Data → Result (List Write) DocFault
+action tables context v = do
+  writes ← member (codes "do") (writes tables) v
+  _ ← no_members_at context (codes "do" ∷ []) v
+  Ok writes
+
+-- whether an object has the kind do, which version 1 doesn't know
+abbrev pub has_action : Version → Data → Bool
+has_action versions.One v = false
+has_action versions.Two v = has (codes "do") v

@@ -1,0 +1,22 @@
+-- The versions of documents. Version 2 is version 1 with another kind of call, do.
+use Rattle.std.specs.Prelude.{ℕ, ◌==◌, Option, Some, None, if◌then◌else◌, Result, codes}
+use Rattle.serde_json.specs.Data.{Data}
+use Rattle.tt_grammar.specs.declared.version.Version.{Version}
+use Rattle.tt_grammar.specs.declared.version.Version.TheVariants as versions
+use Rattle.tt_grammar.specs.declared.fault.DocFault.{DocFault}
+use Rattle.tt_grammar.specs.Fault.{◌>>=◌, or_refuse}
+use Rattle.tt_grammar.specs.Decoder.{count}
+
+-- a version, by its number
+abbrev pub version_numbered : ℕ → Option Version
+version_numbered n = if n == 1 then Some versions.One else (if n == 2 then Some versions.Two else None)
+
+-- the version of a document
+abbrev pub version : Data → Result Version DocFault
+version v = do
+  n ← count v
+  or_refuse (codes "out of range") (version_numbered n)
+
+-- the version whose statements the commands of a session are
+abbrev pub version_of_sessions : Version
+version_of_sessions = versions.Two

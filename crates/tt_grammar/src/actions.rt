@@ -1,0 +1,133 @@
+//! Reading of actions.
+ghost use Rattle.std.specs.Prelude.{◌≡◌, [], ◌∷◌, IfOk, codes};
+ghost use Rattle.tt_grammar.specs.Fault.{Gives};
+ghost use Rattle.tt_grammar.specs.Statements.{no_members_at};
+ghost use Rattle.tt_grammar.specs.Actions.{write, item_of_action, writes, action, has_action};
+
+use crate::arrays::decode_items;
+use crate::decoder::{Decoder, OUT_OF_RANGE, array, has, member, object};
+use crate::fault::DocFault;
+use crate::members::no_members_but;
+use crate::statements::{Context, delete, insert, update};
+use crate::version::Version;
+use std::alloc::{AllocError, Global};
+use tt_json::JsonValue;
+use tt_values::{Catalog, Items, MAX_WRITES, Write};
+
+const NO_KIND: &str = "missing one of insert, update, delete";
+
+/// The write of an object, by the first of its kinds that's there, or none.
+#[tactic(auto, unfolding(crate::specs::Actions::write))]
+pub fn write<V: JsonValue>(
+    alloc: Global,
+    catalog: &Catalog,
+    context: Context,
+    value: &V,
+) -> Result<Option<Write>, DocFault>
+    ensures { Gives result (write catalog.now context (V.json value.now)) }
+{
+    if has(value, "insert") {
+        let write = insert(alloc, catalog, context, value)?;
+        return Ok(Some(write));
+    }
+    if has(value, "update") {
+        let write = update(alloc, catalog, context, value)?;
+        return Ok(Some(write));
+    }
+    if has(value, "delete") {
+        let write = delete(alloc, catalog, context, value)?;
+        return Ok(Some(write));
+    }
+    Ok(None)
+}
+
+/// An action of one write.
+pub fn action_of_one(alloc: Global, write: Write) -> Result<Items<Write>, AllocError>
+    ensures { IfOk result (λ action. action ≡ write ∷ []) }
+{
+    Items::of(alloc, [write])
+}
+
+/// The action of an object, from its member `do`. Another member than that and those of its context
+/// is a fault.
+#[tactic(auto, unfolding(crate::specs::Actions::action))]
+pub fn action<V: JsonValue>(
+    alloc: Global,
+    catalog: &Catalog,
+    context: Context,
+    value: &V,
+) -> Result<Items<Write>, DocFault>
+    ensures { Gives result (action catalog.now context (V.json value.now)) }
+{
+    let writes = member(alloc, value, "do", &WritesDecoder { catalog })?;
+    no_members_but_do(alloc, context, value)?;
+    Ok(writes)
+}
+
+fn no_members_but_do<V: JsonValue>(
+    alloc: Global,
+    context: Context,
+    value: &V,
+) -> Result<(), DocFault>
+    ensures { Gives result (no_members_at context (codes "do" ∷ []) (V.json value.now)) }
+{
+    match context {
+        Context::Call => no_members_but(alloc, value, &["worker", "do"]),
+        Context::Request => no_members_but(alloc, value, &["if", "worker", "do"]),
+        Context::Nested => no_members_but(alloc, value, &["do"]),
+    }
+}
+
+/// Whether an object has the kind `do`, which version 1 doesn't know.
+pub fn has_action<V: JsonValue>(version: Version, object: &V) -> bool
+    ensures { result ≡ has_action version (V.json object.now) }
+{
+    match version {
+        Version::One => false,
+        Version::Two => has(object, "do"),
+    }
+}
+
+/// The writes of an action, at most [`MAX_WRITES`].
+#[derive(Drop)]
+struct WritesDecoder<'a> {
+    catalog: &'a Catalog,
+}
+
+impl Decoder for WritesDecoder<'_> {
+    type Output = Items<Write>;
+
+    ghost meaning = { λ r. writes r.catalog.now };
+
+    fn decode<V: JsonValue>(&self, alloc: Global, value: &V) -> Result<Items<Write>, DocFault> {
+        let items = array(alloc, value)?;
+        if V::count(&items) > MAX_WRITES {
+            return Err(DocFault::here(alloc, OUT_OF_RANGE));
+        }
+        let decoder = WriteDecoder {
+            catalog: self.catalog,
+        };
+        decode_items::<_, V>(alloc, &decoder, items)
+    }
+}
+
+/// A write that is an item of an action.
+#[derive(Drop)]
+struct WriteDecoder<'a> {
+    catalog: &'a Catalog,
+}
+
+impl Decoder for WriteDecoder<'_> {
+    type Output = Write;
+
+    ghost meaning = { λ r. item_of_action r.catalog.now };
+
+    #[tactic(auto, unfolding(crate::specs::Actions::item_of_action))]
+    fn decode<V: JsonValue>(&self, alloc: Global, value: &V) -> Result<Write, DocFault> {
+        object(alloc, value)?;
+        match write(alloc, self.catalog, Context::Nested, value)? {
+            Some(write) => Ok(write),
+            None => Err(DocFault::here(alloc, NO_KIND)),
+        }
+    }
+}

@@ -1,0 +1,21 @@
+//! Laws of the definitions that the contracts of this crate speak by. Each is the contract of a
+//! function with an empty body.
+ghost use Rattle.tt_grammar.specs.ReadBack.{WritesAreReadBack, ActionsAreReadBack};
+ghost use Rattle.tt_grammar.specs.ReadBack.{TablesAreReadBack};
+
+/// A write that can be carried out is printed as JSON that is read as the same write: among the
+/// writes of an action, and where it replaces the action of a slot.
+pub fn writes_are_read_back()
+    ensures { WritesAreReadBack }
+{}
+
+/// An action that can be carried out is printed as JSON that is read as the same writes: under
+/// `do`, and so where it replaces the action of a slot.
+pub fn actions_are_read_back()
+    ensures { ActionsAreReadBack }
+{}
+
+/// The tables of a catalog are printed as JSON that is read as the same tables.
+pub fn tables_are_read_back()
+    ensures { TablesAreReadBack }
+{}

@@ -1,0 +1,195 @@
+//! Reading of statements.
+ghost use Rattle.std.specs.Prelude.{◌≡◌, [], ◌∷◌, codes, false, map, option_map};
+ghost use Rattle.tt_values.specs.Check.{write_fault, select_fault};
+ghost use Rattle.tt_grammar.specs.Fault.{Gives};
+ghost use Rattle.std.specs.Option.{option_copied};
+ghost use Rattle.std.specs.Str.{bytes_eq};
+ghost use Rattle.serde_json.specs.Find.{get};
+ghost use Rattle.tt_grammar.specs.Decoder.{read_member};
+ghost use Rattle.tt_grammar.specs.Members.{refuse_member};
+ghost use Rattle.tt_grammar.specs.Arrays.{array_of};
+ghost use Rattle.tt_grammar.specs.Conditions.{condition};
+ghost use Rattle.tt_grammar.specs.Statements.{checked_statement, members_at, conditions, no_members_at, insert, update, delete};
+
+use crate::arrays::ArrayDecoder;
+use crate::causes::cause_of_check;
+use crate::changes::ChangeDecoder;
+use crate::conditions::{ConditionDecoder, TableNameDecoder, ValueDecoder};
+use crate::decoder::{found_member, member};
+use crate::fault::DocFault;
+use crate::members::no_unknown_member;
+use std::alloc::Global;
+use tt_json::{Found, JsonValue};
+use tt_values::{Catalog, Equal, Items, Row, Select, Write, check, check_select};
+
+/// Where a write or an action stands: in a call, which has a worker; in a request of a session,
+/// which may have a worker and a time that it expects; or nested in an action or an edit, which
+/// have neither.
+#[derive(Clone, Copy)]
+pub enum Context {
+    Call,
+    Request,
+    Nested,
+}
+
+/// The insert of an object.
+#[tactic(auto, unfolding(crate::specs::Statements::insert))]
+pub fn insert<V: JsonValue>(
+    alloc: Global,
+    catalog: &Catalog,
+    context: Context,
+    value: &V,
+) -> Result<Write, DocFault>
+    ensures { Gives result (insert catalog.now context (V.json value.now)) }
+{
+    let found = find_in(context, value, "insert", "row");
+    let table = found_member(alloc, found.first, "insert", &TableNameDecoder { catalog })?;
+    let decoder = ArrayDecoder {
+        decoder: ValueDecoder,
+    };
+    let values = found_member(alloc, found.second, "row", &decoder)?;
+    no_unknown_member(alloc, found.unknown)?;
+    let row = Row { values };
+    checked_write(alloc, catalog, Write::Insert { table, row })
+}
+
+/// The update of an object.
+#[tactic(auto, unfolding(crate::specs::Statements::update))]
+pub fn update<V: JsonValue>(
+    alloc: Global,
+    catalog: &Catalog,
+    context: Context,
+    value: &V,
+) -> Result<Write, DocFault>
+    ensures { Gives result (update catalog.now context (V.json value.now)) }
+{
+    let found = find_in_update(context, value);
+    let table = found_member(alloc, found.first, "update", &TableNameDecoder { catalog })?;
+    let decoder = ArrayDecoder {
+        decoder: ChangeDecoder { catalog, table },
+    };
+    let changes = member(alloc, value, "change", &decoder)?;
+    let equals = found_conditions(alloc, catalog, table, found.second)?;
+    no_unknown_member(alloc, found.unknown)?;
+    let write = Write::Update {
+        table,
+        changes,
+        equals,
+    };
+    checked_write(alloc, catalog, write)
+}
+
+/// The delete of an object.
+#[tactic(auto, unfolding(crate::specs::Statements::delete))]
+pub fn delete<V: JsonValue>(
+    alloc: Global,
+    catalog: &Catalog,
+    context: Context,
+    value: &V,
+) -> Result<Write, DocFault>
+    ensures { Gives result (delete catalog.now context (V.json value.now)) }
+{
+    let found = find_in(context, value, "delete", "where");
+    let table = found_member(alloc, found.first, "delete", &TableNameDecoder { catalog })?;
+    let equals = found_conditions(alloc, catalog, table, found.second)?;
+    no_unknown_member(alloc, found.unknown)?;
+    checked_write(alloc, catalog, Write::Delete { table, equals })
+}
+
+/// The two members of an insert or a delete, and the least name of another member that it may not
+/// have in its context.
+#[inline(always)]
+#[tactic(auto, using(crate::proofs::StatementLemmas::unknown_in))]
+fn find_in<'v, V: JsonValue>(
+    context: Context,
+    value: &'v V,
+    first: &str,
+    second: &str,
+) -> Found<'v, V>
+    requires { bytes_eq first.now second.now ≡ false }
+    ensures first { option_map V.json result.first ≡ get first.now (V.json value.now) }
+    ensures second { option_map V.json result.second ≡ get second.now (V.json value.now) }
+    ensures unknown { refuse_member (option_copied result.unknown)
+        ≡ no_members_at context (first.now ∷ second.now ∷ []) (V.json value.now) }
+{
+    value.find_two(first, second, members_at(context))
+}
+
+/// The members that an object of a write may have beside those of the write.
+fn members_at(context: Context) -> &'static [&'static str]
+    ensures { map (λ name. name.now) result.now ≡ members_at context }
+{
+    match context {
+        Context::Call => &["worker"],
+        Context::Request => &["if", "worker"],
+        Context::Nested => &[],
+    }
+}
+
+/// The members `update` and `where` of an update, and the least name of another member that it may
+/// not have in its context.
+#[inline(always)]
+#[tactic(auto, using(crate::proofs::StatementLemmas::unknown_beside))]
+fn find_in_update<V: JsonValue>(context: Context, value: &V) -> Found<'_, V>
+    ensures first { option_map V.json result.first ≡ get (codes "update") (V.json value.now) }
+    ensures second { option_map V.json result.second ≡ get (codes "where") (V.json value.now) }
+    ensures unknown { refuse_member (option_copied result.unknown)
+        ≡ no_members_at context (codes "change" ∷ codes "update" ∷ codes "where" ∷ [])
+        (V.json value.now) }
+{
+    let known: &[&str] = match context {
+        Context::Call => &["worker", "change"],
+        Context::Request => &["if", "worker", "change"],
+        Context::Nested => &["change"],
+    };
+    value.find_two("update", "where", known)
+}
+
+/// The conditions of a statement on a table, from its member `where`.
+pub fn conditions<V: JsonValue>(
+    alloc: Global,
+    catalog: &Catalog,
+    table: u16,
+    statement: &V,
+) -> Result<Items<Equal>, DocFault>
+    ensures { Gives result (conditions catalog.now table (V.json statement.now)) }
+{
+    found_conditions(alloc, catalog, table, statement.get("where"))
+}
+
+/// As [`conditions`], once the member has been looked for.
+fn found_conditions<V: JsonValue>(
+    alloc: Global,
+    catalog: &Catalog,
+    table: u16,
+    found: Option<V>,
+) -> Result<Items<Equal>, DocFault>
+    ensures { Gives result
+        (read_member (codes "where") (array_of (condition catalog.now table))
+        (option_map V.json found)) }
+{
+    let decoder = ArrayDecoder {
+        decoder: ConditionDecoder { catalog, table },
+    };
+    let equals = found_member(alloc, found, "where", &decoder)?;
+    Ok(equals)
+}
+
+fn checked_write(alloc: Global, catalog: &Catalog, write: Write) -> Result<Write, DocFault>
+    ensures { Gives result (checked_statement write (write_fault catalog.now write)) }
+{
+    match check(catalog, &write) {
+        Ok(()) => Ok(write),
+        Err(error) => Err(DocFault::here(alloc, cause_of_check(error))),
+    }
+}
+
+/// A select that the tables accept.
+pub fn checked_select(alloc: Global, catalog: &Catalog, select: Select) -> Result<Select, DocFault>
+    ensures { Gives result (checked_statement select (select_fault catalog.now select)) }
+{
+    match check_select(catalog, &select) {
+        Ok(()) => Ok(select),
+        Err(error) => Err(DocFault::here(alloc, cause_of_check(error))),
+    }
+}

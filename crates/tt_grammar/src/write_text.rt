@@ -1,0 +1,319 @@
+//! Writes as they are printed, as the grammar of documents writes them.
+ghost use Rattle.std.specs.Prelude.{◌≡◌, ◌++◌, map, OnOk};
+ghost use Rattle.std.specs.Option.{option_map};
+ghost use Rattle.std.specs.List.{flat_map};
+ghost use Rattle.tt_grammar.specs.Quoting.{quoted};
+ghost use Rattle.tt_grammar.specs.JsonText.{further_item, array_text, text_or_null};
+ghost use Rattle.tt_grammar.specs.WriteText.{table_name, column_name, column_change_text, equal_text, write_text, action_text};
+
+use crate::json_text::push_named;
+use crate::printing::{push_int, push_row, push_value};
+use std::alloc::AllocError;
+use tt_values::{Catalog, Change, Equal, Items, Row, Value, Write};
+
+/// The name of the table at a position, or an empty one where there is no table.
+fn table_name(catalog: &Catalog, table: u16) -> &str
+    ensures { result.now ≡ table_name catalog.now table }
+{
+    match catalog.name(table) {
+        Some(name) => name,
+        None => "",
+    }
+}
+
+/// The name of the column at a position of a table, or an empty one where there is no column.
+fn column_name(catalog: &Catalog, table: u16, column: u16) -> &str
+    ensures { result.now ≡ column_name catalog.now table column }
+{
+    let Some(def) = catalog.table(table) else {
+        return "";
+    };
+    match def.columns.get(usize::from(column)) {
+        Some(column) => column.name.as_str(),
+        None => "",
+    }
+}
+
+/// Pushes the name of a table in quotes behind its label.
+fn push_table_name(
+    out: &mut Vec<u8>,
+    label: &[u8],
+    catalog: &Catalog,
+    table: u16,
+) -> Result<(), AllocError>
+    ensures { OnOk result (out.new.items
+        ≡ out.old.items ++ (label.now ++ quoted (table_name catalog.now table))) }
+{
+    push_named(out, label, table_name(catalog, table).as_bytes())
+}
+
+/// Pushes the name of a column in quotes behind its label.
+fn push_column_name(
+    out: &mut Vec<u8>,
+    label: &[u8],
+    catalog: &Catalog,
+    table: u16,
+    column: u16,
+) -> Result<(), AllocError>
+    ensures { OnOk result (out.new.items
+        ≡ out.old.items ++ (label.now ++ quoted (column_name catalog.now table column))) }
+{
+    push_named(out, label, column_name(catalog, table, column).as_bytes())
+}
+
+/// Pushes the writes of an action as an array.
+pub fn push_action(out: &mut Vec<u8>, catalog: &Catalog, action: &[Write]) -> Result<(), AllocError>
+    ensures { OnOk result (out.new.items ≡ out.old.items ++ action_text catalog.now action.now) }
+{
+    let [first, further @ ..] = action else {
+        return out.extend_from_slice(b"[]");
+    };
+    out.push(b'[')?;
+    push_write(out, catalog, first)?;
+    push_further_writes(out, catalog, further)?;
+    out.push(b']')?;
+    Ok(())
+}
+
+/// Pushes further writes, each behind a comma.
+fn push_further_writes(
+    out: &mut Vec<u8>,
+    catalog: &Catalog,
+    writes: &[Write],
+) -> Result<(), AllocError>
+    ensures { OnOk result (out.new.items
+        ≡ out.old.items ++ flat_map further_item (map (write_text catalog.now) writes.now)) }
+{
+    for write in writes {
+        out.push(b',')?;
+        push_write(out, catalog, write)?;
+    }
+    Ok(())
+}
+
+/// Pushes an action, or null where there is none.
+pub fn push_action_or_null(
+    out: &mut Vec<u8>,
+    catalog: &Catalog,
+    action: &Option<Items<Write>>,
+) -> Result<(), AllocError>
+    ensures { OnOk result (out.new.items ≡ out.old.items
+        ++ text_or_null (option_map (action_text catalog.now) action.now)) }
+{
+    match action {
+        Some(action) => push_action(out, catalog, action.as_slice()),
+        None => out.extend_from_slice(b"null"),
+    }
+}
+
+/// Pushes a write.
+fn push_write(out: &mut Vec<u8>, catalog: &Catalog, write: &Write) -> Result<(), AllocError>
+    ensures { OnOk result (out.new.items ≡ out.old.items ++ write_text catalog.now write.now) }
+{
+    match write {
+        Write::Insert { table, row } => push_insert(out, catalog, *table, row),
+        Write::Update {
+            table,
+            changes,
+            equals,
+        } => push_update(out, catalog, *table, changes.as_slice(), equals.as_slice()),
+        Write::Delete { table, equals } => push_delete(out, catalog, *table, equals.as_slice()),
+    }
+}
+
+/// Pushes an insert.
+fn push_insert(
+    out: &mut Vec<u8>,
+    catalog: &Catalog,
+    table: u16,
+    row: &Row,
+) -> Result<(), AllocError>
+    ensures { OnOk result (out.new.items
+        ≡ out.old.items ++ write_text catalog.now (Write.Insert table row.now)) }
+{
+    push_table_name(out, b"{\"insert\":", catalog, table)?;
+    out.extend_from_slice(b",\"row\":")?;
+    push_row(out, row)?;
+    out.push(b'}')?;
+    Ok(())
+}
+
+/// Pushes an update.
+fn push_update(
+    out: &mut Vec<u8>,
+    catalog: &Catalog,
+    table: u16,
+    changes: &[Change],
+    equals: &[Equal],
+) -> Result<(), AllocError>
+    ensures { OnOk result (out.new.items ≡ out.old.items
+        ++ write_text catalog.now (Write.Update table changes.now equals.now)) }
+{
+    push_table_name(out, b"{\"update\":", catalog, table)?;
+    out.extend_from_slice(b",\"change\":")?;
+    push_changes(out, catalog, table, changes)?;
+    out.extend_from_slice(b",\"where\":")?;
+    push_equals(out, catalog, table, equals)?;
+    out.push(b'}')?;
+    Ok(())
+}
+
+/// Pushes a delete.
+fn push_delete(
+    out: &mut Vec<u8>,
+    catalog: &Catalog,
+    table: u16,
+    equals: &[Equal],
+) -> Result<(), AllocError>
+    ensures { OnOk result (out.new.items
+        ≡ out.old.items ++ write_text catalog.now (Write.Delete table equals.now)) }
+{
+    push_table_name(out, b"{\"delete\":", catalog, table)?;
+    out.extend_from_slice(b",\"where\":")?;
+    push_equals(out, catalog, table, equals)?;
+    out.push(b'}')?;
+    Ok(())
+}
+
+/// Pushes the changes of an update as an array.
+fn push_changes(
+    out: &mut Vec<u8>,
+    catalog: &Catalog,
+    table: u16,
+    changes: &[Change],
+) -> Result<(), AllocError>
+    ensures { OnOk result (out.new.items
+        ≡ out.old.items ++ array_text (map (column_change_text catalog.now table) changes.now)) }
+{
+    let [first, further @ ..] = changes else {
+        return out.extend_from_slice(b"[]");
+    };
+    out.push(b'[')?;
+    push_change(out, catalog, table, first)?;
+    push_further_changes(out, catalog, table, further)?;
+    out.push(b']')?;
+    Ok(())
+}
+
+/// Pushes further changes, each behind a comma.
+fn push_further_changes(
+    out: &mut Vec<u8>,
+    catalog: &Catalog,
+    table: u16,
+    changes: &[Change],
+) -> Result<(), AllocError>
+    ensures { OnOk result (out.new.items ≡ out.old.items
+        ++ flat_map further_item (map (column_change_text catalog.now table) changes.now)) }
+{
+    for change in changes {
+        out.push(b',')?;
+        push_change(out, catalog, table, change)?;
+    }
+    Ok(())
+}
+
+/// Pushes a change of a column.
+fn push_change(
+    out: &mut Vec<u8>,
+    catalog: &Catalog,
+    table: u16,
+    change: &Change,
+) -> Result<(), AllocError>
+    ensures { OnOk result (out.new.items
+        ≡ out.old.items ++ column_change_text catalog.now table change.now) }
+{
+    match change {
+        Change::Set { column, value } => push_set(out, catalog, table, *column, value),
+        Change::Add { column, by } => push_add(out, catalog, table, *column, *by),
+    }
+}
+
+/// Pushes a change that sets a column.
+fn push_set(
+    out: &mut Vec<u8>,
+    catalog: &Catalog,
+    table: u16,
+    column: u16,
+    value: &Value,
+) -> Result<(), AllocError>
+    ensures { OnOk result (out.new.items
+        ≡ out.old.items ++ column_change_text catalog.now table (Change.Set column value.now)) }
+{
+    push_column_name(out, b"[\"set\",", catalog, table, column)?;
+    out.push(b',')?;
+    push_value(out, value)?;
+    out.push(b']')?;
+    Ok(())
+}
+
+/// Pushes a change that adds to a column.
+fn push_add(
+    out: &mut Vec<u8>,
+    catalog: &Catalog,
+    table: u16,
+    column: u16,
+    by: i64,
+) -> Result<(), AllocError>
+    ensures { OnOk result (out.new.items
+        ≡ out.old.items ++ column_change_text catalog.now table (Change.Add column by)) }
+{
+    push_column_name(out, b"[\"add\",", catalog, table, column)?;
+    out.push(b',')?;
+    push_int(out, by)?;
+    out.push(b']')?;
+    Ok(())
+}
+
+/// Pushes the equalities of a write as an array.
+fn push_equals(
+    out: &mut Vec<u8>,
+    catalog: &Catalog,
+    table: u16,
+    equals: &[Equal],
+) -> Result<(), AllocError>
+    ensures { OnOk result (out.new.items
+        ≡ out.old.items ++ array_text (map (equal_text catalog.now table) equals.now)) }
+{
+    let [first, further @ ..] = equals else {
+        return out.extend_from_slice(b"[]");
+    };
+    out.push(b'[')?;
+    push_equal(out, catalog, table, first)?;
+    push_further_equals(out, catalog, table, further)?;
+    out.push(b']')?;
+    Ok(())
+}
+
+/// Pushes further equalities, each behind a comma.
+fn push_further_equals(
+    out: &mut Vec<u8>,
+    catalog: &Catalog,
+    table: u16,
+    equals: &[Equal],
+) -> Result<(), AllocError>
+    ensures { OnOk result (out.new.items ≡ out.old.items
+        ++ flat_map further_item (map (equal_text catalog.now table) equals.now)) }
+{
+    for equal in equals {
+        out.push(b',')?;
+        push_equal(out, catalog, table, equal)?;
+    }
+    Ok(())
+}
+
+/// Pushes an equality.
+fn push_equal(
+    out: &mut Vec<u8>,
+    catalog: &Catalog,
+    table: u16,
+    equal: &Equal,
+) -> Result<(), AllocError>
+    ensures { OnOk result (out.new.items
+        ≡ out.old.items ++ equal_text catalog.now table equal.now) }
+{
+    push_column_name(out, b"[", catalog, table, equal.column)?;
+    out.push(b',')?;
+    push_value(out, &equal.value)?;
+    out.push(b']')?;
+    Ok(())
+}

@@ -1,0 +1,65 @@
+-- Lines that have come together, and are answered together, with memory for each of them.
+use Rattle.std.specs.Prelude.{◌≡◌, ℕ, ◌+◌, ◌≤◌, true, false, List, [], ◌∷◌, ◌++◌, length, map, take, Result}
+use Rattle.std.specs.List.{list_all}
+use Rattle.tt_values.specs.Tables.{Tables}
+use Rattle.tt_grammar.specs.declared.fault.DocFault.{DocFault}
+use Rattle.tt_requests.specs.declared.request.Request.{Request}
+use Rattle.tt_requests.specs.Lines.{is_passed_over}
+use Rattle.tt_requests.specs.LineValue.{value_of_line}
+use Rattle.tt_requests.specs.Requests.{request_of}
+use Rattle.tt_session.specs.declared.first_line.FirstLine.{FirstLine}
+use Rattle.tt_session.specs.declared.first_line.FirstLine.TheVariants as firsts
+use Rattle.tt_session.specs.declared.session.Session.{Session}
+use Rattle.tt_session.specs.declared.session.Session.TheVariants as sessions
+use Rattle.tt_session.specs.Answering.{LineRead, turns_of}
+use Rattle.tt_session.specs.Lines.{has_no_feed, joined}
+use Rattle.tt_session.specs.Run.{turn_by_request, calls_of}
+use Rattle.tt_session.specs.Session.{OpenSession, counted}
+
+-- a line for which there is memory
+abbrev pub kept_line : List ℕ → LineRead
+kept_line line = record { is_lost = false; line = line }
+
+-- the first of some bytes are whole lines, and these are answered, each with memory
+pub record AnswersFront (bytes : List ℕ) (count : ℕ) (old new : Session) (before after : List ℕ) : Type 0 where
+  pub lines : List (List ℕ)
+  pub within : count ≤ length bytes
+  pub front : take count bytes ≡ joined lines
+  pub whole : list_all has_no_feed lines ≡ true
+  pub text : List ℕ
+  pub out : after ≡ before ++ text
+  pub turn : turns_of old (map kept_line lines) ≡ record { text = text; session = new }
+  pub calls : calls_of new ≤ calls_of old + count
+
+-- the first of some bytes are a whole line
+pub record BeginsWith (bytes : List ℕ) (count : ℕ) (line : List ℕ) : Type 0 where
+  pub within : count ≤ length bytes
+  pub front : take count bytes ≡ line ++ 10 ∷ []
+  pub whole : has_no_feed line ≡ true
+
+-- the first of some bytes are a whole line that gets no answer
+pub record BeginsPassedOver (bytes : List ℕ) (count : ℕ) : Type 0 where
+  pub line : List ℕ
+  pub begins : BeginsWith bytes count line
+  pub told : is_passed_over line ≡ true
+
+-- the first of some bytes are a whole line, which asks this of a database with these tables, or has this fault
+pub record BeginsWithLine (tables : Tables) (bytes : List ℕ) (count : ℕ) (asked : Result Request DocFault) : Type 0 where
+  pub line : List ℕ
+  pub begins : BeginsWith bytes count line
+  pub told : is_passed_over line ≡ false
+  pub is : asked ≡ request_of tables (value_of_line line)
+
+-- this is the first line of some bytes, where they have a whole one
+abbrev pub IsFirstLine : Tables → List ℕ → FirstLine → Type 0
+IsFirstLine tables bytes firsts.NotWhole = Unit {0}
+IsFirstLine tables bytes (firsts.PassedOver len) = BeginsPassedOver bytes len
+IsFirstLine tables bytes (firsts.Read line) = BeginsWithLine tables bytes line.len line.asked
+
+-- what a line asks is answered, and then the lines that the first of the bytes behind it are
+pub record AnswersWith (asked : Result Request DocFault) (behind : List ℕ) (count : ℕ) (old new : OpenSession) (before after : List ℕ) : Type 0 where
+  pub mid : OpenSession
+  pub text : List ℕ
+  pub turn : turn_by_request (counted old) asked ≡ record { text = text; session = sessions.Open mid }
+  pub calls : mid.calls ≡ old.calls + 1
+  pub others : AnswersFront behind count (sessions.Open mid) (sessions.Open new) (before ++ text) after

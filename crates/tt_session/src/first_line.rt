@@ -1,0 +1,79 @@
+//! The first line of some bytes, and what it asks for.
+ghost use Rattle.std.specs.Prelude.{◌≡◌, true, IfOk, MatchOption};
+ghost use Rattle.tt_requests.specs.LineValue.{value_of_line};
+ghost use Rattle.tt_requests.specs.Requests.{request_of};
+ghost use Rattle.tt_session.specs.Lines.{has_no_feed, HasFirstFeed};
+ghost use Rattle.tt_session.specs.Together.{IsFirstLine};
+
+use memchr::memchr;
+use std::alloc::{AllocError, Global};
+use tt_grammar::DocFault;
+use tt_json::Scratch;
+use tt_requests::{Request, is_passed_over};
+use tt_values::Catalog;
+
+/// A line that is read: what it asks for, or its first fault.
+#[derive(Drop)]
+pub(crate) struct RequestLine {
+    pub(crate) asked: Result<Request, DocFault>,
+    /// How many bytes the line has, with its line feed.
+    pub(crate) len: usize,
+}
+
+/// The first line of some bytes.
+#[derive(Drop)]
+pub(crate) enum FirstLine {
+    /// Its line feed isn't there yet.
+    NotWhole,
+    /// It gets no answer. With its line feed it has this many bytes.
+    PassedOver(usize),
+    /// It is to be answered.
+    Read(RequestLine),
+}
+
+impl FirstLine {
+    /// Reads the first line of some bytes, for a database with these tables.
+    pub(crate) fn of(
+        alloc: Global,
+        catalog: &Catalog,
+        bytes: &[u8],
+        scratch: &mut Scratch,
+    ) -> Result<FirstLine, AllocError>
+        ensures { IfOk result (IsFirstLine catalog.now bytes.now) }
+    {
+        let Some(end) = first_feed(bytes) else {
+            return Ok(FirstLine::NotWhole);
+        };
+        let line = &bytes[..end];
+        if is_passed_over(line) {
+            return Ok(FirstLine::PassedOver(end + 1));
+        }
+        let asked = read_request(alloc, catalog, line, scratch)?;
+        Ok(FirstLine::Read(RequestLine {
+            asked,
+            len: end + 1,
+        }))
+    }
+}
+
+/// What a line asks of a database with these tables, or its first fault.
+pub(crate) fn read_request(
+    alloc: Global,
+    catalog: &Catalog,
+    line: &[u8],
+    scratch: &mut Scratch,
+) -> Result<Result<Request, DocFault>, AllocError>
+    ensures { IfOk result (λ asked. asked ≡ request_of catalog.now (value_of_line line.now)) }
+{
+    match Request::from_line_with(alloc, catalog, line, scratch) {
+        Err(DocFault::Memory) => Err(AllocError),
+        asked => Ok(asked),
+    }
+}
+
+/// Where the first line feed is.
+pub(crate) fn first_feed(bytes: &[u8]) -> Option<usize>
+    ensures { MatchOption result (has_no_feed bytes.now ≡ true) (HasFirstFeed bytes.now) }
+{
+    memchr(b'\n', bytes)
+}

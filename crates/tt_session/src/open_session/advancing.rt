@@ -1,0 +1,48 @@
+//! Events that a session carries out.
+ghost use Rattle.std.specs.Prelude.{◌≡◌, ◌≢◌, None, IfOk, IfErr, OnOk};
+ghost use Rattle.tt_db.specs.Database.{outcome_for};
+ghost use Rattle.tt_session.specs.Failures.{IsRefusal};
+ghost use Rattle.tt_session.specs.Room.{refusal_in_session};
+ghost use Rattle.tt_session.specs.Session.{with_database};
+ghost use Rattle.tt_session.specs.Repairing.{with_event};
+
+use super::OpenSession;
+use crate::room::{leaves_no_room, refusal_without_room};
+use std::alloc::AllocError;
+use tt_db::{DbError, Entry, Event, Outcome};
+
+impl OpenSession {
+    /// Carries out an event of a worker in place, or stays and returns why a session refuses it.
+    /// Without memory nothing is promised of the session.
+    pub(crate) fn advance(&mut self, worker: u32, event: Event) -> Result<Outcome, DbError>
+        ensures state { OnOk result (self.new
+            ≡ with_database self.old (with_event self.old.database worker event)) }
+        ensures outcome { IfOk result (λ o. o ≡ outcome_for self.old.database event) }
+        ensures accepted { OnOk result (refusal_in_session self.old.database event ≡ None) }
+        ensures refused { IfErr result (λ e.
+            IsRefusal e (refusal_in_session self.old.database event)) }
+        ensures stays { IfErr result (λ e. e ≢ DbError.Memory → self.new ≡ self.old) }
+    {
+        if leaves_no_room(&self.db, &event) {
+            return Err(refusal_without_room(&self.db, &event));
+        }
+        match self.db.advance(Entry { worker, event }) {
+            Ok(outcome) => Ok(outcome),
+            Err(error) => Err(error),
+        }
+    }
+
+    /// Carries out an event that isn't refused. Without memory nothing is promised of the session.
+    pub(crate) fn carry_out(&mut self, worker: u32, event: Event) -> Result<Outcome, AllocError>
+        requires { refusal_in_session self.old.database event ≡ None }
+        ensures state { OnOk result (self.new
+            ≡ with_database self.old (with_event self.old.database worker event)) }
+        ensures outcome { IfOk result (λ o. o ≡ outcome_for self.old.database event) }
+    {
+        match self.advance(worker, event) {
+            Ok(outcome) => Ok(outcome),
+            // It isn't refused, so there is no memory.
+            Err(_) => Err(AllocError),
+        }
+    }
+}

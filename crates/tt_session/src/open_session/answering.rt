@@ -1,0 +1,142 @@
+//! What an open session answers to one line.
+ghost use Rattle.std.specs.Prelude.{◌≡◌, ◌+◌, ◌<◌, ◌-◌, ◌^◌, ◌++◌, true, OnOk, OnErr, IfOk};
+ghost use Rattle.tt_answers.specs.AnswerText.{call_text};
+ghost use Rattle.tt_session.specs.declared.session.Session.TheVariants.{Open};
+ghost use Rattle.tt_session.specs.Session.{counted, with_latest_if};
+ghost use Rattle.tt_session.specs.Commands.{asks_read_only};
+ghost use Rattle.tt_session.specs.Run.{turn_by_request};
+
+use super::OpenSession;
+use crate::commands::outcome_of_request;
+use crate::failure::Failure;
+use crate::response::Response;
+use crate::workspace::append;
+use std::alloc::AllocError;
+use tt_answers::{Answer, push_call};
+use tt_grammar::DocFault;
+use tt_records::Record;
+use tt_requests::Request;
+
+impl OpenSession {
+    /// Answers what a line asks, or its fault, as a call: pushes the text of the answer, and goes on
+    /// as the call leaves the session. Where memory runs out, nothing is promised of either.
+    pub(crate) fn answer_in_place(
+        &mut self,
+        text: &mut Vec<u8>,
+        asked: Result<Request, DocFault>,
+    ) -> Result<(), AllocError>
+        requires { self.old.calls < 2 ^ 64 - 1 }
+        ensures text { OnOk result (text.new.items
+            ≡ text.old.items ++ (turn_by_request (counted self.old) asked).text) }
+        ensures session { OnOk result
+            (Open self.new ≡ (turn_by_request (counted self.old) asked).session) }
+        ensures calls { OnOk result (self.new.calls ≡ self.old.calls + 1) }
+    {
+        self.count_call();
+        let latest = self.carry_out_asked(text, asked)?;
+        self.keep(latest)
+    }
+
+    /// Answers what a line asks, or its fault, as a call, where it leaves the database as it is: adds
+    /// the text of the answer, which is made in `text`. Where memory runs out, the session and what
+    /// the text is added to are as before.
+    pub(crate) fn answer_alone(
+        &mut self,
+        out: &mut Vec<u8>,
+        text: &mut Vec<u8>,
+        asked: Result<Request, DocFault>,
+    ) -> Result<(), AllocError>
+        requires calls { self.old.calls < 2 ^ 64 - 1 }
+        requires reads { asks_read_only asked ≡ true }
+        ensures text { OnOk result (out.new.items
+            ≡ out.old.items ++ (turn_by_request (counted self.old) asked).text) }
+        ensures session { OnOk result
+            (Open self.new ≡ (turn_by_request (counted self.old) asked).session) }
+        ensures calls { OnOk result (self.new.calls ≡ self.old.calls + 1) }
+        ensures text_stays { OnErr result (out.new.items ≡ out.old.items) }
+        ensures session_stays { OnErr result (self.new ≡ self.old) }
+    {
+        let before = self.calls;
+        self.calls = before + 1;
+        match self.answer_counted(out, text, asked) {
+            Ok(()) => Ok(()),
+            Err(AllocError) => {
+                self.calls = before;
+                Err(AllocError)
+            }
+        }
+    }
+
+    /// Answers what a line asks, whose call is counted already, where it leaves the database as it
+    /// is.
+    fn answer_counted(
+        &mut self,
+        out: &mut Vec<u8>,
+        text: &mut Vec<u8>,
+        asked: Result<Request, DocFault>,
+    ) -> Result<(), AllocError>
+        requires { asks_read_only asked ≡ true }
+        ensures text { OnOk result
+            (out.new.items ≡ out.old.items ++ (turn_by_request self.old asked).text) }
+        ensures session { OnOk result
+            (Open self.new ≡ (turn_by_request self.old asked).session) }
+        ensures calls { OnOk result (self.new.calls ≡ self.old.calls) }
+        ensures text_stays { OnErr result (out.new.items ≡ out.old.items) }
+        ensures session_stays { OnErr result (self.new ≡ self.old) }
+    {
+        text.clear();
+        let latest = self.carry_out_asked(text, asked)?;
+        let before = out.len();
+        append(out, text)?;
+        match self.keep(latest) {
+            Ok(()) => Ok(()),
+            Err(AllocError) => {
+                out.truncate(before);
+                Err(AllocError)
+            }
+        }
+    }
+
+    /// Carries out what a line asks, whose call is counted already, and pushes the text of the
+    /// answer. Returns the record that is to be kept of it. Where memory runs out, nothing is promised
+    /// of the text, nor of the session, unless what is asked is read-only.
+    fn carry_out_asked(
+        &mut self,
+        text: &mut Vec<u8>,
+        asked: Result<Request, DocFault>,
+    ) -> Result<Option<Record>, AllocError>
+        ensures text { OnOk result
+            (text.new.items ≡ text.old.items ++ (turn_by_request self.old asked).text) }
+        ensures session { IfOk result (λ latest.
+            Open (with_latest_if self.new latest) ≡ (turn_by_request self.old asked).session) }
+        ensures calls { OnOk result (self.new.calls ≡ self.old.calls) }
+        ensures stays { asks_read_only asked ≡ true → self.new ≡ self.old }
+    {
+        let request = match asked {
+            Ok(request) => request,
+            Err(fault) => {
+                self.push_answer(text, &Answer::Faulty(fault))?;
+                return Ok(None);
+            }
+        };
+        match outcome_of_request(self, request) {
+            Ok(Response { answer, latest }) => {
+                self.push_answer(text, &answer)?;
+                Ok(latest)
+            }
+            Err(Failure::Refused(refusal)) => {
+                self.push_answer(text, &Answer::Refused(refusal))?;
+                Ok(None)
+            }
+            Err(Failure::Memory) => Err(AllocError),
+        }
+    }
+
+    /// Pushes the text of an answer to the last call.
+    fn push_answer(&self, text: &mut Vec<u8>, answer: &Answer) -> Result<(), AllocError>
+        ensures { OnOk result (text.new.items ≡ text.old.items
+            ++ call_text self.now.database.catalog self.now.calls answer.now) }
+    {
+        push_call(text, self.db.catalog(), self.calls, answer)
+    }
+}

@@ -1,0 +1,241 @@
+//! Lines that have come together, and are answered together.
+//!
+//! The first line forks the session. The fork goes ahead, changed in place, and the session catches
+//! up with it behind the last line, or before a line that asks for the records of earlier calls, which
+//! a fork hasn't. Where memory runs out, the fork is dropped, and the session is as it was before that
+//! first line.
+ghost use Rattle.std.specs.Prelude.{◌≡◌, ◌+◌, ◌-◌, ◌≤◌, ◌<◌, ◌^◌, ◌++◌, true, false, length, drop, List, IfOk, IfSome, OnOk, OnErr};
+ghost use Rattle.tt_session.specs.declared.session.Session.TheVariants.{Open};
+ghost use Rattle.tt_requests.specs.LineValue.{value_of_line};
+ghost use Rattle.tt_requests.specs.Requests.{request_of};
+ghost use Rattle.tt_session.specs.Session.{counted, with_earlier_records};
+ghost use Rattle.tt_session.specs.Commands.{asks_for_records};
+ghost use Rattle.tt_session.specs.Run.{turn_by_request};
+ghost use Rattle.tt_session.specs.Together.{AnswersFront, AnswersWith, BeginsWithLine};
+
+use super::OpenSession;
+use crate::commands::{asks_for_records, asks_read_only};
+use crate::first_line::{FirstLine, RequestLine, read_request};
+use crate::workspace::{MANY_BYTES, Workspace, append};
+use std::alloc::AllocError;
+use tt_grammar::DocFault;
+use tt_requests::Request;
+
+/// How far the lines that some bytes begin with were answered together.
+#[derive(Clone, Copy)]
+pub(crate) struct Extent {
+    /// How many bytes these lines have, with their line feeds.
+    pub(crate) taken: usize,
+    /// Whether memory ran out for lines behind them: these are to be answered one by one.
+    pub(crate) is_out_of_memory: bool,
+}
+
+impl Extent {
+    /// Lines with this many bytes, behind which memory didn't run out.
+    pub(crate) fn of(taken: usize) -> Extent
+        ensures { result ≡ record { taken = taken; is_out_of_memory = false } }
+    {
+        Extent {
+            taken,
+            is_out_of_memory: false,
+        }
+    }
+}
+
+impl OpenSession {
+    ghost use Rattle.tt_records.specs.declared.record.Record.{Record};
+
+    /// Answers the lines that some bytes begin with, up to one that isn't whole or finds no memory,
+    /// or until there are many bytes of answers.
+    pub(crate) fn answer_lines(
+        &mut self,
+        out: &mut Vec<u8>,
+        bytes: &[u8],
+        workspace: &mut Workspace,
+    ) -> Extent
+        requires { self.old.calls + length bytes.now < 2 ^ 64 - 1 }
+        ensures { AnswersFront bytes.now result.taken (Open self.old) (Open self.new)
+            out.old.items out.new.items }
+    {
+        let mut taken = 0;
+        while out.len() < MANY_BYTES {
+            match self.answer_first(out, &bytes[taken..], workspace) {
+                Ok(0) => return Extent::of(taken),
+                Ok(count) => taken += count,
+                Err(AllocError) => {
+                    return Extent {
+                        taken,
+                        is_out_of_memory: true,
+                    };
+                }
+            }
+        }
+        Extent::of(taken)
+    }
+
+    /// Answers the first line and those behind it. Returns how many bytes were taken. Where memory
+    /// runs out, the session and the text are as before.
+    fn answer_first(
+        &mut self,
+        out: &mut Vec<u8>,
+        bytes: &[u8],
+        workspace: &mut Workspace,
+    ) -> Result<usize, AllocError>
+        requires { self.old.calls + length bytes.now < 2 ^ 64 - 1 }
+        ensures answered { IfOk result (λ count. AnswersFront bytes.now count
+            (Open self.old) (Open self.new) out.old.items out.new.items) }
+        ensures session_stays { OnErr result (self.new ≡ self.old) }
+        ensures text_stays { OnErr result (out.new.items ≡ out.old.items) }
+    {
+        match FirstLine::of(self.alloc, self.db.catalog(), bytes, &mut workspace.scratch)? {
+            FirstLine::NotWhole => Ok(0),
+            FirstLine::PassedOver(len) => Ok(len),
+            FirstLine::Read(RequestLine { asked, len }) => {
+                let more = self.answer_and_further(out, asked, &bytes[len..], workspace)?;
+                Ok(len + more)
+            }
+        }
+    }
+
+    /// Answers a line, as a call: adds the text of the answer, and goes on as the call leaves the
+    /// session. Where memory runs out, the session and the text are as before.
+    pub(crate) fn answer_line(
+        &mut self,
+        out: &mut Vec<u8>,
+        line: &[u8],
+        workspace: &mut Workspace,
+    ) -> Result<(), AllocError>
+        requires { self.old.calls < 2 ^ 64 - 1 }
+        ensures text { OnOk result (out.new.items ≡ out.old.items
+            ++ (turn_by_request (counted self.old)
+            (request_of self.old.database.catalog (value_of_line line.now))).text) }
+        ensures session { OnOk result (Open self.new ≡ (turn_by_request (counted self.old)
+            (request_of self.old.database.catalog (value_of_line line.now))).session) }
+        ensures calls { OnOk result (self.new.calls ≡ self.old.calls + 1) }
+        ensures text_stays { OnErr result (out.new.items ≡ out.old.items) }
+        ensures session_stays { OnErr result (self.new ≡ self.old) }
+    {
+        let asked = read_request(self.alloc, self.db.catalog(), line, &mut workspace.scratch)?;
+        self.answer_and_further(out, asked, &[], workspace)?;
+        Ok(())
+    }
+
+    /// Answers what a line asks, and the lines behind it. Returns how many bytes of these were
+    /// taken. Where memory runs out, the session and the text are as before.
+    fn answer_and_further(
+        &mut self,
+        out: &mut Vec<u8>,
+        asked: Result<Request, DocFault>,
+        behind: &[u8],
+        workspace: &mut Workspace,
+    ) -> Result<usize, AllocError>
+        requires { self.old.calls + length behind.now < 2 ^ 64 - 1 }
+        ensures answered { IfOk result (λ count. AnswersWith asked behind.now count
+            self.old self.new out.old.items out.new.items) }
+        ensures session_stays { OnErr result (self.new ≡ self.old) }
+        ensures text_stays { OnErr result (out.new.items ≡ out.old.items) }
+    {
+        // A fork has no earlier records, and costs more than one line that only reads.
+        if asks_for_records(&asked) || behind.is_empty() && asks_read_only(&asked) {
+            self.answer_alone(out, &mut workspace.text, asked)?;
+            return Ok(0);
+        }
+        self.answer_on_fork(out, asked, behind, workspace)
+    }
+
+    /// Answers what a line asks, and the lines behind it, on a fork, and catches up with it. Returns
+    /// how many bytes of the lines behind it were taken. Where memory runs out, the session and the
+    /// text are as before.
+    fn answer_on_fork(
+        &mut self,
+        out: &mut Vec<u8>,
+        asked: Result<Request, DocFault>,
+        behind: &[u8],
+        workspace: &mut Workspace,
+    ) -> Result<usize, AllocError>
+        requires calls { self.old.calls + length behind.now < 2 ^ 64 - 1 }
+        requires records { asks_for_records asked ≡ false }
+        ensures answered { IfOk result (λ count. AnswersWith asked behind.now count
+            self.old self.new out.old.items out.new.items) }
+        ensures session_stays { OnErr result (self.new ≡ self.old) }
+        ensures text_stays { OnErr result (out.new.items ≡ out.old.items) }
+    {
+        // For the proof: what is known of each session.
+        let _ = &self.records;
+        let mut ahead = self.fork()?;
+        workspace.text.clear();
+        ahead.answer_in_place(&mut workspace.text, asked)?;
+        let (taken, next) = ahead.answer_further(behind, workspace)?;
+        self.commit(out, &mut workspace.text, ahead)?;
+        let Some(next) = next else {
+            return Ok(taken);
+        };
+        match self.answer_alone(out, &mut workspace.text, next.asked) {
+            Ok(()) => Ok(taken + next.len),
+            // The line is left for the next time.
+            Err(AllocError) => Ok(taken),
+        }
+    }
+
+    /// Answers the lines that some bytes begin with in place, up to one that isn't whole or asks for
+    /// the records of earlier calls, or until there are many bytes of answers. Returns how many
+    /// bytes were taken, and the line that asks for records. Where memory runs out, nothing is
+    /// promised of the session and of the text in the workspace.
+    fn answer_further(
+        &mut self,
+        bytes: &[u8],
+        workspace: &mut Workspace,
+    ) -> Result<(usize, Option<RequestLine>), AllocError>
+        requires { self.old.calls + length bytes.now ≤ 2 ^ 64 - 1 }
+        ensures answered { IfOk result (λ r. (earlier : List Record) → AnswersFront bytes.now r.0
+            (Open (with_earlier_records earlier self.old))
+            (Open (with_earlier_records earlier self.new))
+            workspace.old.text.items workspace.new.text.items) }
+        ensures next { IfOk result (λ r. IfSome r.1 (λ next. BeginsWithLine
+            self.new.database.catalog (drop r.0 bytes.now) next.len next.asked)) }
+        ensures records { IfOk result (λ r. IfSome r.1 (λ next.
+            asks_for_records next.asked ≡ true)) }
+    {
+        let mut taken = 0;
+        while workspace.text.len() < MANY_BYTES {
+            let rest = &bytes[taken..];
+            match FirstLine::of(self.alloc, self.db.catalog(), rest, &mut workspace.scratch)? {
+                FirstLine::NotWhole => return Ok((taken, None)),
+                FirstLine::PassedOver(len) => taken += len,
+                FirstLine::Read(line) => {
+                    if asks_for_records(&line.asked) {
+                        return Ok((taken, Some(line)));
+                    }
+                    self.answer_in_place(&mut workspace.text, line.asked)?;
+                    taken += line.len;
+                }
+            }
+        }
+        Ok((taken, None))
+    }
+
+    /// Adds the text of the answers of a fork, and catches up with it. Where memory runs out, the
+    /// session and what the text is added to are as before.
+    fn commit(
+        &mut self,
+        out: &mut Vec<u8>,
+        text: &mut Vec<u8>,
+        ahead: OpenSession,
+    ) -> Result<(), AllocError>
+        ensures session { OnOk result
+            (self.new ≡ with_earlier_records self.old.records ahead) }
+        ensures text { OnOk result (out.new.items ≡ out.old.items ++ text.old.items) }
+        ensures session_stays { OnErr result (self.new ≡ self.old) }
+        ensures text_stays { OnErr result (out.new.items ≡ out.old.items) }
+    {
+        let before = out.len();
+        append(out, text)?;
+        match self.catch_up(ahead) {
+            Ok(()) => Ok(()),
+            Err(AllocError) => {
+                out.truncate(before);
+                Err(AllocError)
+            }
+        }
+    }
+}

@@ -1,0 +1,41 @@
+//! What answering lines needs.
+ghost use Rattle.std.specs.Prelude.{◌≡◌, ◌++◌, OnOk, OnErr};
+
+use std::alloc::{AllocError, Global};
+use std::mem;
+use tt_json::Scratch;
+
+/// As many bytes of answers are handed over before a further line is answered.
+pub(crate) const MANY_BYTES: usize = 1_048_576;
+
+/// What answering lines needs, and keeps from line to line.
+#[derive(Drop)]
+pub(crate) struct Workspace {
+    /// Where lines are read.
+    pub(crate) scratch: Scratch,
+    /// Where answers are made, before they are added to those that are to be handed over.
+    pub(crate) text: Vec<u8>,
+}
+
+impl Workspace {
+    /// A workspace that holds nothing yet.
+    pub(crate) fn new(alloc: Global) -> Workspace {
+        Workspace {
+            scratch: Scratch::new(alloc),
+            text: Vec::new(alloc),
+        }
+    }
+}
+
+/// Adds a text to another one. Where that is empty, they are exchanged, so that nothing is copied.
+/// Nothing is promised of `text` afterwards. Where memory runs out, the other one is as before.
+pub(crate) fn append(out: &mut Vec<u8>, text: &mut Vec<u8>) -> Result<(), AllocError>
+    ensures text { OnOk result (out.new.items ≡ out.old.items ++ text.old.items) }
+    ensures stays { OnErr result (out.new.items ≡ out.old.items) }
+{
+    if out.is_empty() {
+        mem::swap(out, text);
+        return Ok(());
+    }
+    out.extend_from_slice(text)
+}
