@@ -5,8 +5,7 @@
 # that it has to answer with. `collect_cases` writes them into the folder `cases`:
 #
 #   cases/given/N       standard input            cases/given/N.args   the arguments, one a line
-#   cases/wanted/N.out  standard output; without this file, the text of help
-#   cases/wanted/N.err  standard error; without this file, any text that isn't empty
+#   cases/wanted/N.out  standard output           cases/wanted/N.err   standard error
 #   cases/wanted/N.status                         cases/wanted/N.label what a failure is told by
 
 number=0
@@ -45,20 +44,36 @@ refuses_document() {
   done
 }
 
-# Help or the version: status 0, on standard output only.
+# Help, of the program or of a command, as tests/help/ has it: status 0, on standard output only.
 answers_help() {
   add_case 0 "$@" </dev/null
+  cp "tests/help/$([ $# -eq 1 ] && echo timetravel || echo "$1")" "$cases/wanted/$at.out"
   : >"$cases/wanted/$at.err"
 }
 answers_version() {
-  answers_help "$@"
+  add_case 0 "$@" </dev/null
   echo "timetravel $VERSION" >"$cases/wanted/$at.out"
+  : >"$cases/wanted/$at.err"
 }
 
-# A command line that can't be carried out: status 2, and a message on standard error only.
+# A command line that can't be carried out: status 2, and on standard error only what is wrong with
+# it, with the usage $2 if there is one.
 refuses_usage() {
+  add_case 2 "${@:3}" <<<"unread"
+  : >"$cases/wanted/$at.out"
+  {
+    echo "error: $1"
+    [ -z "$2" ] || printf '\nUsage: timetravel %s\n' "$2"
+    printf "\nFor more information, try '--help'.\n"
+  } >"$cases/wanted/$at.err"
+}
+
+# A command line with a word that isn't UTF-8. An unproved build is given another word in its place.
+refuses_bytes() {
+  $is_gate || return 0
   add_case 2 "$@" <<<"unread"
   : >"$cases/wanted/$at.out"
+  echo 'error: an argument is not text in UTF-8' >"$cases/wanted/$at.err"
 }
 
 # In threads the report of a document is always the same one where one worker makes all its calls
@@ -365,59 +380,72 @@ collect_faulty_documents() {
 }
 
 VERSION=0.1.0
+# A word that the command, with this usage, doesn't take; and one that stands before its command.
+refuses_word() {
+  refuses_usage "unexpected argument '$1' found" "${@:2}"
+}
+refuses_early() {
+  refuses_usage "unexpected argument '$1' found"$'\n\n'"  tip: '$2 $1' exists" '<COMMAND>' "${@:3}"
+}
+
+# An option that takes a number, and its bounds: no value, and faulty ones.
+refuses_values() {
+  local option=$1 bounds=$2 takes="$1 <N>" value
+  refuses_usage "a value is required for '$takes' but none was supplied" '' "${@:3}" "$option"
+  value=$((${bounds%..*} - 1))
+  refuses_usage "invalid value '$value' for '$takes': $value is not in $bounds" '' \
+    "${@:3}" "$option=$value"
+  value=$((${bounds#*=} + 1))
+  refuses_usage "invalid value '$value' for '$takes': $value is not in $bounds" '' \
+    "${@:3}" "$option" "$value"
+  for value in 1.5 x; do
+    refuses_usage "invalid value '$value' for '$takes': invalid digit found in string" '' \
+      "${@:3}" "$option" "$value"
+  done
+  refuses_usage "invalid value '' for '$takes': cannot parse integer from empty string" '' \
+    "${@:3}" "$option" ''
+  refuses_word -1 "$3 [OPTIONS]" "${@:3}" "$option" -1
+  refuses_usage "the argument '$takes' cannot be used multiple times" "$3 [OPTIONS]" \
+    "${@:3}" "$option" 1 "$option" 1
+}
+
 collect_command_lines() {
-  local command
+  local command usage word
   answers_help --help
   answers_help replay --help
   answers_help run --help
   answers_help session --help
   answers_version --version
-  refuses_usage
-  refuses_usage fly
-  refuses_usage $'\xff'
+  refuses_usage "'timetravel' requires a subcommand but one was not provided
+  [subcommands: replay, run, session, help]" '<COMMAND>'
+  refuses_usage "unrecognized subcommand 'fly'" '<COMMAND>' fly
+  refuses_bytes $'\xff'
   for command in replay run; do
-    refuses_usage "$command" --quick
-    refuses_usage "$command" now
-    refuses_usage "$command" $'\xff'
-    refuses_usage "$command" --batch
-    refuses_usage "$command" --batch 0
-    refuses_usage "$command" --batch 10001
-    refuses_usage "$command" --batch -1
-    refuses_usage "$command" --batch=-1
-    refuses_usage "$command" --batch 1.5
-    refuses_usage "$command" --batch x
-    refuses_usage "$command" --batch ''
-    refuses_usage "$command" --batch 2 --batch 2
-    refuses_usage "$command" --batch 16 now
-    refuses_usage --batch 16 "$command"
-    refuses_usage "$command" --closed now
-    refuses_usage "$command" --closed=true
-    refuses_usage "$command" --closed --closed
-    refuses_usage --closed "$command"
+    usage="$command [OPTIONS]"
+    for word in --quick now replay run session; do
+      refuses_word "$word" "$usage" "$command" "$word"
+    done
+    refuses_bytes "$command" $'\xff'
+    refuses_values --batch 1..=10000 "$command"
+    refuses_word now "$usage" "$command" --batch 16 now
+    refuses_early --batch "$command" --batch 16 "$command"
+    refuses_word now "$usage" "$command" --closed now
+    refuses_usage "unexpected value 'true' for '--closed' found; no more were expected" \
+      "$command --closed" "$command" --closed=true
+    refuses_usage "the argument '--closed' cannot be used multiple times" "$usage" \
+      "$command" --closed --closed
+    refuses_early --closed "$command" --closed "$command"
   done
-  refuses_usage run --rounds
-  refuses_usage run --rounds 1001
-  refuses_usage run --rounds -1
-  refuses_usage run --rounds=-1
-  refuses_usage run --rounds 0.5
-  refuses_usage run --rounds x
-  refuses_usage run --rounds ''
-  refuses_usage run --rounds 1 --rounds 1
-  refuses_usage run --rounds 8 now
-  refuses_usage --rounds 8 run
-  refuses_usage replay --rounds 1
-  refuses_usage replay run
-  refuses_usage run replay
-  refuses_usage session --quick
-  refuses_usage session now
-  refuses_usage session $'\xff'
-  refuses_usage session --batch 16
-  refuses_usage session --rounds 8
-  refuses_usage session --closed
-  refuses_usage session --version
-  refuses_usage session session
-  refuses_usage session replay
-  refuses_usage replay session
+  refuses_values --rounds 0..=1000 run
+  refuses_word now 'run [OPTIONS]' run --rounds 8 now
+  refuses_early --rounds run --rounds 8 run
+  refuses_word --rounds 'replay [OPTIONS]' replay --rounds 1
+  refuses_bytes session $'\xff'
+  for word in --quick now --batch --rounds --closed --version session replay; do
+    refuses_word "$word" session session "$word"
+  done
+  refuses_word --batch session session --batch 16
+  refuses_word --rounds session session --rounds 8
 }
 
 collect_cases() {
@@ -437,14 +465,5 @@ collect_cases() {
 is_answer() {
   local wanted=$cases/wanted/$1
   [ "$2" = "$(cat "$wanted.status")" ] || return 1
-  if [ -e "$wanted.out" ]; then
-    cmp -s "$wanted.out" "$3" || return 1
-  else
-    grep -q '^Usage: timetravel' "$3" || return 1
-  fi
-  if [ -e "$wanted.err" ]; then
-    cmp -s "$wanted.err" "$4"
-  else
-    [ -s "$4" ]
-  fi
+  cmp -s "$wanted.out" "$3" && cmp -s "$wanted.err" "$4"
 }

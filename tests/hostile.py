@@ -13,6 +13,7 @@ Each line says what was tried and how often. The status is 0 where every answer 
 one wasn't, 2 where the tests can't be run.
 """
 import itertools
+import json
 import os
 import shutil
 import subprocess
@@ -26,6 +27,7 @@ ROOT = os.path.dirname(os.path.dirname(os.path.realpath(__file__)))
 SECONDS = 60  # that a run may take
 NOT_JSON = (1, b'', b'timetravel: $: not JSON\n')
 WANT_OF_MEMORY = (3, b'', b'timetravel: want of memory\n')
+NO_ANSWER = ('none', b'', b'')  # of a failure that no answer shows
 LONGEST = 16_777_216  # bytes of a document, and of a line
 
 # Those of which every proper prefix is tried.
@@ -36,20 +38,25 @@ SMALL = ['examples/first', 'examples/empty', 'examples/transfer',
          'tests/reports/cancelled_insert_frees_its_key',
          'tests/reports/action_in_place_of_each_kind_of_write']
 
-# Those that are run with too little memory. In threads the reports of the last three depend on the
-# schedule.
+# Those that are run with too little memory, with the options of NAME.options. Where it is known
+# which reports may come in threads (`reports_in_threads`), they are run so, too.
 RUN = ['examples/first', 'examples/transfer', 'examples/two_workers', 'examples/incident',
-       'examples/intruder']
-OF_ONE_WORKER = RUN[:2]
+       'examples/intruder', 'examples/branches', 'tests/reports/closed_generation',
+       'tests/reports/closed_generation_of_one_worker',
+       'tests/reports/closed_without_a_repair']
 
 # Sessions that are held with too little memory.
 HELD = ['tests/sessions/incident_in_short', 'tests/sessions/repairs', 'tests/sessions/slots',
         'tests/sessions/closed_generations', 'tests/sessions/texts_and_numbers']
 
-# The status of a test that grows where it shouldn't, and of one that keeps a block.
-TOLD = {'memory::marks::a_growth_is_told': 90, 'memory::marks::a_kept_block_is_told': 91}
+# The status of a scenario that grows where it shouldn't, and of one that keeps a block.
+GREW, KEPT = 90, 91
 
-# Calls that meet so many growths at most: to copy the rows of their table would take thousands.
+# Tests that do so.
+TOLD = {'memory::marks::a_growth_is_told': GREW, 'memory::marks::a_kept_block_is_told': KEPT}
+
+# Tests whose calls meet so many growths at most: to copy the rows of their table would take
+# thousands.
 MOST_GROWTHS = {'memory::sharing::one_more_row_of_a_large_table': 100}
 
 
@@ -57,6 +64,7 @@ class Hostile:
     def __init__(self, program, folder):
         self.program, self.folder = program, folder
         self.failures = 0
+        self.seen = set()  # the names of tests
         self.pool = ThreadPoolExecutor(os.cpu_count())
 
     def run(self, words, document, environment=None, program=None):
@@ -141,7 +149,7 @@ class Hostile:
             self.check(answer == WANT_OF_MEMORY or lost in (0, 1),
                        f'a line of 4 MB in {megabytes} MB', answer)
             met.add(lost)
-        self.check({0, 1} <= met, 'a line of 4 MB: a fault, and then `memory`', (0, b'', b''))
+        self.check({0, 1} <= met, 'a line of 4 MB: a fault, and then `memory`', NO_ANSWER)
 
     def build_refusal(self):
         """The shared object that refuses growths."""
@@ -167,10 +175,10 @@ class Hostile:
             os.remove(mark)
         return was_met, answer
 
-    def each_growth(self, library, words, name, is_lawful, all_behind):
-        """Refuses each growth of a run or a session in turn, or all from it on, until none is met."""
-        document, refused = read(name), 0
-        numbers = itertools.count(1)
+    def each_growth(self, library, words, name, document, is_lawful, all_behind):
+        """Refuses each growth of a run or a session in turn, or all from it on, until none is met.
+        How many were."""
+        refused, numbers = 0, itertools.count(1)
 
         def one(number):
             last = 10 ** 12 if all_behind else number
@@ -183,10 +191,21 @@ class Hostile:
                     continue
                 refused += 1
                 which = f'from growth {number} on' if all_behind else f'at growth {number}'
-                self.check(answer == WANT_OF_MEMORY or is_lawful(*answer),
-                           f'{" ".join(words)} of {name}, {which}', answer)
+                what = f'{" ".join(words)} of {name}, {which}'
+                self.check(is_lawful(number, answer), what, answer)
             if not was_met:
                 return refused
+
+    def growths(self, library, words, name, document, is_lawful_once, is_lawful):
+        """Refuses the growths of a run or a session in both ways. How many they are, which is more
+        than none."""
+        once = self.each_growth(library, words, name, document, is_lawful_once, False)
+        behind = self.each_growth(library, words, name, document, is_lawful, True)
+        told = (f'{" ".join(words)} of {name}: {once} growths refused one at a time, '
+                f'{behind} with all after them')
+        print(told)
+        self.check(once and behind, told, NO_ANSWER)
+        return once
 
     def each_growth_of_calls(self, library, scenarios, name):
         """Refuses each growth in turn within the calls of a scenario, until a run meets none."""
@@ -201,29 +220,53 @@ class Hostile:
             if not was_met:
                 return refused
 
-    def tells(self, library, scenarios, name):
-        """A scenario that shows that growths and kept blocks are told, by the status of its run."""
-        _, answer = self.refused(library, [name], b'', 1, 1, 1, scenarios)
-        status = TOLD[name]
-        self.check(answer[0] == status, f'{name}: should have status {status}', answer)
-        print(f'{name}: status {answer[0]}')
+    def ended(self, library, scenarios, name, control=''):
+        """The answer of a scenario that grows where it shouldn't, or keeps a block, or that is
+        taken to do so (the control of tests/refuse_growth.c)."""
+        environment = {'LD_PRELOAD': library, 'BETWEEN_MARKS': '1', 'CONTROL': control}
+        return self.run([name], b'', environment, scenarios)
+
+    def scenario(self, library, scenarios, name):
+        """A scenario of calls, with all its growths refused in turn. How many they are. That its
+        marks are met is shown by what happens if a growth within its calls is taken as one where
+        there should be none, or if such a stretch begins."""
+        refused = self.each_growth_of_calls(library, scenarios, name)
+        print(f'{name}: {refused} growths refused within its calls')
+        answer = self.ended(library, scenarios, name, 'growth' if refused else 'quiet')
+        self.check(answer[0] == GREW, f'{name}: its marks should be met', answer)
+        if name in MOST_GROWTHS:
+            self.check(1 < refused <= MOST_GROWTHS[name], f'{name}: {refused} growths', NO_ANSWER)
+        return refused
+
+    def has_tally(self, library, scenarios, name):
+        """Whether a scenario tells of kept blocks, as it does if one is taken as kept."""
+        answer = self.ended(library, scenarios, name, 'block')
+        self.check(answer[0] in (0, KEPT), f'{name}, if a block is taken as kept', answer)
+        return answer[0] == KEPT
 
     def calls(self, library, scenarios):
-        """The scenarios of calls, each with all its growths refused in turn."""
+        """The scenarios of calls."""
         listed = self.run(['--list'], b'', program=scenarios)[1].decode()
         names = [line.removesuffix(': test') for line in listed.splitlines()
                  if line.endswith(': test')]
+        self.seen.update(names)
+        for name in TOLD.keys() & names:
+            answer = self.ended(library, scenarios, name)
+            self.check(answer[0] == TOLD[name], f'{name}: should have status {TOLD[name]}', answer)
+        names = [name for name in names if name not in TOLD]
         if not names:
             raise Untestable(f'{scenarios} lists no tests')
-        for name in names:
-            if name in TOLD:
-                self.tells(library, scenarios, name)
-                continue
-            refused = self.each_growth_of_calls(library, scenarios, name)
-            print(f'{name}: {refused} growths refused within its calls')
-            if name in MOST_GROWTHS:
-                is_few = 1 < refused <= MOST_GROWTHS[name]
-                self.check(is_few, f'{name}: {refused} growths', (0, b'', b''))
+        refused = sum(self.scenario(library, scenarios, name) for name in names)
+        self.check(refused, f'{scenarios}: no growth is refused', NO_ANSWER)
+        tallies = sum(self.has_tally(library, scenarios, name) for name in names)
+        program = os.path.basename(scenarios)
+        print(f'{tallies} of {len(names)} tests of {program} tell of kept blocks')
+        self.check(tallies, f'{scenarios}: no test tells of kept blocks', NO_ANSWER)
+
+    def names(self):
+        """Each test that is named here is there."""
+        for name in TOLD.keys() | MOST_GROWTHS.keys():
+            self.check(name in self.seen, f'there is no test {name}', NO_ANSWER)
 
     def library(self):
         library = self.build_refusal()
@@ -233,38 +276,55 @@ class Hostile:
 
     def runs(self, library):
         """Whole runs, each with all its growths refused in turn."""
-        for name, words in itertools.product(RUN, (['replay'], ['replay', '--closed'], ['run'],
-                                                   ['run', '--closed'])):
-            report = self.run(words, read(f'{name}.json'))[1]
-            is_report = report.__eq__
-            if words[0] == 'run' and name not in OF_ONE_WORKER:
-                is_report = looks_like(report)
+        for name, command in itertools.product(RUN, ('replay', 'run')):
+            words, reports = [command, *options_of(name)], {read(f'{name}.report')}
+            if command == 'run':
+                reports = reports_in_threads(name)
+            if not reports:
+                continue
 
-            def is_lawful(status, output, error):
-                return (status == 0 and is_report(output) and error == b''
-                        or words[0] == 'run' and status == 4 and output == b''
+            def is_lawful(_, answer):
+                status, output, error = answer
+                return (answer == WANT_OF_MEMORY
+                        or status == 0 and output in reports and error == b''
+                        or command == 'run' and status == 4 and output == b''
                         and error.startswith(b'timetravel: store: '))
-            self.growths(library, words, f'{name}.json', is_lawful, is_lawful)
+            document = read(f'{name}.json')
+            answer = self.run(words, document)
+            is_report = answer[0] == 0 and answer[1] in reports and answer[2] == b''
+            self.check(is_report, f'{" ".join(words)} of {name}', answer)
+            self.growths(library, words, name, document, is_lawful, is_lawful)
 
     def sessions(self, library):
-        """Whole sessions. A line that meets a refusal is answered by `memory`, and changes nothing."""
+        """Whole sessions. A line that meets a refusal is answered by `memory`, and changes nothing.
+        Only a growth before the first line, which a session without lines meets too, may end a
+        session."""
+        def ends(_, answer):
+            return answer in ((0, b'', b''), WANT_OF_MEMORY)
+        before = self.growths(library, ['session'], 'nothing', b'', ends, ends)
         for name in HELD:
-            lines = read(f'{name}.lines').split(b'\n')
+            document = read(f'{name}.lines')
+            lines = document.split(b'\n')
 
             def is_lawful(most):
-                return lambda status, output, error: (
-                    status == 0 and error == b'' and answers_lines(lines, output) in range(most + 1))
-            self.growths(library, ['session'], f'{name}.lines', is_lawful(1), is_lawful(len(lines)))
-
-    def growths(self, library, words, name, is_lawful_once, is_lawful):
-        one_by_one = self.each_growth(library, words, name, is_lawful_once, False)
-        from_it_on = self.each_growth(library, words, name, is_lawful, True)
-        print(f'{" ".join(words)} of {name}: {one_by_one} growths refused one at a time, '
-              f'{from_it_on} with all after them')
+                def is_lawful_at(number, answer):
+                    status, output, error = answer
+                    if number <= before and answer == WANT_OF_MEMORY:
+                        return True
+                    return (status == 0 and error == b''
+                            and answers_lines(lines, output) in range(most + 1))
+                return is_lawful_at
+            found = self.growths(library, ['session'], name, document, is_lawful(1),
+                                 is_lawful(len(lines)))
+            self.check(found > before, f'{name}: no growth for its lines is refused', NO_ANSWER)
 
 
 class Untestable(Exception):
     pass
+
+
+def is_file(path):
+    return os.path.isfile(f'{ROOT}/{path}')
 
 
 def read(path):
@@ -291,14 +351,68 @@ def answers_lines(lines, output):
     return lost if next(answers, None) is None else None
 
 
-def looks_like(report):
-    """Whether another report is of the same document: its lines begin in the same way."""
-    def heads(text):
-        lines = [line.split() for line in text.splitlines()]
-        lines = [line[:4] if line[0] == b'call' else line[:2] for line in lines
-                 if line[0] not in (b'changed', b'closed')]
-        return lines, text.endswith(b'\n')
-    return lambda other: heads(other) == heads(report)
+def options_of(name):
+    """The options that the document is run with."""
+    return read(f'{name}.options').decode().split() if is_file(f'{name}.options') else []
+
+
+def reports_in_threads(name):
+    """The reports that may come in threads: the stored one, where one worker makes all calls before
+    the repair, and where NAME.run says that it is the same one in every schedule; and where several
+    workers make calls and there is no repair, one for each order of these; none where it isn't
+    known."""
+    document = json.loads(read(f'{name}.json'))
+    is_alone = document['workers'] == 1 and 'meanwhile' not in document.get('repair', {})
+    if is_alone or is_file(f'{name}.run'):
+        return {read(f'{name}.report')}
+    if 'repair' in document:
+        return set()
+    workers = [call['worker'] for call in document['calls']]
+    return {report_of_order(document, order) for order in orders(workers)}
+
+
+def orders(workers, made=()):
+    """The orders of calls in which those of each worker keep theirs, as positions; `made` are the
+    first ones."""
+    if len(made) == len(workers):
+        yield made
+    for worker in sorted(set(workers)):
+        left = [at for at, it in enumerate(workers) if it == worker and at not in made]
+        if left:
+            yield from orders(workers, (*made, left[0]))
+
+
+def report_of_order(document, order):
+    """The report of a document without a repair if its calls are made in this order, by the
+    model."""
+    session, lines = Session(), {}
+
+    def answer(request):
+        return session.answer(json.dumps(request).encode())
+    answer({'version': 2, 'tables': document['tables']})
+    for at in order:
+        call = document['calls'][at]
+        lines[at] = f'call {at + 1} worker {call["worker"]} {told(answer(call))}'
+    tables = []
+    for table in document['tables']:
+        rows = answer({'select': table['name'], 'where': []})['rows']
+        tables.append(f'table {table["name"]} {rows_told(rows)}')
+    time = answer({'status': True})['time']
+    whole = [*(lines[at] for at in sorted(lines)), *tables, f'end generation 0 time {time}', '']
+    return '\n'.join(whole).encode()
+
+
+def told(answer):
+    """An answer of the model to a write or a select, as a report has it."""
+    if 'rows' in answer:
+        return f'time {answer["time"]} {rows_told(answer["rows"])}'
+    reply = answer['replies'][0]
+    words = reply if isinstance(reply, str) else ' '.join(map(str, *reply.items()))
+    return f'slot {answer["slot"]} {words}'
+
+
+def rows_told(rows):
+    return ' '.join([f'rows {len(rows)}', *map(text_of, rows)])
 
 
 def compilers():
@@ -330,6 +444,8 @@ def main():
             hostile.little_memory()
             for scenarios in sys.argv[2:]:
                 hostile.calls(library, os.path.abspath(scenarios))
+            if sys.argv[2:]:
+                hostile.names()
         except Untestable as why:
             print(f'hostile: {why}', file=sys.stderr)
             return 2

@@ -1,13 +1,15 @@
 #!/usr/bin/env python3
-"""Public functions of the libraries of crates/ that nothing calls: no test, no other crate, not the
-program, and no other function of their own crate.
+"""Public functions of the libraries of crates/ that nothing calls: no other crate, not the program,
+and no other function of their own crate. A call in a test, a benchmark or an example doesn't count.
 
   tests/public_calls.py
 
-It prints a line for each, and the status is 1 where there is one. It reads only the text of the
-files, which `rt fmt` has laid out, so a few calls of another type's method may pass for a call. A
-library is a crate that another one stands on. Laws are left out: functions without arguments and
-with an empty body, which are there for their contracts.
+It prints a line for each, and the status is 1 where there is one. Those that are there for users of
+the libraries are left out: PROMISED lists them, besides constructors, and `is_empty`, which Rust
+expects beside `len`. So are laws: functions without arguments and with an empty body, which are
+there for their contracts. It reads only the text of the files, which `rt fmt` has laid out, so a
+few calls of another type's method may pass for a call. A library is a crate that another one
+stands on.
 
 A call is a name before `(` or `::<`, or after `Type::`. It is a call of a method where the file
 names the method's type or its crate; if several types have a method of that name, and the file says
@@ -26,8 +28,37 @@ ARGUMENTS = re.compile(r'<[^<>]*>')
 NO_CODE = re.compile(r'//.*|^\s*(?:ghost\b|#!?\[|(?:pub )?(?:use|mod)\b).*'
                      r'|"(?:[^"\\]|\\.)*"|\bfn \w+')
 DECLARED = re.compile(r'\b(\w+): ([^,;={.]*)(?!\.)')
+ALIAS = re.compile(r'^(?:pub(?:\(\w+\))? )?type (\w+)[^=]*= (.*);')
 CALL = re.compile(r'(?:\b(?P<type>\w+)(?:::<[^()]*>)?::|(?P<before>\b\w+)?(?P<dot>\.))?'
                   r'\b(?P<name>[a-z]\w*)(?:\(|::<|(?(type)|(?!)))')
+NO_CALLER = re.compile(r'_(?:tests|bench|example)$')
+FOR_USERS = re.compile(r'(?:new|with_\w+|from_\w+|is_empty)$')
+PROMISED = {
+    'tt_pages': 'Kept::kept PagedMap::get PagedMap::with PagedMap::without PagedMap::iter '
+                'PagedMap::depth PagedLog::len PagedLog::get PagedLog::pushed PagedLog::replaced',
+    'tt_values': 'Catalog::add Catalog::find Catalog::table Catalog::name Catalog::len '
+                 'TableDef::find TableDef::of Column::int Column::text Column::partition Row::key '
+                 'Row::copy Value::copy Write::copy Select::copy Equal::copy Change::copy '
+                 'Equal::int Equal::text Write::insert Write::update Write::delete '
+                 'check check_select matches changed',
+    'tt_versions': 'Table::at Table::is_split Table::rows_at Table::written Table::split_back '
+                   'Table::next_written Table::switched Table::aborted',
+    'tt_parts': 'parts_of reads_of Dirty::with_row Dirty::has_row Dirty::clear_of',
+    'tt_db': 'Limits::usual Limits::fits Db::apply Db::select Db::select_at Db::preview '
+             'Db::catalog Db::now Db::generation Db::events Db::entry Db::slot Db::repair '
+             'Db::versions',
+    'tt_store': 'Store::open Store::named Store::begin Store::abort Store::step Store::finish '
+                'Store::refresh Store::close Worker::read Worker::read_at Worker::read_in '
+                'Worker::preview Worker::number Worker::seen Worker::seen_entry Worker::made Worker::place '
+                'Worker::progress Worker::write',
+    'tt_records': 'changes',
+    'tt_repair': 'repair',
+    'tt_document': 'Document::from_value',
+    'tt_workload': 'Options::fits read_document write_text run_alone text_of text_of_change',
+    'tt_session': 'Session::answer run_session',
+    'tt_workers': 'run_workers text_of_report',
+    'tt_cli': 'status_of command_of',
+}
 
 
 @dataclass
@@ -42,6 +73,10 @@ class Function:
 
     def path(self):
         return f'{self.owner}::{self.name}' if self.owner else self.name
+
+    def is_promised(self):
+        promised = PROMISED.get(self.crate, '').split()
+        return bool(FOR_USERS.match(self.name)) or self.path() in promised
 
 
 @dataclass
@@ -134,6 +169,16 @@ def libraries_and_files():
     return libraries, files
 
 
+def resolve_aliases(files):
+    """Adds the words of a type's alias to what is declared by the alias."""
+    aliases = dict(found.groups() for file in files.values() for line in file.lines
+                   if (found := ALIAS.match(line)))
+    for file in files.values():
+        for declared in file.types.values():
+            for alias in declared & aliases.keys():
+                declared.update(re.findall(r'\w+', aliases[alias]))
+
+
 def is_call_of(call, file, function, is_only_one):
     """Whether a call in a file may be a call of this function."""
     if call.file == function.file and call.line in function.lines:
@@ -158,17 +203,20 @@ def main():
     libraries, files = libraries_and_files()
     functions = [function for file in files.values() for function in file.functions()]
     calls, owners = defaultdict(list), defaultdict(set)
+    resolve_aliases(files)
     for file in files.values():
-        for call in file.calls():
-            calls[call.name].append(call)
+        if not NO_CALLER.search(file.crate):
+            for call in file.calls():
+                calls[call.name].append(call)
     for function in functions:
         owners[function.name].add(function.owner)
     missing = 0
     for function in functions:
+        if not function.is_public or function.crate not in libraries or function.is_promised():
+            continue
         is_only_one = len(owners[function.name]) == 1
-        if function.is_public and function.crate in libraries and not any(
-                is_call_of(call, files[call.file], function, is_only_one)
-                for call in calls[function.name]):
+        if not any(is_call_of(call, files[call.file], function, is_only_one)
+                   for call in calls[function.name]):
             missing += 1
             print(f'{function.crate}: {function.path()} is called by nothing')
     return 1 if missing else 0

@@ -8,6 +8,9 @@
 //   2^62 + 3  a growth in such a stretch ends the process with status GREW;
 //   2^62 + 5  if other many blocks are in use at the end than at the beginning, the process ends
 //             with status KEPT.
+// That a run meets its marks is shown by a run in which CONTROL is one of these words: with
+// "growth" a growth that counts ends the process with GREW, with "quiet" the beginning of a stretch
+// of the second kind does, and with "block" the end of one of the third kind ends it with KEPT.
 // It needs no header, so that it can be built where only the kit's clang is there.
 typedef __SIZE_TYPE__ size_t;
 
@@ -28,12 +31,13 @@ static _Atomic long growths, blocks;
 static _Atomic int counts, is_quiet, is_tallied;
 static long from, to, tallied;
 static int has_marks;
-static const char *refused;
+static const char *refused, *control = "";
 
 __attribute__((constructor)) static void read_environment(void) {
   const char *first = getenv("REFUSE_FROM"), *last = getenv("REFUSE_TO");
   refused = getenv("REFUSED");
   has_marks = getenv("BETWEEN_MARKS") != 0;
+  if (getenv("CONTROL")) control = getenv("CONTROL");
   counts = !has_marks;
   if (first && last && refused) {
     growths = 0;
@@ -46,9 +50,10 @@ static int is_mark(size_t size) {
   if (size == counting && has_marks) {
     counts = !counts;
   } else if (size == quiet) {
+    if (*control == 'q') _exit(GREW);
     is_quiet = !is_quiet;
   } else if (size == tally) {
-    if (is_tallied && blocks != tallied) _exit(KEPT);
+    if (is_tallied && (blocks != tallied || *control == 'b')) _exit(KEPT);
     tallied = blocks;
     is_tallied = !is_tallied;
   } else {
@@ -60,6 +65,7 @@ static int is_mark(size_t size) {
 static int is_refused(void) {
   if (is_quiet) _exit(GREW);
   if (!counts) return 0;
+  if (*control == 'g') _exit(GREW);
   long number = ++growths;
   if (!from || number < from || number > to) return 0;
   close(creat(refused, 0600));
