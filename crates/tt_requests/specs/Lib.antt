@@ -5,3 +5,4 @@ pub mod Edits
 pub mod Reads
 pub mod Questions
 pub mod Requests
+pub mod Judged

@@ -4,6 +4,7 @@
 
 mod commands;
 mod edits;
+pub mod laws;
 mod line_value;
 mod lines;
 mod opening;

@@ -3,14 +3,23 @@ use Rattle.std.proofs.Common.{◌≡◌, ℕ, true, false, ◌<◌, List, [], �
 use Rattle.std.specs.Prelude.{IsSome, ◌↔◌}
 use Rattle.std.specs.Option.{option_to_list}
 use Rattle.std.specs.List.{cons_option}
+use Rattle.tt_repair_laws.specs.declared.edit.Edit.{Edit}
+use Rattle.tt_generations.specs.TwoGenerations.{Repairing}
+use Rattle.tt_db.specs.declared.event.Event.TheVariants as events
+use Rattle.tt_db.specs.State.{State, next_state}
+use Rattle.tt_db.specs.Database.{state_of, now_in}
+use Rattle.tt_db.proofs.EntryLemmas.{after-push}
 use Rattle.tt_records.specs.declared.record.Record.{Record}
 use Rattle.tt_records.specs.declared.changed.Changed.{Changed}
-use Rattle.tt_records.specs.Changes.{as_list}
+use Rattle.tt_records.specs.Changes.{as_list, change_of, next_change_of}
+use Rattle.tt_records.proofs.NextLemmas as records
 use Rattle.tt_answers.specs.declared.answer.ChangeEntry.{ChangeEntry}
 use Rattle.tt_session.specs.ChangeEntries.{first_call, entry_of_change, entries_of_changes, changes_answer}
 use Rattle.tt_answers.specs.declared.answer.Answer.TheVariants as answers
 use Rattle.tt_session.specs.declared.response.Response.{Response}
-use Rattle.tt_session.specs.Session.{OpenSession}
+use Rattle.tt_session.specs.Session.{OpenSession, state_in}
+use Rattle.tt_session.specs.Repairing.{entry_by, with_event}
+use Rattle.tt_session.specs.Laws.{NextChangesEndAsChanges}
 use Rattle.tt_session.specs.Answers.{answered_by}
 
 last-of-one : (x y : Changed) (rest : List Changed) → x ∷ [] ≡ rest ++ y ∷ [] → x ≡ y
@@ -41,3 +50,24 @@ pub changes_told : (session : OpenSession) (response : Response) (first : ℕ) (
     → list ≡ entries_of_changes change_in session.records → answered_by session response ≡ changes_answer session change_in
 changes_told session response first list change_in is first_is list_is =
     ap (answered_by session) is ∙ (λ i. record { answer = answers.Changes (first_is i) (list_is i); session = session })
+
+-- ---- the changes after the switch
+
+same-change : (x y : Option Changed) → as_list x ++ [] ≡ as_list y ++ [] → x ≡ y
+same-change None None is = refl
+same-change None (Some y) is = cc
+same-change (Some x) None is = cc
+same-change (Some x) (Some y) is = cc
+
+change-ends : (session : OpenSession) (worker : ℕ) (edits : List Edit) → (state_in session).phase ≡ Repairing edits (now_in session.database) → (r : Record)
+    → next_change_of session.database.catalog (state_in session) r ≡ change_of session.database.catalog (state_of (with_event session.database worker events.Switch)) r
+change-ends session worker edits phase r =
+    let db = session.database in
+    let after : state_of (with_event db worker events.Switch) ≡ next_state db.limits (state_of db) events.Switch = after-push db.limits db.history (entry_by worker events.Switch) in
+    same-change (next_change_of db.catalog (state_of db) r) (change_of db.catalog (next_state db.limits (state_of db) events.Switch) r)
+    (records.next_changes_end_as_changes db.catalog db.limits (state_of db) edits (r ∷ []) phase)
+    ∙ ap (λ (S : State). change_of db.catalog S r) (sym after)
+
+pub next_changes_end_as_changes : NextChangesEndAsChanges
+next_changes_end_as_changes session worker edits phase =
+    λ i. answers.Changes (first_call session.records session.calls) (entries_of_changes (λ r. change-ends session worker edits phase r i) session.records)

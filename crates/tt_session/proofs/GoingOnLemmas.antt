@@ -11,6 +11,7 @@ use Rattle.tt_generations.specs.TwoGenerations.{Phase, Idle, Repairing, is_repai
 use Rattle.tt_db.specs.declared.event.Event.{Event}
 use Rattle.tt_db.specs.declared.event.Event.TheVariants as events
 use Rattle.tt_db.specs.declared.errors.DbError.{DbError}
+use Rattle.tt_db.specs.declared.limits.Limits.{Limits}
 use Rattle.tt_db.specs.declared.errors.DbError.TheVariants as errors
 use Rattle.tt_db.specs.Limits.{Fits}
 use Rattle.tt_db.specs.declared.errors.ReadError.{ReadError}
@@ -118,6 +119,7 @@ sound-accepted db next records most worker event sound none is =
     subst (λ (d : Database). IsSound d records most) (sym is) (record {
       catalog = sound.catalog;
       fits = sound.fits;
+      edits = sound.edits;
       legal = new.legal;
       room = new.room;
       few_records = sound.few_records;
@@ -133,6 +135,7 @@ sound-empty db next records most sound catalog limits none =
     subst (λ (d : Database). IsSound d records most) (sym is) (record {
       catalog = sound.catalog;
       fits = sound.fits;
+      edits = sound.edits;
       legal = tt;
       room = refl;
       few_records = sound.few_records;
@@ -173,6 +176,7 @@ with_latest-sound session latest sound = record {
   sound = record {
     catalog = sound.catalog;
     fits = sound.fits;
+    edits = sound.edits;
     legal = sound.legal;
     room = sound.room;
     few_records = few_last session.most_records (session.records ++ latest ∷ []);
@@ -189,6 +193,7 @@ next-sound session next sound is catalog limits = record {
   sound = record {
     catalog = subst IsCatalog (sym catalog) sound.catalog;
     fits = subst Fits (sym limits) sound.fits;
+    edits = ap (λ (l : Limits). l.edits) limits ∙ sound.edits;
     legal = is.legal;
     room = is.room;
     few_records = sound.few_records;

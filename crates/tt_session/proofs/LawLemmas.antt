@@ -39,10 +39,9 @@ is_stepped (suc count) db worker is legal few =
 
 -- a repair that is under way can be finished, and can be given up
 pub repairs_can_end : RepairsCanEnd
-repairs_can_end session worker is repairing =
-    let db = session.database in
-    let under_way = can_end db repairing is.room in
-    let all = is_stepped (slots_left (state_of db)) db worker under_way is.legal (omega arith) in
+repairs_can_end db worker legal room repairing =
+    let under_way = can_end db repairing room in
+    let all = is_stepped (slots_left (state_of db)) db worker under_way legal (omega arith) in
     let none : slots_left (state_of (with_all_steps db worker)) ≡ 0 = omega (arith, all.left) in (
       legal-push (with_all_steps db worker) worker events.Switch all.legal (switch_is_accepted (with_all_steps db worker) all.can_end none),
       abort_is_accepted db under_way,

@@ -1,5 +1,7 @@
 pub mod ChangeLemmas
 pub mod GoingOnLemmas
+pub mod SoundLemmas
+pub mod RefusalLemmas
 pub mod LawLemmas
 pub mod OpeningLemmas
 pub mod PageLemmas

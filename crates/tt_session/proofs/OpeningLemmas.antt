@@ -1,15 +1,24 @@
--- An opening keeps no more than openings may.
-use Rattle.std.proofs.Common.{◌≡◌, ℕ, ◌≤◌, Bool, true, false, cond, nat_lt, ◌||◌, List, [], ◌∷◌, Option, None, Some, Result, Ok, Err, codes, refl, sym, ap, subst, ◌∙◌, arith}
+-- The tables of an opening are a catalog, and it keeps no more than openings may.
+use Rattle.std.proofs.Common.{◌≡◌, ℕ, suc, ◌≤◌, Bool, true, false, cond, nat_lt, ◌||◌, List, [], ◌∷◌, ◌++◌, IsTrue, Option, None, Some, Result, Ok, Err, codes, refl, sym, ap, subst, ◌∙◌, arith}
 use Rattle.std.specs.Option.{unwrap_or}
+use Rattle.std.proofs.lemmas.List.Elements.{All-nil}
 use Rattle.std.proofs.lemmas.Bool.{ltb-false}
 use Rattle.serde_json.specs.Data.{Data}
 use Rattle.serde_json.specs.Find.{get}
+use Rattle.tt_values.specs.declared.table.TableDef.{TableDef}
+use Rattle.tt_values.specs.declared.catalog.CatalogError.{CatalogError}
+use Rattle.tt_values.specs.Tables.{Tables, is_name, IsTable, IsCatalog}
+use Rattle.tt_values.specs.Catalog.{table_fault}
+use Rattle.tt_values.proofs.LawProofs.{catalogs_grow}
 use Rattle.tt_grammar.specs.declared.fault.DocFault.{DocFault}
-use Rattle.tt_grammar.specs.Fault.{◌>>=◌, refuse, with_path, member_path, document_path}
-use Rattle.tt_grammar.specs.Decoder.{object, member, optional, read_optional, within, count, count_within}
+use Rattle.tt_grammar.specs.Fault.{◌>>=◌, with_path, member_path, item_path, document_path}
+use Rattle.tt_grammar.specs.Decoder.{object, text, array, member, optional, read_optional, within, count, count_within}
+use Rattle.tt_grammar.specs.Arrays.{fold_items, array_of}
+use Rattle.tt_grammar.specs.Causes.{judge, cause_of_catalog}
 use Rattle.tt_grammar.specs.Members.{is_one_of, no_members_but}
-use Rattle.tt_grammar.specs.Tables.{catalog}
+use Rattle.tt_grammar.specs.Tables.{column, with_table, table_after, catalog}
 use Rattle.tt_requests.specs.declared.opening.Opening.{Opening}
+use Rattle.tt_requests.proofs.StepBackLemmas.{ok_same, step, with_path-ok, choice-ok, member-ok}
 use Rattle.tt_db.specs.Database.{Database}
 use Rattle.tt_answers.specs.declared.answer.Status.{Status}
 use Rattle.tt_answers.specs.declared.answer.Answer.TheVariants as answers
@@ -18,27 +27,6 @@ use Rattle.tt_session.specs.Session.{OpenSession, opened}
 use Rattle.tt_session.specs.Repairing.{status_of}
 use Rattle.tt_session.specs.Run.{turn_by_opening}
 use Rattle.tt_requests.specs.Opening.{max_keep, usual_keep, max_records, usual_records, members_of_opening, opening_of}
-
-ok_same : {T : Type 0} {x y : T} → ◌≡◌ {A = Result T DocFault} (Ok x) (Ok y) → x ≡ y
-ok_same e = cc
-
--- what a chain that is read went through
-record Step {A B : Type 0} (r : Result A DocFault) (f : A → Result B DocFault) (y : B) : Type 0 where
-  value : A
-  is : r ≡ Ok value
-  rest : f value ≡ Ok y
-
-step : {A B : Type 0} (r : Result A DocFault) (f : A → Result B DocFault) (y : B) → (r >>= f) ≡ Ok y → Step r f y
-step (Ok x) f y e = record { value = x; is = refl; rest = e }
-step (Err fault) f y e = cc
-
-with_path-ok : {T : Type 0} (path_of : List ℕ → List ℕ) (r : Result T DocFault) (x : T) → with_path path_of r ≡ Ok x → r ≡ Ok x
-with_path-ok path_of (Ok y) x e = e
-with_path-ok path_of (Err fault) x e = cc
-
-choice-ok : (b : Bool) (n m : ℕ) (cause : List ℕ) → cond b (refuse cause) (Ok n) ≡ Ok m → (b ≡ false) × (n ≡ m)
-choice-ok true n m cause e = cc
-choice-ok false n m cause e = (refl, ok_same e)
 
 second : (x y : Bool) → (x || y) ≡ false → y ≡ false
 second true y e = cc
@@ -57,29 +45,68 @@ read_optional-most name most usual (Some d) o few e =
     let counted = step (count d) (within 0 most) read.value (with_path-ok (member_path name) (count_within 0 most d) read.value read.is) in
     subst (λ p. unwrap_or p usual ≤ most) (ok_same read.rest) (within-most 0 most counted.value read.value counted.rest)
 
--- an opening keeps no more than openings may
-pub record KeepsFew (opening : Opening) : Type 0 where
+-- the tables of an opening are a catalog, and it keeps no more than openings may
+pub record IsOpening (opening : Opening) : Type 0 where
+  pub catalog : IsCatalog opening.catalog
   pub keep : opening.keep ≤ max_keep
   pub records : opening.records ≤ max_records
 
-members-keep-few : (v : Data) (opening : Opening) → members_of_opening v ≡ Ok opening → KeepsFew opening
+no_tables : IsCatalog []
+no_tables = record {
+  few_tables = omega arith;
+  sound = All-nil (λ t. IsTable t.1);
+  tables_are_named = All-nil (λ t. IsTrue (is_name t.0));
+  names_differ = refl;
+}
+
+with_table-is : (tables : Tables) (name : List ℕ) (def : TableDef) (next : Tables) → IsCatalog tables → with_table tables name def ≡ Ok next → IsCatalog next
+with_table-is tables name def next sound e = by (table_fault tables name def) refl e
+  where
+    by : (fault : Option CatalogError) → table_fault tables name def ≡ fault → (judge cause_of_catalog fault >>= λ _. Ok (tables ++ (name, def) ∷ [])) ≡ Ok next → IsCatalog next
+    by None none with = subst IsCatalog (ok_same with) (catalogs_grow tables name def sound none)
+    by (Some fault) some with = cc
+
+table_after-is : (tables : Tables) (v : Data) (next : Tables) → IsCatalog tables → table_after tables v ≡ Ok next → IsCatalog next
+unfolding table_after
+table_after-is tables v next sound e =
+    let read = step (object v) _ next e in
+    let name = step (member (codes "name") text v) _ next read.rest in
+    let columns = step (member (codes "columns") (array_of column) v) _ next name.rest in
+    let known = step (no_members_but (is_one_of (codes "columns" ∷ codes "name" ∷ [])) v) _ next columns.rest in
+    with_table-is tables name.value (record { columns = columns.value }) next sound known.rest
+
+tables-are : (i : ℕ) (tables : Tables) (ds : List Data) (next : Tables) → IsCatalog tables → fold_items table_after i tables ds ≡ Ok next → IsCatalog next
+tables-are i tables [] next sound e = subst IsCatalog (ok_same e) sound
+tables-are i tables (d ∷ ds) next sound e =
+    let first = step (with_path (item_path i) (table_after tables d)) _ next e in
+    let one = with_path-ok (item_path i) (table_after tables d) first.value first.is in
+    tables-are (suc i) first.value ds next (table_after-is tables d first.value sound one) first.rest
+
+catalog-is : (v : Data) (tables : Tables) → member (codes "tables") catalog v ≡ Ok tables → IsCatalog tables
+catalog-is v tables e =
+    let source = member-ok (codes "tables") catalog v tables e in
+    let read = step (array source.value) (λ ds. fold_items table_after 0 [] ds) tables source.is in
+    tables-are 0 [] read.value tables no_tables read.rest
+
+members-are : (v : Data) (opening : Opening) → members_of_opening v ≡ Ok opening → IsOpening opening
 unfolding members_of_opening
-members-keep-few v opening e =
+members-are v opening e =
     let read = step (object v) _ opening e in
     let version = step (member (codes "version") (count_within 2 2) v) _ opening read.rest in
     let tables = step (member (codes "tables") catalog v) _ opening version.rest in
     let keep = step (optional (codes "keep") (count_within 0 max_keep) v) _ opening tables.rest in
     let records = step (optional (codes "records") (count_within 0 max_records) v) _ opening keep.rest in
     let known = step (no_members_but (is_one_of (codes "keep" ∷ codes "records" ∷ codes "tables" ∷ codes "version" ∷ [])) v) _ opening records.rest in
-    subst KeepsFew (ok_same known.rest) (record {
+    subst IsOpening (ok_same known.rest) (record {
+      catalog = catalog-is v tables.value tables.is;
       keep = read_optional-most (codes "keep") max_keep usual_keep (get (codes "keep") v) keep.value (omega arith) keep.is;
       records = read_optional-most (codes "records") max_records usual_records (get (codes "records") v) records.value (omega arith) records.is;
     })
 
-pub opening-keeps-few : (value : Result Data DocFault) (opening : Opening) → opening_of value ≡ Ok opening → KeepsFew opening
-opening-keeps-few value opening e =
+pub is_opening : (value : Result Data DocFault) (opening : Opening) → opening_of value ≡ Ok opening → IsOpening opening
+is_opening value opening e =
     let read = step value members_of_opening opening (with_path-ok document_path (value >>= members_of_opening) opening e) in
-    members-keep-few read.value opening read.rest
+    members-are read.value opening read.rest
 
 -- what is told of a session that is opened
 pub opened-text : (value : Result Opening DocFault) (opening : Opening) (session : OpenSession) (db : Database) (status : Status)

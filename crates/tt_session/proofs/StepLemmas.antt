@@ -121,7 +121,7 @@ with_steps-first db worker count =
 
 -- ---- events that a session doesn't refuse
 
-room-test : (limit : ℕ) (n : ℕ) → n ≤ limit → nat_lt limit n ≡ false
+pub room-test : (limit : ℕ) (n : ℕ) → n ≤ limit → nat_lt limit n ≡ false
 room-test limit n few = grind (arith, nat_tests, few)
 
 pub room-can_end : (db : Database) → CanEnd db → has_no_room_to_end db.limits (state_of db) ≡ false

@@ -1,14 +1,15 @@
 -- What holds of every session, whatever its lines are.
-use Rattle.std.specs.Prelude.{◌≡◌, ℕ, true, List, None, Result}
+use Rattle.std.specs.Prelude.{◌≡◌, ℕ, true, false, List, None, Result}
 use Rattle.tt_generations.specs.TwoGenerations.{is_repairing}
 use Rattle.tt_db.specs.declared.event.Event.TheVariants as events
 use Rattle.tt_db.specs.State.{IsLegal}
-use Rattle.tt_db.specs.Database.{Database, refusal_of}
+use Rattle.tt_db.specs.Database.{Database, state_of, refusal_of}
 use Rattle.tt_grammar.specs.declared.fault.DocFault.{DocFault}
 use Rattle.tt_requests.specs.declared.request.Request.{Request}
 use Rattle.tt_session.specs.declared.session.Session.{Session}
 use Rattle.tt_session.specs.declared.session.Session.TheVariants as sessions
-use Rattle.tt_session.specs.Session.{OpenSession, state_in}
+use Rattle.tt_session.specs.Session.{OpenSession}
+use Rattle.tt_session.specs.Room.{has_no_room_to_end}
 use Rattle.tt_session.specs.Repairing.{with_event, with_all_steps}
 use Rattle.tt_session.specs.Run.{turn_by_request, session_after}
 use Rattle.tt_session.specs.Sound.{IsSound}
@@ -34,8 +35,8 @@ SessionsStaySound = (lines : List (List ℕ)) (without_memory : List ℕ) → Is
 abbrev pub finished : Database → ℕ → Database
 finished db worker = with_event (with_all_steps db worker) worker events.Switch
 
--- a repair that is under way can be finished, with none of its steps refused, and can be given up
+-- where a history is legal and has room for the end of the repair under way, the repair can be finished, with none of its steps refused, and can be given up
 abbrev pub RepairsCanEnd : Type 0
-RepairsCanEnd = (session : OpenSession) (worker : ℕ) → IsOpenSession session → is_repairing (state_in session).phase ≡ true →
-    IsLegal session.database.catalog session.database.limits (finished session.database worker).history
-    × (refusal_of session.database events.Abort ≡ None)
+RepairsCanEnd = (db : Database) (worker : ℕ) → IsLegal db.catalog db.limits db.history → has_no_room_to_end db.limits (state_of db) ≡ false → is_repairing (state_of db).phase ≡ true →
+    IsLegal db.catalog db.limits (finished db worker).history
+    × (refusal_of db events.Abort ≡ None)

@@ -5,6 +5,7 @@ pub mod Room
 pub mod Sound
 pub mod Pages
 pub mod Reading
+pub mod Readings
 pub mod Repairing
 pub mod SlotEntries
 pub mod Moments
@@ -17,4 +18,5 @@ pub mod Answering
 pub mod Together
 pub mod Ends
 pub mod Invariants
+pub mod Laws
 pub mod ReadBack

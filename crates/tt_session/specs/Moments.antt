@@ -7,8 +7,15 @@ use Rattle.tt_records.specs.declared.changed.Changed.{Changed}
 use Rattle.tt_records.specs.Changes.{change_of, next_change_of}
 use Rattle.tt_session.specs.declared.change_entries.Moment.{Moment}
 use Rattle.tt_session.specs.declared.change_entries.Moment.TheVariants.{Now, Next}
+use Rattle.tt_session.specs.Session.{OpenSession, state_in}
+use Rattle.tt_session.specs.Answers.{Answered}
+use Rattle.tt_session.specs.ChangeEntries.{changes_answer}
 
 -- the change of a record, if it has one
 abbrev pub change_at : Moment → Tables → State → Record → Option Changed
 change_at Now = change_of
 change_at Next = next_change_of
+
+-- the session stays, and tells the changes of its records
+abbrev pub changes_answer_at : Moment → OpenSession → Answered
+changes_answer_at moment session = changes_answer session (change_at moment session.database.catalog (state_in session))

@@ -1,17 +1,18 @@
 -- What is known of each open session.
 use Rattle.std.specs.Prelude.{◌≡◌, ℕ, ◌≤◌, false, List, length}
 use Rattle.tt_values.specs.Tables.{IsCatalog}
-use Rattle.tt_db.specs.Limits.{Fits}
+use Rattle.tt_db.specs.Limits.{max_limits, Fits}
 use Rattle.tt_db.specs.State.{IsLegal}
 use Rattle.tt_db.specs.Database.{Database, state_of}
 use Rattle.tt_records.specs.declared.record.Record.{Record}
 use Rattle.tt_requests.specs.Opening.{max_records}
 use Rattle.tt_session.specs.Room.{has_no_room_to_end}
 
--- the database is sound, there is room for the end of a repair that is under way, and no more records are kept than may be
+-- the database is sound, takes as many edits as any, there is room for the end of a repair that is under way, and no more records are kept than may be
 pub record IsSound (db : Database) (kept : List Record) (most : ℕ) : Type 0 where
   pub catalog : IsCatalog db.catalog
   pub fits : Fits db.limits
+  pub edits : db.limits.edits ≡ max_limits.edits
   pub legal : IsLegal db.catalog db.limits db.history
   pub room : has_no_room_to_end db.limits (state_of db) ≡ false
   pub few_records : length kept ≤ most

@@ -4,8 +4,8 @@ ghost use Rattle.std.specs.List.{flat_map};
 ghost use Rattle.tt_db.specs.Database.{state_of};
 ghost use Rattle.tt_records.specs.Changes.{as_list};
 ghost use Rattle.tt_session.specs.Answers.{Becomes, answered_by};
-ghost use Rattle.tt_session.specs.Moments.{change_at};
-ghost use Rattle.tt_session.specs.ChangeEntries.{entry_of_change, entries_of_changes, changes_answer, changes, next_changes};
+ghost use Rattle.tt_session.specs.Moments.{change_at, changes_answer_at};
+ghost use Rattle.tt_session.specs.ChangeEntries.{entry_of_change, entries_of_changes, changes, next_changes};
 
 use crate::failure::Failure;
 use crate::open_session::OpenSession;
@@ -99,8 +99,8 @@ fn push_entries(
 
 /// The changes of all records, as an answer.
 fn changes_answer(session: &OpenSession, moment: Moment) -> Result<Response, AllocError>
-    ensures { IfOk result (λ response. answered_by session.now response ≡ changes_answer session.now
-        (change_at moment session.now.database.catalog (state_of session.now.database))) }
+    ensures { IfOk result
+        (λ response. answered_by session.now response ≡ changes_answer_at moment session.now) }
 {
     let alloc = session.alloc();
     let db = session.db();

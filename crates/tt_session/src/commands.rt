@@ -1,6 +1,7 @@
 //! What an open session answers to a request.
-ghost use Rattle.std.specs.Prelude.{◌≡◌, ◌≢◌, true, IfErr, OnOk};
+ghost use Rattle.std.specs.Prelude.{◌≡◌, ◌≢◌, true, IfErr};
 ghost use Rattle.tt_session.specs.Answers.{Becomes};
+ghost use Rattle.tt_session.specs.Session.{with_database};
 ghost use Rattle.tt_session.specs.Commands.{status, declared_tables, carried_out, is_read_only, reads_records, asks_read_only, asks_for_records, moved_to, outcome_of_request};
 
 use crate::change_entries::{changes, next_changes};
@@ -85,7 +86,7 @@ pub(crate) fn asks_for_records(asked: &Result<Request, DocFault>) -> bool
 }
 
 /// Carries out a command of a worker. Without memory the session is as before if the command is
-/// read-only; else nothing is promised of it.
+/// read-only; else nothing is promised of its database.
 fn carried_out(
     session: &mut OpenSession,
     worker: u32,
@@ -93,7 +94,7 @@ fn carried_out(
 ) -> Result<Response, Failure>
     ensures becomes { Becomes session.new result (carried_out session.old worker command) }
     ensures stays { IfErr result (λ f. f ≢ Failure.Memory → session.new ≡ session.old) }
-    ensures calls { OnOk result (session.new.calls ≡ session.old.calls) }
+    ensures rest { session.new ≡ with_database session.old session.new.database }
     ensures reads { is_read_only command ≡ true → session.new ≡ session.old }
 {
     match command {
@@ -133,14 +134,14 @@ fn moved_to(now: u64, expected: Option<u64>) -> Option<u64>
 }
 
 /// Carries out a request, unless it expects another time. Without memory the session is as before
-/// if the request is read-only; else nothing is promised of it.
+/// if the request is read-only; else nothing is promised of its database.
 pub(crate) fn outcome_of_request(
     session: &mut OpenSession,
     request: Request,
 ) -> Result<Response, Failure>
     ensures becomes { Becomes session.new result (outcome_of_request session.old request) }
     ensures stays { IfErr result (λ f. f ≢ Failure.Memory → session.new ≡ session.old) }
-    ensures calls { OnOk result (session.new.calls ≡ session.old.calls) }
+    ensures rest { session.new ≡ with_database session.old session.new.database }
     ensures reads { is_read_only request.command ≡ true → session.new ≡ session.old }
 {
     match moved_to(session.db().now(), request.expected) {

@@ -1,10 +1,13 @@
 //! Laws of the definitions that the contracts of this crate speak by. Each is the contract of a
 //! function with an empty body.
-ghost use Rattle.tt_session.specs.Invariants.{OpenSessionsStaySound, RepairsCanEnd};
+ghost use Rattle.tt_session.specs.Invariants.{OpenSessionsStaySound, SessionsStaySound, RepairsCanEnd};
+ghost use Rattle.tt_session.specs.Laws.{OtherErrorsAnswerNoLine, NextChangesEndAsChanges};
 ghost use Rattle.tt_session.specs.ReadBack.{PrintedWritesReplace, PrintedActionsReplace};
 ghost use Rattle.tt_session.specs.ReadBack.{PrintedTablesOpen};
 
-/// A repair that is under way can be finished, with none of its steps refused, and can be given up.
+/// A repair that is under way can be finished, with none of its steps refused, and can be given up:
+/// where the history is legal (`Db::events` tells so) and has room for the end of the repair (as
+/// [`OpenSession::db`](crate::OpenSession::db) tells of each session).
 #[tactic(auto, using(crate::proofs::LawLemmas::repairs_can_end))]
 pub fn repairs_can_end()
     ensures { RepairsCanEnd }
@@ -16,6 +19,25 @@ pub fn repairs_can_end()
 #[tactic(auto, using(crate::proofs::GoingOnLemmas::open_sessions_stay_sound))]
 pub fn open_sessions_stay_sound()
     ensures { OpenSessionsStaySound }
+{}
+
+/// Each session is sound after any lines, whichever of them found no memory.
+#[tactic(auto, using(crate::proofs::SoundLemmas::sessions_stay_sound))]
+pub fn sessions_stay_sound()
+    ensures { SessionsStaySound }
+{}
+
+/// No line is answered with the database's error for a statement with a fault, for too many edits,
+/// for a step where nothing is left, or for a switch where slots are left.
+#[tactic(auto, using(crate::proofs::RefusalLemmas::other_errors_answer_no_line))]
+pub fn other_errors_answer_no_line()
+    ensures { OtherErrorsAnswerNoLine }
+{}
+
+/// Once the repair under way has done all slots, `next` tells the changes that `now` tells right
+/// after the switch.
+pub fn next_changes_end_as_changes()
+    ensures { NextChangesEndAsChanges }
 {}
 
 /// A write that can be carried out, put under `by` as it is printed, replaces the action of a slot

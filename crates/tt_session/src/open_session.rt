@@ -1,9 +1,8 @@
 //! A session that is open.
-ghost use Rattle.std.specs.Prelude.{◌≡◌, ◌+◌, ◌<◌, ◌≤◌, ◌-◌, ◌^◌, false, OnOk, OnErr, IfOk};
-ghost use Rattle.tt_db.specs.Database.{state_of};
+ghost use Rattle.std.specs.Prelude.{◌≡◌, ◌+◌, ◌<◌, ◌≤◌, ◌-◌, ◌^◌, OnOk, OnErr, IfOk};
 ghost use Rattle.tt_requests.specs.Opening.{max_keep, max_records};
 ghost use Rattle.tt_session.specs.Session.{counted, opened, with_latest_if, with_earlier_records, without_records};
-ghost use Rattle.tt_session.specs.Room.{has_no_room_to_end};
+ghost use Rattle.tt_session.specs.Invariants.{IsOpenSession};
 
 mod advancing;
 mod answering;
@@ -90,10 +89,11 @@ impl OpenSession {
         self.alloc
     }
 
-    /// The database.
+    /// The database. The session is sound: the history is legal, there is room in it for the end of
+    /// a repair that is under way, and no more records are kept than may be.
     pub fn db(&self) -> &Db
         ensures value { result.now ≡ self.now.database }
-        ensures room { has_no_room_to_end result.now.limits (state_of result.now) ≡ false }
+        ensures sound { IsOpenSession self.now }
     {
         &self.db
     }

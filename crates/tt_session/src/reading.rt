@@ -1,8 +1,9 @@
 //! Selects and previews.
-ghost use Rattle.std.specs.Prelude.{◌≡◌, ℕ, Option, IfOk, unwrap_or};
-ghost use Rattle.tt_db.specs.Database.{state_of, right_answer_in};
+ghost use Rattle.std.specs.Prelude.{◌≡◌, IfOk, unwrap_or};
+ghost use Rattle.tt_db.specs.Database.{state_of};
 ghost use Rattle.tt_session.specs.Answers.{Becomes};
-ghost use Rattle.tt_session.specs.Reading.{last_time_in, latest_if, selected_by, read, preview};
+ghost use Rattle.tt_session.specs.Reading.{last_time_in, asks_for_all, latest_if, read, preview};
+ghost use Rattle.tt_session.specs.Readings.{answer_to};
 ghost use Rattle.tt_session.specs.Pages.{page_after, first_page, page_of_reply};
 
 use crate::failure::Failure;
@@ -15,6 +16,19 @@ use tt_db::Db;
 use tt_records::{Record, What};
 use tt_requests::Page;
 use tt_values::{Reply, Select};
+
+/// A select that a worker asks for.
+#[derive(Drop)]
+pub(crate) struct Reading {
+    worker: u32,
+    select: Select,
+    /// The generation, if the request names one.
+    generation: Option<u64>,
+    /// The number of the generation that is read.
+    number: u64,
+    /// The time in that generation.
+    time: u64,
+}
 
 /// The last time of a generation, and 0 of one that can't be read.
 fn last_time_in(db: &Db, number: u64) -> u64
@@ -49,21 +63,26 @@ fn time_of(db: &Db, number: u64, at: Option<u64>) -> u64
 /// What is told and recorded of a select that is answered.
 fn selected(
     session: &OpenSession,
-    worker: u32,
-    select: Select,
-    is_recorded: bool,
-    time: u64,
+    reading: Reading,
     after: Option<i64>,
     reply: Reply,
 ) -> Result<Response, AllocError>
-    ensures answer { IfOk result (λ response.
-        response.answer ≡ Answer.Selected time (page_of_reply (page_after after) reply)) }
+    ensures answer { IfOk result (λ response. response.answer
+        ≡ Answer.Selected reading.time (page_of_reply (page_after after) reply)) }
     ensures latest { IfOk result (λ response. response.latest
-        ≡ latest_if is_recorded session.now worker (What.Read select time reply)) }
+        ≡ latest_if (asks_for_all reading.generation (page_after after))
+        session.now reading.worker (What.Read reading.select reading.time reply)) }
 {
+    let Reading {
+        worker,
+        select,
+        generation,
+        number: _,
+        time,
+    } = reading;
     let page = page_after(session.alloc(), after, &reply)?;
     let answer = Answer::Selected { time, page };
-    if !is_recorded {
+    if generation.is_some() || after.is_some() {
         return Ok(Response::unrecorded(answer));
     }
     let latest = Record {
@@ -81,46 +100,37 @@ fn selected(
     })
 }
 
-/// The rows of a select of a generation at a time, which `generation` may leave out: those with
-/// greater keys than `after`, if that is given.
+/// The rows of a select: those with greater keys than `after`, if that is given.
 fn read_all(
     session: &OpenSession,
-    worker: u32,
-    select: Select,
-    generation: Option<u64>,
-    number: u64,
-    time: u64,
+    reading: Reading,
     after: Option<i64>,
 ) -> Result<Response, Failure>
-    ensures { Becomes session.now result
-        (selected_by session.now worker select generation (page_after after) time
-        (right_answer_in session.now.database number select time)) }
+    ensures { Becomes session.now result (answer_to session.now reading (page_after after)) }
 {
-    match session.db().select_in(number, &select, time) {
+    let db = session.db();
+    match db.select_in(reading.number, &reading.select, reading.time) {
         Ok(reply) => {
-            let is_recorded = generation.is_none() && after.is_none();
-            let response = selected(session, worker, select, is_recorded, time, after, reply)?;
+            let response = selected(session, reading, after, reply)?;
             Ok(response)
         }
         Err(error) => Err(Failure::from(error)),
     }
 }
 
-/// The first rows of a select of a generation at a time. They aren't recorded.
+/// The first rows of a select. They aren't recorded.
 fn read_first(
     session: &OpenSession,
-    select: &Select,
-    number: u64,
-    time: u64,
+    reading: &Reading,
     after: Option<i64>,
     most: u32,
 ) -> Result<Response, Failure>
-    ensures { (worker : ℕ) (generation : Option ℕ) → Becomes session.now result
-        (selected_by session.now worker select.now generation (first_page after most) time
-        (right_answer_in session.now.database number select.now time)) }
+    ensures { Becomes session.now result
+        (answer_to session.now reading.now (first_page after most)) }
 {
     let db = session.db();
-    match db.page_in(number, select, time, after, most as usize) {
+    let time = reading.time;
+    match db.page_in(reading.number, &reading.select, time, after, most as usize) {
         Ok(first) => {
             let page = first_page(first);
             Ok(Response::unrecorded(Answer::Selected { time, page }))
@@ -129,24 +139,13 @@ fn read_first(
     }
 }
 
-/// A select of a generation at a time, which `generation` may leave out.
-fn read_at(
-    session: &OpenSession,
-    worker: u32,
-    select: Select,
-    generation: Option<u64>,
-    number: u64,
-    time: u64,
-    page: Page,
-) -> Result<Response, Failure>
-    ensures { Becomes session.now result (selected_by session.now worker select generation page time
-        (right_answer_in session.now.database number select time)) }
+/// A page of a select.
+fn read_page(session: &OpenSession, reading: Reading, page: Page) -> Result<Response, Failure>
+    ensures { Becomes session.now result (answer_to session.now reading page) }
 {
     match page.most {
-        Some(most) => read_first(session, &select, number, time, page.after, most),
-        None => read_all(
-            session, worker, select, generation, number, time, page.after,
-        ),
+        Some(most) => read_first(session, &reading, page.after, most),
+        None => read_all(session, reading, page.after),
     }
 }
 
@@ -164,7 +163,14 @@ pub(crate) fn read(
 {
     let number = number_of(session.db(), generation);
     let time = time_of(session.db(), number, at);
-    read_at(session, worker, select, generation, number, time, page)
+    let reading = Reading {
+        worker,
+        select,
+        generation,
+        number,
+        time,
+    };
+    read_page(session, reading, page)
 }
 
 /// The rows of a select of the next generation: those with greater keys than `after`, if that is

@@ -71,18 +71,19 @@ pub(crate) fn begin(
 ) -> Result<Response, Failure>
     ensures becomes { Becomes session.new result (begin session.old worker edits) }
     ensures stays { IfErr result (λ f. f ≢ Failure.Memory → session.new ≡ session.old) }
-    ensures calls { OnOk result (session.new.calls ≡ session.old.calls) }
+    ensures rest { session.new ≡ with_database session.old session.new.database }
 {
     session.advance(worker, Event::Begin(edits))?;
     Ok(progress_response(session))
 }
 
-/// Makes further steps of a repair. Without memory nothing is promised of the session.
+/// Makes further steps of a repair. Without memory nothing is promised of the database.
 fn make_steps(session: &mut OpenSession, worker: u32, count: u64) -> Result<(), AllocError>
     requires can_end { CanEnd session.old.database }
     requires left { count ≤ slots_left (state_of session.old.database) }
     ensures state { OnOk result (session.new
         ≡ with_database session.old (with_steps session.old.database worker count)) }
+    ensures rest { session.new ≡ with_database session.old session.new.database }
     ensures can_end { OnOk result (CanEnd session.new.database) }
     ensures left { OnOk result (slots_left (state_of session.new.database) + count
         ≡ slots_left (state_of session.old.database)) }
@@ -97,7 +98,7 @@ fn make_steps(session: &mut OpenSession, worker: u32, count: u64) -> Result<(), 
 pub(crate) fn step(session: &mut OpenSession, worker: u32, most: u32) -> Result<Response, Failure>
     ensures becomes { Becomes session.new result (step session.old worker most) }
     ensures stays { IfErr result (λ f. f ≢ Failure.Memory → session.new ≡ session.old) }
-    ensures calls { OnOk result (session.new.calls ≡ session.old.calls) }
+    ensures rest { session.new ≡ with_database session.old session.new.database }
 {
     let progress = repair_under_way(session.db())?;
     make_steps(session, worker, u64::from(most).min(progress.left))?;
@@ -108,7 +109,7 @@ pub(crate) fn step(session: &mut OpenSession, worker: u32, most: u32) -> Result<
 pub(crate) fn finish(session: &mut OpenSession, worker: u32) -> Result<Response, Failure>
     ensures becomes { Becomes session.new result (finish session.old worker) }
     ensures stays { IfErr result (λ f. f ≢ Failure.Memory → session.new ≡ session.old) }
-    ensures calls { OnOk result (session.new.calls ≡ session.old.calls) }
+    ensures rest { session.new ≡ with_database session.old session.new.database }
 {
     let progress = repair_under_way(session.db())?;
     make_steps(session, worker, progress.left)?;
@@ -130,7 +131,7 @@ pub(crate) fn finish(session: &mut OpenSession, worker: u32) -> Result<Response,
 pub(crate) fn abort(session: &mut OpenSession, worker: u32) -> Result<Response, Failure>
     ensures becomes { Becomes session.new result (abort session.old worker) }
     ensures stays { IfErr result (λ f. f ≢ Failure.Memory → session.new ≡ session.old) }
-    ensures calls { OnOk result (session.new.calls ≡ session.old.calls) }
+    ensures rest { session.new ≡ with_database session.old session.new.database }
 {
     let _ = repair_under_way(session.db())?;
     session.carry_out(worker, Event::Abort)?;

@@ -1,6 +1,7 @@
 //! Actions.
-ghost use Rattle.std.specs.Prelude.{◌≡◌, ◌≢◌, Some, IfOk, IfErr, OnOk};
+ghost use Rattle.std.specs.Prelude.{◌≡◌, ◌≢◌, Some, IfOk, IfErr};
 ghost use Rattle.tt_session.specs.Answers.{Becomes};
+ghost use Rattle.tt_session.specs.Session.{with_database};
 ghost use Rattle.tt_session.specs.Commands.{write};
 
 use crate::failure::Failure;
@@ -41,7 +42,7 @@ pub(crate) fn write(
 ) -> Result<Response, Failure>
     ensures becomes { Becomes session.new result (write session.old worker action) }
     ensures stays { IfErr result (λ f. f ≢ Failure.Memory → session.new ≡ session.old) }
-    ensures calls { OnOk result (session.new.calls ≡ session.old.calls) }
+    ensures rest { session.new ≡ with_database session.old session.new.database }
 {
     match session.advance(worker, Event::Write(action))? {
         Outcome::Written { slot, replies } => {

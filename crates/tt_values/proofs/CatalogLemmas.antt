@@ -17,6 +17,7 @@ use Rattle.tt_values.specs.Limits.{max_tables, max_columns}
 use Rattle.tt_values.specs.declared.table.TableDef.{TableDef}
 use Rattle.tt_values.specs.Tables.{Tables, table_position, is_key_int, IsTable, IsCatalog, is_name, has_same_name, has_same_table}
 use Rattle.tt_values.specs.Catalog.{table_tests, table_fault}
+use Rattle.tt_values.specs.Laws.{CatalogsGrow}
 
 -- the tables of a map's entries
 abbrev pub tables_of : List (String Global × TableDef) → Tables
@@ -96,8 +97,8 @@ names_differ-push (u ∷ ts) t old new =
     let other = or_parts (bytes_eq t.0 u.0) (list_any (λ v. bytes_eq t.0 v.0) ts) new in
     (λ i. none_with u.0 ts t apart.0 (differ_both_ways t.0 u.0 other.0) i || names_differ-push ts t apart.1 other.1 i)
 
--- a catalog is still one after a table without a fault is added
-pub catalog_with : (tables : Tables) (name : List ℕ) (def : TableDef) → IsCatalog tables → IsAccepted tables name def → IsCatalog (tables ++ (name, def) ∷ [])
+-- a catalog is still one after a table that passes the tests is added
+catalog_with : (tables : Tables) (name : List ℕ) (def : TableDef) → IsCatalog tables → IsAccepted tables name def → IsCatalog (tables ++ (name, def) ∷ [])
 catalog_with tables name def old new =
     let table : IsTable def = record { key_is_int = new.key_is_int; few_columns = new.few_columns; columns_are_named = both_named.1; names_differ = new.names_differ } in
     record {
@@ -114,12 +115,15 @@ catalog_with tables name def old new =
     both_named : IsTrue (is_name name) × IsTrue (list_all (λ c. is_name c.name) def.columns)
     both_named = split _ _ new.names_are_valid
 
+pub catalogs_grow : CatalogsGrow
+catalogs_grow tables name def old h = catalog_with tables name def old (accepted_without_fault tables name def h)
+
 -- the tables after the entry of a table without a fault is inserted
 pub tables_after : (es : List (String Global × TableDef)) (key : String Global) (def : TableDef) → table_fault (tables_of es) (string_bytes key) def ≡ None → tables_of (insert_entry string_eq es key def) ≡ tables_of es ++ (string_bytes key, def) ∷ []
 tables_after es key def h = tables_of-insert es key def (accepted_without_fault (tables_of es) (string_bytes key) def h).is_new
 
 pub catalog_after : (es : List (String Global × TableDef)) (key : String Global) (def : TableDef) → IsCatalog (tables_of es) → table_fault (tables_of es) (string_bytes key) def ≡ None → IsCatalog (tables_of (insert_entry string_eq es key def))
-catalog_after es key def old h = subst IsCatalog (sym (tables_after es key def h)) (catalog_with (tables_of es) (string_bytes key) def old (accepted_without_fault (tables_of es) (string_bytes key) def h))
+catalog_after es key def old h = subst IsCatalog (sym (tables_after es key def h)) (catalogs_grow (tables_of es) (string_bytes key) def old h)
 
 -- every table of a catalog is valid
 pub sound_at : (es : List (String Global × TableDef)) (i : ℕ) (key : String Global) (def : TableDef) → IsCatalog (tables_of es) → Some (key, def) ≡ slice_get es i → IsTable def

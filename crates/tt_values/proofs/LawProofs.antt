@@ -1,7 +1,8 @@
 -- The proofs of the laws, for proofs in other crates. All other lemmas are private to this crate.
-use Rattle.tt_values.specs.Laws.{ShowsLastRowWrite, RowsRise, SlotsFollow, LaterSlotsChangeNothing, PastStays, LastContentStays, NextContent, OneKeyChanges, RowsStayByRisingKey, RowWriteChangesOneRow, LastRowWriteCounts, EarlierSlotsStay, AddedSlotIsNext, AddedSlotLeavesPast, AcceptedInsertsHaveKeys, AcceptedUpdatesKeepKeys}
+use Rattle.tt_values.specs.Laws.{ShowsLastRowWrite, RowsRise, SlotsFollow, LaterSlotsChangeNothing, PastStays, LastContentStays, NextContent, OneKeyChanges, RowsStayByRisingKey, RowWriteChangesOneRow, LastRowWriteCounts, EarlierSlotsStay, AddedSlotIsNext, AddedSlotLeavesPast, AcceptedInsertsHaveKeys, AcceptedUpdatesKeepKeys, CatalogsGrow}
 use Rattle.tt_values.specs.ActionLaws.{ActionLeavesItsLastContent, ActionOfOneWrite, ActionWritesEachRowOnce, ActionsFollow, AcceptedActionsHaveKeys}
 use Rattle.tt_values.specs.Same.{SameRepliesAreEqual, SameWritesAreEqual}
+use Rattle.tt_values.proofs.CatalogLemmas as catalogs
 use Rattle.tt_values.proofs.ContentLemmas as contents
 use Rattle.tt_values.proofs.RowWritesLemmas as slots
 use Rattle.tt_values.proofs.CheckLemmas as checks
@@ -76,3 +77,6 @@ same_replies_are_equal = comparisons.same_replies_are_equal
 
 pub same_writes_are_equal : SameWritesAreEqual
 same_writes_are_equal = comparisons.same_writes_are_equal
+
+pub catalogs_grow : CatalogsGrow
+catalogs_grow = catalogs.catalogs_grow

@@ -9,7 +9,9 @@ use Rattle.tt_values.specs.declared.statement.Write.{Write}
 use Rattle.tt_values.specs.declared.statement.Write.TheVariants.{Insert, Update}
 use Rattle.tt_values.specs.Row.{first_int}
 use Rattle.tt_values.specs.Change.{changed}
+use Rattle.tt_values.specs.declared.table.TableDef.{TableDef}
 use Rattle.tt_values.specs.Tables.{Tables, IsCatalog}
+use Rattle.tt_values.specs.Catalog.{table_fault}
 use Rattle.tt_values.specs.Check.{write_fault}
 use Rattle.tt_values.specs.Content.{RowsByKey, Content, RowWrite, content_at, row_at, with_row_at, up_to, for_key, last_row_written, last_row_written_or, with_row_write}
 use Rattle.tt_values.specs.RowWrites.{Slots, row_writes, slot_writes, slot_after, content_of}
@@ -91,3 +93,8 @@ abbrev pub AcceptedUpdatesKeepKeys : Type 0
 AcceptedUpdatesKeepKeys = (tables : Tables) (table : ℕ) (changes : List Change) (equals : List Equal) (row : Row) →
     write_fault tables (Update table changes equals) ≡ None →
     first_int (changed row changes).values ≡ first_int row.values
+
+-- a catalog stays one as a table without a fault is added
+abbrev pub CatalogsGrow : Type 0
+CatalogsGrow = (tables : Tables) (name : List ℕ) (def : TableDef) → IsCatalog tables →
+    table_fault tables name def ≡ None → IsCatalog (tables ++ (name, def) ∷ [])

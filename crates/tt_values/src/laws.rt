@@ -1,6 +1,6 @@
 //! Laws of the definitions in this crate's contracts and in those of the crates above. Each law is
 //! the contract of a function with an empty body.
-ghost use Rattle.tt_values.specs.Laws.{ShowsLastRowWrite, RowsRise, SlotsFollow, LaterSlotsChangeNothing, PastStays, LastContentStays, NextContent, OneKeyChanges, RowsStayByRisingKey, RowWriteChangesOneRow, LastRowWriteCounts, EarlierSlotsStay, AddedSlotIsNext, AddedSlotLeavesPast, AcceptedInsertsHaveKeys, AcceptedUpdatesKeepKeys};
+ghost use Rattle.tt_values.specs.Laws.{ShowsLastRowWrite, RowsRise, SlotsFollow, LaterSlotsChangeNothing, PastStays, LastContentStays, NextContent, OneKeyChanges, RowsStayByRisingKey, RowWriteChangesOneRow, LastRowWriteCounts, EarlierSlotsStay, AddedSlotIsNext, AddedSlotLeavesPast, AcceptedInsertsHaveKeys, AcceptedUpdatesKeepKeys, CatalogsGrow};
 ghost use Rattle.tt_values.specs.ActionLaws.{ActionLeavesItsLastContent, ActionOfOneWrite, ActionWritesEachRowOnce, ActionsFollow, AcceptedActionsHaveKeys};
 ghost use Rattle.tt_values.specs.Same.{SameRepliesAreEqual, SameWritesAreEqual};
 
@@ -120,4 +120,9 @@ pub fn same_replies_are_equal()
 /// Two lists of writes are the same, item by item, exactly where they are equal.
 pub fn same_writes_are_equal()
     ensures { SameWritesAreEqual }
+{}
+
+/// A catalog stays one as a table without a fault is added.
+pub fn catalogs_grow()
+    ensures { CatalogsGrow }
 {}

@@ -13,7 +13,7 @@ use tt_db::{DbError, Entry, Event, Outcome};
 
 impl OpenSession {
     /// Carries out an event of a worker in place, or stays and returns why a session refuses it.
-    /// Without memory nothing is promised of the session.
+    /// Without memory nothing is promised of the database.
     pub(crate) fn advance(&mut self, worker: u32, event: Event) -> Result<Outcome, DbError>
         ensures state { OnOk result (self.new
             ≡ with_database self.old (with_event self.old.database worker event)) }
@@ -22,6 +22,7 @@ impl OpenSession {
         ensures refused { IfErr result (λ e.
             IsRefusal e (refusal_in_session self.old.database event)) }
         ensures stays { IfErr result (λ e. e ≢ DbError.Memory → self.new ≡ self.old) }
+        ensures rest { self.new ≡ with_database self.old self.new.database }
     {
         if leaves_no_room(&self.db, &event) {
             return Err(refusal_without_room(&self.db, &event));
@@ -32,12 +33,13 @@ impl OpenSession {
         }
     }
 
-    /// Carries out an event that isn't refused. Without memory nothing is promised of the session.
+    /// Carries out an event that isn't refused. Without memory nothing is promised of the database.
     pub(crate) fn carry_out(&mut self, worker: u32, event: Event) -> Result<Outcome, AllocError>
         requires { refusal_in_session self.old.database event ≡ None }
         ensures state { OnOk result (self.new
             ≡ with_database self.old (with_event self.old.database worker event)) }
         ensures outcome { IfOk result (λ o. o ≡ outcome_for self.old.database event) }
+        ensures rest { self.new ≡ with_database self.old self.new.database }
     {
         match self.advance(worker, event) {
             Ok(outcome) => Ok(outcome),

@@ -1,9 +1,9 @@
 //! Lines that have come together, and are answered together.
 //!
-//! The first line forks the session. The fork goes ahead, changed in place, and the session catches
-//! up with it behind the last line, or before a line that asks for the records of earlier calls, which
-//! a fork hasn't. Where memory runs out, the fork is dropped, and the session is as it was before that
-//! first line.
+//! The first of several lines forks the session. The fork goes ahead, changed in place, and the
+//! session catches up with it behind the last line, or before a line that asks for the records of
+//! earlier calls, which a fork hasn't. Where memory runs out, the fork is dropped, and the session
+//! is as it was before that first line.
 ghost use Rattle.std.specs.Prelude.{◌≡◌, ◌+◌, ◌-◌, ◌≤◌, ◌<◌, ◌^◌, ◌++◌, true, false, length, drop, List, IfOk, IfSome, OnOk, OnErr};
 ghost use Rattle.tt_session.specs.declared.session.Session.TheVariants.{Open};
 ghost use Rattle.tt_requests.specs.LineValue.{value_of_line};
@@ -14,7 +14,7 @@ ghost use Rattle.tt_session.specs.Run.{turn_by_request};
 ghost use Rattle.tt_session.specs.Together.{AnswersFront, AnswersWith, BeginsWithLine};
 
 use super::OpenSession;
-use crate::commands::{asks_for_records, asks_read_only};
+use crate::commands::asks_for_records;
 use crate::first_line::{FirstLine, RequestLine, read_request};
 use crate::workspace::{MANY_BYTES, Workspace, append};
 use std::alloc::AllocError;
@@ -135,17 +135,17 @@ impl OpenSession {
         ensures session_stays { OnErr result (self.new ≡ self.old) }
         ensures text_stays { OnErr result (out.new.items ≡ out.old.items) }
     {
-        // A fork has no earlier records, and costs more than one line that only reads.
-        if asks_for_records(&asked) || behind.is_empty() && asks_read_only(&asked) {
+        // A fork has no earlier records, and costs more than a checkpoint for one line.
+        if asks_for_records(&asked) || behind.is_empty() {
             self.answer_alone(out, &mut workspace.text, asked)?;
             return Ok(0);
         }
         self.answer_on_fork(out, asked, behind, workspace)
     }
 
-    /// Answers what a line asks, and the lines behind it, on a fork, and catches up with it. Returns
-    /// how many bytes of the lines behind it were taken. Where memory runs out, the session and the
-    /// text are as before.
+    /// Answers what a line asks, and the lines behind it, on a fork, and catches up with it.
+    /// Returns how many bytes of the lines behind it were taken. Where memory runs out, the session
+    /// and the text are as before.
     fn answer_on_fork(
         &mut self,
         out: &mut Vec<u8>,
@@ -177,8 +177,8 @@ impl OpenSession {
         }
     }
 
-    /// Answers the lines that some bytes begin with in place, up to one that isn't whole or asks for
-    /// the records of earlier calls, or until there are many bytes of answers. Returns how many
+    /// Answers the lines that some bytes begin with in place, up to one that isn't whole or asks
+    /// for the records of earlier calls, or until there are many bytes of answers. Returns how many
     /// bytes were taken, and the line that asks for records. Where memory runs out, nothing is
     /// promised of the session and of the text in the workspace.
     fn answer_further(

@@ -2,14 +2,14 @@
 use Rattle.std.proofs.Common.{◌++◌, ap, ◌∙◌}
 use Rattle.tt_requests.specs.LineValue.{value_of_line}
 use Rattle.tt_requests.specs.Opening.{opening_of}
-use Rattle.tt_session.proofs.OpeningLemmas.{opening-keeps-few, opened-text}
+use Rattle.tt_session.proofs.OpeningLemmas.{is_opening, opened-text}
 use Rattle.tt_session.proofs.session.open.Goals as goal
 
 pub new-session-requires-clause-keep : goal.new-session-requires-clause-keep
-new-session-requires-clause-keep c = (opening-keeps-few (value_of_line c.args.line.now) c.in-Ok.opening c.in-Ok.ensures).keep
+new-session-requires-clause-keep c = (is_opening (value_of_line c.args.line.now) c.in-Ok.opening c.in-Ok.ensures).keep
 
 pub new-session-requires-clause-records : goal.new-session-requires-clause-records
-new-session-requires-clause-records c = (opening-keeps-few (value_of_line c.args.line.now) c.in-Ok.opening c.in-Ok.ensures).records
+new-session-requires-clause-records c = (is_opening (value_of_line c.args.line.now) c.in-Ok.opening c.in-Ok.ensures).records
 
 pub returns-in_ok-push_opening_answer-in-Ok-clause-text : goal.returns-in_ok-push_opening_answer-in-Ok-clause-text
 returns-in_ok-push_opening_answer-in-Ok-clause-text c =

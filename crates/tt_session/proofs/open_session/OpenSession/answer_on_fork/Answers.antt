@@ -17,8 +17,8 @@ returns-in_default-clause-answered c =
     c.args.out.now.items c.clear.new.self.items c.answer_in_place.new.text.items c.answer_further.new.workspace.text.items c.commit.new.out.items
     few c.requires.records c.in_ok-ahead.ensures c.clear.ensures.items first.session first.text first.calls (c.in_ok-taken.ensures.answered old.records) c.in_ok-commit.ensures.session c.in_ok-commit.ensures.text
 
-pub answer_alone-requires-clause-calls : goal.answer_alone-requires-clause-calls
-answer_alone-requires-clause-calls c =
+pub answer_alone-requires : goal.answer_alone-requires
+answer_alone-requires c =
     let behind = c.args.behind.now in
     let taken = c.in_ok-taken.taken in
     let tables = c.answer_further.new.self.database.catalog in

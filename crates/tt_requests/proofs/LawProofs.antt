@@ -1,0 +1,225 @@
+-- The law of requests: what a request asks for has been judged.
+use Rattle.std.proofs.Common.{◌≡◌, ℕ, ◌≤◌, Bool, true, false, List, [], ◌∷◌, ◌++◌, length, Option, None, Some, if◌then◌else◌, Result, Ok, codes, sym, subst, ltb-false}
+use Rattle.std.specs.List.{AllByRecursion}
+use Rattle.std.specs.Str.{bytes_eq}
+use Rattle.std.proofs.lemmas.List.Elements.{All-from_recursion}
+use Rattle.serde_json.specs.Data.{Data}
+use Rattle.tt_values.specs.declared.statement.Select.{Select}
+use Rattle.tt_values.specs.declared.statement.Write.{Write}
+use Rattle.tt_values.specs.Tables.{Tables}
+use Rattle.tt_values.specs.Check.{select_fault}
+use Rattle.tt_repair_laws.specs.declared.edit.Edit.{Edit}
+use Rattle.tt_grammar.specs.declared.fault.DocFault.{DocFault}
+use Rattle.tt_grammar.specs.declared.statements.Context.TheVariants as contexts
+use Rattle.tt_grammar.specs.declared.version.Version.TheVariants as versions
+use Rattle.tt_grammar.specs.Fault.{◌>>=◌, document_path}
+use Rattle.tt_grammar.specs.Decoder.{object, array, within_limit, text, count, count_within, has, member, optional}
+use Rattle.tt_grammar.specs.Members.{is_one_of, no_members_but}
+use Rattle.tt_grammar.specs.Conditions.{table_named}
+use Rattle.tt_grammar.specs.Statements.{checked_statement, conditions, no_members_at, insert, update, delete}
+use Rattle.tt_grammar.specs.Actions.{action}
+use Rattle.tt_grammar.specs.Edits.{max_edits, replacement}
+use Rattle.tt_requests.specs.declared.request.Command.{Command}
+use Rattle.tt_requests.specs.declared.request.Command.TheVariants as commands
+use Rattle.tt_requests.specs.declared.request.Request.{Request}
+use Rattle.tt_requests.specs.Edits.{cancel, replace, edit, edits}
+use Rattle.tt_requests.specs.Reads.{page, read, preview}
+use Rattle.tt_requests.specs.Questions.{worker_number, span, row_named, slots, changes_named, changes_asked, changes}
+use Rattle.tt_requests.specs.Requests.{one_write, several_writes, begin, max_steps, only_true, bare, statement_kinds, repair_kinds, question_kinds, by_first_kind, command, members_of_request}
+use Rattle.tt_requests.specs.Requests as requests
+use Rattle.tt_requests.specs.Judged.{IsJudgedEdit, AreJudgedEdits, IsJudged, RequestsAreJudged}
+use Rattle.tt_requests.proofs.StepBackLemmas.{ok_same, step, with_path-ok, either-ok, or_refuse-ok, within_limit-ok, member-ok, each-ok}
+use Rattle.tt_requests.proofs.AcceptedLemmas.{Accepts, insert-accepted, update-accepted, delete-accepted, one_write-accepted, action-accepted, replacement-accepted, select-accepted}
+
+-- ---- edits
+
+cancel-judged : (tables : Tables) (v : Data) (asked : Edit) → cancel v ≡ Ok asked → IsJudgedEdit tables asked
+unfolding cancel
+cancel-judged tables v asked e =
+    let slot = step (member (codes "cancel") count v) _ asked e in
+    let known = step (no_members_but (is_one_of (codes "cancel" ∷ [])) v) _ asked slot.rest in
+    subst (IsJudgedEdit tables) (ok_same known.rest) tt
+
+replace-judged : (tables : Tables) (v : Data) (asked : Edit) → replace tables v ≡ Ok asked → IsJudgedEdit tables asked
+unfolding replace
+replace-judged tables v asked e =
+    let slot = step (member (codes "replace") count v) _ asked e in
+    let by = step (member (codes "by") (replacement versions.Two tables) v) _ asked slot.rest in
+    let known = step (no_members_but (is_one_of (codes "by" ∷ codes "replace" ∷ [])) v) _ asked by.rest in
+    let source = member-ok (codes "by") (replacement versions.Two tables) v by.value by.is in
+    subst (IsJudgedEdit tables) (ok_same known.rest) (replacement-accepted versions.Two tables source.value by.value source.is)
+
+edit-judged : (tables : Tables) (v : Data) (asked : Edit) → edit tables v ≡ Ok asked → IsJudgedEdit tables asked
+unfolding edit
+edit-judged tables v asked e =
+    let is_object = step (object v) _ asked e in
+    either-ok (has (codes "cancel") v) _ _ asked is_object.rest (cancel-judged tables v asked) (λ no_cancel.
+    either-ok (has (codes "replace") v) _ _ asked no_cancel (replace-judged tables v asked) (λ no_replace. cc))
+
+edits-judged : (tables : Tables) (v : Data) (asked : List Edit) → edits tables v ≡ Ok asked → AreJudgedEdits tables asked
+edits-judged tables v asked e =
+    let items = step (array v) _ asked e in
+    let within = step (within_limit max_edits items.value) _ asked items.rest in
+    let each = each-ok (IsJudgedEdit tables) (edit tables) (edit-judged tables) 0 items.value asked within.rest in
+    let few : length items.value ≤ max_edits = ltb-false max_edits (length items.value) (within_limit-ok max_edits items.value within.value within.is) in
+    record {
+      accepted = All-from_recursion (IsJudgedEdit tables) asked each.all;
+      few = subst (λ n. n ≤ max_edits) (sym each.as_many) few;
+    }
+
+-- ---- commands, by their kinds
+
+-- a kind of command: the member that names it, and its meaning
+abbrev Kind : Type 0
+Kind = List ℕ × (Data → Result Command DocFault)
+
+-- whatever a meaning gives has been judged
+abbrev Judges : Tables → (Data → Result Command DocFault) → Type 0
+Judges tables meaning = (v : Data) (asked : Command) → meaning v ≡ Ok asked → IsJudged tables asked
+
+abbrev JudgesKind : Tables → Kind → Type 0
+JudgesKind tables kind = Judges tables kind.1
+
+one_write-judged : (tables : Tables) (reading : Result Write DocFault) (asked : Command) → ((w : Write) → reading ≡ Ok w → Accepts tables w)
+    → one_write reading ≡ Ok asked → IsJudged tables asked
+unfolding one_write
+one_write-judged tables reading asked accepted e =
+    let write = step reading _ asked e in
+    subst (IsJudged tables) (ok_same write.rest) (one_write-accepted tables write.value (accepted write.value write.is))
+
+insert-judged : (tables : Tables) → Judges tables (λ v. one_write (insert tables contexts.Request v))
+insert-judged tables v asked e = one_write-judged tables (insert tables contexts.Request v) asked (insert-accepted tables contexts.Request v) e
+
+update-judged : (tables : Tables) → Judges tables (λ v. one_write (update tables contexts.Request v))
+update-judged tables v asked e = one_write-judged tables (update tables contexts.Request v) asked (update-accepted tables contexts.Request v) e
+
+delete-judged : (tables : Tables) → Judges tables (λ v. one_write (delete tables contexts.Request v))
+delete-judged tables v asked e = one_write-judged tables (delete tables contexts.Request v) asked (delete-accepted tables contexts.Request v) e
+
+several_writes-judged : (tables : Tables) → Judges tables (several_writes tables)
+unfolding several_writes
+several_writes-judged tables v asked e =
+    let writes = step (action tables contexts.Request v) _ asked e in
+    subst (IsJudged tables) (ok_same writes.rest) (action-accepted tables contexts.Request v writes.value writes.is)
+
+read-judged : (tables : Tables) → Judges tables (read tables)
+unfolding read
+read-judged tables v asked e =
+    let table = step (member (codes "select") (table_named tables) v) _ asked e in
+    let equals = step (conditions tables table.value v) _ asked table.rest in
+    let time = step (optional (codes "at") count v) _ asked equals.rest in
+    let generation = step (optional (codes "in") count v) _ asked time.rest in
+    let wanted = step (page v) _ asked generation.rest in
+    let known = step (no_members_at contexts.Request (codes "after" ∷ codes "at" ∷ codes "in" ∷ codes "most" ∷ codes "select" ∷ codes "where" ∷ []) v) _ asked wanted.rest in
+    let statement : Select = record { table = table.value; equals = equals.value } in
+    let select = step (checked_statement statement (select_fault tables statement)) _ asked known.rest in
+    subst (IsJudged tables) (ok_same select.rest) (select-accepted tables statement select.value select.is)
+
+preview-judged : (tables : Tables) → Judges tables (preview tables)
+unfolding preview
+preview-judged tables v asked e =
+    let table = step (member (codes "preview") (table_named tables) v) _ asked e in
+    let equals = step (conditions tables table.value v) _ asked table.rest in
+    let wanted = step (page v) _ asked equals.rest in
+    let known = step (no_members_at contexts.Request (codes "after" ∷ codes "most" ∷ codes "preview" ∷ codes "where" ∷ []) v) _ asked wanted.rest in
+    let statement : Select = record { table = table.value; equals = equals.value } in
+    let select = step (checked_statement statement (select_fault tables statement)) _ asked known.rest in
+    subst (IsJudged tables) (ok_same select.rest) (select-accepted tables statement select.value select.is)
+
+begin-judged : (tables : Tables) → Judges tables (begin tables)
+unfolding begin
+begin-judged tables v asked e =
+    let read = step (member (codes "begin") (edits tables) v) _ asked e in
+    let known = step (no_members_at contexts.Request (codes "begin" ∷ []) v) _ asked read.rest in
+    let source = member-ok (codes "begin") (edits tables) v read.value read.is in
+    subst (IsJudged tables) (ok_same known.rest) (edits-judged tables source.value read.value source.is)
+
+step-judged : (tables : Tables) → Judges tables requests.step
+unfolding requests.step
+step-judged tables v asked e =
+    let most = step (member (codes "step") (count_within 1 max_steps) v) _ asked e in
+    let known = step (no_members_at contexts.Request (codes "step" ∷ []) v) _ asked most.rest in
+    subst (IsJudged tables) (ok_same known.rest) tt
+
+bare-judged : (tables : Tables) (name : List ℕ) (only : Command) → IsJudged tables only → Judges tables (bare name only)
+unfolding bare
+bare-judged tables name only judged v asked e =
+    let is_true = step (member name only_true v) _ asked e in
+    let known = step (no_members_at contexts.Request (name ∷ []) v) _ asked is_true.rest in
+    subst (IsJudged tables) (ok_same known.rest) judged
+
+slots-judged : (tables : Tables) → Judges tables (slots tables)
+unfolding slots
+slots-judged tables v asked e =
+    let wanted = step (member (codes "slots") span v) _ asked e in
+    let worker = step (optional (codes "of") worker_number v) _ asked wanted.rest in
+    let row = step (optional (codes "row") (row_named tables) v) _ asked worker.rest in
+    let known = step (no_members_at contexts.Request (codes "of" ∷ codes "row" ∷ codes "slots" ∷ []) v) _ asked row.rest in
+    subst (IsJudged tables) (ok_same known.rest) tt
+
+some_same : {T : Type 0} {x y : T} → ◌≡◌ {A = Option T} (Some x) (Some y) → x ≡ y
+some_same e = cc
+
+named-judged : (tables : Tables) (now next : Bool) (asked : Command)
+    → (if now then Some commands.Changes else (if next then Some commands.NextChanges else None)) ≡ Some asked → IsJudged tables asked
+named-judged tables true next asked e = subst (IsJudged tables) (some_same e) tt
+named-judged tables false true asked e = subst (IsJudged tables) (some_same e) tt
+named-judged tables false false asked e = cc
+
+changes_asked-judged : (tables : Tables) → Judges tables changes_asked
+unfolding changes_asked
+changes_asked-judged tables v asked e =
+    let name = step (text v) _ asked e in
+    named-judged tables (bytes_eq name.value (codes "now")) (bytes_eq name.value (codes "next")) asked
+    (or_refuse-ok (codes "out of range") (changes_named name.value) asked name.rest)
+
+changes-judged : (tables : Tables) → Judges tables changes
+unfolding changes
+changes-judged tables v asked e =
+    let read = step (member (codes "changes") changes_asked v) _ asked e in
+    let known = step (no_members_at contexts.Request (codes "changes" ∷ []) v) _ asked read.rest in
+    let source = member-ok (codes "changes") changes_asked v read.value read.is in
+    subst (IsJudged tables) (ok_same known.rest) (changes_asked-judged tables source.value read.value source.is)
+
+-- ---- a command, by the first of its kinds
+
+by_first_kind-judged : (tables : Tables) (kinds : List Kind) → AllByRecursion (JudgesKind tables) kinds → Judges tables (by_first_kind kinds)
+by_first_kind-judged tables [] all v asked e = cc
+by_first_kind-judged tables (kind ∷ others) all v asked e =
+    either-ok (has kind.0 v) _ _ asked e (all.0 v asked) (by_first_kind-judged tables others all.1 v asked)
+
+statement_kinds-judged : (tables : Tables) → AllByRecursion (JudgesKind tables) (statement_kinds tables)
+statement_kinds-judged tables =
+    (insert-judged tables, (update-judged tables, (delete-judged tables, (read-judged tables, (preview-judged tables, (several_writes-judged tables, tt))))))
+
+repair_kinds-judged : (tables : Tables) → AllByRecursion (JudgesKind tables) (repair_kinds tables)
+repair_kinds-judged tables =
+    (begin-judged tables, (step-judged tables, (bare-judged tables (codes "finish") commands.Finish tt, (bare-judged tables (codes "abort") commands.Abort tt, tt))))
+
+question_kinds-judged : (tables : Tables) → AllByRecursion (JudgesKind tables) (question_kinds tables)
+question_kinds-judged tables =
+    (bare-judged tables (codes "status") commands.Status tt, (slots-judged tables, (changes-judged tables, (bare-judged tables (codes "tables") commands.Tables tt, tt))))
+
+all-append : {X : Type 0} (P : X → Type 0) (xs ys : List X) → AllByRecursion P xs → AllByRecursion P ys → AllByRecursion P (xs ++ ys)
+all-append P [] ys first second = second
+all-append P (x ∷ xs) ys first second = (first.0, all-append P xs ys first.1 second)
+
+command-judged : (tables : Tables) → Judges tables (command tables)
+command-judged tables =
+    let later = all-append (JudgesKind tables) (repair_kinds tables) (question_kinds tables) (repair_kinds-judged tables) (question_kinds-judged tables) in
+    by_first_kind-judged tables (statement_kinds tables ++ (repair_kinds tables ++ question_kinds tables))
+    (all-append (JudgesKind tables) (statement_kinds tables) (repair_kinds tables ++ question_kinds tables) (statement_kinds-judged tables) later)
+
+members-judged : (tables : Tables) (v : Data) (request : Request) → members_of_request tables v ≡ Ok request → IsJudged tables request.command
+unfolding members_of_request
+members-judged tables v request e =
+    let is_object = step (object v) _ request e in
+    let worker = step (optional (codes "worker") worker_number v) _ request is_object.rest in
+    let expected = step (optional (codes "if") count v) _ request worker.rest in
+    let asked = step (command tables v) _ request expected.rest in
+    subst (λ (r : Request). IsJudged tables r.command) (ok_same asked.rest) (command-judged tables v asked.value asked.is)
+
+pub requests_are_judged : RequestsAreJudged
+requests_are_judged tables value request e =
+    let v = step value (members_of_request tables) request (with_path-ok document_path (value >>= members_of_request tables) request e) in
+    members-judged tables v.value request v.rest

@@ -1,0 +1,122 @@
+-- The errors of the database that answer no line of a session.
+use Rattle.std.proofs.Common.{◌≡◌, ℕ, Bool, true, false, nat_lt, List, [], ◌∷◌, length, Option, None, Some, Result, Ok, Err, refl, sym, ap, subst, ◌∙◌}
+use Rattle.std.specs.List.{All}
+use Rattle.std.specs.Option.{option_map, option_or}
+use Rattle.std.proofs.lemmas.List.Elements.{All-head, All-tail}
+use Rattle.tt_values.specs.declared.statement.Select.{Select}
+use Rattle.tt_values.specs.declared.reply.Reply.{Reply}
+use Rattle.tt_values.specs.declared.checking.CheckError.{CheckError}
+use Rattle.tt_values.specs.Tables.{Tables}
+use Rattle.tt_values.specs.Check.{action_fault}
+use Rattle.tt_repair_laws.specs.declared.edit.Edit.{Edit}
+use Rattle.tt_repair_laws.specs.declared.edit.Edit.TheVariants.{Cancel, Replace}
+use Rattle.tt_generations.specs.TwoGenerations.{Phase, Idle, Repairing}
+use Rattle.tt_db.specs.declared.event.Event.TheVariants as events
+use Rattle.tt_db.specs.declared.errors.DbError.{DbError}
+use Rattle.tt_db.specs.declared.errors.DbError.TheVariants as errors
+use Rattle.tt_db.specs.declared.errors.ReadError.{ReadError}
+use Rattle.tt_db.specs.State.{edits_fault, first_refusal, refused_if, unless_repairing}
+use Rattle.tt_db.specs.Database.{now_in, right_preview_of}
+use Rattle.tt_requests.specs.declared.request.Command.{Command}
+use Rattle.tt_requests.specs.declared.request.Command.TheVariants as commands
+use Rattle.tt_requests.specs.declared.request.Page.{Page}
+use Rattle.tt_requests.specs.Judged.{IsJudgedEdit, IsJudged}
+use Rattle.tt_requests.proofs.LawProofs.{requests_are_judged}
+use Rattle.tt_answers.specs.declared.answer.Refusal.{Refusal}
+use Rattle.tt_answers.specs.declared.answer.Refusal.TheVariants as refusals
+use Rattle.tt_session.specs.Session.{OpenSession, state_in}
+use Rattle.tt_session.specs.Answers.{Answered}
+use Rattle.tt_session.specs.Room.{refusal_in_session}
+use Rattle.tt_session.specs.Repairing.{with_event, unless_refused, progress_answer}
+use Rattle.tt_session.specs.Reading.{selected_by, previewed_by}
+use Rattle.tt_session.specs.Commands.{written, carried_out, moved_to, unless_moved}
+use Rattle.tt_session.specs.Invariants.{IsOpenSession}
+use Rattle.tt_session.specs.Laws.{answers_lines, OtherErrorsAnswerNoLine}
+use Rattle.tt_session.proofs.StepLemmas.{room-test}
+
+same_error : (e d : DbError) → ◌≡◌ {A = Option DbError} (Some e) (Some d) → e ≡ d
+same_error e d is = cc
+
+answers-if : (e error : DbError) → answers_lines e ≡ true → ◌≡◌ {A = Option DbError} (Some e) (Some error) → answers_lines error ≡ true
+answers-if e error can is = subst (λ d. answers_lines d ≡ true) (same_error e error is) can
+
+-- ---- from what is answered back to the refusal
+
+refusal-is : (refusal : Option DbError) (a : Answered) (error : DbError) → unless_refused refusal a ≡ Err (refusals.Event error) → refusal ≡ Some error
+refusal-is None a error is = cc
+refusal-is (Some e) a error is = cc
+
+moved-is : (now : Option ℕ) (outcome : Result Answered Refusal) (error : DbError) → unless_moved now outcome ≡ Err (refusals.Event error) → outcome ≡ Err (refusals.Event error)
+moved-is None outcome error is = is
+moved-is (Some now) outcome error is = cc
+
+-- ---- the refusals of each command
+
+write-error : (fault : Option CheckError) (slots entries room : Bool) (a b c : ℕ) (error : DbError) → fault ≡ None
+    → option_or (first_refusal (option_map errors.Statement fault ∷ refused_if slots (errors.Full a) ∷ refused_if entries (errors.Full b) ∷ [])) (refused_if room (errors.Full c)) ≡ Some error
+    → answers_lines error ≡ true
+write-error (Some fault) slots entries room a b c error none is = cc
+write-error None true entries room a b c error none is = answers-if (errors.Full a) error refl is
+write-error None false true room a b c error none is = answers-if (errors.Full b) error refl is
+write-error None false false true a b c error none is = answers-if (errors.Full c) error refl is
+write-error None false false false a b c error none is = cc
+
+begin-error : (fault : Option CheckError) (repairing : Bool) (missing twice : Option ℕ) (many entries room : Bool) (b c : ℕ) (error : DbError) → fault ≡ None → many ≡ false
+    → option_or (first_refusal (option_map errors.Statement fault ∷ refused_if repairing errors.Repairing ∷ option_map errors.NoSlot missing ∷ option_map errors.EditTwice twice
+    ∷ refused_if many errors.TooManyEdits ∷ refused_if entries (errors.Full b) ∷ [])) (refused_if room (errors.Full c)) ≡ Some error
+    → answers_lines error ≡ true
+begin-error (Some fault) repairing missing twice many entries room b c error none few is = cc
+begin-error None true missing twice many entries room b c error none few is = answers-if errors.Repairing error refl is
+begin-error None false (Some t) twice many entries room b c error none few is = answers-if (errors.NoSlot t) error refl is
+begin-error None false None (Some t) many entries room b c error none few is = answers-if (errors.EditTwice t) error refl is
+begin-error None false None None true entries room b c error none few is = cc
+begin-error None false None None false true room b c error none few is = answers-if (errors.Full b) error refl is
+begin-error None false None None false false true b c error none few is = answers-if (errors.Full c) error refl is
+begin-error None false None None false false false b c error none few is = cc
+
+idle-error : (phase : Phase) (a : Answered) (error : DbError) → unless_refused (unless_repairing phase) a ≡ Err (refusals.Event error) → answers_lines error ≡ true
+idle-error Idle a error is = answers-if errors.NotRepairing error refl (refusal-is (Some errors.NotRepairing) a error is)
+idle-error (Repairing edits n) a error is = cc
+
+select-error : (session : OpenSession) (worker : ℕ) (q : Select) (generation : Option ℕ) (page : Page) (time : ℕ) (right : Result Reply ReadError) (error : DbError)
+    → selected_by session worker q generation page time right ≡ Err (refusals.Event error) → answers_lines error ≡ true
+select-error session worker q generation page time (Err fault) error is = cc
+select-error session worker q generation page time (Ok reply) error is = cc
+
+preview-error : (session : OpenSession) (page : Page) (right : Result Reply ReadError) (error : DbError)
+    → previewed_by session page right ≡ Err (refusals.Event error) → answers_lines error ≡ true
+preview-error session page (Err fault) error is = cc
+preview-error session page (Ok reply) error is = cc
+
+no_edits_fault : (tables : Tables) (edits : List Edit) → All (IsJudgedEdit tables) edits → edits_fault tables edits ≡ None
+no_edits_fault tables [] judged = refl
+no_edits_fault tables (Cancel slot ∷ edits) judged = no_edits_fault tables edits (All-tail (IsJudgedEdit tables) (Cancel slot) edits judged)
+no_edits_fault tables (Replace slot action ∷ edits) judged =
+    ap (λ f. option_or f (edits_fault tables edits)) (All-head (IsJudgedEdit tables) (Replace slot action) edits judged)
+    ∙ no_edits_fault tables edits (All-tail (IsJudgedEdit tables) (Replace slot action) edits judged)
+
+error-of : (session : OpenSession) (worker : ℕ) (command : Command) (error : DbError) → IsOpenSession session → IsJudged session.database.catalog command
+    → carried_out session worker command ≡ Err (refusals.Event error) → answers_lines error ≡ true
+error-of session worker (commands.Write action) error sound judged is =
+    let db = session.database in
+    write-error (action_fault db.catalog action) _ _ _ _ _ _ error judged (refusal-is (refusal_in_session db (events.Write action)) (written session worker action) error is)
+error-of session worker (commands.Begin edits) error sound judged is =
+    let db = session.database in
+    let few : nat_lt db.limits.edits (length edits) ≡ false = subst (λ n. nat_lt n (length edits) ≡ false) (sym sound.edits) (room-test _ (length edits) judged.few) in
+    begin-error (edits_fault db.catalog edits) _ _ _ (nat_lt db.limits.edits (length edits)) _ _ _ _ error (no_edits_fault db.catalog edits judged.accepted) few
+    (refusal-is (refusal_in_session db (events.Begin edits)) (progress_answer session (with_event db worker (events.Begin edits))) error is)
+error-of session worker (commands.Read q at generation page) error sound judged is = select-error session worker q generation page _ _ error is
+error-of session worker (commands.Preview q page) error sound judged is = preview-error session page (right_preview_of session.database q) error is
+error-of session worker (commands.Step most) error sound judged is = idle-error (state_in session).phase _ error is
+error-of session worker commands.Finish error sound judged is = idle-error (state_in session).phase _ error is
+error-of session worker commands.Abort error sound judged is = idle-error (state_in session).phase _ error is
+error-of session worker commands.NextChanges error sound judged is = idle-error (state_in session).phase _ error is
+error-of session worker commands.Status error sound judged is = cc
+error-of session worker (commands.Slots from to by row) error sound judged is = cc
+error-of session worker commands.Changes error sound judged is = cc
+error-of session worker commands.Tables error sound judged is = cc
+
+pub other_errors_answer_no_line : OtherErrorsAnswerNoLine
+other_errors_answer_no_line session value request error sound read is =
+    error-of session request.worker request.command error sound (requests_are_judged session.database.catalog value request read)
+    (moved-is (moved_to (now_in session.database) request.expected) (carried_out session request.worker request.command) error is)

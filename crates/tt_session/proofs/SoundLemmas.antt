@@ -1,0 +1,60 @@
+-- Each session is sound after any lines, from its opening on.
+use Rattle.std.proofs.Common.{◌≡◌, ℕ, ◌+◌, Bool, true, false, cond, List, [], ◌∷◌, Result, Ok, Err, refl, arith}
+use Rattle.serde_json.specs.Data.{Data}
+use Rattle.tt_grammar.specs.declared.fault.DocFault.{DocFault}
+use Rattle.tt_requests.specs.declared.opening.Opening.{Opening}
+use Rattle.tt_requests.specs.Lines.{is_passed_over}
+use Rattle.tt_requests.specs.LineValue.{value_of_line}
+use Rattle.tt_requests.specs.Opening.{opening_of}
+use Rattle.tt_requests.specs.Requests.{request_of}
+use Rattle.tt_session.specs.declared.session.Session.{Session}
+use Rattle.tt_session.specs.declared.session.Session.TheVariants as sessions
+use Rattle.tt_session.specs.Session.{opened, counted}
+use Rattle.tt_session.specs.Run.{turn_by_opening, turn_by_value, turn_without_memory, lacks_memory, turn_of_line, turn_of_lines}
+use Rattle.tt_session.specs.Invariants.{IsOpenSession, IsSession, SessionsStaySound}
+use Rattle.tt_session.proofs.OpeningLemmas.{IsOpening, is_opening}
+use Rattle.tt_session.proofs.GoingOnLemmas.{open_sessions_stay_sound}
+
+opened-sound : (opening : Opening) → IsOpening opening → IsOpenSession (opened opening)
+opened-sound opening is = record {
+  catalog = is.catalog;
+  fits = record { slots = omega arith; events = omega arith; edits = omega arith; keep = is.keep };
+  edits = refl;
+  legal = tt;
+  room = refl;
+  few_records = omega arith;
+  few_kept = is.records;
+}
+
+opening-sound : (value : Result Data DocFault) → IsSession (turn_by_opening (opening_of value)).session
+opening-sound value = by (opening_of value) refl
+  where
+    by : (reading : Result Opening DocFault) → opening_of value ≡ reading → IsSession (turn_by_opening reading).session
+    by (Err fault) is = tt
+    by (Ok opening) is = opened-sound opening (is_opening value opening is)
+
+value-sound : (session : Session) (value : Result Data DocFault) → IsSession session → IsSession (turn_by_value session value).session
+value-sound sessions.NotOpen value sound = opening-sound value
+value-sound (sessions.Open session) value sound = open_sessions_stay_sound (counted session) (request_of session.database.catalog value) sound
+
+memory-sound : (session : Session) → IsSession session → IsSession (turn_without_memory session).session
+memory-sound sessions.NotOpen sound = tt
+memory-sound (sessions.Open session) sound = sound
+
+line-sound : (without_memory : List ℕ) (number : ℕ) (session : Session) (line : List ℕ) → IsSession session → IsSession (turn_of_line without_memory number session line).session
+line-sound without_memory number session line sound = by (is_passed_over line) (lacks_memory without_memory number line)
+  where
+    by : (passed lacks : Bool)
+        → IsSession (cond passed (record { text = []; session = session }) (cond lacks (turn_without_memory session) (turn_by_value session (value_of_line line)))).session
+    by true lacks = sound
+    by false true = memory-sound session sound
+    by false false = value-sound session (value_of_line line) sound
+
+lines-sound : (without_memory : List ℕ) (number : ℕ) (session : Session) (lines : List (List ℕ)) → IsSession session
+    → IsSession (turn_of_lines without_memory number session lines).session
+lines-sound without_memory number session [] sound = sound
+lines-sound without_memory number session (line ∷ lines) sound =
+    lines-sound without_memory (number + 1) (turn_of_line without_memory number session line).session lines (line-sound without_memory number session line sound)
+
+pub sessions_stay_sound : SessionsStaySound
+sessions_stay_sound lines without_memory = lines-sound without_memory 1 sessions.NotOpen lines tt

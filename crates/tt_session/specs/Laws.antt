@@ -1,0 +1,42 @@
+-- What holds of the answers of a session.
+use Rattle.std.specs.Prelude.{◌≡◌, ℕ, Bool, true, false, List, Result, Ok, Err}
+use Rattle.serde_json.specs.Data.{Data}
+use Rattle.tt_repair_laws.specs.declared.edit.Edit.{Edit}
+use Rattle.tt_generations.specs.TwoGenerations.{Repairing}
+use Rattle.tt_db.specs.declared.event.Event.TheVariants as events
+use Rattle.tt_db.specs.declared.errors.DbError.{DbError}
+use Rattle.tt_db.specs.declared.errors.DbError.TheVariants as errors
+use Rattle.tt_db.specs.Database.{now_in}
+use Rattle.tt_grammar.specs.declared.fault.DocFault.{DocFault}
+use Rattle.tt_requests.specs.declared.request.Request.{Request}
+use Rattle.tt_requests.specs.Requests.{request_of}
+use Rattle.tt_answers.specs.declared.answer.Refusal.TheVariants as refusals
+use Rattle.tt_session.specs.declared.change_entries.Moment.TheVariants.{Now, Next}
+use Rattle.tt_session.specs.Session.{OpenSession, state_in, with_database}
+use Rattle.tt_session.specs.Repairing.{with_event}
+use Rattle.tt_session.specs.Commands.{outcome_of_request}
+use Rattle.tt_session.specs.Moments.{changes_answer_at}
+use Rattle.tt_session.specs.Invariants.{IsOpenSession}
+
+-- whether a line can be answered with an error of the database. A statement with a fault and too many edits are faults of the line; `step` does no
+-- more slots than are left, and `finish` does all that are left
+abbrev pub answers_lines : DbError → Bool
+answers_lines (errors.Statement fault) = false
+answers_lines errors.NothingLeft = false
+answers_lines (errors.NotCaughtUp left) = false
+answers_lines errors.TooManyEdits = false
+answers_lines error = true
+
+-- a request that was read from a line is refused with such an error only
+abbrev pub OtherErrorsAnswerNoLine : Type 0
+OtherErrorsAnswerNoLine = (session : OpenSession) (value : Result Data DocFault) (request : Request) (error : DbError) → IsOpenSession session →
+    request_of session.database.catalog value ≡ Ok request → outcome_of_request session request ≡ Err (refusals.Event error) → answers_lines error ≡ true
+
+-- the session after the switch
+abbrev pub switched : OpenSession → ℕ → OpenSession
+switched session worker = with_database session (with_event session.database worker events.Switch)
+
+-- once the repair has done all slots, the next changes are the changes right after the switch
+abbrev pub NextChangesEndAsChanges : Type 0
+NextChangesEndAsChanges = (session : OpenSession) (worker : ℕ) (edits : List Edit) → (state_in session).phase ≡ Repairing edits (now_in session.database) →
+    (changes_answer_at Next session).answer ≡ (changes_answer_at Now (switched session worker)).answer
