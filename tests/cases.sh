@@ -427,6 +427,7 @@ collect_command_lines() {
     done
     refuses_bytes "$command" $'\xff'
     refuses_values --batch 1..=10000 "$command"
+    refuses_usage "invalid value '0' for '--batch <N>': 0 is not in 1..=10000" '' "$command" --batch 0
     refuses_word now "$usage" "$command" --batch 16 now
     refuses_early --batch "$command" --batch 16 "$command"
     refuses_word now "$usage" "$command" --closed now

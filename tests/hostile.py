@@ -55,9 +55,10 @@ GREW, KEPT = 90, 91
 # Tests that do so.
 TOLD = {'memory::marks::a_growth_is_told': GREW, 'memory::marks::a_kept_block_is_told': KEPT}
 
-# Tests whose calls meet so many growths at most: to copy the rows of their table would take
-# thousands.
-MOST_GROWTHS = {'memory::sharing::one_more_row_of_a_large_table': 100}
+# Tests whose calls meet so many growths at most: to copy the rows of the large table would take
+# thousands, and to copy what is changed in place more than twice as many as there are.
+MOST_GROWTHS = {'memory::sharing::one_more_row_of_a_large_table': 100,
+                'memory::advancing::events_in_place': 90}
 
 
 class Hostile:

@@ -7,3 +7,4 @@ pub mod NumberLemmas
 pub mod RowLemmas
 pub mod SubcommandLemmas
 pub mod WalkLemmas
+mod worked_rows

@@ -2,9 +2,11 @@
 //! usable, limits at small numbers, and what repairs lead to.
 mod calls;
 mod closed;
+mod faulty_actions;
 mod history;
 mod incident;
 mod limits;
+mod model;
 mod pages;
 mod printed;
 mod random;

@@ -1,9 +1,12 @@
 //! A table of accounts, and the calls of each library on it.
+mod advancing;
 mod database;
+mod looks;
 mod marks;
 mod pages;
 mod parts;
 mod refusals;
+mod row_pages;
 mod sharing;
 mod values;
 mod versions;

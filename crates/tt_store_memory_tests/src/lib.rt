@@ -1,7 +1,8 @@
-//! Calls of a store, and of what stands on it, that meet want of memory. Each test makes calls
-//! between two marks, and expects of each what it returns with memory or without; where it had
-//! none, it is made again. With ample memory the tests pass as any others. `tests/hostile.py` runs
-//! them again and again, and refuses one growth of memory after another, between the marks.
+//! Calls of a store, of what stands on it, and of documents, that meet want of memory. Each test
+//! makes calls between two marks, and expects of each what it returns with memory or without; where
+//! it had none, it is made again. With ample memory the tests pass as any others.
+//! `tests/hostile.py` runs them again and again, and refuses one growth of memory after another,
+//! between the marks.
 #![tactic(auto)]
 
 #[cfg(test)]

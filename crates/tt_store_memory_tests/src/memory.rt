@@ -6,6 +6,8 @@ ghost use Rattle.tt_store.specs.Published.{RuleIsMembership};
 
 mod changes;
 mod closing;
+mod documents;
+mod looks;
 mod marks;
 mod opening;
 mod quiet;

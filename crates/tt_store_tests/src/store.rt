@@ -16,7 +16,7 @@ mod writes;
 
 use closing::{closes_backwards, closes_later};
 use crowd::sixteen_work;
-use given_up::gives_up;
+use given_up::{gives_up, gives_up_the_second};
 use limits::{fills_two_slots, has_workers};
 use repairs::{fills_history, finishes_for_another, repairs_in_steps};
 use std::alloc::Global;
@@ -30,7 +30,7 @@ use tt_store::{Closed, Gate, Naming, NoGate, OpenError, Opened, Store, Worker, W
 use tt_values::{
     Catalog, Change, Column, Equal, Items, Reply, Row, Select, TableDef, Value, Write,
 };
-use writes::{reads_beside, writes_behind, writes_in_threads};
+use writes::{reads_beside, refreshes_idle, writes_behind, writes_in_threads};
 
 /// What a test does with a store that was just opened, and with its workers.
 #[derive(Clone, Copy)]
@@ -41,8 +41,10 @@ enum Scenario {
     FillsTwoSlots,
     FinishesForAnother,
     GivesUp { steps: u32 },
+    GivesUpTheSecond { steps: u32 },
     HasWorkers(u32),
     ReadsBeside,
+    RefreshesIdle,
     RepairsInSteps,
     SixteenWork,
     WritesBehind,
@@ -127,8 +129,10 @@ fn play<L: Naming + Send + Sync, T: Threads + Wait + Abort + Sync>(
         Scenario::FillsTwoSlots => fills_two_slots(scene),
         Scenario::FinishesForAnother => finishes_for_another(scene),
         Scenario::GivesUp { steps } => gives_up(scene, steps),
+        Scenario::GivesUpTheSecond { steps } => gives_up_the_second(scene, steps),
         Scenario::HasWorkers(count) => has_workers(scene, count),
         Scenario::ReadsBeside => reads_beside(scene),
+        Scenario::RefreshesIdle => refreshes_idle(scene),
         Scenario::RepairsInSteps => repairs_in_steps(scene),
         Scenario::SixteenWork => sixteen_work(scene),
         Scenario::WritesBehind => writes_behind(scene),

@@ -3,6 +3,7 @@ ghost use Rattle.std.specs.Prelude.{◌≤◌};
 ghost use Rattle.tt_document.specs.Document.{IsValidDocument};
 
 mod answers;
+mod before_repair;
 mod crowd;
 mod gates;
 mod held;

@@ -1,4 +1,5 @@
 //! Events that look random.
+use super::model::edit_of;
 use super::{ACCT, add, delete, insert, set_balance, set_owner};
 use std::alloc::Global;
 use std::process::Abort;
@@ -126,14 +127,4 @@ impl Random {
             _ => Event::Step,
         }
     }
-}
-
-/// The edit of a slot, where there is one.
-pub(super) fn edit_of(edits: &[Edit], number: u64) -> Option<&Edit> {
-    for edit in edits {
-        if edit.number() == number {
-            return Some(edit);
-        }
-    }
-    None
 }

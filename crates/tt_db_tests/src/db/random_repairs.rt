@@ -1,180 +1,80 @@
-//! Long runs of all events, beside a plain list of the slots. A fresh database that is given the
-//! slots of the list as actions, and never a repair, has to return the same.
-use super::random::{Random, edit_of};
-use super::{ACCT, action, answer_to, done, made, new_db, same, select_all};
+//! Long runs of all events, beside a model that carries out each generation from nothing.
+use super::model::Model;
+use super::random::Random;
+use super::{ACCT, answer_to, bank, done, new_db, same, select_all};
 use std::alloc::Global;
 use std::process::Abort;
-use tt_db::{Db, Edit, Entry, Event, Outcome, Slot};
-use tt_values::{Items, Reply, Write};
+use tt_db::{Db, Event, Outcome};
+use tt_values::Shared;
 
-/// The action of a slot, or None where the slot is cancelled.
-type Action = Option<Items<Write>>;
-
-/// A database, a list of its slots, and one of its slots as edited: while a repair is under way,
-/// that of the next generation. Also how many slots all its finished repairs re-executed.
+/// A database, and the model that is given the same events. Also how many slots all its finished
+/// repairs re-executed.
 #[derive(Drop)]
 struct Run {
     db: Db,
-    slots: Vec<Action>,
-    edited: Vec<Action>,
+    model: Model,
     rerun: u64,
 }
 
-fn copy(rt: &impl Abort, action: &Action) -> Action {
-    match action {
-        Some(action) => Some(action.clone().expect(rt, "memory")),
-        None => None,
-    }
-}
-
-/// The slots with these edits.
-fn edited_slots(rt: &impl Abort, alloc: Global, slots: &[Action], edits: &[Edit]) -> Vec<Action> {
-    let mut edited = Vec::new(alloc);
-    let mut number: u64 = 0;
-    for slot in slots {
-        number = number.saturating_add(1);
-        let action = match edit_of(edits, number) {
-            Some(Edit::Cancel(_)) => None,
-            Some(Edit::Replace(_, action)) => Some(action.clone().expect(rt, "memory")),
-            None => copy(rt, slot),
-        };
-        edited.push(action).expect(rt, "memory");
-    }
-    edited
-}
-
-/// A database without a repair: the first slots of the list as actions. A cancelled slot is an
-/// action without writes.
-fn fresh_db(rt: &impl Abort, alloc: Global, slots: &[Action], count: u64) -> Db {
-    let mut db = new_db(rt, alloc);
-    for (_, slot) in (0..count).zip(slots) {
-        let writes = match slot {
-            Some(writes) => writes.clone().expect(rt, "memory"),
-            None => action(rt, alloc, []),
-        };
-        let entry = Entry {
-            worker: 1,
-            event: Event::Write(writes),
-        };
-        let (next, answer) = db.advanced(entry).expect(rt, "memory");
-        assert!(rt; answer.is_ok());
-        db = next;
-    }
-    db
-}
-
-/// Keeps the lists in step with the database, which accepts the event.
-fn follow(rt: &impl Abort, alloc: Global, run: &mut Run, event: &Event) {
-    match event {
-        Event::Write(action) => {
-            let slot = Some(action.clone().expect(rt, "memory"));
-            run.slots.push(copy(rt, &slot)).expect(rt, "memory");
-            run.edited.push(slot).expect(rt, "memory");
-        }
-        Event::Begin(edits) => {
-            run.edited = edited_slots(rt, alloc, run.slots.as_slice(), edits.as_slice());
-        }
-        Event::Switch => {
-            run.slots = edited_slots(rt, alloc, run.edited.as_slice(), &[]);
-        }
-        Event::Step | Event::Abort => {}
-    }
-}
-
-/// Asserts that a switch leads to the next generation, of as many slots, and counts what it did.
-fn count(rt: &impl Abort, run: &mut Run, before: u64, outcome: &Outcome) {
-    if let Outcome::Switched {
-        generation,
-        slots,
-        rerun,
-    } = outcome
-    {
-        same(rt, generation, &before.saturating_add(1));
-        same(rt, slots, &(run.slots.len() as u64));
-        run.rerun = run.rerun.saturating_add(*rerun);
-    }
-}
-
-/// Whether the event is one that the database accepts.
-fn is_accepted(db: &Db, event: &Event) -> bool {
-    match (event, db.repair()) {
-        (Event::Write(_), _) => true,
-        (Event::Begin(_), None) => true,
-        (Event::Step, Some(progress)) => progress.left > 0,
-        (Event::Switch, Some(progress)) => progress.left == 0,
-        (Event::Abort, Some(_)) => true,
-        _ => false,
-    }
-}
-
-fn accounts_at(rt: &impl Abort, alloc: Global, db: &Db, time: u64) -> Reply {
-    db.select_at(&select_all(rt, alloc, ACCT), time)
-        .expect(rt, "a reply")
-}
-
-/// Asserts that the slots are those of the list, with the replies of the fresh database.
-fn has_slots(rt: &impl Abort, run: &Run, fresh: &Db) {
-    let mut number: u64 = 0;
-    for action in &run.slots {
-        number = number.saturating_add(1);
-        let replies = match action {
-            Some(_) => fresh
-                .slot(number)
-                .expect(rt, "a slot")
-                .clone()
-                .expect(rt, "memory")
-                .replies,
-            None => None,
-        };
-        let want = Slot {
-            action: copy(rt, action),
-            replies,
-        };
-        assert_eq!(rt; run.db.slot(number), Some(&want), "slot {number}");
-    }
-}
-
-/// Asserts that the current generation is as in a fresh database, at each time.
+/// Asserts that the current generation is as in the model, at each time and in each slot.
 fn is_current(rt: &impl Abort, alloc: Global, run: &Run) {
-    let now = run.db.now();
-    let fresh = fresh_db(rt, alloc, run.slots.as_slice(), now);
-    same(rt, &(run.slots.len() as u64), &now);
-    same(rt, &fresh.now(), &now);
+    let all = select_all(rt, alloc, ACCT);
+    let now = run.model.now();
+    same(rt, &run.db.now(), &now);
+    same(rt, &run.db.generation(), &run.model.generation());
     for time in 0..now.saturating_add(1) {
-        let accounts = accounts_at(rt, alloc, &run.db, time);
-        assert_eq!(rt; accounts, accounts_at(rt, alloc, &fresh, time), "at {time}");
+        let accounts = run.db.select_at(&all, time).expect(rt, "a reply");
+        let want = run.model.select_at(rt, alloc, &all, time);
+        assert_eq!(rt; accounts, want, "at {time}");
+        let slot = run.model.slot(rt, time);
+        assert_eq!(rt; run.db.slot(time), slot.as_ref(), "slot {time}");
     }
-    has_slots(rt, run, &fresh);
-    done(fresh);
 }
 
-/// Asserts that the preview is as in a fresh database of the edited slots that are done.
+/// Asserts that the next generation is as in the model, at each time that is done.
 fn is_next(rt: &impl Abort, alloc: Global, run: &Run) {
-    if let Some(progress) = run.db.repair() {
-        let fresh = fresh_db(rt, alloc, run.edited.as_slice(), progress.done);
-        let preview = run.db.preview(&select_all(rt, alloc, ACCT));
-        let preview = preview.expect(rt, "a reply");
-        same(rt, &preview, &accounts_at(rt, alloc, &fresh, progress.done));
-        done(fresh);
+    let all = select_all(rt, alloc, ACCT);
+    let progress = run.model.progress();
+    same(rt, &run.db.repair(), &progress);
+    let Some(progress) = progress else {
+        return;
+    };
+    let preview = run.db.preview(&all).ok();
+    let want = run.model.preview_at(rt, alloc, &all, progress.done);
+    same(rt, &preview, &want);
+    for time in 0..progress.done {
+        let accounts = run.db.preview_at(&all, time).ok();
+        let want = run.model.preview_at(rt, alloc, &all, time);
+        assert_eq!(rt; accounts, want, "at {time}");
     }
 }
 
-/// Applies an event, or asserts that it is refused.
+/// Asserts that the split rows are those that are dirty in the model.
+fn are_split(rt: &impl Abort, run: &Run) {
+    for id in 1..6i64 {
+        let is_split = match run.db.versions(ACCT) {
+            Some(table) => table.is_split(id),
+            None => false,
+        };
+        assert_eq!(rt; is_split, run.model.is_dirty(ACCT, id), "account {id}");
+    }
+}
+
+/// Gives an event to both. Asserts that it has the same outcome, or is refused by both, and that
+/// the current generation is as in the model before and after the end of a repair.
 fn advance(rt: &impl Abort, alloc: Global, run: &mut Run, event: Event) {
-    if !is_accepted(&run.db, &event) {
-        assert!(rt; answer_to(&mut run.db, event).is_err());
-        return;
-    }
-    let is_switch = matches!(&event, Event::Switch);
-    if is_switch {
+    let ends = matches!(&event, Event::Switch | Event::Abort);
+    if ends {
         is_current(rt, alloc, run);
     }
-    follow(rt, alloc, run, &event);
-    let before = run.db.generation();
-    let outcome = made(rt, &mut run.db, event);
-    count(rt, run, before, &outcome);
-    if is_switch {
+    let want = run.model.answer(rt, alloc, &event);
+    same(rt, &answer_to(&mut run.db, event).ok(), &want);
+    are_split(rt, run);
+    if ends {
         is_current(rt, alloc, run);
+    }
+    if let Some(Outcome::Switched { rerun, .. }) = want {
+        run.rerun = run.rerun.saturating_add(rerun);
     }
 }
 
@@ -183,8 +83,7 @@ fn ran(rt: &impl Abort, alloc: Global, seed: u64, events: u32) -> Run {
     let mut random = Random { state: seed };
     let mut run = Run {
         db: new_db(rt, alloc),
-        slots: Vec::new(alloc),
-        edited: Vec::new(alloc),
+        model: Model::new(alloc, Shared::from_arc(bank(rt, alloc, &["acct"]))),
         rerun: 0,
     };
     for number in 0..events {
@@ -203,7 +102,8 @@ fn ran(rt: &impl Abort, alloc: Global, seed: u64, events: u32) -> Run {
 }
 
 /// Two long runs and many short ones, in which little is dirty. The seeds are such that a repair
-/// is caught that overlooks the rows which a slot wrote.
+/// is caught that overlooks the rows which a slot wrote. Each outcome is the model's, so each step
+/// tells whether its slot is due, and each switch how many were.
 #[test]
 fn repairs_lead_to_the_edited_slots(rt: HostRuntime) {
     let alloc = rt.alloc();

@@ -8,7 +8,7 @@ use tt_db::{
 };
 
 /// Asserts that an event is refused, and changes nothing of the counts.
-fn refused(rt: &impl Abort, db: &mut Db, event: Event, want: DbError) {
+pub(super) fn refused(rt: &impl Abort, db: &mut Db, event: Event, want: DbError) {
     let events = db.events();
     let repair = db.repair();
     same(rt, &answer_to(db, event), &Err(want));
@@ -17,7 +17,7 @@ fn refused(rt: &impl Abort, db: &mut Db, event: Event, want: DbError) {
 }
 
 /// A new database with the table `acct` and these limits.
-fn limited_db(rt: &impl Abort, alloc: Global, limits: Limits) -> Db {
+pub(super) fn limited_db(rt: &impl Abort, alloc: Global, limits: Limits) -> Db {
     assert!(rt; limits.fits());
     Db::new(alloc, bank(rt, alloc, &["acct"]), limits)
 }

@@ -1,4 +1,5 @@
 //! Each event of a repair, and each read, where one growth is refused.
+use super::looks::{Looks, looks_as_before};
 use super::marks::{Tally, mark};
 use super::{add_to_all, delete, everything, insert, items, new_db, same};
 use std::alloc::{AllocError, Global};
@@ -14,11 +15,11 @@ pub(super) fn entry(event: Event) -> Entry {
 /// database is as before, and the call is made again.
 fn apply(rt: &impl Abort, alloc: Global, db: &Db, event: Event, want: &Outcome) -> Db {
     let again = event.clone().expect(rt, "memory");
-    let before = all(rt, alloc, db);
+    let before = Looks::of(rt, alloc, db);
     mark(alloc);
     let answer = db.apply(entry(event));
     mark(alloc);
-    same(rt, &all(rt, alloc, db), &before);
+    looks_as_before(rt, alloc, db, &before);
     let (next, outcome) = match answer {
         Ok(applied) => applied,
         Err(error) => {
@@ -39,7 +40,7 @@ pub(super) fn write(rt: &impl Abort, alloc: Global, write: Write) -> Event {
     Event::Write(items(rt, alloc, [write]))
 }
 
-fn written(rt: &impl Abort, alloc: Global, slot: u64, reply: Reply) -> Outcome {
+pub(super) fn written(rt: &impl Abort, alloc: Global, slot: u64, reply: Reply) -> Outcome {
     Outcome::Written {
         slot,
         replies: items(rt, alloc, [reply]),
@@ -187,6 +188,7 @@ fn reads_of_a_repair(rt: HostRuntime) {
     let now = db.select(&select);
     let then = db.select_at(&select, 3);
     let next = db.preview(&select);
+    let next_then = db.preview_at(&select, 1);
     mark(alloc);
     let now = reads(&rt, now, db.select(&select));
     has_rows(&rt, alloc, &now, &[(3, "bob", 8)]);
@@ -199,6 +201,8 @@ fn reads_of_a_repair(rt: HostRuntime) {
     );
     let next = reads(&rt, next, db.preview(&select));
     has_rows(&rt, alloc, &next, &[(1, "ann", 5), (2, "ann", 6)]);
+    let next_then = reads(&rt, next_then, db.preview_at(&select, 1));
+    has_rows(&rt, alloc, &next_then, &[(1, "ann", 5)]);
 }
 
 #[test]
@@ -217,26 +221,4 @@ fn reads_of_a_closed_generation(rt: HostRuntime) {
     mark(alloc);
     let closed = reads(&rt, closed, db.select_in(0, &select, 5));
     has_rows(&rt, alloc, &closed, &[(3, "bob", 8)]);
-}
-
-/// An event in place, which leaves no history where memory runs out.
-#[test]
-fn an_event_in_place(rt: HostRuntime) {
-    let alloc = rt.alloc();
-    let _tally = Tally::new(alloc);
-    let mut db = five_slots(&rt, alloc);
-    let event = Event::Begin(delete_bob(&rt, alloc));
-    mark(alloc);
-    let answer = db.advance(entry(event));
-    mark(alloc);
-    match answer {
-        Ok(outcome) => {
-            same(&rt, &outcome, &Outcome::Begun);
-            same(&rt, &db.events(), &6);
-        }
-        Err(error) => {
-            same(&rt, &error, &DbError::Memory);
-            same(&rt, &db.events(), &0);
-        }
-    }
 }

@@ -128,6 +128,8 @@ fn refuses_select(rt: &impl Abort, db: &Db, select: &Select) {
     same(rt, &db.select_in(0, select, 3).err(), &error);
     same(rt, &db.preview(select).err(), &error);
     same(rt, &db.preview_at(select, 3).err(), &error);
+    same(rt, &db.page_in(0, select, 3, None, 1).err(), &error);
+    same(rt, &db.preview_page(select, None, 1).err(), &error);
 }
 
 /// Times and generations that aren't there.
@@ -135,6 +137,7 @@ fn refuses_time(rt: &impl Abort, db: &Db, select: &Select) {
     let later = Some(ReadError::Later { now: 5 });
     same(rt, &db.select_at(select, 6).err(), &later);
     same(rt, &db.select_in(0, select, 6).err(), &later);
+    same(rt, &db.page_in(0, select, 6, None, 1).err(), &later);
     let later = Some(ReadError::Later { now: 4 });
     same(rt, &db.preview_at(select, 5).err(), &later);
     let missing = ReadError::NoGeneration {
@@ -142,6 +145,7 @@ fn refuses_time(rt: &impl Abort, db: &Db, select: &Select) {
         newest: 0,
     };
     same(rt, &db.select_in(1, select, 0).err(), &Some(missing));
+    same(rt, &db.page_in(1, select, 0, None, 1).err(), &Some(missing));
 }
 
 #[test]
@@ -156,10 +160,8 @@ fn reads_that_are_refused(rt: HostRuntime) {
     tells(&rt, &db);
     refuses_select(&rt, &db, &faulty);
     refuses_time(&rt, &db, &all);
-    same(
-        &rt,
-        &alone.preview(&all).err(),
-        &Some(ReadError::NotRepairing),
-    );
+    let idle = Some(ReadError::NotRepairing);
+    same(&rt, &alone.preview(&all).err(), &idle);
+    same(&rt, &alone.preview_page(&all, None, 1).err(), &idle);
     quiet(alloc);
 }

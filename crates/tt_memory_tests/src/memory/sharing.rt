@@ -1,4 +1,5 @@
 //! How many growths one more row of a large table meets.
+use super::looks::{Looks, looks_as_before};
 use super::marks::{Tally, mark};
 use super::{insert, items, new_db, same};
 use std::alloc::Global;
@@ -37,10 +38,11 @@ fn one_more_row_of_a_large_table(rt: HostRuntime) {
     let row = insert(&rt, alloc, ROWS, "bob", 6);
     let again = row.copy().expect(&rt, "memory");
     let (first, second) = (entry(&rt, alloc, row), entry(&rt, alloc, again));
+    let before = Looks::of(&rt, alloc, &db);
     mark(alloc);
     let next = db.apply(first);
     mark(alloc);
-    same(&rt, &db.now(), &(ROWS as u64));
+    looks_as_before(&rt, alloc, &db, &before);
     let (next, _) = match next {
         Ok(applied) => applied,
         Err(error) => {

@@ -3,7 +3,7 @@ use super::marks::{Tally, mark, quiet};
 use super::{owned_by, row, same};
 use std::alloc::{AllocError, Global};
 use std::process::Abort;
-use tt_values::{Few, Row, Value};
+use tt_values::{Equal, Few, Row, Value};
 use tt_versions::{Side, Table};
 
 /// The row of ann with this balance.
@@ -31,6 +31,36 @@ fn shows(rt: &impl Abort, table: &Table, current: [i64; 3], next: [i64; 3]) {
     }
 }
 
+/// The balance of the first of some rows; 0 for none.
+fn first_balance(rows: &[(i64, &Row)]) -> i64 {
+    match rows.first() {
+        Some((_, row)) => balance(Some(*row)),
+        None => 0,
+    }
+}
+
+/// Asserts that a table still shows and lists these balances of ann, and no other row.
+fn looks_as_before(
+    rt: &impl Abort,
+    table: &Table,
+    current: [i64; 3],
+    next: [i64; 3],
+    is_split: bool,
+) {
+    shows(rt, table, current, next);
+    same(rt, &table.is_split(1), &is_split);
+    for (side, [_, before, now]) in [(Side::Current, current), (Side::Next, next)] {
+        let rows = table.rows_at(3, side).expect(rt, "memory");
+        same(rt, &(first_balance(&rows), rows.len() > 1), &(now, false));
+        let (page, more) = table
+            .page_matching(&[], 3, side, None, 1)
+            .expect(rt, "memory");
+        same(rt, &(first_balance(&page), more), &(now, false));
+        let (earlier, later) = table.around(1, 3, side);
+        same(rt, &(balance(earlier), balance(later)), &(before, now));
+    }
+}
+
 /// A row that was written twice, if the calls find memory, or are made again.
 fn written_twice(rt: &impl Abort, alloc: Global) -> Table {
     let empty = Table::new(alloc);
@@ -38,7 +68,7 @@ fn written_twice(rt: &impl Abort, alloc: Global) -> Table {
     mark(alloc);
     let one = empty.written(1, five, 1);
     mark(alloc);
-    shows(rt, &empty, [0, 0, 0], [0, 0, 0]);
+    looks_as_before(rt, &empty, [0, 0, 0], [0, 0, 0], false);
     let one = match one {
         Ok(table) => table,
         Err(AllocError) => empty
@@ -49,7 +79,7 @@ fn written_twice(rt: &impl Abort, alloc: Global) -> Table {
     mark(alloc);
     let two = one.written(1, six, 3);
     mark(alloc);
-    shows(rt, &one, [5, 5, 5], [5, 5, 5]);
+    looks_as_before(rt, &one, [5, 5, 5], [5, 5, 5], false);
     match two {
         Ok(table) => table,
         Err(AllocError) => one
@@ -64,8 +94,7 @@ fn rolled_back(rt: &impl Abort, alloc: Global) -> Table {
     mark(alloc);
     let split = old.split_back(1, 2);
     mark(alloc);
-    assert!(rt; !old.is_split(1));
-    shows(rt, &old, [5, 5, 6], [5, 5, 6]);
+    looks_as_before(rt, &old, [5, 5, 6], [5, 5, 6], false);
     match split {
         Ok(table) => table,
         Err(AllocError) => old.split_back(1, 2).expect(rt, "a second call"),
@@ -81,7 +110,7 @@ fn written_apart(rt: &impl Abort, alloc: Global) -> Table {
     mark(alloc);
     let next = old.next_written(1, seven, 2);
     mark(alloc);
-    shows(rt, &old, [5, 5, 6], [5, 5, 5]);
+    looks_as_before(rt, &old, [5, 5, 6], [5, 5, 5], true);
     match next {
         Ok(table) => table,
         Err(AllocError) => old
@@ -98,13 +127,13 @@ fn a_table_is_switched(rt: HostRuntime) {
     mark(alloc);
     let switched = old.switched();
     mark(alloc);
-    shows(&rt, &old, [5, 5, 6], [5, 7, 7]);
+    looks_as_before(&rt, &old, [5, 5, 6], [5, 7, 7], true);
     let switched = match switched {
         Ok(table) => table,
         Err(AllocError) => old.switched().expect(&rt, "a second call"),
     };
     shows(&rt, &switched, [5, 7, 7], [5, 7, 7]);
-    assert!(rt; old.is_split(1) && !switched.is_split(1));
+    assert!(rt; !switched.is_split(1));
 }
 
 #[test]
@@ -115,13 +144,13 @@ fn a_table_is_aborted(rt: HostRuntime) {
     mark(alloc);
     let aborted = old.aborted();
     mark(alloc);
-    shows(&rt, &old, [5, 5, 6], [5, 7, 7]);
+    looks_as_before(&rt, &old, [5, 5, 6], [5, 7, 7], true);
     let aborted = match aborted {
         Ok(table) => table,
         Err(AllocError) => old.aborted().expect(&rt, "a second call"),
     };
     shows(&rt, &aborted, [5, 5, 6], [5, 5, 6]);
-    assert!(rt; old.is_split(1) && !aborted.is_split(1));
+    assert!(rt; !aborted.is_split(1));
 }
 
 #[test]
@@ -218,4 +247,55 @@ fn the_rows_that_match(rt: HostRuntime) {
     let _tally = Tally::new(alloc);
     let table = with_two_rows(&rt, alloc);
     same(&rt, &count_of_bob(&rt, alloc, &table), &1);
+}
+
+/// Five rows that can be searched by owners: the third one is bob's, the others are ann's.
+fn five_rows(rt: &impl Abort, alloc: Global) -> Table {
+    let mut table = Table::with_columns(alloc, &[1]).expect(rt, "memory");
+    for (key, owner) in [(1, "ann"), (2, "ann"), (3, "bob"), (4, "ann"), (5, "ann")] {
+        let row = Some(row(rt, alloc, key, owner, 5));
+        table = table.written(key, row, 1).expect(rt, "memory");
+    }
+    table
+}
+
+/// Asserts which keys a page behind key 1 has, and whether more follow, though the first call may
+/// find no memory.
+fn has_page(
+    rt: &impl Abort,
+    alloc: Global,
+    table: &Table,
+    equals: &[Equal],
+    most: usize,
+    want: (&[i64], bool),
+) {
+    mark(alloc);
+    let page = table.page_matching(equals, 1, Side::Current, Some(1), most);
+    mark(alloc);
+    let (rows, more) = match page {
+        Ok(page) => page,
+        Err(AllocError) => {
+            let page = table.page_matching(equals, 1, Side::Current, Some(1), most);
+            page.expect(rt, "a second call")
+        }
+    };
+    let mut keys = Vec::new(alloc);
+    for (key, _) in &rows {
+        keys.push(*key).expect(rt, "memory");
+    }
+    same(rt, &(keys.as_slice(), more), &want);
+}
+
+/// Pages of all rows, of the rows of an owner, with and without the index, and of one row.
+#[test]
+fn pages_of_the_rows_that_match(rt: HostRuntime) {
+    let alloc = rt.alloc();
+    let _tally = Tally::new(alloc);
+    let table = five_rows(&rt, alloc);
+    let of_ann = [owned_by(&rt, alloc, "ann")];
+    let of_bob = [owned_by(&rt, alloc, "bob")];
+    has_page(&rt, alloc, &table, &[], 2, (&[2, 3], true));
+    has_page(&rt, alloc, &table, &of_ann, 3, (&[2, 4, 5], false));
+    has_page(&rt, alloc, &table, &of_bob, 1, (&[3], false));
+    has_page(&rt, alloc, &table, &[Equal::int(0, 3)], 1, (&[3], false));
 }

@@ -1,10 +1,10 @@
-//! Which replies a repair has changed.
+//! Which replies a repair has changed, and which it will have changed.
 use super::marks::{Tally, mark};
 use super::{all, bank, delete_bob, five_actions, items, rows, same};
 use std::alloc::{AllocError, Global};
 use std::process::Abort;
-use tt_db::{Db, Entry, Event, Limits};
-use tt_repair::{After, Changed, Record, What, changes};
+use tt_db::{Db, Entry, Event, Limits, ReadError};
+use tt_repair::{After, Changed, Record, What, changes, changes_next};
 use tt_values::Reply;
 
 #[test]
@@ -24,13 +24,42 @@ fn changed_replies(rt: HostRuntime) {
         Ok(list) => list,
         Err(AllocError) => changes(alloc, &db, &records).expect(&rt, "a second call"),
     };
-    let one = rows(&rt, alloc, &[(3, "bob", 7)]);
-    let two = rows(&rt, alloc, &[(1, "ann", 5), (2, "ann", 6)]);
-    let want = [
-        changed(&rt, alloc, 4, Reply::Deleted(2), Reply::Deleted(1)),
-        changed(&rt, alloc, 7, one, two),
+    assert!(rt; list.as_slice() == changes_by_slot_4(&rt, alloc).as_slice());
+}
+
+/// Once the repair has done four of the five slots, the change of the fifth isn't listed.
+#[test]
+fn replies_that_will_be_others(rt: HostRuntime) {
+    let alloc = rt.alloc();
+    let _tally = Tally::new(alloc);
+    let db = repairing(&rt, alloc, 4);
+    let records = [
+        deleted_two(&rt, alloc),
+        updated_one(&rt, alloc),
+        read_three(&rt, alloc),
+        read_one(&rt, alloc),
     ];
-    assert!(rt; list.as_slice() == want.as_slice());
+    mark(alloc);
+    let list = changes_next(alloc, &db, &records);
+    mark(alloc);
+    let list = match list {
+        Ok(list) => list,
+        Err(error) => {
+            same(&rt, &error, &ReadError::Memory);
+            changes_next(alloc, &db, &records).expect(&rt, "a second call")
+        }
+    };
+    assert!(rt; list.as_slice() == changes_by_slot_4(&rt, alloc).as_slice());
+}
+
+/// What is changed by the fourth slot as edited: its own reply, and the rows of a read behind it.
+fn changes_by_slot_4(rt: &impl Abort, alloc: Global) -> [Changed; 2] {
+    let one = rows(rt, alloc, &[(3, "bob", 7)]);
+    let two = rows(rt, alloc, &[(1, "ann", 5), (2, "ann", 6)]);
+    [
+        changed(rt, alloc, 4, Reply::Deleted(2), Reply::Deleted(1)),
+        changed(rt, alloc, 7, one, two),
+    ]
 }
 
 /// A database after an event.
@@ -40,27 +69,42 @@ fn after(rt: &impl Abort, db: Db, event: Event) -> Db {
     next
 }
 
-/// Five slots, of which the fourth was repaired.
-fn repaired(rt: &impl Abort, alloc: Global) -> Db {
+/// Five slots, and a repair of the fourth with this many steps.
+fn repairing(rt: &impl Abort, alloc: Global, steps: u64) -> Db {
     let mut db = Db::new(alloc, bank(rt, alloc), Limits::usual());
     for action in five_actions(rt, alloc) {
         db = after(rt, db, Event::Write(action));
     }
     db = after(rt, db, Event::Begin(delete_bob(rt, alloc)));
-    for _ in 0..5 {
+    for _ in 0..steps {
         db = after(rt, db, Event::Step);
     }
-    after(rt, db, Event::Switch)
+    db
+}
+
+/// Five slots, of which the fourth was repaired.
+fn repaired(rt: &impl Abort, alloc: Global) -> Db {
+    after(rt, repairing(rt, alloc, 5), Event::Switch)
 }
 
 /// Call 4 deleted the accounts of ann.
 fn deleted_two(rt: &impl Abort, alloc: Global) -> Record {
+    written(rt, alloc, 4, Reply::Deleted(2))
+}
+
+/// Call 5 updated the account of bob.
+fn updated_one(rt: &impl Abort, alloc: Global) -> Record {
+    written(rt, alloc, 5, Reply::Updated(1))
+}
+
+/// A call wrote the slot of its number.
+fn written(rt: &impl Abort, alloc: Global, slot: u64, reply: Reply) -> Record {
     Record {
-        call: 4,
+        call: slot,
         worker: 1,
         what: What::Write {
-            slot: 4,
-            replies: items(rt, alloc, [Reply::Deleted(2)]),
+            slot,
+            replies: items(rt, alloc, [reply]),
         },
     }
 }

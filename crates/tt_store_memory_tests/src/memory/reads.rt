@@ -13,7 +13,7 @@ fn reads_are_answered(rt: HostRuntime) {
     plays(&rt, rt.alloc(), Scenario::Reads);
 }
 
-/// Reads while a repair has done four of five slots.
+/// Reads while a repair has done four of five slots, and once it is finished.
 pub(super) fn reads<L: Naming, T: Wait + Abort>(scene: Scene<'_, L, T>) {
     let Scene {
         rt,
@@ -26,8 +26,20 @@ pub(super) fn reads<L: Naming, T: Wait + Abort>(scene: Scene<'_, L, T>) {
     store.step(rt, &mut first, 4).expect(rt, "steps");
     reads_now(rt, alloc, &mut second);
     reads_then(rt, alloc, &mut second);
-    reads_in_generation(rt, alloc, &mut second);
+    reads_in(rt, alloc, &mut second, (0, 1), &[(1, "ann", 5)]);
     previews(rt, alloc, &mut second);
+    store.finish(rt, &mut first).expect(rt, "a switch");
+    reads_in_both(rt, alloc, &mut second);
+}
+
+/// Reads in the closed generation and in the current one, at their last times and before.
+fn reads_in_both<L: Naming>(rt: &impl Abort, alloc: Global, worker: &mut Worker<L>) {
+    reads_in(rt, alloc, worker, (0, 5), &[(3, "bob", 8)]);
+    reads_in(rt, alloc, worker, (0, 4), &[(3, "bob", 7)]);
+    let both = [(1, "ann", 6), (2, "ann", 7)];
+    reads_in(rt, alloc, worker, (1, 5), &both);
+    let both = [(1, "ann", 5), (2, "ann", 6)];
+    reads_in(rt, alloc, worker, (1, 4), &both);
 }
 
 /// The answer to a read that was made twice has these rows; only the first one may lack memory.
@@ -68,13 +80,20 @@ fn reads_then<L: Naming>(rt: &impl Abort, alloc: Global, worker: &mut Worker<L>)
     answers(rt, alloc, first, again, 2, &[(1, "ann", 5), (2, "ann", 6)]);
 }
 
-fn reads_in_generation<L: Naming>(rt: &impl Abort, alloc: Global, worker: &mut Worker<L>) {
+/// Reads these accounts in a generation at a time.
+fn reads_in<L: Naming>(
+    rt: &impl Abort,
+    alloc: Global,
+    worker: &mut Worker<L>,
+    (generation, time): (u64, u64),
+    accounts: &[Account],
+) {
     let all = all(rt, alloc);
     mark(alloc);
-    let first = worker.read_in(0, &all, 1);
+    let first = worker.read_in(generation, &all, time);
     mark(alloc);
-    let again = worker.read_in(0, &all, 1);
-    answers(rt, alloc, first, again, 1, &[(1, "ann", 5)]);
+    let again = worker.read_in(generation, &all, time);
+    answers(rt, alloc, first, again, time, accounts);
 }
 
 fn previews<L: Naming>(rt: &impl Abort, alloc: Global, worker: &mut Worker<L>) {

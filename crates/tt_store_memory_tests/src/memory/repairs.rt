@@ -1,4 +1,5 @@
 //! The calls of a repair on a store.
+use super::looks::{Looks, looks_as_before};
 use super::marks::mark;
 use super::{Scenario, Scene, delete_bob, has, has_begun, has_five_slots, plays, same};
 use std::alloc::Global;
@@ -39,6 +40,7 @@ fn begins<L: Naming, T: Wait + Abort>(
 ) {
     let edits = delete_bob(rt, alloc);
     let again = edits.clone().expect(rt, "an owner");
+    let before = Looks::of(rt, alloc, worker);
     mark(alloc);
     let begun = store.begin(rt, worker, edits);
     mark(alloc);
@@ -47,6 +49,7 @@ fn begins<L: Naming, T: Wait + Abort>(
         Err(error) => {
             same(rt, &error, &StoreError::Memory);
             same(rt, &(worker.made(), worker.progress()), &(5, None));
+            looks_as_before(rt, alloc, store, worker, &before);
             store.begin(rt, worker, again)
         }
     };
@@ -60,6 +63,7 @@ fn steps<L: Naming, T: Wait + Abort>(
     store: &Store<L, NoGate, &T>,
     worker: &mut Worker<L>,
 ) {
+    let before = Looks::of(rt, alloc, worker);
     mark(alloc);
     let stepped = store.step(rt, worker, 2);
     mark(alloc);
@@ -68,6 +72,7 @@ fn steps<L: Naming, T: Wait + Abort>(
         Err(error) => {
             same(rt, &error, &StoreError::Memory);
             same(rt, &worker.made(), &6);
+            looks_as_before(rt, alloc, store, worker, &before);
             store.step(rt, worker, 2)
         }
     };
@@ -86,6 +91,7 @@ fn finishes_at_last<L: Naming, T: Wait + Abort>(
     store: &Store<L, NoGate, &T>,
     worker: &mut Worker<L>,
 ) {
+    let before = Looks::of(rt, alloc, worker);
     mark(alloc);
     let finished = store.finish(rt, worker);
     mark(alloc);
@@ -94,6 +100,7 @@ fn finishes_at_last<L: Naming, T: Wait + Abort>(
         Err(error) => {
             same(rt, &error, &StoreError::Memory);
             same(rt, &worker.made(), &8);
+            looks_as_before(rt, alloc, store, worker, &before);
             store.finish(rt, worker)
         }
     };
@@ -133,6 +140,7 @@ fn aborts<L: Naming, T: Wait + Abort>(
     store: &Store<L, NoGate, &T>,
     worker: &mut Worker<L>,
 ) {
+    let before = Looks::of(rt, alloc, worker);
     mark(alloc);
     let aborted = store.abort(rt, worker);
     mark(alloc);
@@ -141,6 +149,7 @@ fn aborts<L: Naming, T: Wait + Abort>(
         Err(error) => {
             same(rt, &error, &StoreError::Memory);
             assert!(rt; worker.made() == 6 && worker.progress().is_some());
+            looks_as_before(rt, alloc, store, worker, &before);
             store.abort(rt, worker)
         }
     };
@@ -161,6 +170,7 @@ fn refreshes<L: Naming, T: Wait + Abort>(
         Ok(seen) => Ok(seen),
         Err(error) => {
             same(rt, &error, &StoreError::Memory);
+            same(rt, &worker.made(), &0);
             store.refresh(rt, worker)
         }
     };

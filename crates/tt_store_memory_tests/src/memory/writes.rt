@@ -1,4 +1,5 @@
 //! Writes by a worker of a store.
+use super::looks::{Looks, looks_as_before};
 use super::marks::mark;
 use super::{Scenario, Scene, five_actions, has, plays, same};
 use std::alloc::Global;
@@ -39,7 +40,8 @@ fn writes<L: Naming, T: Wait + Abort>(
     action: Items<Write>,
 ) {
     let again = action.clone().expect(rt, "an owner");
-    let before = worker.made();
+    let before = Looks::of(rt, alloc, worker);
+    let made = worker.made();
     mark(alloc);
     let written = store.write(rt, worker, action);
     mark(alloc);
@@ -47,7 +49,8 @@ fn writes<L: Naming, T: Wait + Abort>(
         Ok(written) => written,
         Err(error) => {
             same(rt, &error, &StoreError::Memory);
-            same(rt, &(worker.made(), worker.seen()), &(before, before));
+            same(rt, &(worker.made(), worker.seen()), &(made, made));
+            looks_as_before(rt, alloc, store, worker, &before);
             store.write(rt, worker, again).expect(rt, "a second call")
         }
     };
@@ -56,5 +59,5 @@ fn writes<L: Naming, T: Wait + Abort>(
         &(written.place, written.slot),
         &(worker.made(), worker.seen()),
     );
-    same(rt, &before.checked_add(1), &Some(written.place));
+    same(rt, &made.checked_add(1), &Some(written.place));
 }

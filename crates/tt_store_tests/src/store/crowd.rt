@@ -1,4 +1,5 @@
-//! Sixteen workers in threads: five write and ten read, while one repairs.
+//! Sixteen workers in threads: five write and ten read, while one repairs. What they are answered
+//! is compared with a database of one thread that is given the same history.
 use super::{
     Scenario, Scene, add_to_all, all, bank, begins_after_five_slots, closed, delete, insert,
     last_of, plays, same,
@@ -9,7 +10,7 @@ use std::sync::Wait;
 use std::test::*;
 use std::thread::{Threads, map_vec};
 use tt_db::{Db, Edit, Limits, Outcome};
-use tt_store::{Naming, NoGate, Store, Worker, Written};
+use tt_store::{Answer, Naming, NoGate, Store, Worker, Written};
 use tt_values::Items;
 
 /// The worker that repairs.
@@ -24,11 +25,22 @@ const WRITES: u32 = 300;
 /// How often each of the others reads.
 const READS: u32 = 10_000;
 
-/// A worker that has done its work, and what it was told of its writes.
+/// After how many entries a worker that reads keeps another answer.
+const KEPT_EVERY: u64 = 100;
+
+/// A read that was answered when its worker had seen so many entries.
+#[derive(Drop)]
+struct KeptRead {
+    seen: u64,
+    answer: Answer,
+}
+
+/// A worker that has done its work, what it was told of its writes, and some of its reads.
 #[derive(Drop)]
 struct Shift<L: Naming> {
     worker: Worker<L>,
     written: Vec<Written>,
+    kept_reads: Vec<KeptRead>,
 }
 
 #[test]
@@ -50,9 +62,10 @@ pub(super) fn sixteen_work<L: Naming + Send + Sync, T: Threads + Wait + Abort + 
     begins_after_five_slots(rt, alloc, &store, &mut administrator);
     workers.push(administrator).expect(rt, "memory");
     let shifts = in_threads(rt, alloc, &store, workers);
-    let (workers, written) = handed_in(rt, alloc, shifts);
+    let (workers, written, kept_reads) = handed_in(rt, alloc, shifts);
     let closed = closed(rt, store, workers);
-    is_as_told(rt, alloc, closed.db.get(), &written);
+    let answers = answers_by_seen(rt, alloc, closed.db.get(), kept_reads);
+    is_as_told(rt, alloc, closed.db.get(), &written, answers);
 }
 
 /// Lets all workers do their work, each in a thread.
@@ -74,12 +87,17 @@ fn works<L: Naming, T: Wait + Abort>(
     mut worker: Worker<L>,
 ) -> Shift<L> {
     let mut written = Vec::new(alloc);
+    let mut kept_reads = Vec::new(alloc);
     match worker.number() {
         ADMINISTRATOR => repairs(rt, alloc, store, &mut worker),
         1..=WRITERS => writes(rt, alloc, store, &mut worker, &mut written),
-        _ => reads(rt, alloc, &mut worker),
+        _ => reads(rt, alloc, &mut worker, &mut kept_reads),
     }
-    Shift { worker, written }
+    Shift {
+        worker,
+        written,
+        kept_reads,
+    }
 }
 
 /// Finishes the repair that is under way, and three more.
@@ -136,41 +154,68 @@ fn writes<L: Naming, T: Wait + Abort>(
     }
 }
 
-/// Asserts that no read goes back behind an earlier one.
-fn reads<L: Naming>(rt: &impl Abort, alloc: Global, worker: &mut Worker<L>) {
+/// Asserts that no read goes back behind an earlier one, and keeps some of them: the first, and
+/// each that is answered `KEPT_EVERY` entries or more behind the one that was kept last.
+fn reads<L: Naming>(
+    rt: &impl Abort,
+    alloc: Global,
+    worker: &mut Worker<L>,
+    kept_reads: &mut Vec<KeptRead>,
+) {
     let all = all(rt, alloc);
     let mut time = 0;
     let mut seen = 0;
+    let mut next = 0;
     for _ in 0..READS {
         let answer = worker.read(&all).expect(rt, "a read");
         assert!(rt; answer.time >= time && worker.seen() >= seen);
         time = answer.time;
         seen = worker.seen();
+        if seen >= next {
+            next = seen.saturating_add(KEPT_EVERY);
+            let read = KeptRead { seen, answer };
+            kept_reads.push(read).expect(rt, "memory");
+        }
     }
 }
 
-/// The workers of all shifts, and what they were told of their writes.
+/// The workers of all shifts, what they were told of their writes, and their kept reads.
 fn handed_in<L: Naming>(
     rt: &impl Abort,
     alloc: Global,
     shifts: Vec<Shift<L>>,
-) -> (Vec<Worker<L>>, Vec<Written>) {
+) -> (Vec<Worker<L>>, Vec<Written>, Vec<KeptRead>) {
     let mut workers = Vec::new(alloc);
     let mut all = Vec::new(alloc);
+    let mut all_reads = Vec::new(alloc);
     for shift in shifts {
-        let Shift { worker, written } = shift;
+        let Shift {
+            worker,
+            written,
+            kept_reads,
+        } = shift;
         workers.push(worker).expect(rt, "memory");
         for told in written {
             all.push(told).expect(rt, "memory");
         }
+        for read in kept_reads {
+            all_reads.push(read).expect(rt, "memory");
+        }
     }
-    (workers, all)
+    (workers, all, all_reads)
 }
 
 /// Asserts that a database of one thread gives each write of the history the outcome that its
-/// worker was told, and ends with the same rows.
-fn is_as_told(rt: &impl Abort, alloc: Global, closed: &Db, written: &[Written]) {
-    let (db, outcomes) = replayed(rt, alloc, closed);
+/// worker was told, gives the answers after as many entries as their workers had seen, and ends
+/// with the same rows.
+fn is_as_told(
+    rt: &impl Abort,
+    alloc: Global,
+    closed: &Db,
+    written: &[Written],
+    answers: Vec<Vec<Answer>>,
+) {
+    let (db, outcomes) = replayed(rt, alloc, closed, answers);
     for told in written {
         has_outcome(rt, &outcomes, told);
     }
@@ -182,17 +227,49 @@ fn is_as_told(rt: &impl Abort, alloc: Global, closed: &Db, written: &[Written]) 
     same(rt, &closed.select(&all).expect(rt, "a select"), &rows);
 }
 
-/// A database of one thread that is given a history, and the outcomes of its entries.
-fn replayed(rt: &impl Abort, alloc: Global, history: &Db) -> (Db, Vec<Outcome>) {
+/// The answers of kept reads, by how many entries of the history their workers had seen.
+fn answers_by_seen(
+    rt: &impl Abort,
+    alloc: Global,
+    history: &Db,
+    kept_reads: Vec<KeptRead>,
+) -> Vec<Vec<Answer>> {
+    let mut answers: Vec<Vec<Answer>> = Vec::new(alloc);
+    for _ in 0..history.events().saturating_add(1) {
+        answers.push(Vec::new(alloc)).expect(rt, "memory");
+    }
+    for read in kept_reads {
+        let KeptRead { seen, answer } = read;
+        let there = answers.get_mut(seen as usize).expect(rt, "entries");
+        there.push(answer).expect(rt, "memory");
+    }
+    answers
+}
+
+/// A database of one thread that is given a history, and the outcomes of its entries. Asserts that
+/// it gives these answers, each list of them after one more entry.
+fn replayed(
+    rt: &impl Abort,
+    alloc: Global,
+    history: &Db,
+    answers: Vec<Vec<Answer>>,
+) -> (Db, Vec<Outcome>) {
     let mut db = Db::new(alloc, bank(rt, alloc), Limits::usual());
     let mut outcomes = Vec::new(alloc);
-    for before in 0..history.events() {
-        let place = before.saturating_add(1);
-        let entry = history.entry(place).expect(rt, "an entry");
-        let entry = entry.clone().expect(rt, "memory");
-        let (next, outcome) = db.apply(entry).expect(rt, "an outcome");
-        outcomes.push(outcome).expect(rt, "memory");
-        db = next;
+    let all = all(rt, alloc);
+    let mut place = 0u64;
+    for there in answers {
+        for answer in there {
+            let reply = db.select(&all).expect(rt, "a select");
+            same(rt, &(answer.time, answer.reply), &(db.now(), reply));
+        }
+        place = place.saturating_add(1);
+        if let Some(entry) = history.entry(place) {
+            let entry = entry.clone().expect(rt, "memory");
+            let (next, outcome) = db.apply(entry).expect(rt, "an outcome");
+            outcomes.push(outcome).expect(rt, "memory");
+            db = next;
+        }
     }
     (db, outcomes)
 }

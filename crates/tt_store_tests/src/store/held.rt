@@ -108,12 +108,13 @@ impl Marks {
 }
 
 /// Holds worker 1 at these points, one after another. In the try of this number, if there is one,
-/// it watches the lock.
+/// it watches the lock, and so it does at each of the points that are watched.
 #[derive(Clone, Copy)]
 struct Held<'a> {
     marks: &'a Marks,
     points: &'a [Point],
     locked_try: Option<u64>,
+    watched: &'a [Point],
 }
 
 impl Gate for Held<'_> {
@@ -132,6 +133,9 @@ impl Gate for Held<'_> {
         if self.points.get(held as usize) == Some(&point) {
             marks.held.fetch_add(1, Ordering::SeqCst);
             marks.wait_until_past(&marks.released, held);
+        }
+        if self.watched.contains(&point) {
+            marks.watch_the_lock();
         }
     }
 }
@@ -157,6 +161,7 @@ enum Beside {
     Reads,
     Writes,
     WritesBeforeEachTry,
+    WritesBehind,
 }
 
 /// Opens a store in which worker 1 is held, and asserts how many states it builds.
@@ -199,6 +204,7 @@ fn holds_named<L: Naming + Send + Sync, T: Threads + Wait + Abort + Sync>(
         Beside::WritesBeforeEachTry => writes_beside_writes(
             rt, alloc, &store, first, second, marks,
         ),
+        Beside::WritesBehind => writes_behind_a_write(rt, alloc, &store, first, second, marks),
     }
     done(store);
 }
@@ -213,6 +219,7 @@ fn a_read_takes_no_lock(rt: HostRuntime) {
         marks: &marks,
         points: &[Point::Locked, Point::Published],
         locked_try: None,
+        watched: &[],
     };
     holds(&rt, rt.alloc(), gate, Beside::Reads, 1);
 }
@@ -281,6 +288,7 @@ fn steps_go_behind_a_write_made_meanwhile(rt: HostRuntime) {
         marks: &marks,
         points: &[Point::Building],
         locked_try: None,
+        watched: &[],
     };
     holds(&rt, rt.alloc(), gate, Beside::Writes, 2);
 }
@@ -339,6 +347,7 @@ fn the_fifth_try_is_made_under_the_lock(rt: HostRuntime) {
         marks: &marks,
         points: &[Point::Building; 4],
         locked_try: Some(5),
+        watched: &[],
     };
     holds(&rt, rt.alloc(), gate, Beside::WritesBeforeEachTry, 5);
 }
@@ -377,5 +386,47 @@ fn writes_before_each_try<L: Naming, T: Wait + Abort>(
     }
     marks.wait_until_past(&marks.built, 4);
     inserts(rt, alloc, store, &mut worker, (6, "eve", 30), (6, 6));
+    worker
+}
+
+#[test]
+fn a_write_has_the_lock_until_it_is_published(rt: HostRuntime) {
+    let marks = Marks::new();
+    let gate = Held {
+        marks: &marks,
+        points: &[Point::Locked],
+        locked_try: None,
+        watched: &[Point::Locked, Point::Published],
+    };
+    holds(&rt, rt.alloc(), gate, Beside::WritesBehind, 1);
+}
+
+/// Lets a worker write while a write of the other one has the lock.
+fn writes_behind_a_write<L: Naming + Send + Sync, T: Threads + Wait + Abort + Sync>(
+    rt: &T,
+    alloc: Global,
+    store: &Store<L, Held<'_>, &T>,
+    first: Worker<L>,
+    second: Worker<L>,
+    marks: &Marks,
+) {
+    join(
+        rt,
+        || writes_one(rt, alloc, store, first, (1, 1)),
+        || goes_behind(rt, alloc, store, second, marks),
+    );
+}
+
+/// Inserts an account once the other write has the lock, and goes behind it.
+fn goes_behind<L: Naming, T: Wait + Abort>(
+    rt: &T,
+    alloc: Global,
+    store: &Store<L, Held<'_>, &T>,
+    mut worker: Worker<L>,
+    marks: &Marks,
+) -> Worker<L> {
+    marks.wait_until_held(0);
+    marks.release();
+    inserts(rt, alloc, store, &mut worker, (2, "bob", 20), (2, 2));
     worker
 }

@@ -79,6 +79,33 @@ fn made_the_first<L: Naming>(rt: &impl Abort, worker: &Worker<L>) {
 }
 
 #[test]
+fn a_refresh_alone_shows_what_another_one_wrote(rt: HostRuntime) {
+    plays(&rt, rt.alloc(), 2, Scenario::RefreshesIdle);
+}
+
+/// Worker 2 neither reads nor writes, and has seen what worker 1 wrote once it is refreshed.
+pub(super) fn refreshes_idle<L: Naming, T: Wait + Abort>(scene: Scene<'_, L, T>) {
+    let Scene {
+        rt,
+        alloc,
+        store,
+        mut workers,
+    } = scene;
+    let mut second = last_of(rt, &mut workers);
+    let mut first = last_of(rt, &mut workers);
+    inserts(rt, alloc, &store, &mut first, (1, "ann", 10), (1, 1));
+    same(rt, &second.seen(), &0);
+    same(rt, &store.refresh(rt, &mut second), &Ok(1));
+    made_nothing(rt, alloc, &second);
+    inserts(rt, alloc, &store, &mut first, (2, "bob", 20), (2, 2));
+    same(rt, &second.seen(), &1);
+    same(rt, &store.refresh(rt, &mut second), &Ok(2));
+    same(rt, &(second.seen(), second.made()), &(2, 0));
+    has(rt, alloc, &mut second, &[(1, "ann", 10), (2, "bob", 20)]);
+    closes(rt, alloc, store, [first, second], &[1, 2], &[]);
+}
+
+#[test]
 fn a_worker_that_is_behind_writes(rt: HostRuntime) {
     plays(&rt, rt.alloc(), 2, Scenario::WritesBehind);
 }

@@ -121,8 +121,8 @@ impl Gate for Publishes<'_> {
     }
 }
 
-/// Holds worker 2 where it builds its second state until worker 1 has five answers, and counts what
-/// worker 2 publishes.
+/// Holds worker 1 at its third answer until worker 2 builds its second state, and worker 2 there
+/// until worker 1 has five answers. Counts what worker 2 publishes.
 #[derive(Clone, Copy)]
 pub(crate) struct BehindTheCalls<'a> {
     pub(crate) marks: &'a Marks,
@@ -134,11 +134,16 @@ impl Gate for BehindTheCalls<'_> {
         let marks = self.marks;
         self.publishes.at(worker, point);
         let [first, second] = &marks.passed;
-        if worker == 1 && point == Point::Answered && first.fetch_add(1, Ordering::SeqCst) == 4 {
-            marks.arrive();
+        if worker == 1 && point == Point::Answered {
+            match first.fetch_add(1, Ordering::SeqCst) {
+                2 => marks.wait_for(1),
+                4 => marks.arrive(),
+                _ => {}
+            }
         }
         if worker == 2 && point == Point::Building && second.fetch_add(1, Ordering::SeqCst) == 1 {
-            marks.wait_for(1);
+            marks.arrive();
+            marks.wait_for(2);
         }
     }
 }

@@ -69,8 +69,8 @@ fn a_run_makes_no_more_rounds(rt: HostRuntime) {
     same(&rt, &publishes_behind_the_calls(&rt, rt.alloc(), 0), &3);
 }
 
-/// How often the administrator publishes in a run with this number of rounds, where all calls are
-/// made before its first step.
+/// How often the administrator publishes in a run with this number of rounds, where all calls
+/// meanwhile are made between its begin and its first step.
 fn publishes_behind_the_calls<R: Threads + Wait + Abort + Sync>(
     rt: &R,
     alloc: Global,
@@ -90,6 +90,6 @@ fn publishes_behind_the_calls<R: Threads + Wait + Abort + Sync>(
     };
     let document = document(rt, alloc, MEANWHILE);
     let _report = report_in_rounds(rt, alloc, &document, rounds, gate);
-    marks.check(rt, 1);
+    marks.check(rt, 2);
     count.load(Ordering::SeqCst)
 }

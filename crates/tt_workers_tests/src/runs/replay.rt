@@ -5,7 +5,7 @@ use super::repaired::{has_repaired, is_told, tells_changes};
 use super::same;
 use std::alloc::Global;
 use std::process::Abort;
-use tt_db::{Db, Entry, Limits};
+use tt_db::{Db, Entry, Event, Limits};
 use tt_document::{Call, Document};
 use tt_repair::{Record, What};
 use tt_workers::Report;
@@ -14,12 +14,13 @@ use tt_workers::Report;
 const NUMBERS: usize = 17;
 
 /// Asserts that each answer of a report is the one of a database in one thread that has as many
-/// entries of the history as the front of the answer, and that nothing else is in the history but
-/// the repair of the document.
+/// entries of the history as the front of the answer, that nothing else is in the history but the
+/// repair of the document, and that this begins behind all of `calls`.
 pub(super) fn is_right(rt: &impl Abort, alloc: Global, document: &Document, report: &Report) {
     let calls = all_calls(rt, alloc, document);
     has_records(rt, &calls, &report.records);
     has_rising_fronts(rt, alloc, report);
+    begins_behind(rt, document, report);
     let db = replays(rt, alloc, document, &calls, report);
     ends_alike(rt, report.db.get(), &db);
     has_repaired(rt, document, report);
@@ -57,11 +58,39 @@ fn has_rising_fronts(rt: &impl Abort, alloc: Global, report: &Report) {
     for (record, front) in report.records.iter().zip(report.fronts.as_slice()) {
         let seen = seen.get_mut(record.worker as usize).expect(rt, "a worker");
         assert!(rt; *front >= *seen);
-        *seen = match record.what {
-            What::Write { .. } => front.saturating_add(1),
-            _ => *front,
-        };
+        *seen = seen_after(record, *front);
     }
+}
+
+/// How many entries the worker of a record that is right at a front has seen behind its call.
+fn seen_after(record: &Record, front: u64) -> u64 {
+    match record.what {
+        What::Write { .. } => front.saturating_add(1),
+        _ => front,
+    }
+}
+
+/// Asserts that no call of `calls` has seen the beginning of the repair, or has its entry behind
+/// that.
+fn begins_behind(rt: &impl Abort, document: &Document, report: &Report) {
+    let begin = place_of_begin(rt, report.db.get());
+    let answered = report.records.iter().zip(report.fronts.as_slice());
+    for (_, (record, front)) in document.calls.as_slice().iter().zip(answered) {
+        let call = record.call;
+        assert!(rt; seen_after(record, *front) < begin, "call {call}");
+    }
+}
+
+/// The place of the entry that begins the repair.
+fn place_of_begin(rt: &impl Abort, db: &Db) -> u64 {
+    for before in 0..db.events() {
+        let place = before.saturating_add(1);
+        let entry = db.entry(place).expect(rt, "an entry");
+        if let Event::Begin(_) = entry.event {
+            return place;
+        }
+    }
+    panic!(rt; "no repair")
 }
 
 /// For each front of the history, the positions of the records that are right at it.

@@ -7,7 +7,7 @@ use std::io::{ErrorKind, Read, Write};
 /// Gives the bytes and then spaces, some at a time, and fails after some reads.
 #[derive(Drop)]
 pub(super) struct Source<'a> {
-    bytes: &'a [u8],
+    pub(super) bytes: &'a [u8],
     pub(super) spaces: usize,
     at_once: usize,
     reads: usize,

@@ -1,12 +1,9 @@
 use super::devices::{Sink, Source};
-use super::{EMPTY, STORED};
+use super::{EMPTY, REPORT, STORED};
 use crate::same::same;
 use tt_workload::{Options, RunFault, run_alone};
 
 const END: &str = "end generation 0 time 0\n";
-
-const REPORT: &str =
-    "call 1 worker 1 slot 1 inserted\ncall 2 worker 1 time 1 rows 1 [1,\"ann\",10]\ntable acct rows 1 [1,\"ann\",10]\nend generation 0 time 1\n";
 
 #[test]
 fn one_byte_at_a_time(rt: HostRuntime) {

@@ -10,16 +10,28 @@ use denote.Struct.Tuple.{TupleAt}
 use mathlib.Core.List.{[], ◌∷◌}
 use mir.Syntax.{Sym}
 use Rattle.std.specs.contracts.alloc.Global as heap
+use Rattle.tt_values.specs.contracts.reply.Reply as reply
+use Rattle.tt_store.specs.contracts.answer.Answer as answer
 use Rattle.tt_store.specs.contracts.answer.Written as written
 use Rattle.tt_store.specs.contracts.gate.NoGate as nogate
 use Rattle.tt_store.specs.contracts.store.Store as store
+use Rattle.tt_store_tests.specs.contracts.store.crowd.KeptRead as kept_read
 use Rattle.tt_store_tests.specs.contracts.store.crowd.Shift as shift
 use Rattle.std.proofs.Crossing.{crosses}
-use Rattle.tt_store.proofs.Crossing.{items_send, reply_send, reply_sync, worker_send, store_sync, ref_send}
+use Rattle.tt_store.proofs.Crossing.{items_send, items_sync, row_send, row_sync, reply_send, reply_sync, worker_send, store_sync, ref_send}
 use Rattle.tt_store_tests.proofs.store.crowd.in_threads.Goals as goal
 
 written_send : IsSend written.the_row
 written_send = search (items_send, reply_send, reply_sync, crosses, sendable) depth 60 fits 50000
+
+reply_field_send : IsSend (reply.the_field).row
+reply_field_send = search (items_send, items_sync, row_send, row_sync, crosses, sendable) depth 60 fits 50000
+
+answer_field_send : IsSend (answer.the_field).row
+answer_field_send = search (reply_field_send, crosses, sendable) depth 60 fits 50000
+
+kept_read_send : IsSend kept_read.the_row
+kept_read_send = search (answer_field_send, crosses, sendable) depth 60 fits 50000
 
 nogate_sync : IsSync nogate.the_row
 nogate_sync = search sendable depth 10
@@ -48,7 +60,7 @@ pub map_vec-shifts-requires-send-X : goal.map_vec-shifts-requires-send-X
 map_vec-shifts-requires-send-X g c κs within =
     let w = worker_send (param 0 g.row.L) g.L.Naming g.L.Ledger g.L.Protocol c.type_bounds.send-L c.type_bounds.sync-L in
     let a : IsSend (shift.the_row (param 0 g.row.L) g.L.Naming g.L.Ledger g.L.Protocol) =
-    search (written_send, crosses, sendable) depth 60 fits 50000 in
+    search (written_send, kept_read_send, crosses, sendable) depth 60 fits 50000 in
     param_send 2 _ (arg_send _ yes _ a)
 
 pub map_vec-shifts-requires-sync-F : goal.map_vec-shifts-requires-sync-F

@@ -1,0 +1,68 @@
+-- Command lines, computed: what the words of some ask for, and the fault of others.
+use Rattle.std.proofs.Common.{◌≡◌, ℕ, List, [], ◌∷◌, Bool, false, codes, refl}
+use Rattle.clap.specs.Words.{Text, fault_of}
+use Rattle.clap.specs.declared.error.kind.ErrorKind.TheVariants.{ValueValidation, UnknownArgument}
+use Rattle.clap.proofs.OnLiterals.{clap_on_literals}
+use Rattle.tt_cli.specs.declared.command_line.Cli.{Cli}
+use Rattle.tt_cli.specs.CommandLine.{command_line, name_of, IsCommandOf, IsBatchOf, IsRoundsOf, IsClosedOf}
+
+-- the words of a command line, behind the program's name
+abbrev line : List Text → List Text
+line words = codes "timetravel" ∷ words
+
+-- `run` without options: a batch of 16, 8 rounds, and no closed generations in the report
+abbrev run_alone : List Text
+run_alone = line (codes "run" ∷ [])
+
+run_is_taken : fault_of command_line run_alone ≡ []
+unfolding clap_on_literals
+run_is_taken = refl
+
+run_is_run : (cli : Cli) → IsCommandOf run_alone cli → codes "run" ≡ name_of cli
+unfolding IsCommandOf clap_on_literals
+run_is_run cli is = is
+
+batch_of_run : (n : ℕ) → IsBatchOf run_alone n → n ≡ 16
+unfolding IsBatchOf clap_on_literals
+batch_of_run n is = is
+
+rounds_of_run : (n : ℕ) → IsRoundsOf run_alone n → n ≡ 8
+unfolding IsRoundsOf clap_on_literals
+rounds_of_run n is = is
+
+closed_of_run : (given : Bool) → IsClosedOf run_alone given → given ≡ false
+unfolding IsClosedOf clap_on_literals
+closed_of_run given is = is
+
+-- `replay` without options, which takes no rounds
+abbrev replay_alone : List Text
+replay_alone = line (codes "replay" ∷ [])
+
+replay_is_taken : fault_of command_line replay_alone ≡ []
+unfolding clap_on_literals
+replay_is_taken = refl
+
+replay_is_replay : (cli : Cli) → IsCommandOf replay_alone cli → codes "replay" ≡ name_of cli
+unfolding IsCommandOf clap_on_literals
+replay_is_replay cli is = is
+
+batch_of_replay : (n : ℕ) → IsBatchOf replay_alone n → n ≡ 16
+unfolding IsBatchOf clap_on_literals
+batch_of_replay n is = is
+
+rounds_of_replay : (n : ℕ) → IsRoundsOf replay_alone n → n ≡ 8
+unfolding IsRoundsOf clap_on_literals
+rounds_of_replay n is = is
+
+-- a number out of its range, and an option of the other command
+no_batch_is_refused : fault_of command_line (line (codes "replay" ∷ codes "--batch" ∷ codes "0" ∷ [])) ≡ ValueValidation ∷ []
+unfolding clap_on_literals
+no_batch_is_refused = refl
+
+many_rounds_are_refused : fault_of command_line (line (codes "run" ∷ codes "--rounds" ∷ codes "1001" ∷ [])) ≡ ValueValidation ∷ []
+unfolding clap_on_literals
+many_rounds_are_refused = refl
+
+rounds_of_replay_are_refused : fault_of command_line (line (codes "replay" ∷ codes "--rounds" ∷ codes "8" ∷ [])) ≡ UnknownArgument ∷ []
+unfolding clap_on_literals
+rounds_of_replay_are_refused = refl
