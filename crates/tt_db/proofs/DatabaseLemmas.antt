@@ -1,5 +1,5 @@
 -- A database with one more entry.
-use Rattle.std.proofs.Common.{◌≡◌, ◌≢◌, ℕ, ◌+◌, ◌<◌, ◌≤◌, List, [], ◌∷◌, ◌++◌, fold, length, None, Some, refl, sym, ap, subst, ◌∙◌, arith, length-append}
+use Rattle.std.proofs.Common.{◌≡◌, ◌≢◌, ℕ, ◌+◌, ◌<◌, ◌≤◌, List, [], ◌∷◌, ◌++◌, length, None, Some, refl, sym, ap, subst, ◌∙◌, arith, length-append}
 use Rattle.tt_values.specs.declared.statement.Write.{Write}
 use Rattle.tt_values.specs.Tables.{Tables, IsCatalog}
 use Rattle.tt_values.specs.RowWrites.{Slots}
@@ -10,7 +10,7 @@ use Rattle.tt_db.specs.declared.event.Entry.{Entry}
 use Rattle.tt_db.specs.declared.event.Event.{Event}
 use Rattle.tt_db.specs.declared.event.Event.TheVariants as events
 use Rattle.tt_db.specs.Limits.{max_limits, Fits}
-use Rattle.tt_db.specs.State.{State, ClosedGeneration, start, after, next_state, with_closed, refusal, outcome_of, now_of, IsLegal, IsLegalFrom}
+use Rattle.tt_db.specs.State.{State, ClosedGeneration, start, after, next_state, with_closed, refusal, outcome_of, now_of, IsLegal}
 use Rattle.tt_db.specs.Database.{IsConsistent}
 use Rattle.tt_db.specs.Transition.{generations_after, number_after, closed_after, state_with, Allows}
 use Rattle.tt_db.proofs.EntryLemmas.{after-push, IsLegalFrom-push}

@@ -12,8 +12,8 @@ use Rattle.tt_values.specs.Check.{action_fault}
 use Rattle.tt_values.specs.RowWrites.{Slots}
 use Rattle.tt_repair_laws.specs.declared.edit.Edit.{Edit}
 use Rattle.tt_repair_laws.specs.declared.edit.Edit.TheVariants.{Cancel, Replace}
-use Rattle.tt_repair_laws.specs.Edits.{slot_number}
-use Rattle.tt_generations.specs.TwoGenerations.{Phase, Idle, Repairing, is_repairing, NamesSlot, HasNoFault}
+use Rattle.tt_repair_laws.specs.Edits.{slot_number, HasNoFault}
+use Rattle.tt_generations.specs.TwoGenerations.{Phase, Idle, Repairing, is_repairing, NamesSlot}
 use Rattle.tt_db.specs.declared.limits.Limits.{Limits}
 use Rattle.tt_db.specs.declared.event.Event.{Event}
 use Rattle.tt_db.specs.declared.event.Event.TheVariants as events

@@ -4,7 +4,8 @@ use Rattle.std.specs.List.{All}
 use Rattle.tt_values.specs.Check.{action_fault}
 use Rattle.tt_values.specs.RowWrites.{Slots}
 use Rattle.tt_generations.specs.Limits.{max_slots}
-use Rattle.tt_generations.specs.TwoGenerations.{TwoGenerations, Idle, with_action, with_repair, after_step, after_switch, after_abort, left_of, NamesSlot, HasNoFault}
+use Rattle.tt_repair_laws.specs.Edits.{HasNoFault}
+use Rattle.tt_generations.specs.TwoGenerations.{TwoGenerations, Idle, with_action, with_repair, after_step, after_switch, after_abort, left_of, NamesSlot}
 use Rattle.tt_db.specs.declared.event.Event.{Event}
 use Rattle.tt_db.specs.declared.event.Event.TheVariants as events
 use Rattle.tt_db.specs.declared.outcome.Outcome.{Outcome}

@@ -29,6 +29,12 @@ use tt_versions::{Side, Table};
 
 /// A database: a catalog, limits, and the history of the accepted events.
 pub struct Db {
+    parts: Parts,
+}
+
+/// The parts of a database. While an event changes them they need not fit each other.
+#[derive(Drop)]
+struct Parts {
     alloc: Global,
     limits: Limits,
     history: History,
@@ -41,14 +47,7 @@ pub struct Db {
 // Written out, so that each place that lets a database go calls one function.
 impl Drop for Db {
     fn drop(self) {
-        let Db {
-            alloc: _,
-            limits: _,
-            history: _,
-            generations: _,
-            generation: _,
-            closed: _,
-        } = self;
+        let Db { parts: _ } = self;
     }
 }
 
@@ -58,13 +57,13 @@ impl Model for Db {
     ghost Value = { Database };
 
     ghost view = { λ d. record {
-      catalog = d.generations.catalog;
-      limits = d.limits;
-      history = d.history;
+      catalog = d.parts.generations.catalog;
+      limits = d.parts.limits;
+      history = d.parts.history;
     } };
 
-    ghost invariant = { λ d.
-        IsConsistent d.limits d.history d.generations d.generation d.closed };
+    ghost invariant = { λ d. let p = d.parts in
+        IsConsistent p.limits p.history p.generations p.generation p.closed };
 }
 
 impl Db {
@@ -77,12 +76,14 @@ impl Db {
         // For the proof: each catalog is sound.
         let _ = catalog.get().len();
         Db {
-            alloc,
-            limits,
-            history: History::new(alloc),
-            generations: Generations::new(alloc, catalog),
-            generation: 0,
-            closed: PagedLog::new(alloc),
+            parts: Parts {
+                alloc,
+                limits,
+                history: History::new(alloc),
+                generations: Generations::new(alloc, catalog),
+                generation: 0,
+                closed: PagedLog::new(alloc),
+            },
         }
     }
 
@@ -90,7 +91,7 @@ impl Db {
     pub fn catalog(&self) -> &Catalog
         ensures { result.now ≡ self.now.catalog }
     {
-        self.generations.catalog()
+        self.parts.generations.catalog()
     }
 
     /// The limits that the database was created with.
@@ -98,21 +99,21 @@ impl Db {
         ensures value { result ≡ self.now.limits }
         ensures fits { Fits result }
     {
-        self.limits
+        self.parts.limits
     }
 
     /// The current time: the number of slots.
     pub fn now(&self) -> u64
         ensures { result ≡ now_in self.now }
     {
-        self.generations.len()
+        self.parts.generations.len()
     }
 
     /// The number of the current generation: 0 at first, and one more after each switch.
     pub fn generation(&self) -> u64
         ensures { result ≡ (state_of self.now).generation }
     {
-        self.generation
+        self.parts.generation
     }
 
     /// The number of the oldest generation that can be read: of the oldest closed one that is kept,
@@ -120,7 +121,7 @@ impl Db {
     pub fn oldest(&self) -> u64
         ensures { result ≡ oldest_in self.now }
     {
-        oldest_of(&self.closed, self.generation)
+        oldest_of(&self.parts.closed, self.parts.generation)
     }
 
     /// The last time of a generation that can be read; None for any other. Takes no memory.
@@ -136,7 +137,7 @@ impl Db {
         ensures count { result ≡ length self.now.history }
         ensures legal { IsLegal self.now.catalog self.now.limits self.now.history }
     {
-        self.history.len() as u64
+        self.parts.history.len() as u64
     }
 
     /// The entry at a place of the history, counted from 1.
@@ -144,7 +145,7 @@ impl Db {
         ensures { option_copied result ≡ nth_item self.now.history place }
     {
         let position = place.checked_sub(1)?;
-        self.history.get(position as usize)
+        self.parts.history.get(position as usize)
     }
 
     /// The place in the history, counted from 1, of the entry that made a slot; None where there is
@@ -153,14 +154,14 @@ impl Db {
     pub fn place_of(&self, slot: u64) -> Option<u64>
         ensures { result ≡ place_of self.now slot }
     {
-        self.history.place_of_write(slot)
+        self.parts.history.place_of_write(slot)
     }
 
     /// The slot of a number, counted from 1, in the current generation.
     pub fn slot(&self, number: u64) -> Option<&Slot>
         ensures { option_copied result ≡ slot_of self.now number }
     {
-        self.generations.slot(number)
+        self.parts.generations.slot(number)
     }
 
     /// Of the slots that the repair has done, the one of a number, counted from 1, as the next
@@ -169,21 +170,21 @@ impl Db {
     pub fn next_slot(&self, number: u64) -> Option<&Slot>
         ensures { option_copied result ≡ next_slot_of self.now number }
     {
-        self.generations.next_slot(number)
+        self.parts.generations.next_slot(number)
     }
 
     /// How far the repair is; None where none is under way. Takes no memory.
     pub fn repair(&self) -> Option<Progress>
         ensures { result ≡ repair_of self.now }
     {
-        self.generations.progress()
+        self.parts.generations.progress()
     }
 
     /// How many slots the repair has done; 0 where none is under way. Takes no memory.
     pub fn slots_done(&self) -> u64
         ensures { result ≡ done_of (state_of self.now).phase }
     {
-        self.generations.done()
+        self.parts.generations.done()
     }
 
     /// How many slots the repair has left to do; 0 where none is under way. Takes no memory.
@@ -191,14 +192,14 @@ impl Db {
         ensures left { result ≡ slots_left (state_of self.now) }
         ensures within { IsWithin (state_of self.now).phase (state_of self.now).slots }
     {
-        self.generations.left()
+        self.parts.generations.left()
     }
 
     /// Whether a repair is under way. Takes no memory.
     pub fn is_repairing(&self) -> bool
         ensures { result ≡ is_repairing (state_of self.now).phase }
     {
-        self.generations.is_repairing()
+        self.parts.generations.is_repairing()
     }
 
     /// Applies an event: returns the next database and the outcome, or why the event is refused.
@@ -280,16 +281,18 @@ impl Db {
     pub fn share(&self) -> Result<Db, AllocError>
         ensures { IfOk result (λ db. db ≡ self.now) }
     {
-        let history = self.history.share()?;
-        let generations = self.generations.share()?;
-        let closed = self.closed.share()?;
+        let history = self.parts.history.share()?;
+        let generations = self.parts.generations.share()?;
+        let closed = self.parts.closed.share()?;
         Ok(Db {
-            alloc: self.alloc,
-            limits: self.limits,
-            history,
-            generations,
-            generation: self.generation,
-            closed,
+            parts: Parts {
+                alloc: self.parts.alloc,
+                limits: self.parts.limits,
+                history,
+                generations,
+                generation: self.parts.generation,
+                closed,
+            },
         })
     }
 
@@ -313,9 +316,9 @@ impl Db {
         if let Err(fault) = check_action(self.catalog(), action) {
             return Some(DbError::Statement(fault));
         }
-        if self.now() == self.limits.slots {
+        if self.now() == self.parts.limits.slots {
             return Some(DbError::Full {
-                limit: self.limits.slots,
+                limit: self.parts.limits.slots,
             });
         }
         self.full_refusal()
@@ -328,7 +331,7 @@ impl Db {
         if let Some(fault) = edits_fault(self.catalog(), edits) {
             return Some(DbError::Statement(fault));
         }
-        if self.generations.is_repairing() {
+        if self.parts.generations.is_repairing() {
             return Some(DbError::Repairing);
         }
         if let Some(t) = missing_slot(self.now(), edits) {
@@ -337,7 +340,7 @@ impl Db {
         if let Some(t) = slot_edited_twice(edits) {
             return Some(DbError::EditTwice { t });
         }
-        if edits.len() > self.limits.edits as usize {
+        if edits.len() > self.parts.limits.edits as usize {
             return Some(DbError::TooManyEdits);
         }
         self.full_refusal()
@@ -347,10 +350,10 @@ impl Db {
     fn step_refusal(&self) -> Option<DbError>
         ensures { result ≡ refusal_of self.now Event.Step }
     {
-        if !self.generations.is_repairing() {
+        if !self.parts.generations.is_repairing() {
             return Some(DbError::NotRepairing);
         }
-        if self.generations.left() == 0 {
+        if self.parts.generations.left() == 0 {
             return Some(DbError::NothingLeft);
         }
         self.full_refusal()
@@ -360,10 +363,10 @@ impl Db {
     fn switch_refusal(&self) -> Option<DbError>
         ensures { result ≡ refusal_of self.now Event.Switch }
     {
-        if !self.generations.is_repairing() {
+        if !self.parts.generations.is_repairing() {
             return Some(DbError::NotRepairing);
         }
-        let left = self.generations.left();
+        let left = self.parts.generations.left();
         if left > 0 {
             return Some(DbError::NotCaughtUp { left });
         }
@@ -374,7 +377,7 @@ impl Db {
     fn abort_refusal(&self) -> Option<DbError>
         ensures { result ≡ refusal_of self.now Event.Abort }
     {
-        if !self.generations.is_repairing() {
+        if !self.parts.generations.is_repairing() {
             return Some(DbError::NotRepairing);
         }
         self.full_refusal()
@@ -384,9 +387,9 @@ impl Db {
     fn full_refusal(&self) -> Option<DbError>
         ensures { result ≡ full_at (state_of self.now).events self.now.limits.events }
     {
-        if self.events() == self.limits.events {
+        if self.events() == self.parts.limits.events {
             return Some(DbError::Full {
-                limit: self.limits.events,
+                limit: self.parts.limits.events,
             });
         }
         None
@@ -413,22 +416,13 @@ impl Db {
         ensures catalog { self.new.catalog ≡ self.old.catalog }
         ensures limits { self.new.limits ≡ self.old.limits }
     {
-        let carried = carry_out_on(
-            self.alloc,
-            self.limits.keep,
-            &mut self.history,
-            &mut self.generations,
-            &mut self.generation,
-            &mut self.closed,
-            entry,
-        );
-        match carried {
+        match self.parts.carry_out(entry) {
             Ok(outcome) => Ok(outcome),
             Err(AllocError) => {
-                self.history = History::new(self.alloc);
-                self.generations.clear();
-                self.generation = 0;
-                self.closed = PagedLog::new(self.alloc);
+                self.parts.history = History::new(self.parts.alloc);
+                self.parts.generations.clear();
+                self.parts.generation = 0;
+                self.parts.closed = PagedLog::new(self.parts.alloc);
                 Err(AllocError)
             }
         }
@@ -479,7 +473,7 @@ impl Db {
         let Some(generations) = self.generations_of(generation) else {
             return Err(ReadError::NoGeneration {
                 oldest: self.oldest(),
-                newest: self.generation,
+                newest: self.parts.generation,
             });
         };
         let now = generations.len();
@@ -497,10 +491,10 @@ impl Db {
         ensures { option_map (λ g. g.slots) (option_copied result)
             ≡ slots_in (state_of self.now) number }
     {
-        if number == self.generation {
-            Some(&self.generations)
+        if number == self.parts.generation {
+            Some(&self.parts.generations)
         } else {
-            closed_of(&self.closed, number)
+            closed_of(&self.parts.closed, number)
         }
     }
 
@@ -513,7 +507,7 @@ impl Db {
         if let Err(fault) = check_select(self.catalog(), select) {
             return Err(ReadError::Statement(fault));
         }
-        if !self.generations.is_repairing() {
+        if !self.parts.generations.is_repairing() {
             return Err(ReadError::NotRepairing);
         }
         match self.next_answer(select) {
@@ -547,7 +541,7 @@ impl Db {
         ensures right { IfOk result (λ reply. reply ≡ answer_for self.now select.now time) }
         ensures keyed { IfOk result (λ reply. RowsHaveRisingKeys reply) }
     {
-        let reply = self.generations.answer_at(select, time)?;
+        let reply = self.parts.generations.answer_at(select, time)?;
         Ok(reply)
     }
 
@@ -556,7 +550,7 @@ impl Db {
         ensures right { IfOk result (λ reply. reply ≡ preview_for self.now select.now) }
         ensures keyed { IfOk result (λ reply. RowsHaveRisingKeys reply) }
     {
-        let reply = self.generations.preview(select)?;
+        let reply = self.parts.generations.preview(select)?;
         Ok(reply)
     }
 
@@ -568,7 +562,7 @@ impl Db {
             ≡ preview_at_for self.now select.now time) }
         ensures keyed { IfOk result (λ reply. RowsHaveRisingKeys reply) }
     {
-        let reply = self.generations.preview_at(select, time)?;
+        let reply = self.parts.generations.preview_at(select, time)?;
         Ok(reply)
     }
 
@@ -592,56 +586,51 @@ impl Db {
         ensures split { IfSome result (λ t. is_split t.now ≡ dirty_rows_in self.now table) }
     {
         if usize::from(table) < self.catalog().len() {
-            Some(self.generations.table(table))
+            Some(self.parts.generations.table(table))
         } else {
             None
         }
     }
 }
 
-/// Carries out an event that isn't refused on the parts of a database, adds its entry to the
-/// history, and returns the outcome.
-fn carry_out_on(
-    alloc: Global,
-    keep: u32,
-    history: &mut History,
-    generations: &mut Generations,
-    generation: &mut u64,
-    closed: &mut PagedLog<ClosedGeneration>,
-    entry: Entry,
-) -> Result<Outcome, AllocError>
-    requires allowed { Allows generations.old entry.event }
-    requires small { generation.old < max_limits.events }
-    ensures history { OnOk result (history.new ≡ history.old ++ entry ∷ []) }
-    ensures transition { IfOk result (IsTransition generations.old generation.old entry.event
-        generations.new generation.new) }
-    ensures closed { OnOk result (closed.new ≡ closed_after keep closed.old
-        generation.old generations.old.slots entry.event) }
-    ensures catalog { generations.new.catalog ≡ generations.old.catalog }
-{
-    close_by(alloc, keep, closed, *generation, generations, &entry.event)?;
-    let outcome = carry_out(generations, generation, &entry.event)?;
-    history.push(alloc, entry)?;
-    Ok(outcome)
-}
+impl Parts {
+    /// Carries out an event that isn't refused, adds its entry to the history, and returns the
+    /// outcome.
+    fn carry_out(&mut self, entry: Entry) -> Result<Outcome, AllocError>
+        requires allowed { Allows self.old.generations entry.event }
+        requires small { self.old.generation < max_limits.events }
+        ensures limits { self.new.limits ≡ self.old.limits }
+        ensures history { OnOk result (self.new.history ≡ self.old.history ++ entry ∷ []) }
+        ensures transition { IfOk result (IsTransition self.old.generations self.old.generation
+            entry.event self.new.generations self.new.generation) }
+        ensures closed { OnOk result (self.new.closed ≡ closed_after self.old.limits.keep
+            self.old.closed self.old.generation self.old.generations.slots entry.event) }
+        ensures catalog { self.new.generations.catalog ≡ self.old.generations.catalog }
+    {
+        self.close_by(&entry.event)?;
+        let outcome = carry_out(&mut self.generations, &mut self.generation, &entry.event)?;
+        self.history.push(self.alloc, entry)?;
+        Ok(outcome)
+    }
 
-/// Closes the current generation, which has this number, where the event is a switch.
-fn close_by(
-    alloc: Global,
-    keep: u32,
-    closed: &mut PagedLog<ClosedGeneration>,
-    number: u64,
-    generations: &Generations,
-    event: &Event,
-) -> Result<(), AllocError>
-    ensures { OnOk result
-        (closed.new ≡ closed_after keep closed.old number generations.now.slots event.now) }
-{
-    match event {
-        Event::Switch => {
-            *closed = with_closed(alloc, keep, closed, number, generations)?;
-            Ok(())
+    /// Closes the current generation where the event is a switch.
+    fn close_by(&mut self, event: &Event) -> Result<(), AllocError>
+        ensures closed { OnOk result (self.new.closed ≡ closed_after self.old.limits.keep
+            self.old.closed self.old.generation self.old.generations.slots event.now) }
+        ensures others { self.new ≡ record self.old { closed = self.new.closed } }
+    {
+        match event {
+            Event::Switch => {
+                self.closed = with_closed(
+                    self.alloc,
+                    self.limits.keep,
+                    &self.closed,
+                    self.generation,
+                    &self.generations,
+                )?;
+                Ok(())
+            }
+            _ => Ok(()),
         }
-        _ => Ok(()),
     }
 }

@@ -22,7 +22,7 @@ use Rattle.tt_versions.specs.declared.side.Side.{Side}
 use Rattle.tt_versions.specs.declared.side.Side.TheVariants.{Current, Next}
 use Rattle.tt_versions.specs.Sides.{LineagesByKey, side_of, current_of, next_of, ListsRows}
 use Rattle.tt_repair_laws.specs.declared.edit.Edit.{Edit}
-use Rattle.tt_repair_laws.specs.Edits.{slot_number, edited_slots}
+use Rattle.tt_repair_laws.specs.Edits.{slot_number, edited_slots, HasNoFault}
 use Rattle.tt_repair_laws.specs.Due.{content_after, is_due, reexecuted_count, slot_rows_written}
 use Rattle.tt_repair_laws.specs.NextSide.{current_side}
 use Rattle.tt_repair_laws.proofs.LawProofs.{edited_slots_are_as_many, next_side_shows_edited_slots, no_slot_is_reexecuted_at_first, due_slots_are_reexecuted, undue_slots_are_not_reexecuted}
@@ -35,7 +35,7 @@ use Rattle.tt_generations.specs.ActionRun.{step_writes, CarriesOutAction, most_r
 use Rattle.tt_generations.specs.Reexecution.{ShowsContentBefore, ShowsFewBefore}
 use Rattle.tt_generations.specs.KeptSlots.{last_content, slot_with_replies, kept_slot, actions_of, AreKept, IsAccepted, AreAccepted}
 use Rattle.tt_generations.specs.Repair.{HasKeysIfAny, is_kept_due, next_action, repair_with_slot, next_slots, HasDoneDueSlot, HasReexecutedSlot, ReexecutesSlot, DoesSlot}
-use Rattle.tt_generations.specs.TwoGenerations.{TwoGenerations, Phase, Idle, Repairing, NamesSlot, HasNoFault, IsWithin, done_of, next_content_in, next_content_at, next_slot_at, left_of, slots_edited_by, next_side_of, rows_on}
+use Rattle.tt_generations.specs.TwoGenerations.{TwoGenerations, Phase, Idle, Repairing, NamesSlot, IsWithin, done_of, next_content_in, next_content_at, next_slot_at, left_of, slots_edited_by, next_side_of, rows_on}
 use Rattle.tt_generations.specs.Generations.{phase_of, next_kept_slot, HaveBothSides, IsRepair, IsRepairIfAny, AreGenerations}
 use Rattle.tt_generations.proofs.ActionStepsLemmas.{CurrentAgrees-action}
 use Rattle.tt_generations.proofs.FewRowsLemmas.{HasFewRows-agree}

@@ -10,13 +10,13 @@ use Rattle.tt_values.specs.RowWrites.{Slots, slot_after, slot_replies, content_o
 use Rattle.tt_values.proofs.LawProofs.{added_slot_leaves_past, earlier_slots_stay, added_slot_is_next}
 use Rattle.tt_repair_laws.specs.declared.edit.Edit.{Edit}
 use Rattle.tt_repair_laws.specs.declared.edit.Edit.TheVariants.{Cancel, Replace}
-use Rattle.tt_repair_laws.specs.Edits.{edit_of, edited_slots, edited_slots_from, slot_with_edit, slot_number}
+use Rattle.tt_repair_laws.specs.Edits.{edit_of, edited_slots, edited_slots_from, slot_with_edit, slot_number, HasNoFault}
 use Rattle.tt_values.specs.Tables.{Tables}
 use Rattle.tt_repair_laws.specs.Due.{content_after, is_due, slot_rows_written}
 use Rattle.tt_repair_laws.proofs.LawProofs.{edited_slots_are_as_many, later_slots_stay, no_affected_slot_is_missed, content_after_is_kept}
 use Rattle.tt_generations.specs.declared.slot.KeptSlot.{KeptSlot}
 use Rattle.tt_generations.specs.KeptSlots.{last_content, kept_slot, actions_of, AreKept, IsAccepted, AreAccepted}
-use Rattle.tt_generations.specs.TwoGenerations.{NamesSlot, HasNoFault}
+use Rattle.tt_generations.specs.TwoGenerations.{NamesSlot}
 use Rattle.tt_generations.specs.Generations.{next_kept_slot}
 use Rattle.tt_generations.proofs.ListLemmas.{slice_get-append_left, slice_get-append_at}
 

@@ -16,7 +16,7 @@ use Rattle.tt_values.specs.RowWrites.{Slots, slot_after, slot_writes, slot_repli
 use Rattle.tt_values.proofs.LawProofs.{rows_rise, next_content, action_leaves_its_last_content}
 use Rattle.tt_parts.specs.Dirty.{DirtySet, DirtyTables, SameMembers, nothing_dirty, has_row}
 use Rattle.tt_repair_laws.specs.declared.edit.Edit.{Edit}
-use Rattle.tt_repair_laws.specs.Edits.{edit_of, edited_slots, slot_with_edit, replacement_of}
+use Rattle.tt_repair_laws.specs.Edits.{edit_of, edited_slots, slot_with_edit, replacement_of, HasNoFault}
 use Rattle.tt_repair_laws.specs.Due.{content_after, is_due, is_slot_affected, dirty_after, reexecuted_count, rows_reexecuted, slot_rows_written, slot_rows_matched, names_dirty_row, is_write_clear, with_row_of}
 use Rattle.tt_repair_laws.specs.Laws.{IsSameRepair}
 use Rattle.tt_repair_laws.proofs.LawProofs.{edited_slots_are_as_many, edited_slot_is_next, later_slots_change_no_repair, content_after_is_kept, due_depends_on_members, dirty_rows_depend_on_members, nothing_is_dirty_at_first, undue_slots_dirty_nothing, due_slots_dirty_reexecuted_rows, no_slot_is_reexecuted_at_first, due_slots_are_reexecuted, undue_slots_are_not_reexecuted}
@@ -30,7 +30,7 @@ use Rattle.tt_generations.specs.Reexecution.{AreReexecuted, ShowsContentBefore, 
 use Rattle.tt_generations.specs.KeptSlots.{kept_slot, AreKept, IsAccepted, AreAccepted}
 use Rattle.tt_generations.specs.EditsByNumber.{HasEdits}
 use Rattle.tt_generations.specs.Repair.{is_kept_affected, is_kept_due, next_replacement, replaced_by, next_action, writes_of, HasReexecutedSlot, HasDoneDueSlot}
-use Rattle.tt_generations.specs.TwoGenerations.{NamesSlot, HasNoFault, Repairing}
+use Rattle.tt_generations.specs.TwoGenerations.{NamesSlot, Repairing}
 use Rattle.tt_generations.specs.Generations.{next_kept_slot, IsRepair, HaveBothSides}
 use Rattle.tt_generations.proofs.FewRowsLemmas.{length-after_action}
 use Rattle.tt_generations.proofs.KeptSlotsLemmas.{AreKept-same, AreKept-push, AreKept-set, kept_slot-is, next_kept_slot-append, next_kept_slot-last, next_kept_slot-first, next_kept_slot-other, next_kept_slot-done, next_kept_slot-left, kept_slot-undue, named-append, AreAccepted-at, AreAccepted-edited}

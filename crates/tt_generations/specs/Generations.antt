@@ -6,7 +6,7 @@ use Rattle.tt_values.specs.RowWrites.{Slots}
 use Rattle.tt_versions.specs.Sides.{current_of, next_of, is_split}
 use Rattle.tt_parts.specs.Dirty.{SameMembers}
 use Rattle.tt_repair_laws.specs.declared.edit.Edit.{Edit}
-use Rattle.tt_repair_laws.specs.Edits.{edited_slots}
+use Rattle.tt_repair_laws.specs.Edits.{edited_slots, HasNoFault}
 use Rattle.tt_repair_laws.specs.Due.{dirty_after, reexecuted_count}
 use Rattle.tt_repair_laws.specs.NextSide.{current_side}
 use Rattle.tt_generations.specs.declared.slot.KeptSlot.{KeptSlot}
@@ -15,7 +15,7 @@ use Rattle.tt_generations.specs.Limits.{max_slots}
 use Rattle.tt_generations.specs.Rows.{TablesByPosition, versions_at}
 use Rattle.tt_generations.specs.EditsByNumber.{HasEdits}
 use Rattle.tt_generations.specs.KeptSlots.{kept_slot, actions_of, AreKept, AreAccepted}
-use Rattle.tt_generations.specs.TwoGenerations.{Phase, Idle, Repairing, NamesSlot, HasNoFault, next_side_of, dirty_rows_of}
+use Rattle.tt_generations.specs.TwoGenerations.{Phase, Idle, Repairing, NamesSlot, next_side_of, dirty_rows_of}
 
 -- both sides of each table show what they are to show, and the dirty rows are split
 pub record HaveBothSides (versions : TablesByPosition) (tables : Tables) (phase : Phase) (W : Slots) : Type 0 where

@@ -2,7 +2,6 @@
 use Rattle.std.specs.Prelude.{◌≡◌, ℕ, suc, ◌≤◌, ◌-◌, ℤ, Bool, true, false, List, [], ◌∷◌, ◌++◌, map, length, nat_lt, Option, None, Some, if◌then◌else◌}
 use Rattle.tt_values.specs.declared.statement.Write.{Write}
 use Rattle.tt_values.specs.Tables.{Tables}
-use Rattle.tt_values.specs.Check.{action_fault}
 use Rattle.tt_values.specs.Content.{Content, RowsByKey, content_at}
 use Rattle.tt_values.specs.Effect.{matching_rows}
 use Rattle.tt_values.specs.declared.statement.Select.{Select}
@@ -17,7 +16,6 @@ use Rattle.tt_repair_laws.specs.declared.edit.Edit.{Edit}
 use Rattle.tt_generations.specs.declared.progress.Progress.{Progress}
 use Rattle.tt_generations.specs.declared.slot.Slot.{Slot}
 use Rattle.tt_generations.specs.KeptSlots.{slot_at}
-use Rattle.tt_repair_laws.specs.declared.edit.Edit.TheVariants.{Cancel, Replace}
 use Rattle.tt_repair_laws.specs.Edits.{slot_number, edited_slots}
 use Rattle.tt_repair_laws.specs.Due.{content_after, dirty_after, is_due, reexecuted_count}
 use Rattle.tt_repair_laws.specs.NextSide.{current_side, next_side}
@@ -139,11 +137,6 @@ dirty_rows_of tables (Repairing edits n) W table key = has_row (dirty_after tabl
 -- an edit names a slot that is there
 abbrev pub NamesSlot : Slots → Edit → Type 0
 NamesSlot W e = (1 ≤ slot_number e) × (slot_number e ≤ length W)
-
--- the action of an edit has no fault
-abbrev pub HasNoFault : Tables → Edit → Type 0
-HasNoFault tables (Cancel t) = Unit {0}
-HasNoFault tables (Replace t action) = action_fault tables action ≡ None
 
 -- how far the repair is, if one is under way
 abbrev pub progress_in : Tables → Phase → Slots → Option Progress

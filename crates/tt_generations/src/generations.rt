@@ -7,11 +7,12 @@ ghost use Rattle.tt_values.specs.Effect.{answer_of};
 ghost use Rattle.tt_values.specs.Action.{replies_of};
 ghost use Rattle.tt_values.specs.RowWrites.{content_of};
 ghost use Rattle.tt_versions.specs.Sides.{current_of, next_of, is_split};
+ghost use Rattle.tt_repair_laws.specs.Edits.{HasNoFault};
 ghost use Rattle.tt_repair_laws.specs.NextSide.{current_side};
 ghost use Rattle.tt_generations.specs.Limits.{max_slots};
 ghost use Rattle.tt_generations.specs.KeptSlots.{slot_at, last_content, actions_of};
 ghost use Rattle.tt_generations.specs.Repair.{repair_with_slot, next_slots};
-ghost use Rattle.tt_generations.specs.TwoGenerations.{no_slots, with_action, with_repair, after_step, after_switch, after_abort, is_repairing, done_of, left_of, reexecuted_of, is_next_due, is_due_in, phase_after_step, next_content_of, next_content_at, next_slot_at, rows_on, AnswersOn, IsWithin, progress_of, next_side_of, dirty_rows_of, NamesSlot, HasNoFault, Phase};
+ghost use Rattle.tt_generations.specs.TwoGenerations.{no_slots, with_action, with_repair, after_step, after_switch, after_abort, is_repairing, done_of, left_of, reexecuted_of, is_next_due, is_due_in, phase_after_step, next_content_of, next_content_at, next_slot_at, rows_on, AnswersOn, IsWithin, progress_of, next_side_of, dirty_rows_of, NamesSlot, Phase};
 ghost use Rattle.tt_generations.specs.Generations.{phase_of, AreGenerations};
 
 mod page;

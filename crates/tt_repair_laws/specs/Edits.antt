@@ -1,6 +1,8 @@
 -- A list of slots with the edits of a repair.
-use Rattle.std.specs.Prelude.{ℕ, suc, ◌==◌, List, [], ◌∷◌, Option, None, Some, if◌then◌else◌}
+use Rattle.std.specs.Prelude.{◌≡◌, ℕ, suc, ◌==◌, List, [], ◌∷◌, Option, None, Some, if◌then◌else◌}
 use Rattle.tt_values.specs.declared.statement.Write.{Write}
+use Rattle.tt_values.specs.Tables.{Tables}
+use Rattle.tt_values.specs.Check.{action_fault}
 use Rattle.tt_values.specs.RowWrites.{Slots}
 use Rattle.tt_repair_laws.specs.declared.edit.Edit.{Edit}
 use Rattle.tt_repair_laws.specs.declared.edit.Edit.TheVariants.{Cancel, Replace}
@@ -14,6 +16,11 @@ slot_number (Replace t action) = t
 abbrev pub replacement_of : Edit → Option (List Write)
 replacement_of (Cancel t) = None
 replacement_of (Replace t action) = Some action
+
+-- the action of an edit, if it has one, has no fault
+abbrev pub HasNoFault : Tables → Edit → Type 0
+HasNoFault tables (Cancel t) = Unit {0}
+HasNoFault tables (Replace t action) = action_fault tables action ≡ None
 
 -- the edit of slot t, the first if there are several
 abbrev pub edit_of : List Edit → ℕ → Option Edit

@@ -9,6 +9,7 @@ use Rattle.tt_values.specs.declared.statement.Write.{Write}
 use Rattle.tt_values.specs.Tables.{Tables}
 use Rattle.tt_values.specs.Check.{select_fault}
 use Rattle.tt_repair_laws.specs.declared.edit.Edit.{Edit}
+use Rattle.tt_repair_laws.specs.Edits.{HasNoFault}
 use Rattle.tt_grammar.specs.declared.fault.DocFault.{DocFault}
 use Rattle.tt_grammar.specs.declared.statements.Context.TheVariants as contexts
 use Rattle.tt_grammar.specs.declared.version.Version.TheVariants as versions
@@ -27,29 +28,29 @@ use Rattle.tt_requests.specs.Reads.{page, read, preview}
 use Rattle.tt_requests.specs.Questions.{worker_number, span, row_named, slots, changes_named, changes_asked, changes}
 use Rattle.tt_requests.specs.Requests.{one_write, several_writes, begin, max_steps, only_true, bare, statement_kinds, repair_kinds, question_kinds, by_first_kind, command, members_of_request}
 use Rattle.tt_requests.specs.Requests as requests
-use Rattle.tt_requests.specs.Judged.{IsJudgedEdit, AreJudgedEdits, IsJudged, RequestsAreJudged}
+use Rattle.tt_requests.specs.Judged.{AreJudgedEdits, IsJudged, RequestsAreJudged}
 use Rattle.tt_requests.proofs.StepBackLemmas.{ok_same, step, with_path-ok, either-ok, or_refuse-ok, within_limit-ok, member-ok, each-ok}
 use Rattle.tt_requests.proofs.AcceptedLemmas.{Accepts, insert-accepted, update-accepted, delete-accepted, one_write-accepted, action-accepted, replacement-accepted, select-accepted}
 
 -- ---- edits
 
-cancel-judged : (tables : Tables) (v : Data) (asked : Edit) → cancel v ≡ Ok asked → IsJudgedEdit tables asked
+cancel-judged : (tables : Tables) (v : Data) (asked : Edit) → cancel v ≡ Ok asked → HasNoFault tables asked
 unfolding cancel
 cancel-judged tables v asked e =
     let slot = step (member (codes "cancel") count v) _ asked e in
     let known = step (no_members_but (is_one_of (codes "cancel" ∷ [])) v) _ asked slot.rest in
-    subst (IsJudgedEdit tables) (ok_same known.rest) tt
+    subst (HasNoFault tables) (ok_same known.rest) tt
 
-replace-judged : (tables : Tables) (v : Data) (asked : Edit) → replace tables v ≡ Ok asked → IsJudgedEdit tables asked
+replace-judged : (tables : Tables) (v : Data) (asked : Edit) → replace tables v ≡ Ok asked → HasNoFault tables asked
 unfolding replace
 replace-judged tables v asked e =
     let slot = step (member (codes "replace") count v) _ asked e in
     let by = step (member (codes "by") (replacement versions.Two tables) v) _ asked slot.rest in
     let known = step (no_members_but (is_one_of (codes "by" ∷ codes "replace" ∷ [])) v) _ asked by.rest in
     let source = member-ok (codes "by") (replacement versions.Two tables) v by.value by.is in
-    subst (IsJudgedEdit tables) (ok_same known.rest) (replacement-accepted versions.Two tables source.value by.value source.is)
+    subst (HasNoFault tables) (ok_same known.rest) (replacement-accepted versions.Two tables source.value by.value source.is)
 
-edit-judged : (tables : Tables) (v : Data) (asked : Edit) → edit tables v ≡ Ok asked → IsJudgedEdit tables asked
+edit-judged : (tables : Tables) (v : Data) (asked : Edit) → edit tables v ≡ Ok asked → HasNoFault tables asked
 unfolding edit
 edit-judged tables v asked e =
     let is_object = step (object v) _ asked e in
@@ -60,10 +61,10 @@ edits-judged : (tables : Tables) (v : Data) (asked : List Edit) → edits tables
 edits-judged tables v asked e =
     let items = step (array v) _ asked e in
     let within = step (within_limit max_edits items.value) _ asked items.rest in
-    let each = each-ok (IsJudgedEdit tables) (edit tables) (edit-judged tables) 0 items.value asked within.rest in
+    let each = each-ok (HasNoFault tables) (edit tables) (edit-judged tables) 0 items.value asked within.rest in
     let few : length items.value ≤ max_edits = ltb-false max_edits (length items.value) (within_limit-ok max_edits items.value within.value within.is) in
     record {
-      accepted = All-from_recursion (IsJudgedEdit tables) asked each.all;
+      accepted = All-from_recursion (HasNoFault tables) asked each.all;
       few = subst (λ n. n ≤ max_edits) (sym each.as_many) few;
     }
 

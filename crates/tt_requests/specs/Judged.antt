@@ -4,7 +4,7 @@ use Rattle.serde_json.specs.Data.{Data}
 use Rattle.tt_values.specs.Tables.{Tables}
 use Rattle.tt_values.specs.Check.{action_fault, select_fault}
 use Rattle.tt_repair_laws.specs.declared.edit.Edit.{Edit}
-use Rattle.tt_repair_laws.specs.declared.edit.Edit.TheVariants.{Cancel, Replace}
+use Rattle.tt_repair_laws.specs.Edits.{HasNoFault}
 use Rattle.tt_grammar.specs.declared.fault.DocFault.{DocFault}
 use Rattle.tt_grammar.specs.Edits.{max_edits}
 use Rattle.tt_requests.specs.declared.request.Command.{Command}
@@ -12,14 +12,9 @@ use Rattle.tt_requests.specs.declared.request.Command.TheVariants as commands
 use Rattle.tt_requests.specs.declared.request.Request.{Request}
 use Rattle.tt_requests.specs.Requests.{request_of}
 
--- the action of an edit, if it has one, has no fault
-abbrev pub IsJudgedEdit : Tables → Edit → Type 0
-IsJudgedEdit tables (Cancel slot) = Unit {0}
-IsJudgedEdit tables (Replace slot action) = action_fault tables action ≡ None
-
 -- no action of the edits has a fault, and there are at most as many edits as there may be
 pub record AreJudgedEdits (tables : Tables) (edits : List Edit) : Type 0 where
-  pub accepted : All (IsJudgedEdit tables) edits
+  pub accepted : All (HasNoFault tables) edits
   pub few : length edits ≤ max_edits
 
 -- neither an action nor a select has a fault, and the edits of a repair have been judged

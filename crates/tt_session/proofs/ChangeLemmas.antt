@@ -4,7 +4,7 @@ use Rattle.std.specs.Prelude.{IsSome, ◌↔◌}
 use Rattle.std.specs.Option.{option_to_list}
 use Rattle.std.specs.List.{cons_option}
 use Rattle.tt_repair_laws.specs.declared.edit.Edit.{Edit}
-use Rattle.tt_generations.specs.TwoGenerations.{Repairing}
+use Rattle.tt_generations.specs.TwoGenerations.{Phase, Idle, Repairing, is_repairing, done_of}
 use Rattle.tt_db.specs.declared.event.Event.TheVariants as events
 use Rattle.tt_db.specs.State.{State, next_state}
 use Rattle.tt_db.specs.Database.{state_of, now_in}
@@ -19,7 +19,9 @@ use Rattle.tt_answers.specs.declared.answer.Answer.TheVariants as answers
 use Rattle.tt_session.specs.declared.response.Response.{Response}
 use Rattle.tt_session.specs.Session.{OpenSession, state_in}
 use Rattle.tt_session.specs.Repairing.{entry_by, with_event}
-use Rattle.tt_session.specs.Laws.{NextChangesEndAsChanges}
+use Rattle.tt_session.specs.declared.change_entries.Moment.TheVariants.{Now, Next}
+use Rattle.tt_session.specs.Moments.{changes_answer_at}
+use Rattle.tt_session.specs.Laws.{switched, NextChangesEndAsChanges}
 use Rattle.tt_session.specs.Answers.{answered_by}
 
 last-of-one : (x y : Changed) (rest : List Changed) → x ∷ [] ≡ rest ++ y ∷ [] → x ≡ y
@@ -68,6 +70,15 @@ change-ends session worker edits phase r =
     (records.next_changes_end_as_changes db.catalog db.limits (state_of db) edits (r ∷ []) phase)
     ∙ ap (λ (S : State). change_of db.catalog S r) (sym after)
 
-pub next_changes_end_as_changes : NextChangesEndAsChanges
-next_changes_end_as_changes session worker edits phase =
+changes-end : (session : OpenSession) (worker : ℕ) (edits : List Edit) → (state_in session).phase ≡ Repairing edits (now_in session.database)
+    → (changes_answer_at Next session).answer ≡ (changes_answer_at Now (switched session worker)).answer
+changes-end session worker edits phase =
     λ i. answers.Changes (first_call session.records session.calls) (entries_of_changes (λ r. change-ends session worker edits phase r i) session.records)
+
+pub next_changes_end_as_changes : NextChangesEndAsChanges
+next_changes_end_as_changes session worker = by (state_in session).phase refl
+  where
+    by : (p : Phase) → (state_in session).phase ≡ p → is_repairing p ≡ true → done_of p ≡ now_in session.database
+        → (changes_answer_at Next session).answer ≡ (changes_answer_at Now (switched session worker)).answer
+    by Idle phase repairing done = cc
+    by (Repairing edits n) phase repairing done = changes-end session worker edits (phase ∙ ap (Repairing edits) done)

@@ -9,6 +9,7 @@ use Rattle.tt_values.specs.declared.checking.CheckError.{CheckError}
 use Rattle.tt_values.specs.Tables.{Tables}
 use Rattle.tt_values.specs.Check.{action_fault}
 use Rattle.tt_repair_laws.specs.declared.edit.Edit.{Edit}
+use Rattle.tt_repair_laws.specs.Edits.{HasNoFault}
 use Rattle.tt_repair_laws.specs.declared.edit.Edit.TheVariants.{Cancel, Replace}
 use Rattle.tt_generations.specs.TwoGenerations.{Phase, Idle, Repairing}
 use Rattle.tt_db.specs.declared.event.Event.TheVariants as events
@@ -20,7 +21,7 @@ use Rattle.tt_db.specs.Database.{now_in, right_preview_of}
 use Rattle.tt_requests.specs.declared.request.Command.{Command}
 use Rattle.tt_requests.specs.declared.request.Command.TheVariants as commands
 use Rattle.tt_requests.specs.declared.request.Page.{Page}
-use Rattle.tt_requests.specs.Judged.{IsJudgedEdit, IsJudged}
+use Rattle.tt_requests.specs.Judged.{IsJudged}
 use Rattle.tt_requests.proofs.LawProofs.{requests_are_judged}
 use Rattle.tt_answers.specs.declared.answer.Refusal.{Refusal}
 use Rattle.tt_answers.specs.declared.answer.Refusal.TheVariants as refusals
@@ -88,12 +89,12 @@ preview-error : (session : OpenSession) (page : Page) (right : Result Reply Read
 preview-error session page (Err fault) error is = cc
 preview-error session page (Ok reply) error is = cc
 
-no_edits_fault : (tables : Tables) (edits : List Edit) → All (IsJudgedEdit tables) edits → edits_fault tables edits ≡ None
+no_edits_fault : (tables : Tables) (edits : List Edit) → All (HasNoFault tables) edits → edits_fault tables edits ≡ None
 no_edits_fault tables [] judged = refl
-no_edits_fault tables (Cancel slot ∷ edits) judged = no_edits_fault tables edits (All-tail (IsJudgedEdit tables) (Cancel slot) edits judged)
+no_edits_fault tables (Cancel slot ∷ edits) judged = no_edits_fault tables edits (All-tail (HasNoFault tables) (Cancel slot) edits judged)
 no_edits_fault tables (Replace slot action ∷ edits) judged =
-    ap (λ f. option_or f (edits_fault tables edits)) (All-head (IsJudgedEdit tables) (Replace slot action) edits judged)
-    ∙ no_edits_fault tables edits (All-tail (IsJudgedEdit tables) (Replace slot action) edits judged)
+    ap (λ f. option_or f (edits_fault tables edits)) (All-head (HasNoFault tables) (Replace slot action) edits judged)
+    ∙ no_edits_fault tables edits (All-tail (HasNoFault tables) (Replace slot action) edits judged)
 
 error-of : (session : OpenSession) (worker : ℕ) (command : Command) (error : DbError) → IsOpenSession session → IsJudged session.database.catalog command
     → carried_out session worker command ≡ Err (refusals.Event error) → answers_lines error ≡ true

@@ -14,7 +14,7 @@ use Rattle.tt_session.specs.Repairing.{with_event, with_all_steps}
 use Rattle.tt_session.specs.Run.{turn_by_request, session_after}
 use Rattle.tt_session.specs.Sound.{IsSound}
 
--- an open session: its history is legal, there is room for the end of a repair that is under way, and no more records are kept than may be
+-- an open session: its tables are a catalog, its limits fit, its history is legal, there is room for the end of a repair that is under way, and no more records are kept than may be
 abbrev pub IsOpenSession : OpenSession → Type 0
 IsOpenSession session = IsSound session.database session.records session.most_records
 

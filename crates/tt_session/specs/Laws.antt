@@ -1,8 +1,7 @@
 -- What holds of the answers of a session.
-use Rattle.std.specs.Prelude.{◌≡◌, ℕ, Bool, true, false, List, Result, Ok, Err}
+use Rattle.std.specs.Prelude.{◌≡◌, ℕ, Bool, true, false, Result, Ok, Err}
 use Rattle.serde_json.specs.Data.{Data}
-use Rattle.tt_repair_laws.specs.declared.edit.Edit.{Edit}
-use Rattle.tt_generations.specs.TwoGenerations.{Repairing}
+use Rattle.tt_generations.specs.TwoGenerations.{is_repairing, done_of}
 use Rattle.tt_db.specs.declared.event.Event.TheVariants as events
 use Rattle.tt_db.specs.declared.errors.DbError.{DbError}
 use Rattle.tt_db.specs.declared.errors.DbError.TheVariants as errors
@@ -36,7 +35,8 @@ OtherErrorsAnswerNoLine = (session : OpenSession) (value : Result Data DocFault)
 abbrev pub switched : OpenSession → ℕ → OpenSession
 switched session worker = with_database session (with_event session.database worker events.Switch)
 
--- once the repair has done all slots, the next changes are the changes right after the switch
+-- once a repair has done as many slots as there are, the next changes are the changes right after the switch
 abbrev pub NextChangesEndAsChanges : Type 0
-NextChangesEndAsChanges = (session : OpenSession) (worker : ℕ) (edits : List Edit) → (state_in session).phase ≡ Repairing edits (now_in session.database) →
+NextChangesEndAsChanges = (session : OpenSession) (worker : ℕ) →
+    is_repairing (state_in session).phase ≡ true → done_of (state_in session).phase ≡ now_in session.database →
     (changes_answer_at Next session).answer ≡ (changes_answer_at Now (switched session worker)).answer

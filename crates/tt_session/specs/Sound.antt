@@ -8,7 +8,7 @@ use Rattle.tt_records.specs.declared.record.Record.{Record}
 use Rattle.tt_requests.specs.Opening.{max_records}
 use Rattle.tt_session.specs.Room.{has_no_room_to_end}
 
--- the database is sound, takes as many edits as any, there is room for the end of a repair that is under way, and no more records are kept than may be
+-- the tables are a catalog, the limits fit, with the largest limit of edits, the history is legal, there is room for the end of a repair that is under way, and no more records are kept than may be
 pub record IsSound (db : Database) (kept : List Record) (most : ℕ) : Type 0 where
   pub catalog : IsCatalog db.catalog
   pub fits : Fits db.limits

@@ -30,6 +30,7 @@ use Rattle.tt_versions.specs.contracts.next_chain.NextChain as next_chain_type
 use Rattle.tt_versions.specs.contracts.lineage.Lineage as lineage_type
 use Rattle.tt_versions.specs.contracts.indexed_column.IndexedColumn as indexed_column_type
 use Rattle.tt_versions.specs.contracts.index.Index as index_type
+use Rattle.tt_versions.specs.contracts.lineages.IndexedEntries as indexed_entries_type
 use Rattle.tt_versions.specs.contracts.lineages.Lineages as lineages_type
 use Rattle.tt_versions.specs.contracts.table.Table as table_type
 use Rattle.tt_parts.specs.contracts.same_digest.SameDigest as same_digest_type
@@ -51,6 +52,7 @@ use Rattle.tt_db.specs.contracts.event.Event as event_type
 use Rattle.tt_db.specs.contracts.event.Entry as entry_type
 use Rattle.tt_db.specs.contracts.history.History as history_type
 use Rattle.tt_db.specs.contracts.closed.ClosedGeneration as closed_type
+use Rattle.tt_db.specs.contracts.database.Parts as parts_type
 use Rattle.tt_db.specs.contracts.database.Db as db_type
 use Rattle.tt_store.specs.contracts.front.Front as front_type
 use Rattle.tt_store.specs.contracts.snapshot.Snapshot as snapshot_type
@@ -275,11 +277,17 @@ index_send = search (map_send, map_sync, indexed_column_send, indexed_column_syn
 pub index_sync : IsSync index_type.the_row
 index_sync = search (map_send, map_sync, indexed_column_send, indexed_column_sync, crosses, sendable) depth 60 fits 50000
 
+pub indexed_entries_field_send : IsSend (indexed_entries_type.the_field).row
+indexed_entries_field_send = search (map_send, map_sync, lineage_send, lineage_sync, index_send, index_sync, crosses, sendable) depth 60 fits 50000
+
+pub indexed_entries_field_sync : IsSync (indexed_entries_type.the_field).row
+indexed_entries_field_sync = search (map_send, map_sync, lineage_send, lineage_sync, index_send, index_sync, crosses, sendable) depth 60 fits 50000
+
 pub lineages_send : IsSend lineages_type.the_row
-lineages_send = search (map_send, map_sync, lineage_send, lineage_sync, index_send, index_sync, crosses, sendable) depth 60 fits 50000
+lineages_send = search (indexed_entries_field_send, indexed_entries_field_sync, crosses, sendable) depth 60 fits 50000
 
 pub lineages_sync : IsSync lineages_type.the_row
-lineages_sync = search (map_send, map_sync, lineage_send, lineage_sync, index_send, index_sync, crosses, sendable) depth 60 fits 50000
+lineages_sync = search (indexed_entries_field_send, indexed_entries_field_sync, crosses, sendable) depth 60 fits 50000
 
 pub table_send : IsSend table_type.the_row
 table_send = search (lineages_send, lineages_sync, crosses, sendable) depth 60 fits 50000
@@ -431,11 +439,17 @@ closed_send = search (generations_send, generations_sync, crosses, sendable) dep
 pub closed_sync : IsSync closed_type.the_row
 closed_sync = search (generations_send, generations_sync, crosses, sendable) depth 60 fits 50000
 
+pub parts_field_send : IsSend (parts_type.the_field).row
+parts_field_send = search (log_send, log_sync, history_send, history_sync, generations_send, generations_sync, closed_send, closed_sync, crosses, sendable) depth 60 fits 50000
+
+pub parts_field_sync : IsSync (parts_type.the_field).row
+parts_field_sync = search (log_send, log_sync, history_send, history_sync, generations_send, generations_sync, closed_send, closed_sync, crosses, sendable) depth 60 fits 50000
+
 pub db_send : IsSend db_type.the_row
-db_send = search (log_send, log_sync, history_send, history_sync, generations_send, generations_sync, closed_send, closed_sync, crosses, sendable) depth 60 fits 50000
+db_send = search (parts_field_send, parts_field_sync, crosses, sendable) depth 60 fits 50000
 
 pub db_sync : IsSync db_type.the_row
-db_sync = search (log_send, log_sync, history_send, history_sync, generations_send, generations_sync, closed_send, closed_sync, crosses, sendable) depth 60 fits 50000
+db_sync = search (parts_field_send, parts_field_sync, crosses, sendable) depth 60 fits 50000
 
 pub front_send : IsSend front_type.the_row
 front_send = search (seen_send, seen_sync, crosses, sendable) depth 60 fits 50000

@@ -23,9 +23,11 @@ use Rattle.tt_versions.specs.declared.lineage.Lineage.{Lineage}
 use Rattle.tt_versions.specs.declared.indexed_column.IndexedColumn.{IndexedColumn}
 use Rattle.tt_versions.specs.Versions.{started_by, started_before, visible_row, with_write}
 use Rattle.tt_versions.specs.Lineage.{unwritten, chain_on, with_write_on, split_back}
-use Rattle.tt_versions.specs.Sides.{LineagesByKey, lineage_at, side_of, is_split, StaysSplit, unsplit_if, UnsplitsKeys}
+use Rattle.tt_versions.specs.Sides.{LineagesByKey, lineage_at, side_of, is_split, StaysSplit, UnsplitsRows}
 use Rattle.tt_values.specs.Digest.{digest_of}
-use Rattle.tt_versions.specs.Index.{KeySet, has_key, keys_under, KeepsKeys, ColumnLists, ColumnsList, IndexState, ListsRow, KeepsRows, IsStored, CoversEqual, CoversMatches, keys_equated, IsAtMost, IsSmallest, SayNoSet, IsKeyOfMatches, ChainHas, LineageHas, ListsTable, HaveKeysIn, HaveKey}
+use Rattle.tt_versions.specs.Index.{KeySet, has_key, keys_under, KeepsKeys, ColumnLists, ColumnsList, IndexState, ListsRow, KeepsRows, CoversEqual, CoversMatches, keys_equated, IsAtMost, IsSmallest, SayNoSet, IsKeyOfMatches, ChainHas, LineageHas, ListsTable, HaveKeysIn, HaveKey}
+use Rattle.tt_versions.specs.declared.lineages.IndexedEntries.{IndexedEntries}
+use Rattle.tt_versions.specs.IndexedEntries.{IsConsistent}
 use Rattle.tt_versions.proofs.EntriesLemmas.{first, second}
 use Rattle.tt_versions.proofs.SidesLemmas.{same_key, lineage_at-put, is_split-write_on}
 
@@ -334,10 +336,6 @@ LineageHas-write P Next row time l h last = (h.0, ChainHas-write P row time (cha
 pub LineageHas-split_back : (P : Row → Type 0) (time : ℕ) (l : Lineage) → LineageHas P l → LineageHas P (split_back time l)
 LineageHas-split_back P time l h = (h.0, ChainHas-filter P (λ v. nat_lt v.start time) (chain_on Next l) (chain_on-has P Next l h))
 
-LineageHas-unsplit_if : (P : Row → Type 0) (b : Bool) (side : Side) (l : Lineage) → LineageHas P l → LineageHas P (unsplit_if b side l)
-LineageHas-unsplit_if P true side l h = (chain_on-has P side l h, tt)
-LineageHas-unsplit_if P false side l h = h
-
 -- ---- tables
 
 pub ListsTable-empty : (index : IndexState) → ListsTable index []
@@ -354,9 +352,9 @@ ListsTable-put key index t l others here q = subst (λ x. LineageHas (ListsRow i
     by true e = subst (λ k. LineageHas (ListsRow index k) l) (sym (same_key q key e)) here
     by false e = others q
 
-pub ListsTable-unsplit : (side : Side) (keys : KeySet) (index : IndexState) (t after : LineagesByKey) → UnsplitsKeys side keys t after → ListsTable index t → ListsTable index after
-ListsTable-unsplit side keys index t after h listed q =
-    subst (λ l. LineageHas (ListsRow index q) l) (sym (h q)) (LineageHas-unsplit_if (ListsRow index q) (is_some (sorted.find int_cmp q keys)) side (lineage_at t q) (listed q))
+pub ListsTable-unsplit : (side : Side) (index : IndexState) (t after : LineagesByKey) → UnsplitsRows side t after → ListsTable index t → ListsTable index after
+ListsTable-unsplit side index t after h listed q =
+    subst (λ l. LineageHas (ListsRow index q) l) (sym (h.each q)) (chain_on-has (ListsRow index q) side (lineage_at t q) (listed q), tt)
 
 pub shown : (P : Row → Type 0) (o : Option Row) (row : Row) → o ≡ Some row → IfSome o P → P row
 shown P None row is h = cc
@@ -373,11 +371,14 @@ HaveKey-covers index only equals t listed covers side key time row is m =
     covers key row (shown (ListsRow index key) (visible_row time (chain_on side (lineage_at t key))) row is (visible_row-has (ListsRow index key) side (lineage_at t key) time (listed key))) m
 
 -- a write on a side, once the index lists its row
-pub IsStored-write : (side : Side) (key : ℤ) (split_keys : KeySet) (before after : IndexState) (t : LineagesByKey) (row : Option Row) (time : ℕ)
-    → StaysSplit side (is_split t) key → IsStored split_keys before t → KeepsRows before after → IfSome row (ListsRow after key)
-    → IsStored split_keys after (sorted.put int_cmp key (with_write_on side row time (lineage_at t key)) t)
-IsStored-write side key split_keys before after t row time stays stored keeps lists = record {
-  split = λ q. stored.split q ∙ (λ i. sym (is_split-write_on side t key row time stays) i q);
-  listed = ListsTable-put key after t (with_write_on side row time (lineage_at t key)) (ListsTable-keeps before after t keeps stored.listed)
-      (LineageHas-write (ListsRow after key) side row time (lineage_at t key) (ListsTable-keeps before after t keeps stored.listed key) lists);
+pub IsConsistent-write : (side : Side) (key : ℤ) (before after : IndexedEntries) (row : Option Row) (time : ℕ)
+    → StaysSplit side (is_split before.entries) key → IsConsistent before → after.split_keys ≡ before.split_keys → KeepsRows before.index after.index → IfSome row (ListsRow after.index key)
+    → after.entries ≡ sorted.put int_cmp key (with_write_on side row time (lineage_at before.entries key)) before.entries → IsConsistent after
+IsConsistent-write side key before after row time stays stored same keeps lists is = record {
+  split = λ q. ap (λ (keys : KeySet). is_some (sorted.find int_cmp q keys)) same ∙ stored.split q
+      ∙ (λ i. sym (is_split-write_on side before.entries key row time stays) i q) ∙ ap (λ (t : LineagesByKey). is_split t q) (sym is);
+  listed = let listed = ListsTable-keeps before.index after.index before.entries keeps stored.listed in
+      subst (λ (t : LineagesByKey). ListsTable after.index t) (sym is)
+      (ListsTable-put key after.index before.entries (with_write_on side row time (lineage_at before.entries key)) listed
+      (LineageHas-write (ListsRow after.index key) side row time (lineage_at before.entries key) (listed key) lists));
 }

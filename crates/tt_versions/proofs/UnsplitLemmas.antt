@@ -1,5 +1,5 @@
 -- A table whose split rows are unsplit, one after another, and the set of their keys.
-use Rattle.std.proofs.Common.{◌≡◌, ℤ, Bool, true, false, cond, ◌||◌, List, [], ◌∷◌, Option, None, Some, is_some, if◌then◌else◌, refl, sym, ap, ◌∙◌}
+use Rattle.std.proofs.Common.{◌≡◌, ℤ, Bool, true, false, cond, ◌||◌, List, [], Option, None, Some, is_some, if◌then◌else◌, refl, sym, ap, ◌∙◌}
 use Rattle.std.proofs.lemmas.Int.{to_z-of_z}
 use Rattle.std.specs.Ordering.{int_cmp, int_eq}
 use Rattle.std.specs.Cmp.{int_cmp_total}
@@ -12,13 +12,12 @@ use Rattle.tt_versions.specs.declared.version.Version.{Version}
 use Rattle.tt_versions.specs.declared.lineage.Lineage.{Lineage}
 use Rattle.tt_versions.specs.Versions.{visible_row}
 use Rattle.tt_versions.specs.Lineage.{unwritten, chain_on, unsplit}
-use Rattle.tt_versions.specs.Sides.{LineagesByKey, lineage_at, side_of, current_of, next_of, is_split, none_split, HasSplitKeys, MarksKey, unsplit_if, UnsplitsKeys, UnsplitsRow, UnsplitsRows}
+use Rattle.tt_versions.specs.Sides.{LineagesByKey, lineage_at, side_of, current_of, next_of, is_split, none_split, HasSplitKeys, MarksKey, UnsplitsRow, UnsplitsRows}
 use Rattle.tt_versions.proofs.SidesLemmas.{same_key, lineage_at-put}
 
-unsplit-again : (b : Bool) (side : Side) (l : Lineage) → unsplit_if b side (unsplit side l) ≡ unsplit side l
-unsplit-again true Current l = refl
-unsplit-again true Next l = refl
-unsplit-again false side l = refl
+-- a lineage is unsplit, or stays
+abbrev pub unsplit_if : Bool → Side → Lineage → Lineage
+unsplit_if b side l = if b then unsplit side l else l
 
 -- a row that was never written has nothing to unsplit
 pub UnsplitsRow-unwritten : (side : Side) (key : ℤ) (t : LineagesByKey) → sorted.find int_cmp key t ≡ None → UnsplitsRow side key t t
@@ -42,17 +41,6 @@ UnsplitsRow-changed side key t after l there changes q = ap (λ (es : LineagesBy
     by true = ap (λ o. unsplit side (unwrap_or o unwritten)) (sym there)
     by false = refl
 
--- once the first of some keys is unsplit, those behind it are left
-pub unsplit_next : (side : Side) (key : ℤ × Unit {0}) (rest : List (ℤ × Unit {0})) (before after : LineagesByKey) → UnsplitsRow side key.0 before after
-    → (q : ℤ) → unsplit_if (is_some (sorted.find int_cmp q rest)) side (lineage_at after q) ≡ unsplit_if (is_some (sorted.find int_cmp q (key ∷ rest))) side (lineage_at before q)
-unsplit_next side key rest before after h q = ap (unsplit_if (is_some (sorted.find int_cmp q rest)) side) (h q) ∙ by (int_eq q key.0) refl
-  where
-    by : (b : Bool) → int_eq q key.0 ≡ b
-        → unsplit_if (is_some (sorted.find int_cmp q rest)) side (if b then unsplit side (lineage_at before key.0) else lineage_at before q)
-        ≡ unsplit_if (is_some (cond b (Some key.1) (sorted.find int_cmp q rest))) side (lineage_at before q)
-    by true e = unsplit-again (is_some (sorted.find int_cmp q rest)) side (lineage_at before key.0) ∙ ap (λ k. unsplit side (lineage_at before k)) (sym (same_key q key.0 e))
-    by false e = refl
-
 -- a row that isn't split stays as it is
 unsplit-whole : (side : Side) (current : List Version) (next : Option (List Version)) → let l : Lineage = record { current = current; next = next } in unsplit_if (is_some next) side l ≡ unsplit side l
 unsplit-whole Current current None = refl
@@ -61,7 +49,7 @@ unsplit-whole side current (Some n) = refl
 
 -- so where the split rows are unsplit, all rows are
 pub unsplits_rows : (side : Side) (keys : List (ℤ × Unit {0})) (t after : LineagesByKey) → HasSplitKeys keys t
-    → UnsplitsKeys side keys t after → UnsplitsRows side t after
+    → ((q : ℤ) → lineage_at after q ≡ unsplit_if (is_some (sorted.find int_cmp q keys)) side (lineage_at t q)) → UnsplitsRows side t after
 unfolding is_split
 unsplits_rows side keys t after split h = record {
   each = λ q.

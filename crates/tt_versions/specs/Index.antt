@@ -12,7 +12,7 @@ use Rattle.tt_versions.specs.declared.side.Side.{Side}
 use Rattle.tt_versions.specs.declared.version.Version.{Version}
 use Rattle.tt_versions.specs.declared.lineage.Lineage.{Lineage}
 use Rattle.tt_values.specs.Digest.{digest_of}
-use Rattle.tt_versions.specs.Sides.{LineagesByKey, lineage_at, side_of, HasSplitKeys}
+use Rattle.tt_versions.specs.Sides.{LineagesByKey, lineage_at, side_of}
 
 -- a set of keys
 abbrev pub KeySet : Type 0
@@ -96,11 +96,6 @@ LineageHas P l = ChainHas P l.current × IfSome l.next (λ vs. ChainHas P vs)
 -- an index lists each row of a table, of all times and both sides
 abbrev pub ListsTable : IndexState → LineagesByKey → Type 0
 ListsTable index t = (key : ℤ) → LineageHas (ListsRow index key) (lineage_at t key)
-
--- what is stored with the lineages of a table: the keys of the split rows, and an index
-pub record IsStored (split_keys : KeySet) (index : IndexState) (t : LineagesByKey) : Type 0 where
-  pub split : HasSplitKeys split_keys t
-  pub listed : ListsTable index t
 
 -- each row that a table ever shows and that matches has its key in the set
 abbrev pub HaveKeysIn : LineagesByKey → KeySet → List Equal → Type 0

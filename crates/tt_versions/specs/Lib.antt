@@ -6,4 +6,5 @@ pub mod RowsByWrites
 pub mod Matching
 pub mod Pages
 pub mod Index
+pub mod IndexedEntries
 pub mod Laws

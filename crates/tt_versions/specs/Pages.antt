@@ -3,7 +3,8 @@ use Rattle.std.specs.Prelude.{◌≡◌, ℕ, ℤ, int_lt, nat_lt, Bool, true, L
 use Rattle.tt_values.specs.declared.statement.Equal.{Equal}
 use Rattle.tt_values.specs.Content.{RowsByKey}
 use Rattle.tt_values.specs.Effect.{matching_rows}
-use Rattle.tt_versions.specs.Sides.{RowsOverTime, ListsRows}
+use Rattle.tt_versions.specs.declared.table.page.PageQuery.{PageQuery}
+use Rattle.tt_versions.specs.Sides.{LineagesByKey, RowsOverTime, side_of, ListsRows}
 use Rattle.tt_versions.specs.Matching.{ListsMatches}
 
 -- whether a key is greater than this one, if one is given
@@ -25,6 +26,10 @@ pub record ListsPage (es : RowsByKey) (follow : Bool) (low : Option ℤ) (most :
   pub whole : RowsByKey
   pub lists : ListsMatches whole equals rows time
   pub page : IsPage es follow low most whole
+
+-- a page of a table, as a query asks for it
+abbrev pub ListsPageOf : PageQuery → LineagesByKey → RowsByKey → Bool → Type 0
+ListsPageOf q t es follow = ListsPage es follow q.after q.most q.equals.now (side_of t q.side) q.time
 
 -- of whatever list has the rows of a side at a time, a page of those that match
 abbrev pub ListsMatchingPage : RowsByKey → Bool → Option ℤ → ℕ → List Equal → RowsOverTime → ℕ → Type 0

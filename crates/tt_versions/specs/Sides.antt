@@ -55,14 +55,6 @@ MarksKey key before after = (q : ℤ) → is_some (sorted.find int_cmp q after) 
 abbrev pub UnsplitsRow : Side → ℤ → LineagesByKey → LineagesByKey → Type 0
 UnsplitsRow side key before after = (q : ℤ) → lineage_at after q ≡ (if int_eq q key then unsplit side (lineage_at before key) else lineage_at before q)
 
--- a lineage is unsplit, or stays
-abbrev pub unsplit_if : Bool → Side → Lineage → Lineage
-unsplit_if b side l = if b then unsplit side l else l
-
--- the rows with some keys are unsplit, and the others stay
-abbrev pub UnsplitsKeys : Side → List (ℤ × Unit {0}) → LineagesByKey → LineagesByKey → Type 0
-UnsplitsKeys side keys before after = (q : ℤ) → lineage_at after q ≡ unsplit_if (is_some (sorted.find int_cmp q keys)) side (lineage_at before q)
-
 -- each row is unsplit: both its sides share the chain that a side shows
 pub record UnsplitsRows (side : Side) (before after : LineagesByKey) : Type 0 where
   pub each : (key : ℤ) → lineage_at after key ≡ unsplit side (lineage_at before key)

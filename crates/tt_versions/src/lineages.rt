@@ -4,9 +4,9 @@ ghost use Rattle.std.specs.Option.{option_copied};
 ghost use Rattle.std.specs.Ordering.{int_cmp};
 ghost use Rattle.std.specs.FinMap.Entries.{find, put, is_sorted};
 ghost use Rattle.tt_versions.specs.Lineage.{with_write_on, split_back};
-ghost use Rattle.tt_versions.specs.Index.{IsStored, ListsRow, KeepsRows, LineageHas, HaveKey, HaveKeysIn};
+ghost use Rattle.tt_versions.specs.Index.{ListsRow, KeepsRows, LineageHas, HaveKey, HaveKeysIn};
 ghost use Rattle.tt_versions.specs.Pages.{those_after};
-ghost use Rattle.tt_versions.specs.Sides.{lineage_at, is_split, with_writes, StaysSplit, MarksKey, UnsplitsKeys, UnsplitsRow};
+ghost use Rattle.tt_versions.specs.Sides.{lineage_at, is_split, with_writes, StaysSplit, MarksKey, UnsplitsRow};
 
 use crate::index::Index;
 use crate::indexed_column::{IndexedColumn, KeySet};
@@ -25,6 +25,13 @@ use tt_values::{Equal, Few, Row};
 /// entries by rising key.
 #[derive(Debug, Drop)]
 pub(crate) struct Lineages {
+    indexed: IndexedEntries,
+}
+
+/// The entries of a map of lineages, the keys of the split rows, and an index that lists all rows.
+/// While a call changes the entries, the keys and the index need not fit them.
+#[derive(Debug, Drop)]
+struct IndexedEntries {
     alloc: Global,
     entries: PagedMap<Lineage>,
     split_keys: KeySet,
@@ -33,13 +40,13 @@ pub(crate) struct Lineages {
 
 impl Model for Lineages {
     ghost use Rattle.tt_versions.specs.Sides.{LineagesByKey};
-    ghost use Rattle.tt_versions.specs.Index.{IsStored};
+    ghost use Rattle.tt_versions.specs.IndexedEntries.{IsConsistent};
 
     ghost Value = { LineagesByKey };
 
-    ghost view = { λ m. m.entries };
+    ghost view = { λ m. m.indexed.entries };
 
-    ghost invariant = { λ m. IsStored m.split_keys m.index m.entries };
+    ghost invariant = { λ m. IsConsistent m.indexed };
 }
 
 impl Lineages {
@@ -50,21 +57,23 @@ impl Lineages {
         ensures { result ≡ [] }
     {
         Lineages {
-            alloc,
-            entries: PagedMap::new(alloc),
-            split_keys: PagedMap::new(alloc),
-            index: Index::new(alloc, columns),
+            indexed: IndexedEntries {
+                alloc,
+                entries: PagedMap::new(alloc),
+                split_keys: PagedMap::new(alloc),
+                index: Index::new(alloc, columns),
+            },
         }
     }
 
     pub(crate) fn get(&self, key: i64) -> Option<&Lineage>
         ensures { option_copied result ≡ find int_cmp key self.now }
     {
-        self.entries.get(key)
+        self.indexed.entries.get(key)
     }
 
     pub(crate) fn len(&self) -> usize {
-        self.entries.len()
+        self.indexed.entries.len()
     }
 
     /// The entries, by rising key.
@@ -72,7 +81,7 @@ impl Lineages {
         ensures all { result ≡ self.now }
         ensures sorted { IsTrue (is_sorted int_cmp self.now) }
     {
-        self.entries.iter()
+        self.indexed.entries.iter()
     }
 
     /// The entries whose keys are greater than `after`, if that is given, by rising key.
@@ -80,21 +89,23 @@ impl Lineages {
         ensures all { result ≡ those_after after self.now }
         ensures sorted { IsTrue (is_sorted int_cmp self.now) }
     {
-        iter_after(&self.entries, after)
+        iter_after(&self.indexed.entries, after)
     }
 
     /// Another owner of the same pages.
     pub(crate) fn share(&self) -> Result<Lineages, AllocError>
         ensures { IfOk result (λ m. m ≡ self.now) }
     {
-        let entries = self.entries.share()?;
-        let split_keys = self.split_keys.share()?;
-        let index = self.index.share()?;
+        let entries = self.indexed.entries.share()?;
+        let split_keys = self.indexed.split_keys.share()?;
+        let index = self.indexed.index.share()?;
         Ok(Lineages {
-            alloc: self.alloc,
-            entries,
-            split_keys,
-            index,
+            indexed: IndexedEntries {
+                alloc: self.indexed.alloc,
+                entries,
+                split_keys,
+                index,
+            },
         })
     }
 
@@ -102,14 +113,14 @@ impl Lineages {
     pub(crate) fn key_for(&self, equals: &[Equal]) -> Option<i64>
         ensures { IfSome result (λ key. HaveKey self.now key equals.now) }
     {
-        self.index.key_for(equals)
+        self.indexed.index.key_for(equals)
     }
 
     /// A set with the keys of all rows that match, if there is a smaller one than all keys.
     pub(crate) fn keys_for(&self, equals: &[Equal]) -> Option<&KeySet>
         ensures { IfSome result (λ keys. HaveKeysIn self.now keys.now equals.now) }
     {
-        self.index.keys_for(equals)
+        self.indexed.index.keys_for(equals)
     }
 
     /// Writes rows with these keys, or none, at the time on that side. On the next side they are
@@ -123,20 +134,10 @@ impl Lineages {
         requires { All (λ e. StaysSplit side (is_split self.old) e.0) rows }
         ensures { OnOk result (self.new ≡ with_writes side rows time self.old) }
     {
-        let written = write_rows(
-            self.alloc,
-            side,
-            &mut self.entries,
-            &self.split_keys,
-            &mut self.index,
-            rows,
-            time,
-        );
-        match written {
+        match self.indexed.write(side, rows, time) {
             Ok(()) => Ok(()),
             Err(AllocError) => {
-                self.entries = PagedMap::new(self.alloc);
-                self.split_keys = PagedMap::new(self.alloc);
+                self.indexed.clear();
                 Err(AllocError)
             }
         }
@@ -148,17 +149,10 @@ impl Lineages {
         ensures { OnOk result (self.new
             ≡ put int_cmp key (split_back time (lineage_at self.old key)) self.old) }
     {
-        match split_row_back(
-            self.alloc,
-            &mut self.entries,
-            &mut self.split_keys,
-            key,
-            time,
-        ) {
+        match self.indexed.split_back(key, time) {
             Ok(()) => Ok(()),
             Err(AllocError) => {
-                self.entries = PagedMap::new(self.alloc);
-                self.split_keys = PagedMap::new(self.alloc);
+                self.indexed.clear();
                 Err(AllocError)
             }
         }
@@ -169,99 +163,115 @@ impl Lineages {
     pub(crate) fn unsplit(&mut self, side: Side) -> Result<(), AllocError>
         ensures { OnOk result (UnsplitsRows side self.old self.new) }
     {
-        match unsplit_keys(&mut self.entries, &self.split_keys, side) {
-            Ok(()) => {
-                self.split_keys = PagedMap::new(self.alloc);
-                Ok(())
-            }
+        match self.indexed.unsplit(side) {
+            Ok(()) => Ok(()),
             Err(AllocError) => {
-                self.entries = PagedMap::new(self.alloc);
-                self.split_keys = PagedMap::new(self.alloc);
+                self.indexed.clear();
                 Err(AllocError)
             }
         }
     }
 }
 
-/// Writes rows, or none, on a side. The index lists them then.
-fn write_rows(
-    alloc: Global,
-    side: Side,
-    entries: &mut PagedMap<Lineage>,
-    split_keys: &KeySet,
-    index: &mut Index,
-    rows: Few<(i64, Option<Row>)>,
-    time: u64,
-) -> Result<(), AllocError>
-    requires stored { IsStored split_keys.now index.old entries.old }
-    requires split { All (λ e. StaysSplit side (is_split entries.old) e.0) rows }
-    ensures entries { OnOk result (entries.new ≡ with_writes side rows time entries.old) }
-    ensures stored { OnOk result (IsStored split_keys.now index.new entries.new) }
-{
-    match rows.into_one() {
-        Ok((key, row)) => {
-            let write = RowWrite { side, row, time };
-            write_row(alloc, entries, split_keys, index, key, write)
-        }
-        Err(rows) => write_each(alloc, side, entries, split_keys, index, rows, time),
-    }
-}
+impl IndexedEntries {
+    ghost use Rattle.tt_versions.specs.Sides.{UnsplitsRows};
+    ghost use Rattle.tt_versions.specs.IndexedEntries.{IsConsistent};
 
-/// Writes rows, or none, on a side, one after another. The index lists them then.
-fn write_each(
-    alloc: Global,
-    side: Side,
-    entries: &mut PagedMap<Lineage>,
-    split_keys: &KeySet,
-    index: &mut Index,
-    rows: Vec<(i64, Option<Row>)>,
-    time: u64,
-) -> Result<(), AllocError>
-    requires stored { IsStored split_keys.now index.old entries.old }
-    requires split { All (λ e. StaysSplit side (is_split entries.old) e.0) rows.items }
-    ensures entries { OnOk result (entries.new ≡ with_writes side rows.items time entries.old) }
-    ensures stored { OnOk result (IsStored split_keys.now index.new entries.new) }
-{
-    for (key, row) in rows {
-        write_row(
-            alloc,
-            entries,
-            split_keys,
-            index,
-            key,
-            RowWrite { side, row, time },
-        )?;
+    /// Writes rows, or none, on a side.
+    fn write(
+        &mut self,
+        side: Side,
+        rows: Few<(i64, Option<Row>)>,
+        time: u64,
+    ) -> Result<(), AllocError>
+        requires stored { IsConsistent self.old }
+        requires split { All (λ e. StaysSplit side (is_split self.old.entries) e.0) rows }
+        ensures entries { OnOk result (self.new.entries
+            ≡ with_writes side rows time self.old.entries) }
+        ensures stored { OnOk result (IsConsistent self.new) }
+    {
+        match rows.into_one() {
+            Ok((key, row)) => self.write_row(key, RowWrite { side, row, time }),
+            Err(rows) => self.write_each(side, rows, time),
+        }
     }
-    Ok(())
-}
 
-/// Writes a row, or none, on a side. The index lists it then.
-fn write_row(
-    alloc: Global,
-    entries: &mut PagedMap<Lineage>,
-    _split_keys: &KeySet,
-    index: &mut Index,
-    key: i64,
-    write: RowWrite,
-) -> Result<(), AllocError>
-    requires stored { IsStored _split_keys.now index.old entries.old }
-    requires split { StaysSplit write.side (is_split entries.old) key }
-    ensures entries { OnOk result (
-        let lineage = with_write_on write.side write.row write.time (lineage_at entries.old key) in
-        entries.new ≡ put int_cmp key lineage entries.old) }
-    ensures stored { OnOk result (IsStored _split_keys.now index.new entries.new) }
-{
-    match entries.get(key) {
-        Some(lineage) => {
-            list_row(index, lineage, key, &write)?;
-            entries.change(key, write)
+    /// Writes rows, or none, on a side, one after another.
+    fn write_each(
+        &mut self,
+        side: Side,
+        rows: Vec<(i64, Option<Row>)>,
+        time: u64,
+    ) -> Result<(), AllocError>
+        requires stored { IsConsistent self.old }
+        requires split { All (λ e. StaysSplit side (is_split self.old.entries) e.0) rows.items }
+        ensures entries { OnOk result (self.new.entries
+            ≡ with_writes side rows.items time self.old.entries) }
+        ensures stored { OnOk result (IsConsistent self.new) }
+    {
+        for (key, row) in rows {
+            self.write_row(key, RowWrite { side, row, time })?;
         }
-        None => {
-            let mut lineage = Lineage::new(alloc);
-            list_row(index, &lineage, key, &write)?;
-            lineage.write(write)?;
-            entries.put(key, lineage)
+        Ok(())
+    }
+
+    /// Writes a row, or none, on a side.
+    fn write_row(&mut self, key: i64, write: RowWrite) -> Result<(), AllocError>
+        requires stored { IsConsistent self.old }
+        requires split { StaysSplit write.side (is_split self.old.entries) key }
+        ensures entries { OnOk result (
+            let before = lineage_at self.old.entries key in
+            let lineage = with_write_on write.side write.row write.time before in
+            self.new.entries ≡ put int_cmp key lineage self.old.entries) }
+        ensures stored { OnOk result (IsConsistent self.new) }
+    {
+        match self.entries.get(key) {
+            Some(lineage) => {
+                list_row(&mut self.index, lineage, key, &write)?;
+                self.entries.change(key, write)
+            }
+            None => {
+                let mut lineage = Lineage::new(self.alloc);
+                list_row(&mut self.index, &lineage, key, &write)?;
+                lineage.write(write)?;
+                self.entries.put(key, lineage)
+            }
         }
+    }
+
+    /// Splits the row with the key, and rolls its next side back to before the time.
+    fn split_back(&mut self, key: i64, time: u64) -> Result<(), AllocError>
+        requires { IsConsistent self.old }
+        ensures entries { OnOk result (
+            let lineage = split_back time (lineage_at self.old.entries key) in
+            self.new.entries ≡ put int_cmp key lineage self.old.entries) }
+        ensures stored { OnOk result (IsConsistent self.new) }
+    {
+        mark(&mut self.split_keys, key)?;
+        split_entry(self.alloc, &mut self.entries, key, time)?;
+        Ok(())
+    }
+
+    /// Unsplits each row: both sides show what this one shows.
+    fn unsplit(&mut self, side: Side) -> Result<(), AllocError>
+        requires { IsConsistent self.old }
+        ensures entries { OnOk result (UnsplitsRows side self.old.entries self.new.entries) }
+        ensures stored { OnOk result (IsConsistent self.new) }
+    {
+        let entries = &mut self.entries;
+        for (key, _) in self.split_keys.iter() {
+            unsplit_at(entries, *key, side)?;
+        }
+        self.split_keys = PagedMap::new(self.alloc);
+        Ok(())
+    }
+
+    /// No entries, whatever there was. The index may list rows that aren't there.
+    fn clear(&mut self)
+        ensures { IsConsistent self.new }
+    {
+        self.entries = PagedMap::new(self.alloc);
+        self.split_keys = PagedMap::new(self.alloc);
     }
 }
 
@@ -306,24 +316,6 @@ fn mark(keys: &mut KeySet, key: i64) -> Result<(), AllocError>
     keys.put(key, ())
 }
 
-/// Lists the key as split, splits its lineage, and rolls the next side of that back to before the
-/// time.
-fn split_row_back(
-    alloc: Global,
-    entries: &mut PagedMap<Lineage>,
-    split_keys: &mut KeySet,
-    key: i64,
-    time: u64,
-) -> Result<(), AllocError>
-    ensures keys { OnOk result (MarksKey key split_keys.old split_keys.new) }
-    ensures entries { OnOk result (entries.new
-        ≡ put int_cmp key (split_back time (lineage_at entries.old key)) entries.old) }
-{
-    mark(split_keys, key)?;
-    split_entry(alloc, entries, key, time)?;
-    Ok(())
-}
-
 /// The lineage at the key is split, and its next side is rolled back to before the time.
 fn split_entry(
     alloc: Global,
@@ -342,20 +334,6 @@ fn split_entry(
             entries.put(key, lineage)
         }
     }
-}
-
-/// Both sides of the rows with these keys show what this one shows.
-fn unsplit_keys(
-    entries: &mut PagedMap<Lineage>,
-    keys: &KeySet,
-    side: Side,
-) -> Result<(), AllocError>
-    ensures { OnOk result (UnsplitsKeys side keys.now entries.old entries.new) }
-{
-    for (key, _) in keys.iter() {
-        unsplit_at(entries, *key, side)?;
-    }
-    Ok(())
 }
 
 /// Both sides of a row show what this one shows.

@@ -10,13 +10,12 @@ use crate::faults::fault_of_call;
 use crate::run_context::RunContext;
 use crate::threads::work_in_threads;
 use crate::work::WorkerRun;
-use std::alloc::Global;
 use std::sync::Wait;
 use std::thread::{Threads, join};
 use tt_db::Edit;
 use tt_document::Call;
 use tt_repair::{Repaired, repair};
-use tt_store::{Gate, Naming, Store, Worker};
+use tt_store::{Gate, Naming, Worker};
 use tt_values::Items;
 use tt_workload::{Options, RunFault};
 
@@ -56,22 +55,13 @@ pub(crate) fn repair_beside<
         (map (λ run. run.worker) r.1.items) (map (λ run. run.answers.items) r.1.items)) }
     ensures fault { IfErr result IsStoreFault }
 {
-    let rt = context.rt;
-    let alloc = context.alloc;
-    let store = context.store;
-    let gate = context.gate;
-    let options = context.options;
-    let RepairTask {
-        administrator,
-        edits,
-    } = task;
     let (runs, administrator_run) = join(
-        rt,
+        context.rt,
         || -> Result<Vec<WorkerRun<L>>, RunFault>
             requires accepted { AreAccepted L.tables meanwhile.now }
             requires few { first + length meanwhile.now < 2 ^ 64 }
-        { work_in_threads(rt, alloc, store, gate, workers, meanwhile, first) },
-        || administer(rt, alloc, store, options, administrator, edits),
+        { work_in_threads(context, workers, meanwhile, first) },
+        || administer(context, task),
     );
     let runs = runs?;
     let administrator_run = administrator_run?;
@@ -79,22 +69,23 @@ pub(crate) fn repair_beside<
 }
 
 /// Lets the administrator make the repair.
-fn administer<L: Naming, G: Gate + Drop, R: Wait + Drop>(
-    rt: &impl Wait,
-    alloc: Global,
-    store: &Store<L, G, R>,
-    options: Options,
-    administrator: Worker<L>,
-    edits: Items<Edit>,
+fn administer<L: Naming, G: Gate + Drop, R: Wait>(
+    context: &RunContext<'_, '_, L, G, R>,
+    task: RepairTask<L>,
 ) -> Result<AdministratorRun<L>, RunFault>
-    requires options { AreWithin options }
-    ensures repaired { IfOk result (λ r. HasRepaired L.tables L.limits edits
-        administrator r.worker r.repaired) }
+    requires options { AreWithin context.now.options }
+    ensures repaired { IfOk result (λ r. HasRepaired L.tables L.limits task.edits
+        task.administrator r.worker r.repaired) }
     ensures fault { IfErr result IsStoreFault }
 {
+    let RepairTask {
+        administrator,
+        edits,
+    } = task;
     let mut worker = administrator;
-    match repair(rt, store, &mut worker, edits, options.batch, options.rounds) {
+    let Options { batch, rounds, .. } = context.options;
+    match repair(context.rt, context.store, &mut worker, edits, batch, rounds) {
         Ok(repaired) => Ok(AdministratorRun { worker, repaired }),
-        Err(fault) => Err(fault_of_call(alloc, fault.cause)),
+        Err(fault) => Err(fault_of_call(context.alloc, fault.cause)),
     }
 }

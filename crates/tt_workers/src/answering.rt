@@ -12,12 +12,13 @@ ghost use Rattle.tt_workers.specs.Calls.{IsMade, Makes, what_of_read, what_of_pr
 
 use crate::answered_call::AnsweredCall;
 use crate::faults::{fault_of_call, fault_of_read};
+use crate::run_context::RunContext;
 use std::alloc::Global;
 use std::sync::Wait;
 use tt_db::ReadError;
 use tt_document::{Ask, Call};
 use tt_repair::{Record, What};
-use tt_store::{Answer, Gate, Naming, Store, Worker, Written};
+use tt_store::{Answer, Gate, Naming, Worker, Written};
 use tt_values::{Items, Select, Write};
 use tt_workload::RunFault;
 
@@ -30,10 +31,8 @@ pub(crate) struct Made {
 
 /// Makes a call of the worker that bears its number.
 #[tactic(auto, using(crate::proofs::CallLemmas::makes_call))]
-pub(crate) fn make_call<L: Naming, G: Gate + Drop, R: Wait + Drop>(
-    rt: &impl Wait,
-    alloc: Global,
-    store: &Store<L, G, R>,
+pub(crate) fn make_call<L: Naming, G: Gate + Drop, R: Wait>(
+    context: &RunContext<'_, '_, L, G, R>,
     worker: &mut Worker<L>,
     number: u64,
     call: &Call,
@@ -43,7 +42,7 @@ pub(crate) fn make_call<L: Naming, G: Gate + Drop, R: Wait + Drop>(
     ensures made { IfOk result (λ a. Makes L.limits number call.now worker.old worker.new a) }
     ensures fault { IfErr result IsStoreFault }
 {
-    let Made { what, front } = make(rt, alloc, store, worker, &call.ask)?;
+    let Made { what, front } = make(context, worker, &call.ask)?;
     Ok(AnsweredCall {
         answer: Record {
             call: number,
@@ -55,10 +54,8 @@ pub(crate) fn make_call<L: Naming, G: Gate + Drop, R: Wait + Drop>(
 }
 
 /// Makes what a call asks for.
-fn make<L: Naming, G: Gate + Drop, R: Wait + Drop>(
-    rt: &impl Wait,
-    alloc: Global,
-    store: &Store<L, G, R>,
+fn make<L: Naming, G: Gate + Drop, R: Wait>(
+    context: &RunContext<'_, '_, L, G, R>,
     worker: &mut Worker<L>,
     ask: &Ask,
 ) -> Result<Made, RunFault>
@@ -68,18 +65,16 @@ fn make<L: Naming, G: Gate + Drop, R: Wait + Drop>(
     ensures fault { IfErr result IsStoreFault }
 {
     match ask {
-        Ask::Write(action) => write(rt, alloc, store, worker, action),
-        Ask::Read { select, at } => read(alloc, worker, select, *at),
-        Ask::Preview(select) => preview(alloc, worker, select),
+        Ask::Write(action) => write(context, worker, action),
+        Ask::Read { select, at } => read(context.alloc, worker, select, *at),
+        Ask::Preview(select) => preview(context.alloc, worker, select),
     }
 }
 
 /// Carries out an action.
 #[tactic(auto, using(crate::proofs::CallLemmas::made_action))]
-fn write<L: Naming, G: Gate + Drop, R: Wait + Drop>(
-    rt: &impl Wait,
-    alloc: Global,
-    store: &Store<L, G, R>,
+fn write<L: Naming, G: Gate + Drop, R: Wait>(
+    context: &RunContext<'_, '_, L, G, R>,
     worker: &mut Worker<L>,
     action: &Items<Write>,
 ) -> Result<Made, RunFault>
@@ -88,7 +83,7 @@ fn write<L: Naming, G: Gate + Drop, R: Wait + Drop>(
     ensures fault { IfErr result IsStoreFault }
 {
     let action = action.clone()?;
-    match store.write(rt, worker, action) {
+    match context.store.write(context.rt, worker, action) {
         Ok(
             Written {
                 place,
@@ -99,7 +94,7 @@ fn write<L: Naming, G: Gate + Drop, R: Wait + Drop>(
             what: What::Write { slot, replies },
             front: place - 1,
         }),
-        Err(error) => Err(fault_of_call(alloc, error)),
+        Err(error) => Err(fault_of_call(context.alloc, error)),
     }
 }
 

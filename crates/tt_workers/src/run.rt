@@ -34,6 +34,14 @@ use tt_store::{Gate, Naming, Opened, Store, Worker};
 use tt_values::{Catalog, Shared};
 use tt_workload::{Options, RunFault, edits_of_slots};
 
+/// What a run has to do: a document, with these options and this gate.
+#[derive(Drop)]
+struct RunTask<'a, G: Gate + Drop> {
+    document: &'a Document,
+    options: Options,
+    gate: G,
+}
+
 /// Runs a document in threads, on a store of its own: each worker makes its calls in a thread of
 /// its own. If the document has a repair, an administrator, numbered after the last worker, makes
 /// it: its beginning, its steps and its switch, and nothing else. Each call of a worker passes the
@@ -53,15 +61,12 @@ pub fn run_workers<R: Threads + Wait + Sync, G: Gate + Copy + Drop + Send + Sync
 {
     let catalog = document.catalog.clone()?;
     let opened = Opened::new(document.workers + 1);
-    run_named::<Brand, R, G>(
-        rt,
-        alloc,
-        opened,
-        catalog.into_arc(),
+    let task = RunTask {
         document,
-        options,
+        options: *options,
         gate,
-    )
+    };
+    run_named::<Brand, R, G>(rt, alloc, opened, catalog.into_arc(), &task)
 }
 
 /// Runs a document on the store of this name.
@@ -74,9 +79,7 @@ fn run_named<
     alloc: Global,
     opened: Opened,
     catalog: Arc<Catalog>,
-    document: &Document,
-    options: &Options,
-    gate: G,
+    task: &RunTask<'_, G>,
 ) -> Result<Report, RunFault>
     requires book { opened.front.book ≡ L.book }
     requires tables { arc_value catalog ≡ L.tables }
@@ -84,15 +87,15 @@ fn run_named<
     requires tied { RuleIsMembership L.holds L.book L.tables L.limits }
     requires name { opened.blank.name ≡ L.name }
     requires parts { opened.blank.parts ≡ L.parts }
-    requires workers { opened.workers ≡ document.now.workers + 1 }
-    requires same_tables { arc_value catalog ≡ document.now.catalog }
-    requires valid { IsValidDocument document.now }
-    requires options { AreWithin options.now }
-    ensures report { IfOk result (IsReportOf document.now) }
+    requires workers { opened.workers ≡ task.now.document.now.workers + 1 }
+    requires same_tables { arc_value catalog ≡ task.now.document.now.catalog }
+    requires valid { IsValidDocument task.now.document.now }
+    requires options { AreWithin task.now.options }
+    ensures report { IfOk result (IsReportOf task.now.document.now) }
     ensures fault { IfErr result IsStoreFault }
 {
-    match opened.named::<L, G, &R>(rt, alloc, catalog, Limits::usual(), gate) {
-        Ok((store, workers)) => run_on(rt, alloc, store, workers, document, options, gate),
+    match opened.named::<L, G, &R>(rt, alloc, catalog, Limits::usual(), task.gate) {
+        Ok((store, workers)) => run_on(rt, alloc, store, workers, task),
         Err(error) => Err(fault_of_open(alloc, error)),
     }
 }
@@ -108,17 +111,15 @@ fn run_on<
     alloc: Global,
     store: Store<L, G, &'r R>,
     workers: Vec<Worker<L>>,
-    document: &Document,
-    options: &Options,
-    gate: G,
+    task: &RunTask<'_, G>,
 ) -> Result<Report, RunFault>
-    requires new { workers.items ≡ new_workers (document.now.workers + 1) }
-    requires parts { document.now.workers + 1 ≡ L.parts }
-    requires tables { document.now.catalog ≡ L.tables }
+    requires new { workers.items ≡ new_workers (task.now.document.now.workers + 1) }
+    requires parts { task.now.document.now.workers + 1 ≡ L.parts }
+    requires tables { task.now.document.now.catalog ≡ L.tables }
     requires limits { usual_limits ≡ L.limits }
-    requires valid { IsValidDocument document.now }
-    requires options { AreWithin options.now }
-    ensures report { IfOk result (IsReportOf document.now) }
+    requires valid { IsValidDocument task.now.document.now }
+    requires options { AreWithin task.now.options }
+    ensures report { IfOk result (IsReportOf task.now.document.now) }
     ensures fault { IfErr result IsStoreFault }
 {
     let mut records = Records::new(alloc);
@@ -126,10 +127,10 @@ fn run_on<
         rt,
         alloc,
         store: &store,
-        gate,
-        options: *options,
+        gate: task.gate,
+        options: task.options,
     };
-    let (workers, repaired) = make_all(&context, workers, document, &mut records)?;
+    let (workers, repaired) = make_all(&context, workers, task.document, &mut records)?;
     let db = close(rt, alloc, store, workers)?;
     report_of(alloc, records, repaired, db)
 }
@@ -184,17 +185,8 @@ fn make_calls<
         workers.items news.items records.old records.new) }
     ensures fault { IfErr result IsStoreFault }
 {
-    let alloc = context.alloc;
-    let runs = work_in_threads(
-        context.rt,
-        alloc,
-        context.store,
-        context.gate,
-        workers,
-        calls,
-        1,
-    )?;
-    let (workers, queues) = split(alloc, runs)?;
+    let runs = work_in_threads(context, workers, calls, 1)?;
+    let (workers, queues) = split(context.alloc, runs)?;
     merge(records, calls, queues)?;
     Ok(workers)
 }
@@ -222,7 +214,7 @@ fn make_repair<
     ensures fault { IfErr result IsStoreFault }
 {
     let alloc = context.alloc;
-    let administrator = refresh(context.rt, alloc, context.store, administrator)?;
+    let administrator = refresh(context, administrator)?;
     let edits = edits_of_slots(alloc, &records.records, plan.edits.as_slice())?;
     let meanwhile = plan.meanwhile.as_slice();
     let first = records.records.len() as u64 + 1;
@@ -239,19 +231,17 @@ fn make_repair<
 }
 
 /// Brings the administrator up to date: it has then seen all that was published.
-fn refresh<L: Naming, G: Gate + Drop, R: Wait + Drop>(
-    rt: &impl Wait,
-    alloc: Global,
-    store: &Store<L, G, R>,
+fn refresh<L: Naming, G: Gate + Drop, R: Wait>(
+    context: &RunContext<'_, '_, L, G, R>,
     administrator: Worker<L>,
 ) -> Result<Worker<L>, RunFault>
     ensures looks { IfOk result (Looks administrator) }
     ensures fault { IfErr result IsStoreFault }
 {
     let mut worker = administrator;
-    match store.refresh(rt, &mut worker) {
+    match context.store.refresh(context.rt, &mut worker) {
         Ok(_) => Ok(worker),
-        Err(error) => Err(fault_of_call(alloc, error)),
+        Err(error) => Err(fault_of_call(context.alloc, error)),
     }
 }
 

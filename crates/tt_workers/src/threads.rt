@@ -4,12 +4,13 @@ ghost use Rattle.tt_workload.specs.Room.{AreAccepted};
 ghost use Rattle.tt_workers.specs.Faults.{IsStoreFault, first_fault};
 ghost use Rattle.tt_workers.specs.Calls.{Works, EachEnds, EachFails, AllWork};
 
+use crate::run_context::RunContext;
 use crate::work::{WorkerRun, work};
-use std::alloc::{AllocError, Global};
+use std::alloc::AllocError;
 use std::sync::Wait;
 use std::thread::{Threads, map_vec};
 use tt_document::Call;
-use tt_store::{Gate, Naming, Store, Worker};
+use tt_store::{Gate, Naming, Worker};
 use tt_workload::RunFault;
 
 /// Lets each worker make its calls among these in a thread of its own. They are numbered from
@@ -19,10 +20,7 @@ pub(crate) fn work_in_threads<
     G: Gate + Copy + Drop + Send + Sync,
     R: Threads + Wait + Sync,
 >(
-    rt: &R,
-    alloc: Global,
-    store: &Store<L, G, &R>,
-    gate: G,
+    context: &RunContext<'_, '_, L, G, R>,
     workers: Vec<Worker<L>>,
     calls: &[Call],
     first: u64,
@@ -33,8 +31,8 @@ pub(crate) fn work_in_threads<
         (map (λ run. run.worker) runs.items) (map (λ run. run.answers.items) runs.items)) }
     ensures fault { IfErr result IsStoreFault }
 {
-    let room = Vec::with_capacity(alloc, workers.len())?;
-    let results = in_threads(rt, alloc, store, gate, workers, calls, first)?;
+    let room = Vec::with_capacity(context.alloc, workers.len())?;
+    let results = in_threads(context, workers, calls, first)?;
     let runs = collect_runs(room, results)?;
     Ok(runs)
 }
@@ -45,10 +43,7 @@ fn in_threads<
     G: Gate + Copy + Drop + Send + Sync,
     R: Threads + Wait + Sync,
 >(
-    rt: &R,
-    alloc: Global,
-    store: &Store<L, G, &R>,
-    gate: G,
+    context: &RunContext<'_, '_, L, G, R>,
     workers: Vec<Worker<L>>,
     calls: &[Call],
     first: u64,
@@ -62,9 +57,9 @@ fn in_threads<
     ensures faults { IfOk result (λ results. EachFails (vec_len workers) results.items) }
 {
     let results = map_vec(
-        rt,
+        context.rt,
         workers,
-        &|worker| work(rt, alloc, store, gate, worker, calls, first),
+        &|worker| work(context, worker, calls, first),
     )?;
     Ok(results)
 }

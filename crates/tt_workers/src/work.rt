@@ -7,11 +7,11 @@ ghost use Rattle.tt_workers.specs.Calls.{MakesIfOwn, Works};
 
 use crate::answered_call::AnsweredCall;
 use crate::answering::make_call;
-use std::alloc::Global;
+use crate::run_context::RunContext;
 use std::collections::VecDeque;
 use std::sync::Wait;
 use tt_document::Call;
-use tt_store::{Gate, Naming, Point, Store, Worker};
+use tt_store::{Gate, Naming, Point, Worker};
 use tt_workload::RunFault;
 
 /// The run of one worker: the worker, and its answers in the order of its calls.
@@ -22,11 +22,8 @@ pub(crate) struct WorkerRun<L: Naming> {
 }
 
 /// Makes those of these calls that are the worker's, in order. They are numbered from `first` on.
-pub(crate) fn work<L: Naming, G: Gate + Copy + Drop, R: Wait + Drop>(
-    rt: &impl Wait,
-    alloc: Global,
-    store: &Store<L, G, R>,
-    gate: G,
+pub(crate) fn work<L: Naming, G: Gate + Copy + Drop, R: Wait>(
+    context: &RunContext<'_, '_, L, G, R>,
     worker: Worker<L>,
     calls: &[Call],
     first: u64,
@@ -37,11 +34,11 @@ pub(crate) fn work<L: Naming, G: Gate + Copy + Drop, R: Wait + Drop>(
         worker run.worker run.answers.items) }
     ensures fault { IfErr result IsStoreFault }
 {
-    let answers = VecDeque::new(alloc);
+    let answers = VecDeque::new(context.alloc);
     let mut run = WorkerRun { worker, answers };
     let mut number = first;
     for call in calls {
-        match make_own(rt, alloc, store, gate, &mut run, number, call) {
+        match make_own(context, &mut run, number, call) {
             Ok(()) => number += 1,
             Err(fault) => return Err(fault),
         }
@@ -50,11 +47,8 @@ pub(crate) fn work<L: Naming, G: Gate + Copy + Drop, R: Wait + Drop>(
 }
 
 /// Makes a call if it is the worker's, keeps its answer, and passes the gate.
-fn make_own<L: Naming, G: Gate + Copy + Drop, R: Wait + Drop>(
-    rt: &impl Wait,
-    alloc: Global,
-    store: &Store<L, G, R>,
-    gate: G,
+fn make_own<L: Naming, G: Gate + Copy + Drop, R: Wait>(
+    context: &RunContext<'_, '_, L, G, R>,
     run: &mut WorkerRun<L>,
     number: u64,
     call: &Call,
@@ -67,8 +61,8 @@ fn make_own<L: Naming, G: Gate + Copy + Drop, R: Wait + Drop>(
     if call.worker != run.worker.number() {
         return Ok(());
     }
-    let answered = make_call(rt, alloc, store, &mut run.worker, number, call)?;
-    gate.at(call.worker, Point::Answered);
+    let answered = make_call(context, &mut run.worker, number, call)?;
+    context.gate.at(call.worker, Point::Answered);
     run.answers.push_back(answered)?;
     Ok(())
 }

@@ -32,7 +32,7 @@ impl Db {
         let Some(generations) = self.generations_of(generation) else {
             return Err(ReadError::NoGeneration {
                 oldest: self.oldest(),
-                newest: self.generation,
+                newest: self.parts.generation,
             });
         };
         let now = generations.len();
@@ -60,7 +60,7 @@ impl Db {
         if let Err(fault) = check_select(self.catalog(), select) {
             return Err(ReadError::Statement(fault));
         }
-        if !self.generations.is_repairing() {
+        if !self.parts.generations.is_repairing() {
             return Err(ReadError::NotRepairing);
         }
         match self.next_page(select, after, most) {
@@ -81,7 +81,7 @@ impl Db {
             page ≡ first_rows after most (rows_in (preview_for self.now select.now))) }
         ensures keyed { IfOk result (λ page. HaveRisingKeys page.rows) }
     {
-        let page = self.generations.preview_page(select, after, most)?;
+        let page = self.parts.generations.preview_page(select, after, most)?;
         Ok(page)
     }
 }

@@ -11,7 +11,19 @@ use crate::walk::{is_after, iter_after};
 use std::alloc::AllocError;
 use tt_values::{Equal, Row};
 
+/// Which of the rows that match make up a page: see [`page_matching`](Table::page_matching).
+#[derive(Drop)]
+struct PageQuery<'a> {
+    equals: &'a [Equal],
+    time: u64,
+    side: Side,
+    after: Option<i64>,
+    most: usize,
+}
+
 impl Table {
+    ghost use Rattle.tt_versions.specs.Pages.{ListsPageOf};
+
     /// Of the rows that [`rows_matching`](Table::rows_matching) lists, those with greater keys than
     /// `after`, if that is given: the first `most` of them, and whether more follow. Reads none of
     /// the rows before them, and none behind the first that follows.
@@ -28,30 +40,27 @@ impl Table {
         ensures content { IfOk result (λ p. ListsMatchingPage (rows_behind p.0.items) p.1
             after most equals.now (side_of self.now side) time) }
     {
-        let page = self.search_page(equals, time, side, after, most)?;
+        let query = PageQuery {
+            equals,
+            time,
+            side,
+            after,
+            most,
+        };
+        let page = self.search_page(&query)?;
         Ok(page)
     }
 
-    fn search_page(
-        &self,
-        equals: &[Equal],
-        time: u64,
-        side: Side,
-        after: Option<i64>,
-        most: usize,
-    ) -> Result<(Vec<(i64, &Row)>, bool), AllocError>
-        ensures { IfOk result (λ p. ListsPage (rows_behind p.0.items) p.1 after most
-            equals.now (side_of self.now side) time) }
+    fn search_page(&self, query: &PageQuery<'_>) -> Result<(Vec<(i64, &Row)>, bool), AllocError>
+        ensures { IfOk result (λ p. ListsPageOf query.now self.now (rows_behind p.0.items) p.1) }
     {
-        if let Some(key) = self.lineages.key_for(equals) {
-            return self.page_with_key(key, equals, time, side, after, most);
+        if let Some(key) = self.lineages.key_for(query.equals) {
+            return self.page_with_key(key, query);
         }
-        match self.lineages.keys_for(equals) {
+        match self.lineages.keys_for(query.equals) {
             // Where most rows are listed, reading all in order is faster than looking them up.
-            Some(keys) if keys.len() < self.lineages.len() / 2 => {
-                self.page_among(keys, equals, time, side, after, most)
-            }
-            _ => self.page_of_all(equals, time, side, after, most),
+            Some(keys) if keys.len() < self.lineages.len() / 2 => self.page_among(keys, query),
+            _ => self.page_of_all(query),
         }
     }
 
@@ -59,24 +68,19 @@ impl Table {
     fn page_with_key(
         &self,
         key: i64,
-        equals: &[Equal],
-        time: u64,
-        side: Side,
-        after: Option<i64>,
-        most: usize,
+        query: &PageQuery<'_>,
     ) -> Result<(Vec<(i64, &Row)>, bool), AllocError>
-        requires { HaveKey self.now key equals.now }
-        ensures { IfOk result (λ p. ListsPage (rows_behind p.0.items) p.1 after most
-            equals.now (side_of self.now side) time) }
+        requires { HaveKey self.now key query.now.equals.now }
+        ensures { IfOk result (λ p. ListsPageOf query.now self.now (rows_behind p.0.items) p.1) }
     {
         let mut rows = Vec::new(self.alloc);
-        if !is_after(after, key) {
+        if !is_after(query.after, key) {
             return Ok((rows, false));
         }
-        let Some(row) = self.matching(key, equals, time, side) else {
+        let Some(row) = self.matching(key, query.equals, query.time, query.side) else {
             return Ok((rows, false));
         };
-        if most == 0 {
+        if query.most == 0 {
             return Ok((rows, true));
         }
         rows.push((key, row))?;
@@ -87,20 +91,15 @@ impl Table {
     fn page_among(
         &self,
         keys: &KeySet,
-        equals: &[Equal],
-        time: u64,
-        side: Side,
-        after: Option<i64>,
-        most: usize,
+        query: &PageQuery<'_>,
     ) -> Result<(Vec<(i64, &Row)>, bool), AllocError>
-        requires { HaveKeysIn self.now keys.now equals.now }
-        ensures { IfOk result (λ p. ListsPage (rows_behind p.0.items) p.1 after most
-            equals.now (side_of self.now side) time) }
+        requires { HaveKeysIn self.now keys.now query.now.equals.now }
+        ensures { IfOk result (λ p. ListsPageOf query.now self.now (rows_behind p.0.items) p.1) }
     {
         let mut rows = Vec::new(self.alloc);
-        for (key, _) in iter_after(keys, after) {
-            if let Some(row) = self.matching(*key, equals, time, side) {
-                if rows.len() == most {
+        for (key, _) in iter_after(keys, query.after) {
+            if let Some(row) = self.matching(*key, query.equals, query.time, query.side) {
+                if rows.len() == query.most {
                     return Ok((rows, true));
                 }
                 rows.push((*key, row))?;
@@ -110,21 +109,13 @@ impl Table {
     }
 
     /// The page, by a walk of all rows after the key.
-    fn page_of_all(
-        &self,
-        equals: &[Equal],
-        time: u64,
-        side: Side,
-        after: Option<i64>,
-        most: usize,
-    ) -> Result<(Vec<(i64, &Row)>, bool), AllocError>
-        ensures { IfOk result (λ p. ListsPage (rows_behind p.0.items) p.1 after most
-            equals.now (side_of self.now side) time) }
+    fn page_of_all(&self, query: &PageQuery<'_>) -> Result<(Vec<(i64, &Row)>, bool), AllocError>
+        ensures { IfOk result (λ p. ListsPageOf query.now self.now (rows_behind p.0.items) p.1) }
     {
         let mut rows = Vec::new(self.alloc);
-        for (key, lineage) in self.lineages.iter_after(after) {
-            if let Some(row) = lineage.matching(equals, time, side) {
-                if rows.len() == most {
+        for (key, lineage) in self.lineages.iter_after(query.after) {
+            if let Some(row) = lineage.matching(query.equals, query.time, query.side) {
+                if rows.len() == query.most {
                     return Ok((rows, true));
                 }
                 rows.push((*key, row))?;

@@ -1,25 +1,21 @@
 -- The workers go to one thread and the administrator to another, and come back with what they have made.
 use denote.Exit.{yes}
 use denote.Param.{param}
-use denote.Param.Send.{IsSend, IsSync, param_send, arg_send, sendable}
+use denote.Param.Send.{IsSend, param_send, arg_send, sendable}
 use denote.RattleType.{RattleType}
 use Rattle.std.proofs.Crossing.{crosses, Vec-send}
 use Rattle.std.specs.contracts.result.Result as result
-use Rattle.tt_store.specs.contracts.store.Store as store
-use Rattle.tt_store.proofs.Crossing.{worker_send, store_sync, ref_send}
+use Rattle.tt_store.proofs.Crossing.{worker_send, ref_send}
 use Rattle.tt_workers.specs.contracts.work.WorkerRun as run
-use Rattle.tt_workers.specs.contracts.administrator.repair_beside.{G-row}
-use Rattle.tt_workers.proofs.Crossing.{heap_sync, call_sync, u64_sync, answered_send, fault_send, slice_ref_send, seven_send}
+use Rattle.tt_workers.proofs.Crossing.{call_sync, u64_sync, answered_send, fault_send, context_sync, slice_ref_send, four_send}
 use Rattle.tt_workers.proofs.administrator.repair_beside.Goals as goal
 
 pub join-runs-requires-send-F : goal.join-runs-requires-send-F
 join-runs-requires-send-F g c κs within =
-    let w = worker_send (param 0 g.row.L) g.L.Naming g.L.Ledger g.L.Protocol c.type_bounds.send-L c.type_bounds.sync-L in
-    let b : (R : RattleType) → IsSend R → IsSync (store.the_row (param 0 g.row.L) (G-row g.row.L g.row.G g.row.R) R g.L.Naming g.L.Ledger g.L.Protocol) =
-    λ R r. store_sync (param 0 g.row.L) R g.L.Naming g.L.Ledger g.L.Protocol c.type_bounds.send-L c.type_bounds.sync-L r (G-row g.row.L g.row.G g.row.R) c.type_bounds.sync-G in
-    let t = c.type_bounds.sync-R in
-    param_send 1 _ (arg_send _ yes _ (seven_send (ref_send _ _ _ t) (ref_send _ _ _ heap_sync) (ref_send _ _ _ (b _ (ref_send _ _ _ t)))
-    (ref_send _ _ _ c.type_bounds.sync-G) (Vec-send _ w) (slice_ref_send _ _ _ call_sync) (ref_send _ _ _ u64_sync)))
+    let b = c.type_bounds in
+    let w = worker_send (param 0 g.row.L) g.L.Naming g.L.Ledger g.L.Protocol b.send-L b.sync-L in
+    let x = context_sync _ _ (param 0 g.row.L) _ _ g.L.Naming g.L.Ledger g.L.Protocol b.send-L b.sync-L b.sync-G b.sync-R in
+    param_send 1 _ (arg_send _ yes _ (four_send (ref_send _ _ _ x) (Vec-send _ w) (slice_ref_send _ _ _ call_sync) (ref_send _ _ _ u64_sync)))
 
 pub join-runs-requires-send-A : goal.join-runs-requires-send-A
 join-runs-requires-send-A g c κs within =

@@ -1,17 +1,13 @@
--- Each thread takes a worker, and leaves it with its answers. All refer to the handle, the allocator, the store, the gate, the calls,
--- and the number of the first.
+-- Each thread takes a worker, and leaves it with its answers. All refer to the context, the calls, and the number of the first.
 use denote.Exit.{yes}
 use denote.Param.{param}
-use denote.Param.Send.{IsSend, IsSync, param_send, param_sync, arg_send, arg_sync, sendable}
-use denote.RattleType.{RattleType}
+use denote.Param.Send.{IsSend, param_send, param_sync, arg_send, arg_sync, sendable}
 use Rattle.std.proofs.Crossing.{crosses}
-use Rattle.tt_store.specs.contracts.store.Store as store
-use Rattle.tt_store.proofs.Crossing.{worker_send, store_sync, ref_send}
+use Rattle.tt_store.proofs.Crossing.{worker_send}
 use Rattle.std.specs.contracts.result.Result as result
 use Rattle.tt_workload.specs.contracts.run_fault.RunFault as fault
 use Rattle.tt_workers.specs.contracts.work.WorkerRun as run
-use Rattle.tt_workers.specs.contracts.threads.in_threads.{G-row}
-use Rattle.tt_workers.proofs.Crossing.{heap_sync, call_sync, u64_sync, answered_send, fault_send, ref_sync, slice_ref_sync, six_sync}
+use Rattle.tt_workers.proofs.Crossing.{call_sync, u64_sync, answered_send, fault_send, context_sync, ref_sync, slice_ref_sync, three_sync}
 use Rattle.tt_workers.proofs.threads.in_threads.Goals as goal
 
 pub map_vec-requires-send-J : goal.map_vec-requires-send-J
@@ -31,8 +27,6 @@ map_vec-requires-send-X g c κs within =
 
 pub map_vec-requires-sync-F : goal.map_vec-requires-sync-F
 map_vec-requires-sync-F g c κs within =
-    let b : (R : RattleType) → IsSend R → IsSync (store.the_row (param 0 g.row.L) (G-row g.row.L g.row.G g.row.R) R g.L.Naming g.L.Ledger g.L.Protocol) =
-    λ R r. store_sync (param 0 g.row.L) R g.L.Naming g.L.Ledger g.L.Protocol c.type_bounds.send-L c.type_bounds.sync-L r (G-row g.row.L g.row.G g.row.R) c.type_bounds.sync-G in
-    let t = c.type_bounds.sync-R in
-    param_sync 4 _ (arg_sync _ yes _ (six_sync (ref_sync _ _ _ t) (ref_sync _ _ _ heap_sync) (ref_sync _ _ _ (b _ (ref_send _ _ _ t)))
-    (ref_sync _ _ _ c.type_bounds.sync-G) (slice_ref_sync _ _ _ call_sync) (ref_sync _ _ _ u64_sync)))
+    let b = c.type_bounds in
+    let x = context_sync _ _ (param 0 g.row.L) _ _ g.L.Naming g.L.Ledger g.L.Protocol b.send-L b.sync-L b.sync-G b.sync-R in
+    param_sync 4 _ (arg_sync _ yes _ (three_sync (ref_sync _ _ _ x) (slice_ref_sync _ _ _ call_sync) (ref_sync _ _ _ u64_sync)))

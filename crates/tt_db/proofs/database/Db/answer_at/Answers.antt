@@ -8,7 +8,7 @@ use Rattle.tt_db.proofs.database.Db.answer_at.Goals as goal
 
 pub returns-clause-keyed : goal.returns-clause-keyed
 returns-clause-keyed c =
-    let db = c.self.inside in
+    let db = c.self.inside.parts in
     let q = c.args.select.now in
     let right = c.in_ok-reply.ensures ∙ ap (λ W. answer_of q (content_of W c.args.time)) c.self.invariant.slots in
     subst RowsHaveRisingKeys (sym right)

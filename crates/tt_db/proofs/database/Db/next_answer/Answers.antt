@@ -9,9 +9,9 @@ use Rattle.tt_db.proofs.CurrentLemmas.{next_content-is}
 use Rattle.tt_db.proofs.KeyLemmas.{RowsHaveRisingKeys-next}
 use Rattle.tt_db.proofs.database.Db.next_answer.Goals as goal
 
-right : (c : goal.In_ok-reply) → let S = after c.self.inside.limits c.self.inside.history in c.in_ok-reply.reply ≡ answer_of c.args.select.now (next_at S (done_of S.phase))
+right : (c : goal.In_ok-reply) → let S = after c.self.inside.parts.limits c.self.inside.parts.history in c.in_ok-reply.reply ≡ answer_of c.args.select.now (next_at S (done_of S.phase))
 right c =
-    let G = c.self.inside.generations in
+    let G = c.self.inside.parts.generations in
     let is = c.self.invariant in
     let q = c.args.select.now in
     c.in_ok-reply.ensures ∙ ap (answer_of q) (next_content-is G.phase G.slots)
@@ -22,6 +22,6 @@ returns-clause-right c = subst (λ (db : Database). c.in_ok-reply.reply ≡ prev
 
 pub returns-clause-keyed : goal.returns-clause-keyed
 returns-clause-keyed c =
-    let db = c.self.inside in
+    let db = c.self.inside.parts in
     subst RowsHaveRisingKeys (sym (right c))
     (RowsHaveRisingKeys-next db.generations.catalog db.limits db.history c.args.select.now c.self.invariant.catalog c.self.invariant.legal)

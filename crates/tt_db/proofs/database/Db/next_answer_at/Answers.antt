@@ -13,7 +13,7 @@ preview_at-requires c =
     let in_state = subst (λ (db : Database). c.args.time ≤ done_of (state_of db).phase) (sym c.self.view_is) c.requires in
     subst (λ phase. c.args.time ≤ done_of phase) (sym c.self.invariant.phase) in_state
 
-right : (c : goal.In_ok-reply) → let S = after c.self.inside.limits c.self.inside.history in c.in_ok-reply.reply ≡ answer_of c.args.select.now (next_at S c.args.time)
+right : (c : goal.In_ok-reply) → let S = after c.self.inside.parts.limits c.self.inside.parts.history in c.in_ok-reply.reply ≡ answer_of c.args.select.now (next_at S c.args.time)
 right c =
     let is = c.self.invariant in
     c.in_ok-reply.ensures ∙ (λ i. answer_of c.args.select.now (next_content_at (is.phase i) (is.slots i) c.args.time))
@@ -23,6 +23,6 @@ returns-clause-right c = subst (λ (db : Database). c.in_ok-reply.reply ≡ prev
 
 pub returns-clause-keyed : goal.returns-clause-keyed
 returns-clause-keyed c =
-    let db = c.self.inside in
+    let db = c.self.inside.parts in
     subst RowsHaveRisingKeys (sym (right c))
     (RowsHaveRisingKeys-next_at db.generations.catalog db.limits db.history c.args.select.now c.args.time c.self.invariant.catalog c.self.invariant.legal)

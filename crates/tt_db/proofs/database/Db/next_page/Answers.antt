@@ -12,9 +12,9 @@ use Rattle.tt_db.proofs.PageLemmas.{page_of_select-keyed, page-rises}
 use Rattle.tt_db.proofs.database.Db.next_page.Goals as goal
 
 page_is : (c : goal.In_ok-page)
-    → let S = after c.self.inside.limits c.self.inside.history in c.in_ok-page.page ≡ first_rows c.args.after c.args.most (rows_in (answer_of c.args.select.now (next_at S (done_of S.phase))))
+    → let S = after c.self.inside.parts.limits c.self.inside.parts.history in c.in_ok-page.page ≡ first_rows c.args.after c.args.most (rows_in (answer_of c.args.select.now (next_at S (done_of S.phase))))
 page_is c =
-    let d = c.self.inside in
+    let d = c.self.inside.parts in
     let G = d.generations in
     let is = c.self.invariant in
     let q = c.args.select.now in
@@ -29,7 +29,7 @@ returns-clause-right c =
 
 pub returns-clause-keyed : goal.returns-clause-keyed
 returns-clause-keyed c =
-    let d = c.self.inside in
+    let d = c.self.inside.parts in
     let q = c.args.select.now in
     let S = after d.limits d.history in
     page-rises c.args.after c.args.most (answer_of q (next_at S (done_of S.phase))) c.in_ok-page.page

@@ -10,7 +10,7 @@ use Rattle.tt_db.proofs.database.Db.select_in.Goals as goal
 
 pub returns-in-Ok-clause-keyed : goal.returns-in-Ok-clause-keyed
 returns-in-Ok-clause-keyed c =
-    let db = c.self.inside in
+    let db = c.self.inside.parts in
     let W = c.in-Some.generations.now.slots in
     let is : slots_in (after db.limits db.history) c.args.generation ≡ Some W =
     ap (λ (d : Database). slots_in (state_of d) c.args.generation) c.self.view_is ∙ sym c.generations_of.ensures

@@ -9,7 +9,7 @@ use Rattle.tt_db.proofs.database.Db.versions.Goals as goal
 
 pub returns-then-from-len-clause-next : goal.returns-then-from-len-clause-next
 returns-then-from-len-clause-next c = λ key time past.
-    let G = c.self.inside.generations in
+    let G = c.self.inside.parts.generations in
     let is = c.self.invariant in
     let in_state = subst (λ (db : Database). time ≤ done_of (state_of db).phase) (sym c.self.view_is) past in
     let done = subst (λ phase. time ≤ done_of phase) (sym is.phase) in_state in

@@ -7,7 +7,7 @@ use Rattle.tt_versions.proofs.lineages.Lineages.keys_for.Goals as goal
 
 pub returns : goal.returns
 returns c =
-    let m = c.self.inside in
+    let m = c.self.inside.indexed in
     let equals = c.args.equals.now in
     IfSome-map c.keys_for.result (λ keys. CoversMatches m.index keys.now equals) (λ keys. HaveKeysIn c.args.self.now keys.now equals)
     (λ keys covers. subst (λ (t : LineagesByKey). HaveKeysIn t keys.now equals) c.self.view_is (HaveKeysIn-covers m.index keys.now equals m.entries c.self.invariant.listed covers))

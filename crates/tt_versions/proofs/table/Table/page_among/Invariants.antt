@@ -7,6 +7,6 @@ use Rattle.tt_versions.proofs.table.Table.page_among.Given as goal
 
 abbrev pub invariant-loop-key : goal.invariant-loop-key
 invariant-loop-key l = record {
-  rows : rows_behind l.rows.items ++ matching_among l.equals (λ k. side_of l.self l.fn.side k l.time) l.key-iterator ≡ matching_among l.equals (λ k. side_of l.self l.fn.side k l.time) (those_after l.fn.after l.keys);
-  few : length (rows_behind l.rows.items) ≤ l.most;
+  rows : rows_behind l.rows.items ++ matching_among l.query.equals.now (λ k. side_of l.self l.query.side k l.query.time) l.key-iterator ≡ matching_among l.query.equals.now (λ k. side_of l.self l.query.side k l.query.time) (those_after l.query.after l.keys);
+  few : length (rows_behind l.rows.items) ≤ l.query.most;
 }

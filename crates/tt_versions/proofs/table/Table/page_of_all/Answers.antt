@@ -5,11 +5,13 @@ use Rattle.tt_versions.specs.Sides.{rows_behind}
 use Rattle.tt_versions.proofs.PageLemmas.{of_all-more, of_all-last}
 use Rattle.tt_versions.proofs.table.Table.page_of_all.Goals as goal
 
-pub returns-then-len-most : goal.returns-then-len-most
-returns-then-len-most c =
-    of_all-more (rows_behind c.loop-key.rows.items) c.args.after c.args.most c.args.equals.now c.args.self.now c.loop-key.key-iterator c.next.new.self (c.in-Some.key.now, c.in-Some.lineage.now) c.in-Some-matching.row.now
-    c.args.time c.args.side (cc) c.loop-key.invariant.rows c.in-Some.ensures.steps c.in-Some-matching.ensures (grind (arith, common_steps))
+pub returns-then-len-query : goal.returns-then-len-query
+returns-then-len-query c =
+    let q = c.args.query.now in
+    of_all-more (rows_behind c.loop-key.rows.items) q.after q.most q.equals.now c.args.self.now c.loop-key.key-iterator c.next.new.self (c.in-Some.key.now, c.in-Some.lineage.now) c.in-Some-matching.row.now
+    q.time q.side (cc) c.loop-key.invariant.rows c.in-Some.ensures.steps c.in-Some-matching.ensures (grind (arith, common_steps))
 
 pub returns : goal.returns
 returns c =
-    of_all-last (rows_behind c.loop-key.rows.items) c.args.after c.args.most c.args.equals.now c.args.self.now c.args.time c.args.side (cc) (grind (arith, common_steps)) c.loop-key.invariant.few
+    let q = c.args.query.now in
+    of_all-last (rows_behind c.loop-key.rows.items) q.after q.most q.equals.now c.args.self.now q.time q.side (cc) (grind (arith, common_steps)) c.loop-key.invariant.few

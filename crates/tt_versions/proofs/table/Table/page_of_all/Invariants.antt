@@ -7,6 +7,6 @@ use Rattle.tt_versions.proofs.table.Table.page_of_all.Given as goal
 
 abbrev pub invariant-loop-key : goal.invariant-loop-key
 invariant-loop-key l = record {
-  rows : rows_behind l.rows.items ++ matching_of l.equals l.time l.fn.side l.key-iterator ≡ matching_of l.equals l.time l.fn.side (those_after l.fn.after l.self);
-  few : length (rows_behind l.rows.items) ≤ l.most;
+  rows : rows_behind l.rows.items ++ matching_of l.query.equals.now l.query.time l.query.side l.key-iterator ≡ matching_of l.query.equals.now l.query.time l.query.side (those_after l.query.after l.self);
+  few : length (rows_behind l.rows.items) ≤ l.query.most;
 }

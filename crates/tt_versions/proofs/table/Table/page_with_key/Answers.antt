@@ -10,26 +10,30 @@ use Rattle.tt_versions.proofs.table.Table.page_with_key.Goals as goal
 
 pub returns-then-not-is_after : goal.returns-then-not-is_after
 returns-then-not-is_after c =
+    let q = c.args.query.now in
     let same = to_z-of_z w64 c.args.key c.ranges.key in
-    of_key-before _ c.args.after c.args.most c.args.equals.now c.args.self.now c.args.key c.args.time c.args.side c.requires (ap rows_behind c.new-rows.ensures.items)
-    (ap (λ (k : ℤ). is_after c.args.after k) (sym same) ∙ sym c.is_after.ensures ∙ c.if-not-is_after.true)
+    of_key-before _ q.after q.most q.equals.now c.args.self.now c.args.key q.time q.side c.requires (ap rows_behind c.new-rows.ensures.items)
+    (ap (λ (k : ℤ). is_after q.after k) (sym same) ∙ sym c.is_after.ensures ∙ c.if-not-is_after.true)
 
 pub returns-in_default : goal.returns-in_default
 returns-in_default c =
+    let q = c.args.query.now in
     let same = to_z-of_z w64 c.args.key c.ranges.key in
-    of_key-none _ c.args.after c.args.most c.args.equals.now c.args.self.now c.args.key c.args.time c.args.side c.requires (ap rows_behind c.new-rows.ensures.items)
-    (c.in_default.ensures ∙ ap (λ (k : ℤ). if_matching c.args.equals.now (side_of c.args.self.now c.args.side k c.args.time)) same)
+    of_key-none _ q.after q.most q.equals.now c.args.self.now c.args.key q.time q.side c.requires (ap rows_behind c.new-rows.ensures.items)
+    (c.in_default.ensures ∙ ap (λ (k : ℤ). if_matching q.equals.now (side_of c.args.self.now q.side k q.time)) same)
 
-pub returns-then-most-eq0 : goal.returns-then-most-eq0
-returns-then-most-eq0 c =
+pub returns-then-query-eq0 : goal.returns-then-query-eq0
+returns-then-query-eq0 c =
+    let q = c.args.query.now in
     let same = to_z-of_z w64 c.args.key c.ranges.key in
-    of_key-more _ c.args.after c.args.most c.args.equals.now c.args.self.now c.args.key c.args.time c.args.side c.in-Some.row.now c.requires (ap rows_behind c.new-rows.ensures.items)
-    (ap (λ (k : ℤ). is_after c.args.after k) (sym same) ∙ sym c.is_after.ensures ∙ c.if-not-is_after.false)
-    (c.in-Some.ensures ∙ ap (λ (k : ℤ). if_matching c.args.equals.now (side_of c.args.self.now c.args.side k c.args.time)) same) c.if-most-eq0.true
+    of_key-more _ q.after q.most q.equals.now c.args.self.now c.args.key q.time q.side c.in-Some.row.now c.requires (ap rows_behind c.new-rows.ensures.items)
+    (ap (λ (k : ℤ). is_after q.after k) (sym same) ∙ sym c.is_after.ensures ∙ c.if-not-is_after.false)
+    (c.in-Some.ensures ∙ ap (λ (k : ℤ). if_matching q.equals.now (side_of c.args.self.now q.side k q.time)) same) c.if-query-eq0.true
 
 pub returns : goal.returns
 returns c =
+    let q = c.args.query.now in
     let same = to_z-of_z w64 c.args.key c.ranges.key in
-    of_key-one _ c.args.after c.args.most c.args.equals.now c.args.self.now c.args.key c.args.time c.args.side c.in-Some.row.now c.requires (grind (arith, common_steps))
-    (ap (λ (k : ℤ). is_after c.args.after k) (sym same) ∙ sym c.is_after.ensures ∙ c.if-not-is_after.false)
-    (c.in-Some.ensures ∙ ap (λ (k : ℤ). if_matching c.args.equals.now (side_of c.args.self.now c.args.side k c.args.time)) same) (omega arith)
+    of_key-one _ q.after q.most q.equals.now c.args.self.now c.args.key q.time q.side c.in-Some.row.now c.requires (grind (arith, common_steps))
+    (ap (λ (k : ℤ). is_after q.after k) (sym same) ∙ sym c.is_after.ensures ∙ c.if-not-is_after.false)
+    (c.in-Some.ensures ∙ ap (λ (k : ℤ). if_matching q.equals.now (side_of c.args.self.now q.side k q.time)) same) (omega arith)
