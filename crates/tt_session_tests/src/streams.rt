@@ -94,3 +94,16 @@ fn a_flush_is_interrupted(rt: HostRuntime) {
     assert!(rt; writer.inner.written.as_slice() == TEXT.as_bytes());
     same(&rt, &writer.inner.flushed, &0);
 }
+
+/// The texts of the errors.
+#[test]
+fn texts_of_errors(rt: HostRuntime) {
+    let alloc = rt.alloc();
+    for (error, text) in [
+        (StreamError::Read, "cannot read"),
+        (StreamError::Write, "cannot write"),
+    ] {
+        let printed = format!(in alloc; "{error}").expect(&rt, "memory");
+        same(&rt, &printed.as_str(), &text);
+    }
+}

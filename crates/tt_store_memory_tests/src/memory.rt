@@ -14,6 +14,7 @@ mod quiet;
 mod reads;
 mod repairs;
 mod runs;
+mod sessions;
 mod whole_repairs;
 mod writes;
 

@@ -43,6 +43,9 @@ fn reads_map(rt: &impl Abort, map: &PagedMap<u64>) {
         next = next.saturating_add(1);
     }
     same(rt, &next, &(MANY as i64));
+    let last = map.iter_after(MANY as i64 - 2).next();
+    same(rt, &last.map(|(key, _)| *key), &Some(MANY as i64 - 1));
+    assert!(rt; map.depth() > 0);
 }
 
 #[test]

@@ -5,15 +5,18 @@ use super::{accounts, everything, insert, items, same};
 use std::alloc::{AllocError, Global};
 use std::process::Abort;
 use tt_db::{Db, DbError, Edit, Event, Limits, Progress, ReadError};
-use tt_values::{CheckError, Select, Write};
+use tt_values::{CheckError, RowId, Select, Write};
 
-/// A database refuses an event, without memory, beside it and in place.
+/// A database tells why it would refuse an event, and refuses it, without memory, beside it and in
+/// place.
 fn refuses(rt: &impl Abort, alloc: Global, db: Db, event: Event, error: DbError) -> Db {
     let again = event.clone().expect(rt, "an owner");
     quiet(alloc);
+    let refusal = db.refusal(&event);
     let refused = db.apply(entry(event));
     let answer = db.advanced(entry(again));
     quiet(alloc);
+    same(rt, &refusal, &Some(error));
     same(rt, &refused.err(), &Some(error));
     match answer {
         Ok((db, outcome)) => {
@@ -120,6 +123,19 @@ fn tells(rt: &impl Abort, db: &Db) {
     assert!(rt; db.versions(0).is_some() && db.versions(1).is_none());
 }
 
+/// What it tells of its repair, its limits and its rows.
+fn tells_more(rt: &impl Abort, db: &Db) {
+    same(rt, &(db.slots_done(), db.slots_left()), &(4, 1));
+    assert!(rt; db.is_repairing());
+    same(rt, &db.limits(), &Limits::usual());
+    let of_ann = RowId { table: 0, key: 1 };
+    assert!(rt; db.row_at(of_ann, 0).is_none() && db.row_at(of_ann, 1).is_some());
+    let of_nobody = RowId { table: 1, key: 1 };
+    assert!(rt; db.row_at(of_nobody, 1).is_none());
+    same(rt, &db.refusal(&Event::Step), &None);
+    same(rt, &db.refusal(&Event::Abort), &None);
+}
+
 /// Selects with a fault, which are refused by each read.
 fn refuses_select(rt: &impl Abort, db: &Db, select: &Select) {
     let error = Some(ReadError::Statement(CheckError::NoTable));
@@ -158,6 +174,7 @@ fn reads_that_are_refused(rt: HostRuntime) {
     let faulty = Select::all(alloc, 1).expect(&rt, "memory");
     quiet(alloc);
     tells(&rt, &db);
+    tells_more(&rt, &db);
     refuses_select(&rt, &db, &faulty);
     refuses_time(&rt, &db, &all);
     let idle = Some(ReadError::NotRepairing);

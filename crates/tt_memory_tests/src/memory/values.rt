@@ -5,8 +5,8 @@ use std::alloc::{AllocError, Global};
 use std::process::Abort;
 use tt_values::{
     Catalog, CatalogError, Change, CheckError, Column, Equal, Items, Kind, Row, Same, Select,
-    Shared, TableDef, Text, Value, Write, changed, check, check_action, check_select, digest,
-    matches,
+    Shared, TableDef, Text, Value, Write, are_same, changed, check, check_action, check_select,
+    digest, matches,
 };
 
 /// A text, though the first call may find no memory.
@@ -260,6 +260,8 @@ fn judges_selects(rt: &impl Abort, alloc: Global, catalog: &Catalog) {
         &Err(CheckError::WrongKind),
     );
     same(rt, &all.copy().expect(rt, "an owner"), &all);
-    assert!(rt; Value::Int(7).is_same(&Value::Int(7)) && Value::Int(7).is_of_kind(Kind::Int));
+    let values = [Value::Int(7), Value::Int(8)];
+    assert!(rt; values[0].is_same(&Value::Int(7)) && values[0].is_of_kind(Kind::Int));
+    assert!(rt; are_same(&values, &values) && !are_same(&values, &values[..1]));
     quiet(alloc);
 }

@@ -156,7 +156,8 @@ fn aborts<L: Naming, T: Wait + Abort>(
     same(rt, &aborted, &Ok(7));
 }
 
-/// Sees the seven entries. Without memory the call is made again.
+/// Sees the seven entries. Without memory the worker has seen none of them, and the call is made
+/// again.
 fn refreshes<L: Naming, T: Wait + Abort>(
     rt: &T,
     alloc: Global,
@@ -170,7 +171,7 @@ fn refreshes<L: Naming, T: Wait + Abort>(
         Ok(seen) => Ok(seen),
         Err(error) => {
             same(rt, &error, &StoreError::Memory);
-            same(rt, &worker.made(), &0);
+            same(rt, &(worker.made(), worker.seen()), &(0, 0));
             store.refresh(rt, worker)
         }
     };

@@ -4,7 +4,9 @@ ghost use Rattle.std.specs.Arc.{arc_value};
 ghost use Rattle.tt_db.specs.Limits.{usual_limits};
 ghost use Rattle.tt_store.specs.Published.{RuleIsMembership};
 
-use super::{all, bank, begins_after_five_slots, has, inserts, last_of, same};
+use super::{
+    Account, all, bank, begins_after_five_slots, closes, has, inserts, last_of, rows, same,
+};
 use std::alloc::Global;
 use std::marker::Brand;
 use std::process::Abort;
@@ -13,7 +15,7 @@ use std::sync::{Arc, Wait};
 use std::test::*;
 use std::thread::{Threads, join, yield_now};
 use tt_db::{Limits, Progress};
-use tt_store::{Gate, Naming, Opened, Point, Store, Worker};
+use tt_store::{Answer, Gate, Naming, Opened, Point, Store, Worker};
 use tt_values::Catalog;
 
 /// The most turns for which a thread waits for another thread.
@@ -98,20 +100,21 @@ impl Marks {
         }
     }
 
-    /// Asserts that nobody waited in vain, that `built` states were built, and that the call
-    /// published once.
-    fn check(&self, rt: &impl Abort, built: u64) {
+    /// Asserts that nobody waited in vain, and how often worker 1 has built a state and published.
+    fn check(&self, rt: &impl Abort, end: &End<'_>) {
         same(rt, &self.missed.load(Ordering::SeqCst), &0);
-        same(rt, &self.built.load(Ordering::SeqCst), &built);
-        same(rt, &self.published.load(Ordering::SeqCst), &1);
+        same(rt, &self.built.load(Ordering::SeqCst), &end.built);
+        same(rt, &self.published.load(Ordering::SeqCst), &end.published);
     }
 }
 
-/// Holds worker 1 at these points, one after another. In the try of this number, if there is one,
-/// it watches the lock, and so it does at each of the points that are watched.
+/// Holds worker 1 at these points, one after another, from the state of this number on that it
+/// builds. In the try of this number, if there is one, it watches the lock, and so it does at each
+/// of the points that are watched.
 #[derive(Clone, Copy)]
 struct Held<'a> {
     marks: &'a Marks,
+    from: u64,
     points: &'a [Point],
     locked_try: Option<u64>,
     watched: &'a [Point],
@@ -128,6 +131,9 @@ impl Gate for Held<'_> {
             Point::Building => self.build(),
             Point::Published => count(&marks.published),
             _ => (),
+        }
+        if marks.built.load(Ordering::SeqCst) < self.from {
+            return;
         }
         let held = marks.held.load(Ordering::SeqCst);
         if self.points.get(held as usize) == Some(&point) {
@@ -162,19 +168,33 @@ enum Beside {
     Writes,
     WritesBeforeEachTry,
     WritesBehind,
+    WritesBesideOwnSteps,
 }
 
-/// Opens a store in which worker 1 is held, and asserts how many states it builds.
-fn holds<T: Threads + Wait + Abort + Sync>(
-    rt: &T,
-    alloc: Global,
-    gate: Held<'_>,
-    beside: Beside,
+/// What there is when both workers are done: how many states worker 1 has built and how many it
+/// has published, the places of the entries of each, and the accounts.
+#[derive(Clone, Copy)]
+struct End<'a> {
     built: u64,
-) {
+    published: u64,
+    first: &'a [u64],
+    second: &'a [u64],
+    accounts: &'a [Account],
+}
+
+/// Where worker 1 is held, what the other one does meanwhile, and what there is in the end.
+#[derive(Clone, Copy)]
+struct Scene<'a> {
+    gate: Held<'a>,
+    beside: Beside,
+    end: End<'a>,
+}
+
+/// Opens a store, and plays a scene in it.
+fn holds<T: Threads + Wait + Abort + Sync>(rt: &T, alloc: Global, scene: Scene<'_>) {
     let catalog = bank(rt, alloc);
-    holds_named::<Brand, T>(rt, alloc, Opened::new(2), catalog, gate, beside);
-    gate.marks.check(rt, built);
+    holds_named::<Brand, T>(rt, alloc, Opened::new(2), catalog, &scene);
+    scene.gate.marks.check(rt, &scene.end);
 }
 
 /// The same, where the store has a name.
@@ -183,8 +203,7 @@ fn holds_named<L: Naming + Send + Sync, T: Threads + Wait + Abort + Sync>(
     alloc: Global,
     opened: Opened,
     catalog: Arc<Catalog>,
-    gate: Held<'_>,
-    beside: Beside,
+    scene: &Scene<'_>,
 )
     requires book { opened.front.book ≡ L.book }
     requires tables { arc_value catalog ≡ L.tables }
@@ -193,35 +212,93 @@ fn holds_named<L: Naming + Send + Sync, T: Threads + Wait + Abort + Sync>(
     requires name { opened.blank.name ≡ L.name }
     requires parts { opened.blank.parts ≡ L.parts }
 {
-    let opened = opened.named::<L, Held<'_>, &T>(rt, alloc, catalog, Limits::usual(), gate);
+    let Scene { gate, beside, end } = scene;
+    let opened = opened.named::<L, Held<'_>, &T>(rt, alloc, catalog, Limits::usual(), *gate);
     let (store, mut workers) = opened.expect(rt, "a store");
     let second = last_of(rt, &mut workers);
     let first = last_of(rt, &mut workers);
-    let marks = gate.marks;
-    match beside {
-        Beside::Reads => reads_beside_a_write(rt, alloc, &store, first, second, marks),
-        Beside::Writes => writes_beside_steps(rt, alloc, &store, first, second, marks),
-        Beside::WritesBeforeEachTry => writes_beside_writes(
-            rt, alloc, &store, first, second, marks,
-        ),
-        Beside::WritesBehind => writes_behind_a_write(rt, alloc, &store, first, second, marks),
-    }
-    done(store);
+    let pair = beside_held(rt, alloc, &store, (first, second), gate.marks, *beside);
+    ends(rt, alloc, store, pair, end);
 }
 
-/// The end of a test's use of a store.
-fn done<L: Naming, G: Gate + Drop, R: Wait + Drop>(_store: Store<L, G, R>) {}
+/// Lets worker 1 be held while the other one does this. Returns the two.
+fn beside_held<L: Naming + Send + Sync, T: Threads + Wait + Abort + Sync>(
+    rt: &T,
+    alloc: Global,
+    store: &Store<L, Held<'_>, &T>,
+    pair: (Worker<L>, Worker<L>),
+    marks: &Marks,
+    beside: Beside,
+) -> (Worker<L>, Worker<L>) {
+    let (first, second) = pair;
+    match beside {
+        Beside::Reads => reads_beside_a_write(rt, alloc, store, first, second, marks),
+        Beside::Writes => writes_beside_steps(rt, alloc, store, first, second, marks),
+        Beside::WritesBeforeEachTry => {
+            writes_beside_writes(rt, alloc, store, first, second, marks)
+        }
+        Beside::WritesBehind => writes_behind_a_write(rt, alloc, store, first, second, marks),
+        Beside::WritesBesideOwnSteps => {
+            writes_beside_own_steps(rt, alloc, store, first, second, marks)
+        }
+    }
+}
+
+/// Asserts that both workers read the accounts of an end once they are refreshed, and closes the
+/// store, in which their entries have its places.
+fn ends<L: Naming, T: Wait + Abort>(
+    rt: &T,
+    alloc: Global,
+    store: Store<L, Held<'_>, &T>,
+    pair: (Worker<L>, Worker<L>),
+    end: &End<'_>,
+) {
+    let (mut first, mut second) = pair;
+    store.refresh(rt, &mut first).expect(rt, "a refresh");
+    store.refresh(rt, &mut second).expect(rt, "a refresh");
+    has(rt, alloc, &mut first, end.accounts);
+    has(rt, alloc, &mut second, end.accounts);
+    closes(rt, alloc, store, [first, second], end.first, end.second);
+}
+
+/// Asserts that a read is of this time, and has these accounts.
+fn reads<L: Naming>(
+    rt: &impl Abort,
+    alloc: Global,
+    worker: &mut Worker<L>,
+    time: u64,
+    accounts: &[Account],
+) {
+    let want = Answer {
+        time,
+        reply: rows(rt, alloc, accounts),
+    };
+    same(rt, &worker.read(&all(rt, alloc)), &Ok(want));
+}
 
 #[test]
 fn a_read_takes_no_lock(rt: HostRuntime) {
     let marks = Marks::new();
     let gate = Held {
         marks: &marks,
+        from: 1,
         points: &[Point::Locked, Point::Published],
         locked_try: None,
         watched: &[],
     };
-    holds(&rt, rt.alloc(), gate, Beside::Reads, 1);
+    let end = End {
+        built: 1,
+        published: 1,
+        first: &[1],
+        second: &[],
+        accounts: &[(1, "ann", 10)],
+    };
+    let scene = Scene {
+        gate,
+        beside: Beside::Reads,
+        end,
+    };
+    holds(&rt, rt.alloc(), scene);
 }
 
 /// Lets a worker read while a write of the other one is held.
@@ -232,12 +309,12 @@ fn reads_beside_a_write<L: Naming + Send + Sync, T: Threads + Wait + Abort + Syn
     first: Worker<L>,
     second: Worker<L>,
     marks: &Marks,
-) {
+) -> (Worker<L>, Worker<L>) {
     join(
         rt,
         || writes_one(rt, alloc, store, first, (1, 1)),
         || reads_under_the_lock(rt, alloc, second, marks),
-    );
+    )
 }
 
 /// Inserts an account, which takes this place and this slot.
@@ -260,25 +337,12 @@ fn reads_under_the_lock<L: Naming>(
     marks: &Marks,
 ) -> Worker<L> {
     marks.wait_until_held(0);
-    has(rt, alloc, &mut worker, &[]);
+    reads(rt, alloc, &mut worker, 0, &[]);
     marks.release();
     marks.wait_until_held(1);
-    assert!(rt; comes_to_see(rt, alloc, &mut worker));
-    has(rt, alloc, &mut worker, &[(1, "ann", 10)]);
+    reads(rt, alloc, &mut worker, 1, &[(1, "ann", 10)]);
     marks.release();
     worker
-}
-
-/// Whether one of 10,000 reads is of the first write.
-fn comes_to_see<L: Naming>(rt: &impl Abort, alloc: Global, worker: &mut Worker<L>) -> bool {
-    let all = all(rt, alloc);
-    for _ in 0..10_000 {
-        let answer = worker.read(&all).expect(rt, "a read");
-        if answer.time == 1 {
-            return true;
-        }
-    }
-    false
 }
 
 #[test]
@@ -286,11 +350,24 @@ fn steps_go_behind_a_write_made_meanwhile(rt: HostRuntime) {
     let marks = Marks::new();
     let gate = Held {
         marks: &marks,
+        from: 1,
         points: &[Point::Building],
         locked_try: None,
         watched: &[],
     };
-    holds(&rt, rt.alloc(), gate, Beside::Writes, 2);
+    let end = End {
+        built: 2,
+        published: 1,
+        first: &[8, 9],
+        second: &[1, 2, 3, 4, 5, 6, 7],
+        accounts: &[(3, "bob", 8), (4, "dan", 1)],
+    };
+    let scene = Scene {
+        gate,
+        beside: Beside::Writes,
+        end,
+    };
+    holds(&rt, rt.alloc(), scene);
 }
 
 /// Begins a repair, and lets a worker write while steps of the other one are held.
@@ -301,18 +378,63 @@ fn writes_beside_steps<L: Naming + Send + Sync, T: Threads + Wait + Abort + Sync
     first: Worker<L>,
     mut second: Worker<L>,
     marks: &Marks,
-) {
+) -> (Worker<L>, Worker<L>) {
     begins_after_five_slots(rt, alloc, store, &mut second);
     join(
         rt,
-        || steps(rt, store, first),
+        || steps(rt, alloc, store, first),
         || writes_meanwhile(rt, alloc, store, second, marks),
-    );
+    )
+}
+
+/// Worker 1 makes all of the history but the write meanwhile: it builds a state for each of its
+/// first six entries, and two for its steps.
+#[test]
+fn own_steps_go_behind_a_write_made_meanwhile(rt: HostRuntime) {
+    let marks = Marks::new();
+    let gate = Held {
+        marks: &marks,
+        from: 7,
+        points: &[Point::Building],
+        locked_try: None,
+        watched: &[],
+    };
+    let end = End {
+        built: 8,
+        published: 7,
+        first: &[1, 2, 3, 4, 5, 6, 8, 9],
+        second: &[7],
+        accounts: &[(3, "bob", 8), (4, "dan", 1)],
+    };
+    let scene = Scene {
+        gate,
+        beside: Beside::WritesBesideOwnSteps,
+        end,
+    };
+    holds(&rt, rt.alloc(), scene);
+}
+
+/// Lets a worker write while steps of the other one are held, in a repair that this has begun.
+fn writes_beside_own_steps<L: Naming + Send + Sync, T: Threads + Wait + Abort + Sync>(
+    rt: &T,
+    alloc: Global,
+    store: &Store<L, Held<'_>, &T>,
+    mut first: Worker<L>,
+    second: Worker<L>,
+    marks: &Marks,
+) -> (Worker<L>, Worker<L>) {
+    begins_after_five_slots(rt, alloc, store, &mut first);
+    join(
+        rt,
+        || steps(rt, alloc, store, first),
+        || writes_meanwhile(rt, alloc, store, second, marks),
+    )
 }
 
 /// Makes two steps, behind a write that is made meanwhile.
 fn steps<L: Naming, T: Wait + Abort>(
     rt: &T,
+    alloc: Global,
     store: &Store<L, Held<'_>, &T>,
     mut worker: Worker<L>,
 ) -> Worker<L> {
@@ -323,10 +445,21 @@ fn steps<L: Naming, T: Wait + Abort>(
     };
     same(rt, &store.step(rt, &mut worker, 2), &Ok(progress));
     same(rt, &worker.seen(), &9);
+    reads(rt, alloc, &mut worker, 6, &[(3, "bob", 8), (4, "dan", 1)]);
+    previews_two(rt, alloc, &mut worker);
     worker
 }
 
-/// Inserts an account while the steps are held.
+/// Asserts that the next generation has the first two accounts, when its first two slots are done.
+fn previews_two<L: Naming>(rt: &impl Abort, alloc: Global, worker: &mut Worker<L>) {
+    let want = Answer {
+        time: 2,
+        reply: rows(rt, alloc, &[(1, "ann", 5), (2, "ann", 6)]),
+    };
+    same(rt, &worker.preview(&all(rt, alloc)), &Ok(want));
+}
+
+/// Inserts an account while the steps are held, and reads it.
 fn writes_meanwhile<L: Naming, T: Wait + Abort>(
     rt: &T,
     alloc: Global,
@@ -335,7 +468,9 @@ fn writes_meanwhile<L: Naming, T: Wait + Abort>(
     marks: &Marks,
 ) -> Worker<L> {
     marks.wait_until_held(0);
-    inserts(rt, alloc, store, &mut worker, (6, "eve", 1), (7, 6));
+    inserts(rt, alloc, store, &mut worker, (4, "dan", 1), (7, 6));
+    same(rt, &worker.seen(), &7);
+    reads(rt, alloc, &mut worker, 6, &[(3, "bob", 8), (4, "dan", 1)]);
     marks.release();
     worker
 }
@@ -345,11 +480,31 @@ fn the_fifth_try_is_made_under_the_lock(rt: HostRuntime) {
     let marks = Marks::new();
     let gate = Held {
         marks: &marks,
+        from: 1,
         points: &[Point::Building; 4],
         locked_try: Some(5),
         watched: &[],
     };
-    holds(&rt, rt.alloc(), gate, Beside::WritesBeforeEachTry, 5);
+    let end = End {
+        built: 5,
+        published: 1,
+        first: &[5],
+        second: &[1, 2, 3, 4, 6],
+        accounts: &[
+            (1, "ann", 10),
+            (2, "bob", 20),
+            (3, "bob", 20),
+            (4, "bob", 20),
+            (5, "bob", 20),
+            (6, "eve", 30),
+        ],
+    };
+    let scene = Scene {
+        gate,
+        beside: Beside::WritesBeforeEachTry,
+        end,
+    };
+    holds(&rt, rt.alloc(), scene);
 }
 
 /// Lets a worker write before each of four tries of the other one.
@@ -360,16 +515,16 @@ fn writes_beside_writes<L: Naming + Send + Sync, T: Threads + Wait + Abort + Syn
     first: Worker<L>,
     second: Worker<L>,
     marks: &Marks,
-) {
+) -> (Worker<L>, Worker<L>) {
     join(
         rt,
         || writes_one(rt, alloc, store, first, (5, 5)),
         || writes_before_each_try(rt, alloc, store, second, marks),
-    );
+    )
 }
 
-/// Inserts an account each time before a held write tries to publish, and one more while it holds
-/// the lock, which goes behind it.
+/// Inserts an account each time before a held write tries to publish, and reads what there is
+/// then; and inserts one more while it holds the lock, which goes behind it.
 fn writes_before_each_try<L: Naming, T: Wait + Abort>(
     rt: &T,
     alloc: Global,
@@ -377,11 +532,14 @@ fn writes_before_each_try<L: Naming, T: Wait + Abort>(
     mut worker: Worker<L>,
     marks: &Marks,
 ) -> Worker<L> {
+    let mut there: Vec<Account> = Vec::new(alloc);
     for tries in 0..4u32 {
         let place = u64::from(tries) + 1;
         let account = (i64::from(tries) + 2, "bob", 20);
         marks.wait_until_held(u64::from(tries));
         inserts(rt, alloc, store, &mut worker, account, (place, place));
+        there.push(account).expect(rt, "memory");
+        reads(rt, alloc, &mut worker, place, &there);
         marks.release();
     }
     marks.wait_until_past(&marks.built, 4);
@@ -394,11 +552,24 @@ fn a_write_has_the_lock_until_it_is_published(rt: HostRuntime) {
     let marks = Marks::new();
     let gate = Held {
         marks: &marks,
+        from: 1,
         points: &[Point::Locked],
         locked_try: None,
         watched: &[Point::Locked, Point::Published],
     };
-    holds(&rt, rt.alloc(), gate, Beside::WritesBehind, 1);
+    let end = End {
+        built: 1,
+        published: 1,
+        first: &[1],
+        second: &[2],
+        accounts: &[(1, "ann", 10), (2, "bob", 20)],
+    };
+    let scene = Scene {
+        gate,
+        beside: Beside::WritesBehind,
+        end,
+    };
+    holds(&rt, rt.alloc(), scene);
 }
 
 /// Lets a worker write while a write of the other one has the lock.
@@ -409,12 +580,12 @@ fn writes_behind_a_write<L: Naming + Send + Sync, T: Threads + Wait + Abort + Sy
     first: Worker<L>,
     second: Worker<L>,
     marks: &Marks,
-) {
+) -> (Worker<L>, Worker<L>) {
     join(
         rt,
         || writes_one(rt, alloc, store, first, (1, 1)),
         || goes_behind(rt, alloc, store, second, marks),
-    );
+    )
 }
 
 /// Inserts an account once the other write has the lock, and goes behind it.
@@ -428,5 +599,6 @@ fn goes_behind<L: Naming, T: Wait + Abort>(
     marks.wait_until_held(0);
     marks.release();
     inserts(rt, alloc, store, &mut worker, (2, "bob", 20), (2, 2));
+    reads(rt, alloc, &mut worker, 2, &[(1, "ann", 10), (2, "bob", 20)]);
     worker
 }

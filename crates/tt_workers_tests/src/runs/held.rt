@@ -3,7 +3,9 @@
 ghost use Rattle.std.specs.Prelude.{◌≤◌};
 
 use super::gates::{AfterTheOther, BehindTheCalls, BesideTheRepair, Marks, Publishes, Together};
-use super::{FIVE_WRITES, MEANWHILE, TWO_WORKERS, document, ends, report, report_in_rounds, same};
+use super::{
+    FIVE_WRITES, MEANWHILE, TWO_WORKERS, document, ends, prints, report, report_in_rounds, same,
+};
 use std::alloc::Global;
 use std::process::Abort;
 use std::sync::Wait;
@@ -17,7 +19,13 @@ fn a_write_waits_for_another_workers_answer(rt: HostRuntime) {
     let gate = AfterTheOther { marks: &marks };
     let report = report(&rt, alloc, TWO_WORKERS, gate);
     marks.check(&rt, 1);
-    ends(&rt, alloc, &report, "end generation 0 time 1\n");
+    prints(
+        &rt,
+        alloc,
+        &report,
+        "call 1 worker 1 slot 1 inserted\ncall 2 worker 2 time 0 rows 0\ntable acct rows 1 [1,\"ann\",10]\nend generation 0 time 1\n",
+    );
+    assert!(rt; report.fronts.as_slice() == [0, 0].as_slice());
 }
 
 #[test]

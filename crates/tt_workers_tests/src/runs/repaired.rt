@@ -1,11 +1,9 @@
 //! What a history and a report tell of the repair of a document.
-use super::answers::Next;
 use super::same;
 use std::process::Abort;
-use tt_db::{Db, Edit, Event, Outcome, ReadError, Slot};
+use tt_db::{Db, Edit, Event};
 use tt_document::{Document, Plan};
-use tt_repair::{After, Changed, Record, Repaired, What};
-use tt_values::{Items, Reply};
+use tt_repair::{Record, What};
 use tt_workers::Report;
 
 /// How many entries of a history are of each kind.
@@ -16,33 +14,6 @@ struct Counts {
     steps: u64,
     switches: u64,
     aborts: u64,
-}
-
-/// Whether an entry that is a switch has this place and this outcome in the report.
-pub(super) fn is_told(next: &Option<Next<'_>>, place: u64, repaired: &Option<Repaired>) -> bool {
-    match next {
-        Some(next) => is_told_outcome(&next.outcome, place, repaired),
-        None => true,
-    }
-}
-
-fn is_told_outcome(outcome: &Outcome, place: u64, repaired: &Option<Repaired>) -> bool {
-    match outcome {
-        Outcome::Switched {
-            generation,
-            slots,
-            rerun,
-        } => {
-            *repaired
-                == Some(Repaired {
-                    generation: *generation,
-                    place,
-                    slots: *slots,
-                    rerun: *rerun,
-                })
-        }
-        _ => true,
-    }
 }
 
 /// Asserts that the history has one repair with the edits of the document, made by the
@@ -146,77 +117,4 @@ fn has_slot(records: &[Record], call: u64, slot: u64) -> bool {
         },
         None => false,
     }
-}
-
-/// Asserts that the report lists the records that have other replies now, and no others.
-pub(super) fn tells_changes(rt: &impl Abort, db: &Db, report: &Report) {
-    let mut position = 0usize;
-    for record in report.records.as_slice() {
-        if has_changed(db, &record.what) {
-            let change = report.changes.get(position).expect(rt, "a change");
-            assert!(rt; is_change_of(db, change, record));
-            position = position.saturating_add(1);
-        }
-    }
-    same(rt, &position, &report.changes.len());
-}
-
-/// Whether a record has another reply in a database now.
-fn has_changed(db: &Db, what: &What) -> bool {
-    match what {
-        What::Write { slot, replies } => match db.slot(*slot) {
-            Some(now) => now.replies.as_ref() != Some(replies),
-            None => false,
-        },
-        What::Read {
-            select,
-            time,
-            reply,
-        } => match db.select_at(select, *time) {
-            Ok(now) => now != *reply,
-            Err(_) => false,
-        },
-        _ => false,
-    }
-}
-
-/// Whether a change is of a record, from its answer to the one of a database now.
-fn is_change_of(db: &Db, change: &Changed, record: &Record) -> bool {
-    if change.call != record.call {
-        return false;
-    }
-    match &record.what {
-        What::Write { slot, replies } => {
-            change.before == *replies && is_of_slot(&change.after, db.slot(*slot))
-        }
-        What::Read {
-            select,
-            time,
-            reply,
-        } => is_one(&change.before, reply)
-            && is_of_read(&change.after, db.select_at(select, *time)),
-        _ => false,
-    }
-}
-
-/// Whether this stands in the place of the replies of a slot.
-fn is_of_slot(after: &After, slot: Option<&Slot>) -> bool {
-    match (after, slot) {
-        (After::Cancelled, Some(slot)) => slot.replies.is_none(),
-        (After::Replies(told), Some(slot)) => slot.replies.as_ref() == Some(told),
-        _ => false,
-    }
-}
-
-/// Whether this stands in the place of the reply to a read.
-fn is_of_read(after: &After, answer: Result<Reply, ReadError>) -> bool {
-    match (after, answer) {
-        (After::Replies(told), Ok(reply)) => is_one(told, &reply),
-        _ => false,
-    }
-}
-
-/// Whether a list has this one reply.
-fn is_one(replies: &Items<Reply>, reply: &Reply) -> bool {
-    replies.len() == 1 && replies.get(0) == Some(reply)
 }

@@ -117,6 +117,16 @@ fn a_run_survives_a_thousand_interrupted_reads(rt: HostRuntime) {
     assert!(rt; writer.written.is_empty());
 }
 
+/// The reads and the writes of one run survive 1,000 interruptions each.
+#[test]
+fn a_run_survives_a_thousand_interruptions_at_each_end(rt: HostRuntime) {
+    let mut reader = Faltering::new(document(), 1_000, 7);
+    let mut writer = Faltering::new(Sink::new(rt.alloc(), 1, usize::MAX), 1_000, 100);
+    let outcome = run_alone(rt.alloc(), &mut reader, &mut writer, &Options::usual());
+    assert!(rt; outcome.is_ok());
+    assert!(rt; writer.inner.written.as_slice() == REPORT.as_bytes());
+}
+
 /// All writes of a report together survive 1,000 interruptions, and not one more.
 #[test]
 fn a_report_survives_a_thousand_interrupted_writes(rt: HostRuntime) {
