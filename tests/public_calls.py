@@ -34,6 +34,9 @@ CALL = re.compile(r'(?:\b(?P<type>\w+)(?:::<[^()]*>)?::|(?P<before>\b\w+)?(?P<do
 NO_CALLER = re.compile(r'_(?:tests|bench|example)$')
 FOR_USERS = re.compile(r'(?:new|with_\w+|from_\w+|is_empty)$')
 PROMISED = {
+    'tt_log': 'Lines::push Lines::append Lines::truncate Lines::clear Lines::byte_len '
+              'UnreadLog::open UnreadLog::read UnreadLog::settle UnreadLog::device '
+              'UnreadLog::into_device Log::hand_over Log::device Log::into_device',
     'tt_pages': 'Kept::kept PagedMap::get PagedMap::with PagedMap::without PagedMap::iter '
                 'PagedMap::depth PagedLog::len PagedLog::get PagedLog::pushed PagedLog::replaced',
     'tt_values': 'Catalog::add Catalog::find Catalog::table Catalog::name Catalog::len '

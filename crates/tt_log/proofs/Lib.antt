@@ -1,0 +1,9 @@
+mod LineLemmas
+mod MomentLemmas
+mod PendingLemmas
+mod ReadingLemmas
+mod RestLemmas
+mod StepLemmas
+mod TornLemmas
+mod WriteLemmas
+mod ZeroLemmas

@@ -1,0 +1,40 @@
+use Rattle.std.proofs.Common.{length, ◌∙◌, ap, sym, subst}
+use Rattle.tt_log.specs.Device.{Only}
+use Rattle.tt_log.specs.Log.{IsAtRest}
+use Rattle.tt_log.specs.Lines.{logged, joined}
+use Rattle.tt_log.proofs.WriteLemmas.{at_rest-grown, logged-longer}
+use Rattle.tt_log.proofs.StepLemmas.{grown, grown_synced}
+use Rattle.tt_log.proofs.log.Log.make_room.Goals as goal
+
+pub returns-in_err-grow-clause-any_moment : goal.returns-in_err-grow-clause-any_moment
+returns-in_err-grow-clause-any_moment g c = λ told.
+    let d = c.args.self.now.device in
+    grown g.D.Device.shown g.D.Device.may_leave g.D.Device.moment g.D.Device.left_since g.met.D.Device.only_now d c.grow.new.self (g.D.Device.seen d) _ (c.requires told).durable (c.grow.ensures.crash told) (c.grow.ensures.time told)
+
+pub returns-in_err-sync-clause-any_moment : goal.returns-in_err-sync-clause-any_moment
+returns-in_err-sync-clause-any_moment g c = λ told.
+    let d = c.args.self.now.device in
+    grown_synced g.D.Device.shown g.D.Device.may_leave g.D.Device.moment g.D.Device.left_since g.met.D.Device.only_now d c.grow.new.self c.sync.new.self (g.D.Device.seen d) _ (c.requires told).durable (c.grow.ensures.crash told) (c.grow.ensures.time told) (c.grow.ensures.shown told) (c.sync.ensures.crash (c.grow.ensures.tells.0 told)) (c.sync.ensures.time (c.grow.ensures.tells.0 told))
+
+pub returns-clause-any_moment : goal.returns-clause-any_moment
+returns-clause-any_moment g c = λ told.
+    let d = c.args.self.now.device in
+    grown_synced g.D.Device.shown g.D.Device.may_leave g.D.Device.moment g.D.Device.left_since g.met.D.Device.only_now d c.grow.new.self c.sync.new.self (g.D.Device.seen d) _ (c.requires told).durable (c.grow.ensures.crash told) (c.grow.ensures.time told) (c.grow.ensures.shown told) (c.sync.ensures.crash (c.grow.ensures.tells.0 told)) (c.sync.ensures.time (c.grow.ensures.tells.0 told))
+
+pub returns-clause-logged : goal.returns-clause-logged
+returns-clause-logged g c = λ told.
+    let d = c.args.self.now.device in
+    ap logged (c.in_ok-sync.ensures.seen (c.grow.ensures.tells.0 told)) ∙ logged-longer _ (g.D.Device.seen d) (g.D.Device.seen c.grow.new.self) (c.in_ok-grow.ensures.grown told)
+
+pub returns-clause-settled : goal.returns-clause-settled
+returns-clause-settled g c = λ told.
+    let s = c.requires told in
+    let d = c.args.self.now.device in
+    let grown_to = c.in_ok-grow.ensures.grown told in
+    let same = c.in_ok-sync.ensures.seen (c.grow.ensures.tells.0 told) in
+    record {
+      at_rest = subst IsAtRest (sym same) (at_rest-grown _ (g.D.Device.seen d) (g.D.Device.seen c.grow.new.self) s.at_rest grown_to);
+      end = s.end ∙ ap (λ ls. length (joined ls)) (sym (returns-clause-logged g c told));
+      len = sym (ap length same ∙ (c.in_ok-grow.ensures.len told));
+      durable = subst (λ f. Only f (g.D.Device.may_leave c.sync.new.self)) (sym same) (c.in_ok-sync.ensures.durable (c.grow.ensures.tells.0 told));
+    }

@@ -1,0 +1,5 @@
+pub mod Crash
+pub mod Device
+pub mod Lines
+pub mod Log
+pub mod Reading

@@ -1,0 +1,38 @@
+-- A log in a file, and what a crash leaves of it.
+use Rattle.std.specs.Prelude.{◌≡◌, ◌⊎◌, ℕ, ◌≤◌, List, ◌++◌, length, take}
+use Rattle.tt_log.specs.Lines.{logged, joined, zeros}
+use Rattle.tt_log.specs.Device.{Only, Left, Now}
+use Rattle.tt_log.specs.declared.log.Log.{Log}
+
+-- a file is lines and then bytes 0
+pub record IsAtRest (file : List ℕ) : Type 0 where
+  pub room : ℕ
+  pub is : file ≡ joined (logged file) ++ zeros room
+
+-- the file is lines and then bytes 0, all of it on the disk, and the log knows where they end
+pub record IsSettled {D : Type 0} (seen : D → List ℕ) (may_leave : D → List ℕ → Type 0) (log : Log D) : Type 0 where
+  pub at_rest : IsAtRest (seen log.device)
+  pub end : log.end ≡ length (joined (logged (seen log.device)))
+  pub len : log.len ≡ length (seen log.device)
+  pub durable : Only (seen log.device) (may_leave log.device)
+
+-- a crash left these lines, when this had been handed over
+pub record Keeps (lines : List (List ℕ)) (shown : List ℕ) (left : Left) : Type 0 where
+  pub lines_are : logged left.file ≡ lines
+  pub shown_is : left.shown ≡ shown
+
+-- a crash left what it might have left before, or these lines
+abbrev pub KeepsOnceSynced : (List ℕ → Type 0) → List (List ℕ) → List ℕ → Left → Type 0
+KeepsOnceSynced before lines shown left = Now before shown left ⊎ Keeps lines shown left
+
+-- a crash left the lines so far and the first few of the new ones, or none, when this had been handed over
+pub record KeepsFirst (lines new : List (List ℕ)) (shown : List ℕ) (left : Left) : Type 0 where
+  pub count : ℕ
+  pub no_more : count ≤ length new
+  pub lines_are : logged left.file ≡ lines ++ take count new
+  pub shown_is : left.shown ≡ shown
+
+-- the same; or all lines are there, and of the answers the first so many bytes have been handed over
+abbrev pub KeepsAnswered : List (List ℕ) → List (List ℕ) → List ℕ → List ℕ → Left → Type 0
+KeepsAnswered lines new shown answers left =
+    KeepsFirst lines new shown left ⊎ ((logged left.file ≡ lines ++ new) × ((n : ℕ) × (left.shown ≡ shown ++ take n answers)))

@@ -1,0 +1,121 @@
+//! What a log is kept on.
+ghost use Rattle.std.specs.Prelude.{◌≡◌, ◌↔◌, ◌≤◌, ◌+◌, ◌++◌, List, ℕ, length, take, drop, IfOk, OnOk};
+ghost use Rattle.tt_log.specs.Crash.{written_over, MayBeWritten, MayBeLonger};
+ghost use Rattle.tt_log.specs.Device.{Left, Only, AllAsLong, NothingNew, Follows, Now, NowShowing, Elapses, CountsFailure};
+ghost use Rattle.tt_log.specs.Lines.{zeros};
+
+use thiserror::Error;
+
+/// A call of a device has failed. What it has done is unknown.
+#[derive(Clone, Copy, Debug, PartialEq, Eq, Error)]
+#[error("the device has failed")]
+pub struct DeviceError;
+
+/// A file, and an output that answers are handed over to, under one clock: a crash leaves the file
+/// as it may be at that moment, and what had been handed over by then.
+///
+/// The clauses speak of devices that tell what a crash may leave. One in memory can; a real file
+/// can't, and implements this trait with `tells` never true: of it nothing is proved.
+pub trait Device {
+    /// That it tells what its file holds, what has been handed over, and what a crash may leave.
+    ghost tells: { Self → Type 0 };
+
+    /// The bytes of the file that are read.
+    ghost seen: { Self → List ℕ };
+
+    /// What has been handed over.
+    ghost shown: { Self → List ℕ };
+
+    /// The files that a crash at this moment may leave.
+    ghost may_leave: { Self → List ℕ → Type 0 };
+
+    /// The moment, as a number that doesn't fall.
+    ghost moment: { Self → ℕ };
+
+    /// What a crash at some moment from that one on might have left, within a call or between two.
+    ghost left_since: { Self → ℕ → Left → Type 0 };
+
+    /// How often the device has failed.
+    ghost failures: { Self → ℕ };
+
+    /// The length of the file, in bytes.
+    fn length(&self) -> Result<u64, DeviceError>
+        ensures { tells self.now → IfOk result (λ n. n ≡ length (seen self.now)) };
+
+    /// Fills a buffer with the bytes of the file from a place on.
+    fn read_at(&self, at: u64, buffer: &mut [u8]) -> Result<(), DeviceError>
+        requires { tells self.now → at + length buffer.old ≤ length (seen self.now) }
+        ensures { tells self.now → OnOk result
+            (buffer.new ≡ take (length buffer.old) (drop at (seen self.now))) };
+
+    /// Writes over bytes that are there. Until the next sync, a crash may leave the old byte or the
+    /// new one at each place.
+    fn write_at(&mut self, at: u64, bytes: &[u8]) -> Result<(), DeviceError>
+        requires within { tells self.old → at + length bytes.now ≤ length (seen self.old) }
+
+        // Its length has been synced.
+        requires length { tells self.old → AllAsLong (seen self.old) (may_leave self.old) }
+        ensures tells { tells self.old ↔ tells self.new }
+        ensures written { tells self.old → OnOk result
+            (seen self.new ≡ written_over (seen self.old) at bytes.now) }
+        ensures shown { tells self.old → shown self.new ≡ shown self.old }
+        ensures crash { tells self.old → Follows (MayBeWritten at bytes.now)
+            (may_leave self.old) (may_leave self.new) }
+        ensures time { tells self.old → Elapses (moment self.old) (moment self.new)
+            (left_since self.old) (left_since self.new)
+            (Now (may_leave self.new) (shown self.old)) }
+        ensures failed { tells self.old
+            → CountsFailure (failures self.old) (failures self.new) result };
+
+    /// Makes the file longer by bytes 0, up to a length. Until the next sync, a crash may leave any
+    /// length from the old one on up to the new one.
+    fn grow(&mut self, len: u64) -> Result<(), DeviceError>
+        requires { tells self.old → length (seen self.old) ≤ len }
+        ensures tells { tells self.old ↔ tells self.new }
+        ensures grown { tells self.old → OnOk result (MayBeLonger len (seen self.old) (seen self.new)) }
+        ensures len { tells self.old → OnOk result (length (seen self.new) ≡ len) }
+        ensures shown { tells self.old → shown self.new ≡ shown self.old }
+        ensures crash { tells self.old → Follows (MayBeLonger len)
+            (may_leave self.old) (may_leave self.new) }
+        ensures time { tells self.old → Elapses (moment self.old) (moment self.new)
+            (left_since self.old) (left_since self.new)
+            (Now (may_leave self.new) (shown self.old)) }
+        ensures failed { tells self.old
+            → CountsFailure (failures self.old) (failures self.new) result };
+
+    /// Puts all bytes of the file on the disk, and its length: after `Ok` a crash leaves what is
+    /// read. After an error it may not be called again, since what it has done is unknown.
+    fn sync(&mut self) -> Result<(), DeviceError>
+        ensures tells { tells self.old ↔ tells self.new }
+        ensures durable { tells self.old → OnOk result
+            (Only (seen self.old) (may_leave self.new)) }
+        ensures seen { tells self.old → OnOk result (seen self.new ≡ seen self.old) }
+        ensures shown { tells self.old → shown self.new ≡ shown self.old }
+        ensures crash { tells self.old → NothingNew (may_leave self.old) (may_leave self.new) }
+        ensures time { tells self.old → Elapses (moment self.old) (moment self.new)
+            (left_since self.old) (left_since self.new)
+            (Now (may_leave self.new) (shown self.old)) }
+        ensures failed { tells self.old
+            → CountsFailure (failures self.old) (failures self.new) result };
+
+    /// Hands bytes over to the output, from the first on.
+    fn hand_over(&mut self, bytes: &[u8]) -> Result<(), DeviceError>
+        ensures tells { tells self.old ↔ tells self.new }
+        ensures shown { tells self.old → OnOk result
+            (shown self.new ≡ shown self.old ++ bytes.now) }
+        ensures seen { tells self.old → seen self.new ≡ seen self.old }
+        ensures crash { tells self.old → NothingNew (may_leave self.old) (may_leave self.new) }
+        ensures time { tells self.old → Elapses (moment self.old) (moment self.new)
+            (left_since self.old) (left_since self.new)
+            (NowShowing (may_leave self.new) (shown self.old) bytes.now) }
+        ensures failed { tells self.old
+            → CountsFailure (failures self.old) (failures self.new) result };
+
+    /// This moment is one of those since an earlier one.
+    ghost counts_now: { (device : Self) (t : ℕ) (c : Left) → t ≤ moment device
+        → Now (may_leave device) (shown device) c → left_since device t c };
+
+    /// Since this moment there is no other.
+    ghost only_now: { (device : Self) (c : Left) → left_since device (moment device) c
+        → Now (may_leave device) (shown device) c };
+}

@@ -1,0 +1,101 @@
+//! A real file.
+ghost use Rattle.std.specs.Prelude.{◌≡◌, []};
+
+use crate::{Device, DeviceError};
+use std::fs::File;
+use std::io::Write;
+use std::os::unix::fs::FileExt;
+use tt_streams::{MAX_RETRIES, write_text};
+
+/// A file of the operating system, and a writer that answers are handed over to.
+///
+/// It tells nothing: that a file, its kernel and its disk keep what the clauses of [`Device`] say is
+/// trusted, and no proof shows it.
+#[derive(Drop)]
+pub struct FileDevice<W: Write> {
+    file: File,
+    /// Whether the length may not be on the disk yet.
+    has_new_length: bool,
+    output: W,
+}
+
+impl<W: Write> FileDevice<W> {
+    /// A file that is open for reading and writing, and that no other process writes.
+    pub fn new(file: File, output: W) -> FileDevice<W> {
+        FileDevice {
+            file,
+            has_new_length: true,
+            output,
+        }
+    }
+}
+
+impl<W: Write> Device for FileDevice<W> {
+    ghost tells = { λ d. ⊥ };
+
+    ghost seen = { λ d. [] };
+
+    ghost shown = { λ d. [] };
+
+    ghost may_leave = { λ d c. ⊥ };
+
+    ghost moment = { λ d. 0 };
+
+    ghost left_since = { λ d t left. ⊥ };
+
+    ghost failures = { λ d. 0 };
+
+    ghost counts_now = { λ d t left le now. absurd now.0 };
+
+    ghost only_now = { λ d left was. absurd was };
+
+    fn length(&self) -> Result<u64, DeviceError> {
+        match self.file.metadata() {
+            Ok(metadata) => Ok(metadata.len()),
+            Err(_) => Err(DeviceError),
+        }
+    }
+
+    fn read_at(&self, at: u64, buffer: &mut [u8]) -> Result<(), DeviceError> {
+        match self.file.read_exact_at(buffer, at) {
+            Ok(()) => Ok(()),
+            Err(_) => Err(DeviceError),
+        }
+    }
+
+    fn write_at(&mut self, at: u64, bytes: &[u8]) -> Result<(), DeviceError> {
+        match self.file.write_all_at(bytes, at) {
+            Ok(()) => Ok(()),
+            Err(_) => Err(DeviceError),
+        }
+    }
+
+    fn grow(&mut self, len: u64) -> Result<(), DeviceError> {
+        self.has_new_length = true;
+        match self.file.set_len(len) {
+            Ok(()) => Ok(()),
+            Err(_) => Err(DeviceError),
+        }
+    }
+
+    fn sync(&mut self) -> Result<(), DeviceError> {
+        let result = if self.has_new_length {
+            self.file.sync_all()
+        } else {
+            self.file.sync_data()
+        };
+        if result.is_err() {
+            return Err(DeviceError);
+        }
+        self.has_new_length = false;
+        Ok(())
+    }
+
+    fn hand_over(&mut self, bytes: &[u8]) -> Result<(), DeviceError> {
+        let mut retries = MAX_RETRIES;
+        match write_text(&mut self.output, bytes, &mut retries) {
+            Ok(()) => Ok(()),
+            Err(_) => Err(DeviceError),
+        }
+    }
+}

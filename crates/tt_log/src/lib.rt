@@ -1,0 +1,17 @@
+//! A log of lines in a file that survives a crash at any moment.
+#![tactic(auto)]
+
+mod device;
+mod file_device;
+mod lines;
+mod log;
+mod log_error;
+mod rest;
+mod unread_log;
+
+pub use device::{Device, DeviceError};
+pub use file_device::FileDevice;
+pub use lines::{LineError, Lines};
+pub use log::Log;
+pub use log_error::LogError;
+pub use unread_log::UnreadLog;

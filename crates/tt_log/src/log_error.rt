@@ -1,0 +1,31 @@
+use crate::DeviceError;
+use thiserror::Error;
+
+/// Why a log is given up. What a device has done that failed is unknown, so the file has to be
+/// opened anew: a crash may leave what the call says, and nothing else.
+#[derive(Clone, Copy, Debug, PartialEq, Eq, Error)]
+pub enum LogError {
+    /// The file can't be read, or its length can't be told.
+    #[error("cannot read the log")]
+    Read,
+    /// The file can't be written, made longer or synced.
+    #[error("cannot write the log")]
+    Write,
+    /// The file would be longer than 2^60 bytes. Nothing was written.
+    #[error("the log is full")]
+    Full,
+    /// The answers can't be handed over, or no more than their first bytes. The lines are logged.
+    #[error("cannot write")]
+    HandOver,
+}
+
+impl From<DeviceError> for LogError {
+    ghost use Rattle.std.specs.Prelude.{◌≡◌};
+    ghost use Rattle.tt_log.specs.declared.log_error.LogError.TheVariants.{Write};
+
+    ghost from_gives = { λ _ e. e ≡ Write };
+
+    fn from(_error: DeviceError) -> LogError {
+        LogError::Write
+    }
+}
