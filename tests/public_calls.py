@@ -58,7 +58,7 @@ PROMISED = {
     'tt_repair': 'repair',
     'tt_document': 'Document::from_value',
     'tt_workload': 'Options::fits read_document write_text run_alone text_of text_of_change',
-    'tt_session': 'Session::answer run_session',
+    'tt_session': 'Session::answer run_session run_logged_session ShortAnswer::write_to',
     'tt_workers': 'run_workers text_of_report',
     'tt_cli': 'status_of command_of',
 }

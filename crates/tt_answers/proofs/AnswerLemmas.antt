@@ -25,6 +25,7 @@ further-members tables (answers.Declared keep records) = refl
 further-members tables (answers.Faulty (faults.At path cause)) = refl
 further-members tables (answers.Faulty faults.Memory) = refl
 further-members tables (answers.Refused (refusals.Moved now)) = refl
+further-members tables (answers.Refused refusals.AnotherOpening) = refl
 further-members tables (answers.Refused (refusals.Event (errors.Statement fault))) = refl
 further-members tables (answers.Refused (refusals.Event errors.Repairing)) = refl
 further-members tables (answers.Refused (refusals.Event errors.NotRepairing)) = refl

@@ -57,6 +57,7 @@ abbrev pub refusal_members : Refusal → List Member
 refusal_members (refusals.Moved now) = refused_at (codes "moved") (codes "now") now
 refusal_members (refusals.Event error) = event_refused error
 refusal_members (refusals.Read error) = read_refused error
+refusal_members refusals.AnotherOpening = refused (codes "another opening")
 
 -- a fault: its path and its cause
 abbrev pub fault_members_at : List ℕ → List ℕ → List Member

@@ -15,6 +15,8 @@ pub enum Refusal {
     Event(DbError),
     /// The database refuses its read.
     Read(ReadError),
+    /// An opening asks for other tables than a log has, or for another number of closed generations.
+    AnotherOpening,
 }
 
 /// How a database stands.

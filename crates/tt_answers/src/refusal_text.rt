@@ -18,6 +18,7 @@ pub(crate) fn push_refusal(out: &mut Vec<u8>, refusal: Refusal) -> Result<(), Al
         Refusal::Moved { now } => push_refused_at(out, "moved", "now", now),
         Refusal::Event(error) => push_event_refused(out, error),
         Refusal::Read(error) => push_read_refused(out, error),
+        Refusal::AnotherOpening => push_refused(out, "another opening"),
     }
 }
 

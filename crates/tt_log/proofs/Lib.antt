@@ -1,5 +1,5 @@
-mod LineLemmas
-mod MomentLemmas
+pub mod LineLemmas
+pub mod MomentLemmas
 mod PendingLemmas
 mod ReadingLemmas
 mod RestLemmas

@@ -110,6 +110,8 @@ impl<D: Device> Log<D> {
             → D.shown self.new.device ≡ D.shown self.old.device) }
         ensures all_logged { D.tells self.old.device → IsErrOf result LogError.HandOver
             → logged (D.seen self.new.device) ≡ logged (D.seen self.old.device) ++ lines.now }
+        ensures failures { D.tells self.old.device
+            → D.failures self.old.device ≤ D.failures self.new.device }
         ensures write { D.tells self.old.device → IsErrOf result LogError.Write
             → D.failures self.old.device < D.failures self.new.device }
         ensures hand_over { D.tells self.old.device → IsErrOf result LogError.HandOver

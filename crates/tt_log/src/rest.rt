@@ -31,6 +31,7 @@ pub(crate) fn clear_rest<D: Device>(
     ensures shown { D.tells device.old → D.shown device.new ≡ D.shown device.old }
     ensures any_moment { D.tells device.old → LeavesOnly D.moment D.left_since
         device.old device.new (Keeps (logged (D.seen device.old)) (D.shown device.old)) }
+    ensures failures { D.tells device.old → D.failures device.old ≤ D.failures device.new }
     ensures write { D.tells device.old → IsErrOf result LogError.Write
         → D.failures device.old < D.failures device.new }
     ensures no_full { IsErrOf result LogError.Full → ⊥ }

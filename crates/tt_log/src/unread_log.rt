@@ -45,6 +45,8 @@ impl<D: Device> UnreadLog<D> {
         ensures any_moment_err { IfErr result (λ e. D.tells device
             → LeavesOnly D.moment D.left_since device e.1 (KeepsOnceSynced (D.may_leave device)
             (logged (D.seen device)) (D.shown device))) }
+        ensures failures { IfOk result (λ log. D.tells device
+            → D.failures device ≤ D.failures log.device) }
         ensures write { IfErr result (λ e. D.tells device → e.0 ≡ LogError.Write
             → D.failures device < D.failures e.1) }
         ensures no_full { IfErr result (λ e. e.0 ≡ LogError.Full → ⊥) }
@@ -158,6 +160,8 @@ impl<D: Device> UnreadLog<D> {
         ensures any_moment_err { IfErr result (λ e. D.tells self.device
             → LeavesOnly D.moment D.left_since self.device e.1
             (Keeps (logged (D.seen self.device)) (D.shown self.device))) }
+        ensures failures { IfOk result (λ log. D.tells self.device
+            → D.failures self.device ≤ D.failures log.device) }
         ensures write { IfErr result (λ e. D.tells self.device → e.0 ≡ LogError.Write
             → D.failures self.device < D.failures e.1) }
         ensures no_full { IfErr result (λ e. e.0 ≡ LogError.Full → ⊥) }

@@ -19,7 +19,7 @@ use Rattle.tt_requests.specs.declared.request.Request.{Request}
 use Rattle.tt_answers.specs.declared.answer.Answer.TheVariants as answers
 use Rattle.tt_answers.specs.declared.answer.Refusal.{Refusal}
 use Rattle.tt_session.specs.declared.session.Session.{Session}
-use Rattle.tt_session.specs.declared.session.Session.TheVariants.{NotOpen, Open}
+use Rattle.tt_session.specs.declared.session.Session.TheVariants.{NotOpen, Restored, Open}
 use Rattle.tt_session.specs.Answers.{Answered}
 use Rattle.tt_session.specs.Commands.{asks_for_records, reads_records, carried_out, moved_to, unless_moved, write, written}
 use Rattle.tt_session.specs.Pages.{page_of_reply}
@@ -113,6 +113,7 @@ moved-earlier earlier (Some now) a b is = refl
 
 abbrev earlier_session : List Record → Session → Session
 earlier_session earlier NotOpen = NotOpen
+earlier_session earlier (Restored session) = Restored session
 earlier_session earlier (Open session) = Open (with_earlier_records earlier session)
 
 abbrev earlier_turn : List Record → Turn → Turn

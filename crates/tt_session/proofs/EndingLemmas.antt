@@ -1,20 +1,23 @@
--- How a session on a reader and a writer ends.
-use Rattle.std.proofs.Common.{◌≡◌, ℕ, ◌+◌, ◌<◌, ◌==◌, Bool, true, false, ◌||◌, List, [], ◌∷◌, ◌++◌, map, append-nil, append_assoc, Option, None, Some, IfSome, refl, sym, ap, ◌∙◌, subst, arith, if◌then◌else◌, eq-eqb, ne_eqb}
+-- How a session between a reader and an outlet ends.
+use Rattle.std.proofs.Common.{◌≡◌, ℕ, ◌+◌, ◌<◌, ◌==◌, Bool, true, false, ◌||◌, List, [], ◌∷◌, ◌++◌, length, map, append-nil, append_assoc, Option, None, Some, IfSome, refl, sym, ap, ◌∙◌, subst, arith, if◌then◌else◌, eq-eqb, ne_eqb}
 use Rattle.std.proofs.lemmas.Bool.{or_from}
 use Rattle.std.specs.List.{list_any}
+use Rattle.std.proofs.lemmas.List.{map-append}
 use Rattle.std.specs.Io.KnownBytes.{Appends, Consumes, IsAtEnd}
-use Rattle.std.proofs.KnownBytes.{Appends-nil}
 use Rattle.tt_streams.specs.Writing.{AppendsPrefix}
 use Rattle.tt_requests.specs.Lines.{lines_of, whole_lines_of}
-use Rattle.tt_streams.proofs.WritingLemmas.{prefix-longer}
 use Rattle.tt_session.specs.declared.session.Session.{Session}
 use Rattle.tt_session.specs.declared.session.Session.TheVariants.{NotOpen}
 use Rattle.tt_session.specs.declared.run.Run.{Run}
-use Rattle.tt_session.specs.Lines.{joined}
+use Rattle.tt_session.specs.declared.run.SessionFault.{SessionFault}
+use Rattle.tt_session.specs.declared.run.SessionFault.TheVariants as faults
+use Rattle.tt_session.specs.Lines.{HasBytes, has_no_feed, joined}
 use Rattle.tt_session.specs.Run.{Turn, turn_of_line, turn_of_lines, session_text}
-use Rattle.tt_session.specs.Answering.{LineRead, turn_of_read, turns_of, AnswersEach, Takes, StopsIn, AnswersLast, StopsInLast}
-use Rattle.tt_session.specs.Ends.{AnswersLines, AnswersPrefix, AnswersWholeLines, AnswersAll, FailsToRead, FailsToWrite}
-use Rattle.tt_session.proofs.AnsweringLemmas.{each-trans, lines_of-joined, whole_lines_of-joined, gives-then, gives-all, gives-prefix}
+use Rattle.tt_session.specs.Answering.{LineRead, turn_of_read, turns_of, lines_read}
+use Rattle.tt_session.specs.Running.{Handing, Cuts, Rests, Halts, AnswersOne, StopsAt, HandsOver, StopsBetween}
+use Rattle.tt_session.specs.Ends.{AnswersAll, EndsEarly, HandsOverAll, FailsReading, FailsHanding, Fails, Ends, StopsLast}
+use Rattle.tt_session.proofs.AnsweringLemmas.{lines_of-joined, whole_lines_of-joined, lines_of-last}
+use Rattle.tt_session.proofs.RunningLemmas.{stands-rests}
 
 -- ---- the numbers of the lines for which there was no memory
 
@@ -66,13 +69,8 @@ numbers_tell number (read ∷ reads) = by (numbers_tell (number + 1) reads) read
     by others false e = (none_below number (number + 1) reads (omega arith) ∙ sym e, others)
 
 -- what lines are answered is what a session prints for them
-pub printed : (lines : List (List ℕ)) (session : Session) (text : List ℕ) → AnswersEach lines NotOpen session text → (numbers : List ℕ) × (session_text lines numbers ≡ text)
-printed lines session text each =
-    let numbers = numbers_from 1 each.reads in (
-      numbers,
-      ap (λ ls. session_text ls numbers) (sym each.lines_are)
-          ∙ ap (λ (t : Turn). t.text) (turns-told numbers 1 NotOpen each.reads (numbers_tell 1 each.reads) ∙ each.turn),
-    )
+pub printed : (reads : List LineRead) → (numbers : List ℕ) × (session_text (lines_read reads) numbers ≡ (turns_of NotOpen reads).text)
+printed reads = (numbers_from 1 reads, ap (λ (t : Turn). t.text) (turns-told (numbers_from 1 reads) 1 NotOpen reads (numbers_tell 1 reads)))
 
 -- ---- further lines
 
@@ -84,25 +82,7 @@ with_memory-lines : (lines : List (List ℕ)) → map (λ (r : LineRead). r.line
 with_memory-lines [] = refl
 with_memory-lines (line ∷ lines) = ap (λ ls. line ∷ ls) (with_memory-lines lines)
 
-each-further : (lines : List (List ℕ)) (session : Session) → AnswersEach lines session (turns_of session (with_memory lines)).session (turns_of session (with_memory lines)).text
-each-further lines session = record { reads = with_memory lines; lines_are = with_memory-lines lines; turn = refl }
-
 -- ---- the ends
-
-pub answers-all : (a b : Option (List ℕ)) (bytes : List ℕ) (lines : List (List ℕ)) (session : Session) (text : List ℕ) → lines_of bytes ≡ lines → AnswersEach lines NotOpen session text → Appends a b text → AnswersLines bytes a b
-answers-all a b bytes lines session text e each written =
-    let told = printed lines session text each in
-    record { without_memory = told.0; written = subst (Appends a b) (sym told.1 ∙ ap (λ ls. session_text ls told.0) (sym e)) written }
-
-pub answers-prefix : (a b : Option (List ℕ)) (bytes : List ℕ) (lines : List (List ℕ)) (session : Session) (text : List ℕ) → lines_of bytes ≡ lines → AnswersEach lines NotOpen session text → AppendsPrefix a b text → AnswersPrefix bytes a b
-answers-prefix a b bytes lines session text e each written =
-    let told = printed lines session text each in
-    record { without_memory = told.0; written = subst (AppendsPrefix a b) (sym told.1 ∙ ap (λ ls. session_text ls told.0) (sym e)) written }
-
-pub answers-whole : (a b : Option (List ℕ)) (bytes : List ℕ) (lines : List (List ℕ)) (session : Session) (text : List ℕ) → whole_lines_of bytes ≡ lines → AnswersEach lines NotOpen session text → Appends a b text → AnswersWholeLines bytes a b
-answers-whole a b bytes lines session text e each written =
-    let told = printed lines session text each in
-    record { without_memory = told.0; written = subst (Appends a b) (sym told.1 ∙ ap (λ ls. session_text ls told.0) (sym e)) written }
 
 -- all that a reader had, where some of it was read
 pub input_of : (unread left : Option (List ℕ)) (bytes : List ℕ) → Consumes unread left bytes → (rest : List ℕ) × IfSome unread (λ xs. bytes ++ rest ≡ xs)
@@ -110,75 +90,157 @@ input_of None left bytes p = ([], tt)
 input_of (Some xs) None bytes p = absurd p
 input_of (Some xs) (Some ys) bytes p = (ys, sym p)
 
--- a run that begins with no session and nothing to hand over
-pub record Begins (run : Run) : Type 0 where
-  pub session : run.session ≡ NotOpen
-  pub out : run.out.items ≡ []
-
--- how the lines of the bytes read were answered
-each-begun : (first run : Run) (lines : List (List ℕ)) (session : Session) (text : List ℕ) → Begins first → AnswersEach lines first.session session text → AnswersEach lines NotOpen session text
-each-begun first run lines session text begins each = subst (λ s. AnswersEach lines s session text) begins.session each
-
-pub ends-well : (unread left a b c : Option (List ℕ)) (read : List ℕ) (first run : Run) → Begins first → Consumes unread left read → IsAtEnd left
-    → (t : Takes [] read first run a b) → AnswersLast t.left run b c → AnswersAll unread left a c
-ends-well unread left a b c read first run begins consumed at_end t last =
-    let said = gives-then a b c first.out.items run.out.items t.text last.text t.given last.written in
-    let written : Appends a c (t.text ++ last.text) = subst (λ o. Appends a c (o ++ (t.text ++ last.text))) begins.out said in
-    record {
-      bytes = read;
-      consumed = consumed;
-      at_end = at_end;
-      answers =
-          answers-all a c read (t.lines ++ lines_of t.left) last.session (t.text ++ last.text) (ap lines_of t.cuts.parts ∙ lines_of-joined t.lines t.left t.cuts.whole)
-          (each-trans t.lines (lines_of t.left) NotOpen run.session last.session t.text last.text (each-begun first run t.lines run.session t.text begins t.answered) last.answered) written;
-    }
-
-pub ends-unread : (unread left a b : Option (List ℕ)) (read : List ℕ) (first run : Run) → Begins first → run.out.items ≡ [] → Consumes unread left read → Takes [] read first run a b → FailsToRead unread left a b
-ends-unread unread left a b read first run begins out consumed t =
-    let none : Appends b b run.out.items = subst (Appends b b) (sym out) (Appends-nil b) in
-    let said = gives-all a b b first.out.items run.out.items t.text t.given none in
-    record {
-      bytes = read;
-      consumed = consumed;
-      answers =
-          answers-whole a b read t.lines run.session t.text (ap whole_lines_of t.cuts.parts ∙ whole_lines_of-joined t.lines t.left t.cuts.whole t.cuts.last)
-          (each-begun first run t.lines run.session t.text begins t.answered) (subst (λ o. Appends a b (o ++ t.text)) begins.out said);
-    }
-
--- the writer failed within the bytes read: a prefix of the answers to the whole input was written
-pub ends-unwritten : (unread left a b : Option (List ℕ)) (bytes : List ℕ) (first : Run) → Begins first → Consumes unread left bytes → StopsIn [] bytes first a b → FailsToWrite unread a b
-ends-unwritten unread left a b bytes first begins consumed stop =
-    let input = input_of unread left bytes consumed in
-    let more = stop.left ++ (stop.rest ++ input.0) in
-    let whole : bytes ++ input.0 ≡ joined stop.lines ++ more =
-    ap (λ l. l ++ input.0) stop.parts ∙ append_assoc stop.front stop.rest input.0 ∙ ap (λ l. l ++ (stop.rest ++ input.0)) stop.cuts.parts ∙ append_assoc (joined stop.lines) stop.left (stop.rest ++ input.0) in
-    let later = each-further (lines_of more) stop.session in
-    let all_text = (turns_of stop.session (with_memory (lines_of more))).text in
-    let said : AppendsPrefix a b stop.text = subst (λ o. AppendsPrefix a b (o ++ stop.text)) begins.out stop.written in
-    record {
-      bytes = bytes ++ input.0;
-      input = input.1;
-      answers =
-          answers-prefix a b (bytes ++ input.0) (stop.lines ++ lines_of more) _ (stop.text ++ all_text) (ap lines_of whole ∙ lines_of-joined stop.lines more stop.cuts.whole)
-          (each-trans stop.lines (lines_of more) NotOpen stop.session _ stop.text all_text (subst (λ s. AnswersEach stop.lines s stop.session stop.text) begins.session stop.answered) later)
-          (prefix-longer a b stop.text all_text said);
-    }
-
 whole_input : (unread left : Option (List ℕ)) (bytes : List ℕ) → Consumes unread left bytes → IsAtEnd left → IfSome unread (λ xs. bytes ≡ xs)
 whole_input None left bytes p e = tt
 whole_input (Some xs) None bytes p e = absurd p
 whole_input (Some xs) (Some ys) bytes p e = sym (p ∙ ap (λ l. bytes ++ l) e ∙ append-nil bytes)
 
--- the writer failed after the end of the input
-pub ends-unwritten-last : (unread left a b c : Option (List ℕ)) (read : List ℕ) (first run : Run) → Begins first → Consumes unread left read → IsAtEnd left
-    → (t : Takes [] read first run a b) → StopsInLast t.left run b c → FailsToWrite unread a c
-ends-unwritten-last unread left a b c read first run begins consumed at_end t last =
-    let said = gives-prefix a b c first.out.items run.out.items t.text last.text t.given last.written in
+pub fails-reading : {O : Type 0} (handed : Handing O) (has_log : Type 0) (unread left : Option (List ℕ)) (first after : O) (start : Session) (bytes : List ℕ) (run : Run) → Consumes unread left bytes
+    → Rests handed has_log first after start bytes run → FailsReading unread left (handed first after start)
+fails-reading handed has_log unread left first after start bytes run consumed p = record {
+  bytes = bytes;
+  consumed = consumed;
+  reads = p.reads;
+  lines_are = sym (ap whole_lines_of p.cuts.parts ∙ whole_lines_of-joined (lines_read p.reads) p.left p.cuts.whole p.cuts.last);
+  is_handed = p.is_handed;
+}
+
+-- the outlet failed within the bytes read
+pub fails-within : {O : Type 0} (stopped : Handing O) (unread left : Option (List ℕ)) (first after : O) (start : Session) (bytes : List ℕ) → Consumes unread left bytes
+    → Halts stopped first after start bytes → FailsHanding unread (stopped first after start)
+fails-within stopped unread left first after start bytes consumed p =
+    let input = input_of unread left bytes consumed in
+    let rest = p.rest ++ input.0 in
+    let more : List LineRead = with_memory (lines_of rest) in
+    let whole : bytes ++ input.0 ≡ joined (lines_read p.reads) ++ rest = ap (λ l. l ++ input.0) p.parts ∙ append_assoc (joined (lines_read p.reads)) p.rest input.0 in
     record {
-      bytes = read;
-      input = whole_input unread left read consumed at_end;
-      answers =
-          answers-prefix a c read (t.lines ++ lines_of t.left) last.session (t.text ++ last.text) (ap lines_of t.cuts.parts ∙ lines_of-joined t.lines t.left t.cuts.whole)
-          (each-trans t.lines (lines_of t.left) NotOpen run.session last.session t.text last.text (each-begun first run t.lines run.session t.text begins t.answered) last.answered)
-          (subst (λ o. AppendsPrefix a c (o ++ (t.text ++ last.text))) begins.out said);
+      bytes = bytes ++ input.0;
+      input = input.1;
+      reads = p.reads ++ more;
+      lines_are =
+          map-append (λ (r : LineRead). r.line) p.reads more ∙ ap (λ ls. lines_read p.reads ++ ls) (with_memory-lines (lines_of rest))
+          ∙ sym (ap lines_of whole ∙ lines_of-joined (lines_read p.reads) rest p.whole);
+      is_stopped = p.is_stopped more;
     }
+
+pub hands-over-all : (unread left : Option (List ℕ)) (bytes : List ℕ) (handed : List LineRead → Type 0) → Consumes unread left bytes → IsAtEnd left
+    → (reads : List LineRead) × (lines_read reads ≡ lines_of bytes) × handed reads → HandsOverAll unread left handed
+hands-over-all unread left bytes handed consumed at_end done = record { bytes = bytes; consumed = consumed; at_end = at_end; reads = done.0; lines_are = done.1; is_handed = done.2 }
+
+pub fails-last : (unread left : Option (List ℕ)) (bytes : List ℕ) (stopped : List LineRead → Type 0) → Consumes unread left bytes → IsAtEnd left
+    → (reads : List LineRead) × (lines_read reads ≡ lines_of bytes) × stopped reads → FailsHanding unread stopped
+fails-last unread left bytes stopped consumed at_end done = record { bytes = bytes; input = whole_input unread left bytes consumed at_end; reads = done.0; lines_are = done.1; is_stopped = done.2 }
+
+-- ---- the last line
+
+lines-so-far : (given : List ℕ) (lines : List (List ℕ)) (left : List ℕ) → Cuts given lines left → lines_of given ≡ lines ++ lines_of left
+lines-so-far given lines left p = ap lines_of p.parts ∙ lines_of-joined lines left p.whole
+
+lines-alone : (given : List ℕ) (reads : List LineRead) → Cuts given (lines_read reads) [] → lines_read reads ≡ lines_of given
+lines-alone given reads p = sym (lines-so-far given (lines_read reads) [] p ∙ append-nil (lines_read reads))
+
+last-line : (left : List ℕ) → 0 < length left → has_no_feed left ≡ true → lines_of left ≡ left ∷ []
+last-line [] some none = absurd (omega (arith, some))
+last-line (b ∷ left) some none = lines_of-last b left none
+
+lines-with-last : (given : List ℕ) (reads : List LineRead) (left : List ℕ) (is_lost : Bool) → Cuts given (lines_read reads) left → 0 < length left
+    → lines_read (reads ++ record { is_lost = is_lost; line = left } ∷ []) ≡ lines_of given
+lines-with-last given reads left is_lost p some =
+    map-append (λ (r : LineRead). r.line) reads (record { is_lost = is_lost; line = left } ∷ [])
+    ∙ sym (lines-so-far given (lines_read reads) left p ∙ ap (λ ls. lines_read reads ++ ls) (last-line left some p.last))
+
+pub ends-none : {O : Type 0} (handed : Handing O) (has_log : Type 0) (before after : O) (run : Run) → ((left : List ℕ) → HasBytes run.line left → left ≡ [])
+    → HandsOver handed has_log before after run → Ends handed has_log before after run
+ends-none handed has_log before after run none over first start given p =
+    let stands = stands-rests handed has_log first before start given run p in (
+      p.reads,
+      lines-alone given p.reads (subst (λ l. Cuts given (lines_read p.reads) l) (none p.left p.line) p.cuts),
+      over first start p.reads stands,
+    )
+
+pub stops-none : {O : Type 0} (handed stopped : Handing O) (has_log : Type 0) (before after : O) (run : Run) → ((left : List ℕ) → HasBytes run.line left → left ≡ [])
+    → StopsBetween handed stopped has_log before after run → StopsLast handed stopped has_log before after run
+stops-none handed stopped has_log before after run none stops first start given p =
+    let stands = stands-rests handed has_log first before start given run p in (
+      p.reads,
+      lines-alone given p.reads (subst (λ l. Cuts given (lines_read p.reads) l) (none p.left p.line) p.cuts),
+      subst (λ rs. stopped first after start rs) (append-nil p.reads) (stops first start p.reads [] stands),
+    )
+
+pub ends-one : {O : Type 0} (handed : Handing O) (has_log : Type 0) (a b c : O) (old mid : Run) → ((left : List ℕ) → HasBytes old.line left → 0 < length left)
+    → AnswersOne handed has_log a b old mid → HandsOver handed has_log b c mid → Ends handed has_log a c old
+ends-one handed has_log a b c old mid some one over first start given p =
+    let stands = stands-rests handed has_log first a start given old p in
+    let done = one first start p.reads p.left p.line stands p.session in
+    let reads = p.reads ++ record { is_lost = done.0; line = p.left } ∷ [] in
+    (reads, lines-with-last given p.reads p.left done.0 p.cuts (some p.left p.line), over first start reads done.1)
+
+pub stops-at-last : {O : Type 0} (handed stopped : Handing O) (has_log : Type 0) (a b : O) (old : Run) → ((left : List ℕ) → HasBytes old.line left → 0 < length left)
+    → StopsAt handed stopped has_log a b old → StopsLast handed stopped has_log a b old
+stops-at-last handed stopped has_log a b old some stops first start given p =
+    let stands = stands-rests handed has_log first a start given old p in
+    let at = stops first start p.reads p.left p.line stands p.session in
+    let reads = p.reads ++ record { is_lost = at.0; line = p.left } ∷ [] in
+    (reads, lines-with-last given p.reads p.left at.0 p.cuts (some p.left p.line), subst (λ rs. stopped first b start rs) (append-nil reads) (at.1 []))
+
+pub stops-after-last : {O : Type 0} (handed stopped : Handing O) (has_log : Type 0) (a b c : O) (old mid : Run) → ((left : List ℕ) → HasBytes old.line left → 0 < length left)
+    → AnswersOne handed has_log a b old mid → StopsBetween handed stopped has_log b c mid → StopsLast handed stopped has_log a c old
+stops-after-last handed stopped has_log a b c old mid some one stops first start given p =
+    let stands = stands-rests handed has_log first a start given old p in
+    let done = one first start p.reads p.left p.line stands p.session in
+    let reads = p.reads ++ record { is_lost = done.0; line = p.left } ∷ [] in
+    (reads, lines-with-last given p.reads p.left done.0 p.cuts (some p.left p.line), subst (λ rs. stopped first c start rs) (append-nil reads) (stops first start reads [] done.1))
+
+-- ---- a session that has no log
+
+pub answers-all : (a b unread left : Option (List ℕ)) → HandsOverAll unread left (λ reads. Appends a b (turns_of NotOpen reads).text) → AnswersAll unread left a b
+answers-all a b unread left p =
+    let told = printed p.reads in
+    record {
+      bytes = p.bytes;
+      consumed = p.consumed;
+      at_end = p.at_end;
+      answers = record { without_memory = told.0; written = subst (Appends a b) (sym told.1 ∙ ap (λ ls. session_text ls told.0) p.lines_are) p.is_handed };
+    }
+
+pub ends-early : (fault : SessionFault) (a b unread left : Option (List ℕ)) → Fails fault unread left (λ reads. Appends a b (turns_of NotOpen reads).text) (λ reads. AppendsPrefix a b (turns_of NotOpen reads).text)
+    → EndsEarly fault unread left a b
+ends-early faults.Read a b unread left p =
+    let told = printed p.reads in
+    record {
+      bytes = p.bytes;
+      consumed = p.consumed;
+      answers = record { without_memory = told.0; written = subst (Appends a b) (sym told.1 ∙ ap (λ ls. session_text ls told.0) p.lines_are) p.is_handed };
+    }
+ends-early faults.Write a b unread left p =
+    let told = printed p.reads in
+    record {
+      bytes = p.bytes;
+      input = p.input;
+      answers = record { without_memory = told.0; written = subst (AppendsPrefix a b) (sym told.1 ∙ ap (λ ls. session_text ls told.0) p.lines_are) p.is_stopped };
+    }
+ends-early faults.Memory a b unread left p = absurd p
+
+pub rests-first : {O : Type 0} (handed : Handing O) (has_log : Type 0) (outlet : O) (session : Session) (run : Run) → HasBytes run.line [] → handed outlet outlet session []
+    → run.session ≡ session → run.out.items ≡ [] → (has_log → run.workspace.lines ≡ Some []) → Rests handed has_log outlet outlet session [] run
+rests-first handed has_log outlet session run line none session_is out lines = record {
+  reads = [];
+  left = [];
+  cuts = record { parts = refl; whole = refl; last = refl };
+  line = line;
+  is_handed = none;
+  session = session_is;
+  out = out;
+  lines = lines;
+}
+
+-- ---- what the ends say of lines that are read
+
+pub hands-map : (unread left : Option (List ℕ)) (P Q : List LineRead → Type 0) → ((reads : List LineRead) → P reads → Q reads) → HandsOverAll unread left P → HandsOverAll unread left Q
+hands-map unread left P Q all p = record { bytes = p.bytes; consumed = p.consumed; at_end = p.at_end; reads = p.reads; lines_are = p.lines_are; is_handed = all p.reads p.is_handed }
+
+pub fails-map : (fault : SessionFault) (unread left : Option (List ℕ)) (P Q S T : List LineRead → Type 0) → ((reads : List LineRead) → P reads → Q reads) → ((reads : List LineRead) → S reads → T reads)
+    → Fails fault unread left P S → Fails fault unread left Q T
+fails-map faults.Read unread left P Q S T all some p = record { bytes = p.bytes; consumed = p.consumed; reads = p.reads; lines_are = p.lines_are; is_handed = all p.reads p.is_handed }
+fails-map faults.Write unread left P Q S T all some p = record { bytes = p.bytes; input = p.input; reads = p.reads; lines_are = p.lines_are; is_stopped = some p.reads p.is_stopped }
+fails-map faults.Memory unread left P Q S T all some p = absurd p

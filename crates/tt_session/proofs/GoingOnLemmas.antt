@@ -166,7 +166,7 @@ sound-advanced (Err (errors.Full limit)) db next records most worker event sound
 same : (session : OpenSession) → IsOpenSession session → GoesOn session session
 same session sound = record { catalog = refl; limits = refl; sound = sound }
 
-few_last : (most : ℕ) (records : List Record) → length (last_items most records) ≤ most
+pub few_last : (most : ℕ) (records : List Record) → length (last_items most records) ≤ most
 few_last most records = omega (arith, length-drop (length records - most) records)
 
 with_latest-sound : (session : OpenSession) (latest : Record) → IsOpenSession session → GoesOn session (with_latest_if session (Some latest))

@@ -12,6 +12,13 @@ pub mod StepLemmas
 pub mod LineLemmas
 pub mod TurnLemmas
 pub mod AnsweringLemmas
+pub mod LoggedLemmas
+pub mod ResultLemmas
+pub mod RunningLemmas
+pub mod OnLogLemmas
+pub mod ReopeningLemmas
+pub mod RestoringLemmas
+pub mod LoggedSessionLemmas
 pub mod EndingLemmas
 pub mod RecordLemmas
 pub mod EarlierLemmas

@@ -1,19 +1,24 @@
 -- Each session is sound after any lines, from its opening on.
-use Rattle.std.proofs.Common.{◌≡◌, ℕ, ◌+◌, Bool, true, false, cond, List, [], ◌∷◌, Result, Ok, Err, refl, arith}
+use Rattle.std.proofs.Common.{◌≡◌, ℕ, ◌+◌, ◌≤◌, Bool, true, false, cond, List, [], ◌∷◌, Result, Ok, Err, refl, arith}
 use Rattle.serde_json.specs.Data.{Data}
 use Rattle.tt_grammar.specs.declared.fault.DocFault.{DocFault}
 use Rattle.tt_requests.specs.declared.opening.Opening.{Opening}
 use Rattle.tt_requests.specs.Lines.{is_passed_over}
 use Rattle.tt_requests.specs.LineValue.{value_of_line}
-use Rattle.tt_requests.specs.Opening.{opening_of}
+use Rattle.tt_requests.specs.Opening.{max_records, opening_of}
+use Rattle.tt_answers.specs.declared.answer.Answer.TheVariants as answers
+use Rattle.tt_answers.specs.declared.answer.Refusal.TheVariants as refusals
+use Rattle.tt_answers.specs.AnswerText.{opening_text}
 use Rattle.tt_requests.specs.Requests.{request_of}
 use Rattle.tt_session.specs.declared.session.Session.{Session}
 use Rattle.tt_session.specs.declared.session.Session.TheVariants as sessions
-use Rattle.tt_session.specs.Session.{opened, counted}
-use Rattle.tt_session.specs.Run.{turn_by_opening, turn_by_value, turn_without_memory, lacks_memory, turn_of_line, turn_of_lines}
+use Rattle.tt_session.specs.Session.{OpenSession, opened, counted}
+use Rattle.tt_session.specs.Repairing.{status_of}
+use Rattle.tt_session.specs.Reopening.{asks_for, with_most_records}
+use Rattle.tt_session.specs.Run.{Turn, turn_by_opening, turn_by_reopening, turn_by_value, turn_without_memory, lacks_memory, turn_of_line, turn_of_lines}
 use Rattle.tt_session.specs.Invariants.{IsOpenSession, IsSession, SessionsStaySound}
 use Rattle.tt_session.proofs.OpeningLemmas.{IsOpening, is_opening}
-use Rattle.tt_session.proofs.GoingOnLemmas.{open_sessions_stay_sound}
+use Rattle.tt_session.proofs.GoingOnLemmas.{few_last, open_sessions_stay_sound}
 
 opened-sound : (opening : Opening) → IsOpening opening → IsOpenSession (opened opening)
 opened-sound opening is = record {
@@ -33,12 +38,38 @@ opening-sound value = by (opening_of value) refl
     by (Err fault) is = tt
     by (Ok opening) is = opened-sound opening (is_opening value opening is)
 
+fewer-sound : (session : OpenSession) (most : ℕ) → IsOpenSession session → most ≤ max_records → IsOpenSession (with_most_records session most)
+fewer-sound session most sound few = record {
+  catalog = sound.catalog;
+  fits = sound.fits;
+  edits = sound.edits;
+  legal = sound.legal;
+  room = sound.room;
+  few_records = few_last most session.records;
+  few_kept = few;
+}
+
+reopening-sound : (session : OpenSession) (value : Result Data DocFault) → IsOpenSession session → IsSession (turn_by_reopening session (opening_of value)).session
+reopening-sound session value sound = by (opening_of value) refl
+  where
+    chosen : (opening : Opening) → opening.records ≤ max_records → (asked : Bool) → IsSession (cond {A = Turn} asked
+        (record { text = opening_text (answers.Standing (status_of session.database)); session = sessions.Open (with_most_records session opening.records) })
+        (record { text = opening_text (answers.Refused refusals.AnotherOpening); session = sessions.Restored session })).session
+    chosen opening few true = fewer-sound session opening.records sound few
+    chosen opening few false = sound
+
+    by : (reading : Result Opening DocFault) → opening_of value ≡ reading → IsSession (turn_by_reopening session reading).session
+    by (Err fault) is = sound
+    by (Ok opening) is = chosen opening (is_opening value opening is).records (asks_for opening session.database)
+
 value-sound : (session : Session) (value : Result Data DocFault) → IsSession session → IsSession (turn_by_value session value).session
 value-sound sessions.NotOpen value sound = opening-sound value
+value-sound (sessions.Restored session) value sound = reopening-sound session value sound
 value-sound (sessions.Open session) value sound = open_sessions_stay_sound (counted session) (request_of session.database.catalog value) sound
 
 memory-sound : (session : Session) → IsSession session → IsSession (turn_without_memory session).session
 memory-sound sessions.NotOpen sound = tt
+memory-sound (sessions.Restored session) sound = sound
 memory-sound (sessions.Open session) sound = sound
 
 line-sound : (without_memory : List ℕ) (number : ℕ) (session : Session) (line : List ℕ) → IsSession session → IsSession (turn_of_line without_memory number session line).session

@@ -9,4 +9,5 @@ use Rattle.tt_session.specs.Run.{turn_by_value, turn_of_long_line}
 
 pub turn-long : (session : Session) (line : List ℕ) → is_too_long line ≡ true → turn_by_value session (value_of_line line) ≡ turn_of_long_line session
 turn-long sessions.NotOpen line long = ap (turn_by_value sessions.NotOpen) (value_of_line-long line long)
+turn-long (sessions.Restored session) line long = ap (turn_by_value (sessions.Restored session)) (value_of_line-long line long)
 turn-long (sessions.Open session) line long = ap (turn_by_value (sessions.Open session)) (value_of_line-long line long)

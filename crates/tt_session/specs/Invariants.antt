@@ -21,6 +21,7 @@ IsOpenSession session = IsSound session.database session.records session.most_re
 -- the same of a session, of which nothing holds while it is not open
 abbrev pub IsSession : Session → Type 0
 IsSession sessions.NotOpen = Unit {0}
+IsSession (sessions.Restored session) = IsOpenSession session
 IsSession (sessions.Open session) = IsOpenSession session
 
 -- whatever an open session is asked, and whatever the fault of a line, it is one afterwards

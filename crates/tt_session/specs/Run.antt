@@ -1,5 +1,5 @@
 -- A whole session: its lines are answered one after another, each by the session that the lines before it left.
-use Rattle.std.specs.Prelude.{ℕ, ◌+◌, ◌==◌, ◌&&◌, not, Bool, List, [], ◌∷◌, ◌++◌, Result, Ok, Err, if◌then◌else◌}
+use Rattle.std.specs.Prelude.{ℕ, ◌+◌, ◌==◌, ◌&&◌, not, Bool, List, [], ◌∷◌, ◌++◌, Option, None, Some, Result, Ok, Err, if◌then◌else◌}
 use Rattle.std.specs.List.{list_any}
 use Rattle.serde_json.specs.Data.{Data}
 use Rattle.tt_grammar.specs.declared.fault.DocFault.{DocFault}
@@ -13,11 +13,13 @@ use Rattle.tt_session.specs.declared.session.Session.{Session}
 use Rattle.tt_session.specs.declared.session.Session.TheVariants as sessions
 use Rattle.tt_session.specs.Session.{OpenSession, opened, counted}
 use Rattle.tt_answers.specs.declared.answer.Refusal.{Refusal}
+use Rattle.tt_answers.specs.declared.answer.Refusal.TheVariants as refusals
 use Rattle.tt_answers.specs.declared.answer.Answer.{Answer}
 use Rattle.tt_answers.specs.declared.answer.Answer.TheVariants as answers
 use Rattle.tt_session.specs.Answers.{Answered}
 use Rattle.tt_session.specs.Repairing.{status_of}
 use Rattle.tt_session.specs.Commands.{outcome_of_request}
+use Rattle.tt_session.specs.Reopening.{asks_for, with_most_records}
 use Rattle.tt_answers.specs.RefusalText.{too_long}
 use Rattle.tt_answers.specs.AnswerText.{opening_text, call_text}
 
@@ -26,12 +28,25 @@ pub record Turn : Type 0 where
   pub text : List ℕ
   pub session : Session
 
+-- the session that an opening has opened, if there is one
+abbrev pub begun : Option OpenSession → Session
+begun None = sessions.NotOpen
+begun (Some session) = sessions.Open session
+
 -- an opening begins a session; after a fault the session is still not open
 abbrev pub turn_by_opening : Result Opening DocFault → Turn
 turn_by_opening (Err fault) = record { text = opening_text (answers.Faulty fault); session = sessions.NotOpen }
 turn_by_opening (Ok opening) =
     let session = opened opening in
     record { text = opening_text (answers.Standing (status_of session.database)); session = sessions.Open session }
+
+-- an opening begins a session that was read back if it asks for what that has, and gets no answer of a call; else another one is to begin it
+abbrev pub turn_by_reopening : OpenSession → Result Opening DocFault → Turn
+turn_by_reopening session (Err fault) = record { text = opening_text (answers.Faulty fault); session = sessions.Restored session }
+turn_by_reopening session (Ok opening) =
+    if asks_for opening session.database
+    then record { text = opening_text (answers.Standing (status_of session.database)); session = sessions.Open (with_most_records session opening.records) }
+    else record { text = opening_text (answers.Refused refusals.AnotherOpening); session = sessions.Restored session }
 
 -- the last call is answered
 abbrev pub turn_of_answer : OpenSession → Answer → Turn
@@ -50,16 +65,19 @@ turn_by_request session (Ok request) = turn_by_outcome session (outcome_of_reque
 -- the JSON value of a line, or its fault, is an opening before the session is open, and then a call
 abbrev pub turn_by_value : Session → Result Data DocFault → Turn
 turn_by_value sessions.NotOpen value = turn_by_opening (opening_of value)
+turn_by_value (sessions.Restored session) value = turn_by_reopening session (opening_of value)
 turn_by_value (sessions.Open session) value = turn_by_request (counted session) (request_of session.database.catalog value)
 
 -- a line for which there was no memory is an opening or a call all the same
 abbrev pub turn_without_memory : Session → Turn
 turn_without_memory sessions.NotOpen = record { text = opening_text answers.OutOfMemory; session = sessions.NotOpen }
+turn_without_memory (sessions.Restored session) = record { text = opening_text answers.OutOfMemory; session = sessions.Restored session }
 turn_without_memory (sessions.Open session) = turn_of_answer (counted session) answers.OutOfMemory
 
 -- a line that is longer than lines may be is an opening or a call all the same
 abbrev pub turn_of_long_line : Session → Turn
 turn_of_long_line sessions.NotOpen = record { text = opening_text (answers.Faulty too_long); session = sessions.NotOpen }
+turn_of_long_line (sessions.Restored session) = record { text = opening_text (answers.Faulty too_long); session = sessions.Restored session }
 turn_of_long_line (sessions.Open session) = turn_of_answer (counted session) (answers.Faulty too_long)
 
 -- a line is passed over or answered, where there is memory for it
@@ -70,6 +88,7 @@ turn_with_memory session line =
 -- how many calls there were
 abbrev pub calls_of : Session → ℕ
 calls_of sessions.NotOpen = 0
+calls_of (sessions.Restored session) = session.calls
 calls_of (sessions.Open session) = session.calls
 
 -- whether the line of this number is one of those for which there was no memory. A line that is too long needs none

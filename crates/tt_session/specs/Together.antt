@@ -1,5 +1,5 @@
 -- Lines that have come together, and are answered together, with memory for each of them.
-use Rattle.std.specs.Prelude.{◌≡◌, ℕ, ◌+◌, ◌≤◌, true, false, List, [], ◌∷◌, ◌++◌, length, map, take, Result}
+use Rattle.std.specs.Prelude.{◌≡◌, ℕ, ◌+◌, ◌≤◌, true, false, List, [], ◌∷◌, ◌++◌, length, map, take, Option, Result}
 use Rattle.std.specs.List.{list_all}
 use Rattle.tt_values.specs.Tables.{Tables}
 use Rattle.tt_grammar.specs.declared.fault.DocFault.{DocFault}
@@ -13,6 +13,7 @@ use Rattle.tt_session.specs.declared.session.Session.{Session}
 use Rattle.tt_session.specs.declared.session.Session.TheVariants as sessions
 use Rattle.tt_session.specs.Answering.{LineRead, turns_of}
 use Rattle.tt_session.specs.Lines.{has_no_feed, joined}
+use Rattle.tt_session.specs.Logged.{logged_by, logged_of, with_lines}
 use Rattle.tt_session.specs.Run.{turn_by_request, calls_of}
 use Rattle.tt_session.specs.Session.{OpenSession, counted}
 
@@ -20,8 +21,8 @@ use Rattle.tt_session.specs.Session.{OpenSession, counted}
 abbrev pub kept_line : List ℕ → LineRead
 kept_line line = record { is_lost = false; line = line }
 
--- the first of some bytes are whole lines, and these are answered, each with memory
-pub record AnswersFront (bytes : List ℕ) (count : ℕ) (old new : Session) (before after : List ℕ) : Type 0 where
+-- the first of some bytes are whole lines, and these are answered, each with memory, and those that make an entry are to be logged
+pub record AnswersFront (bytes : List ℕ) (count : ℕ) (old new : Session) (before after : List ℕ) (kept left : Option (List (List ℕ))) : Type 0 where
   pub lines : List (List ℕ)
   pub within : count ≤ length bytes
   pub front : take count bytes ≡ joined lines
@@ -30,6 +31,7 @@ pub record AnswersFront (bytes : List ℕ) (count : ℕ) (old new : Session) (be
   pub out : after ≡ before ++ text
   pub turn : turns_of old (map kept_line lines) ≡ record { text = text; session = new }
   pub calls : calls_of new ≤ calls_of old + count
+  pub logged : left ≡ with_lines kept (logged_of old (map kept_line lines))
 
 -- the first of some bytes are a whole line
 pub record BeginsWith (bytes : List ℕ) (count : ℕ) (line : List ℕ) : Type 0 where
@@ -56,10 +58,14 @@ IsFirstLine tables bytes firsts.NotWhole = Unit {0}
 IsFirstLine tables bytes (firsts.PassedOver len) = BeginsPassedOver bytes len
 IsFirstLine tables bytes (firsts.Read line) = BeginsWithLine tables bytes line.len line.asked
 
--- what a line asks is answered, and then the lines that the first of the bytes behind it are
-pub record AnswersWith (asked : Result Request DocFault) (behind : List ℕ) (count : ℕ) (old new : OpenSession) (before after : List ℕ) : Type 0 where
+-- what this line asks is answered, and then the lines that the first of the bytes behind it are
+pub record AnswersWith (asked : Result Request DocFault) (line behind : List ℕ) (count : ℕ) (old new : OpenSession) (before after : List ℕ) (kept left : Option (List (List ℕ))) : Type 0 where
   pub mid : OpenSession
   pub text : List ℕ
   pub turn : turn_by_request (counted old) asked ≡ record { text = text; session = sessions.Open mid }
   pub calls : mid.calls ≡ old.calls + 1
-  pub others : AnswersFront behind count (sessions.Open mid) (sessions.Open new) (before ++ text) after
+  pub others : AnswersFront behind count (sessions.Open mid) (sessions.Open new) (before ++ text) after (with_lines kept (logged_by (sessions.Open old) (sessions.Open mid) line)) left
+
+-- there are further lines that are to be logged
+abbrev pub Grows : Option (List (List ℕ)) → Option (List (List ℕ)) → Type 0
+Grows kept left = (more : List (List ℕ)) × (left ≡ with_lines kept more)

@@ -1,5 +1,5 @@
 //! The line that is being read.
-ghost use Rattle.std.specs.Prelude.{◌≡◌, ◌↔◌, ◌++◌, [], ℕ, List, IfSome, IsTrue, false};
+ghost use Rattle.std.specs.Prelude.{◌≡◌, ◌<◌, ◌↔◌, ◌++◌, [], ℕ, List, length, IfSome, IsTrue, false};
 ghost use Rattle.tt_requests.specs.Lines.{is_too_long, is_passed_over};
 ghost use Rattle.tt_session.specs.Lines.{HasBytes, IsToldBy};
 
@@ -47,8 +47,10 @@ impl Line {
 
     /// Whether the line has no bytes so far.
     pub(crate) fn is_empty(&self) -> bool
-        ensures { IsTrue result → (bytes : List ℕ) → HasBytes self.now bytes
+        ensures none { IsTrue result → (bytes : List ℕ) → HasBytes self.now bytes
             → bytes ≡ [] }
+        ensures some { result ≡ false → (bytes : List ℕ) → HasBytes self.now bytes
+            → 0 < length bytes }
     {
         self.len == 0
     }

@@ -3,9 +3,12 @@ ghost use Rattle.std.specs.Prelude.{◌≡◌, ◌+◌, ◌<◌, ◌≤◌, ◌-
 ghost use Rattle.tt_requests.specs.Opening.{max_keep, max_records};
 ghost use Rattle.tt_session.specs.Session.{counted, opened, with_latest_if, with_earlier_records, without_records};
 ghost use Rattle.tt_session.specs.Invariants.{IsOpenSession};
+ghost use Rattle.tt_session.specs.Reopening.{with_most_records};
 
 mod advancing;
 mod answering;
+mod logging;
+mod reopening;
 mod together;
 
 use crate::records::Records;
@@ -103,6 +106,15 @@ impl OpenSession {
         ensures { result.now ≡ self.now.records }
     {
         &self.records
+    }
+
+    /// Keeps no more records than this from now on.
+    pub(crate) fn keep_at_most(&mut self, most: u32)
+        requires { most ≤ max_records }
+        ensures { self.new ≡ with_most_records self.old most }
+    {
+        self.records.keep_last(most as usize);
+        self.most_records = most;
     }
 
     /// How many records are kept at most.

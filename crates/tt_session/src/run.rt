@@ -1,30 +1,34 @@
-//! A session on a reader and a writer.
-ghost use Rattle.std.specs.Prelude.{◌≡◌, ◌+◌, ◌-◌, ◌^◌, ◌<◌, ◌≤◌, ◌++◌, ◌∷◌, [], ℕ, List, true, false, length, take, IfOk, IfErr, OnOk, OnErr, IsTrue, MatchOption};
+//! A session between a reader and an outlet.
+ghost use Rattle.std.specs.Prelude.{◌≡◌, ◌+◌, ◌-◌, ◌^◌, ◌<◌, ◌≤◌, ◌++◌, ◌∷◌, [], ℕ, List, true, false, length, take, IfOk, IfErr, OnOk, OnErr, IsTrue, MatchOption, Some, None, if◌then◌else◌};
 ghost use Rattle.std.specs.Io.{ReadsAtMost};
-ghost use Rattle.std.specs.Io.KnownBytes.{Appends, Consumes, IsAtEnd, Keeps};
-ghost use Rattle.tt_streams.specs.Writing.{AppendsPrefix};
+ghost use Rattle.std.specs.Io.KnownBytes.{Consumes, IsAtEnd, Keeps};
 ghost use Rattle.tt_requests.specs.Lines.{is_too_long};
+ghost use Rattle.tt_session.specs.declared.session.Session.{Session};
 ghost use Rattle.tt_session.specs.Lines.{HasBytes, has_no_feed};
 ghost use Rattle.tt_session.specs.Run.{calls_of, turn_with_memory};
 ghost use Rattle.tt_session.specs.ShortAnswers.{short_text};
-ghost use Rattle.tt_session.specs.Answering.{Takes, StopsIn, AnswersOne, StopsAt, AnswersLast, StopsInLast, Gives};
+ghost use Rattle.tt_session.specs.Logged.{logged_by, with_lines};
+ghost use Rattle.tt_session.specs.PendingLines.{no_lines};
+ghost use Rattle.tt_session.specs.Running.{Rests, Takes, StopsIn, AnswersOne, StopsAt, HandsOver, StopsBetween, StandsOn, HandsOverShort, StopsInShort, Halts};
 ghost use Rattle.tt_session.specs.Together.{AnswersFront};
-ghost use Rattle.tt_session.specs.Ends.{AnswersAll, EndsEarly};
+ghost use Rattle.tt_session.specs.Ends.{AnswersAll, EndsEarly, HandsOverAll, Fails, Ends, StopsLast};
 
 use crate::first_line::first_feed;
 use crate::line::Line;
 use crate::open_session::Extent;
+use crate::outlet::Outlet;
 use crate::session::Session;
 use crate::short_answer::ShortAnswer;
 use crate::workspace::{MANY_BYTES, Workspace};
 use std::alloc::{AllocError, Global};
 use std::io::{Read, Write};
-use tt_streams::{MAX_RETRIES, read_once, write_piece, write_text};
+use tt_streams::{MAX_RETRIES, read_once};
 
-const BUFFER_BYTES: usize = 65_536;
+/// As many bytes are read at once.
+pub(crate) const BUFFER_BYTES: usize = 65_536;
 
 /// The largest number of bytes after which more are read, so that calls can be counted.
-const MAX_TOTAL: u64 = u64::MAX - 65_537;
+pub(crate) const MAX_TOTAL: u64 = u64::MAX - 65_537;
 
 /// Why a session ended before its input.
 #[derive(Clone, Copy, Debug, PartialEq, Eq)]
@@ -71,6 +75,13 @@ pub struct SessionEnd {
     _session: Session,
 }
 
+impl SessionEnd {
+    /// This session is left.
+    pub(crate) fn of(session: Session) -> SessionEnd {
+        SessionEnd { _session: session }
+    }
+}
+
 /// As [`run_session`], and hands over what the session leaves.
 pub fn run_session_to_end<R: Read, W: Write>(
     alloc: Global,
@@ -84,23 +95,16 @@ pub fn run_session_to_end<R: Read, W: Write>(
         (W.contents writer.old) (W.contents writer.new)) }
 {
     let mut zeros = vec![in alloc; 0; BUFFER_BYTES]?;
-    let mut run = Run {
-        alloc,
-        session: Session::NotOpen,
-        line: Line::new(alloc),
-        out: Vec::new(alloc),
-        retries: MAX_RETRIES,
-        workspace: Workspace::new(alloc),
-    };
-    run.serve(reader, writer, zeros.as_mut_slice())?;
-    Ok(SessionEnd {
-        _session: run.session,
-    })
+    let mut run = Run::new(alloc, Session::NotOpen, false);
+    match run.serve(reader, writer, zeros.as_mut_slice()) {
+        Ok(()) => Ok(SessionEnd::of(run.into_session())),
+        Err(fault) => Err(fault),
+    }
 }
 
-/// A session between its reader and its writer.
+/// A session between its reader and its outlet.
 #[derive(Drop)]
-struct Run {
+pub(crate) struct Run {
     alloc: Global,
     session: Session,
     line: Line,
@@ -112,36 +116,59 @@ struct Run {
 }
 
 impl Run {
+    /// A session that goes on, where there is a log or there is none. Takes no memory.
+    pub(crate) fn new(alloc: Global, session: Session, has_log: bool) -> Run
+        ensures session { result.session ≡ session }
+        ensures line { HasBytes result.line [] }
+        ensures out { result.out.items ≡ [] }
+        ensures lines { result.workspace.lines ≡ (if has_log then Some [] else None) }
+    {
+        Run {
+            alloc,
+            session,
+            line: Line::new(alloc),
+            out: Vec::new(alloc),
+            retries: MAX_RETRIES,
+            workspace: Workspace::new(alloc, has_log),
+        }
+    }
+
+    /// The session as it is.
+    pub(crate) fn into_session(self) -> Session
+        ensures { result ≡ self.session }
+    {
+        self.session
+    }
+
     /// Answers the lines of a reader, until its end.
-    fn serve<R: Read, W: Write>(
+    pub(crate) fn serve<R: Read, O: Outlet>(
         &mut self,
         reader: &mut R,
-        writer: &mut W,
+        outlet: &mut O,
         buffer: &mut [u8],
     ) -> Result<(), SessionFault>
         requires some { 0 < length buffer.old }
         requires few { length buffer.old ≤ 65536 }
-        requires session { self.old.session ≡ Session.NotOpen }
-        requires line { HasBytes self.old.line [] }
-        requires out { self.old.out.items ≡ [] }
-        ensures ok { OnOk result (AnswersAll (R.remaining reader.old) (R.remaining reader.new)
-            (W.contents writer.old) (W.contents writer.new)) }
-        ensures fault { IfErr result (λ e.
-            EndsEarly e (R.remaining reader.old) (R.remaining reader.new)
-            (W.contents writer.old) (W.contents writer.new)) }
+        requires calls { calls_of self.old.session < 2 ^ 64 - 65537 }
+        requires ready { O.is_ready outlet.old }
+        ensures ok { OnOk result ((first : O) (start : Session)
+            → Rests O.handed O.has_log first outlet.old start [] self.old
+            → HandsOverAll (R.remaining reader.old) (R.remaining reader.new)
+            (O.handed first outlet.new start)) }
+        ensures fault { IfErr result (λ e. (first : O) (start : Session)
+            → Rests O.handed O.has_log first outlet.old start [] self.old
+            → Fails e (R.remaining reader.old) (R.remaining reader.new)
+            (O.handed first outlet.new start) (O.stopped first outlet.new start)) }
     {
-        let mut total = 0;
+        let mut total = self.session.calls();
         while total < MAX_TOTAL {
             let Ok(count) = self.read(reader, buffer) else {
                 return Err(SessionFault::Read);
             };
             if count == 0 {
-                let Ok(()) = self.end(writer) else {
-                    return Err(SessionFault::Write);
-                };
-                return Ok(());
+                return self.end(outlet);
             }
-            let Ok(()) = self.answer_lines(writer, &buffer[..count]) else {
+            let Ok(()) = self.answer_lines(outlet, &buffer[..count]) else {
                 return Err(SessionFault::Write);
             };
             total += count as u64;
@@ -150,20 +177,26 @@ impl Run {
     }
 
     /// Takes further bytes, and answers the lines that end in them: their answers are handed over.
-    fn answer_lines<W: Write>(&mut self, writer: &mut W, bytes: &[u8]) -> Result<(), SessionFault>
-        requires { calls_of self.old.session + length bytes.now < 2 ^ 64 - 1 }
-        ensures ok { OnOk result ((pending : List ℕ) → HasBytes self.old.line pending
-            → has_no_feed pending ≡ true → Takes pending bytes.now self.old self.new
-            (W.contents writer.old) (W.contents writer.new)) }
-        ensures err { OnErr result ((pending : List ℕ) → HasBytes self.old.line pending
-            → has_no_feed pending ≡ true → StopsIn pending bytes.now self.old
-            (W.contents writer.old) (W.contents writer.new)) }
-        ensures out { OnOk result (self.new.out.items ≡ []) }
+    pub(crate) fn answer_lines<O: Outlet>(
+        &mut self,
+        outlet: &mut O,
+        bytes: &[u8],
+    ) -> Result<(), SessionFault>
+        requires calls { calls_of self.old.session + length bytes.now < 2 ^ 64 - 1 }
+        requires ready { O.is_ready outlet.old }
+        ensures ready { OnOk result (O.is_ready outlet.new) }
+        ensures ok { OnOk result ((first : O) (start : Session) (given : List ℕ)
+            → Rests O.handed O.has_log first outlet.old start given self.old
+            → Rests O.handed O.has_log first outlet.new start (given ++ bytes.now) self.new) }
+        ensures err { OnErr result ((first : O) (start : Session) (given : List ℕ)
+            → Rests O.handed O.has_log first outlet.old start given self.old
+            → Halts O.stopped first outlet.new start (given ++ bytes.now)) }
+        ensures fault { IfErr result (λ e. e ≡ SessionFault.Write) }
         ensures calls { OnOk result
             (calls_of self.new.session ≤ calls_of self.old.session + length bytes.now) }
     {
-        self.take(writer, bytes)?;
-        self.hand_over(writer)
+        self.take(outlet, bytes)?;
+        self.hand_over(outlet)
     }
 
     /// Reads once more, and again where it's interrupted, as long as there are retries.
@@ -179,6 +212,7 @@ impl Run {
         ensures session { self.new.session ≡ self.old.session }
         ensures line { self.new.line ≡ self.old.line }
         ensures out { self.new.out.items ≡ self.old.out.items }
+        ensures lines { self.new.workspace.lines ≡ self.old.workspace.lines }
     {
         match read_once(reader, buffer, &mut self.retries) {
             Ok(count) => Ok(count),
@@ -187,14 +221,14 @@ impl Run {
     }
 
     /// Takes further bytes, and answers the lines that end in them.
-    fn take<W: Write>(&mut self, writer: &mut W, bytes: &[u8]) -> Result<(), SessionFault>
-        requires { calls_of self.old.session + length bytes.now < 2 ^ 64 - 1 }
-        ensures ok { OnOk result ((pending : List ℕ) → HasBytes self.old.line pending
-            → has_no_feed pending ≡ true → Takes pending bytes.now self.old self.new
-            (W.contents writer.old) (W.contents writer.new)) }
-        ensures err { OnErr result ((pending : List ℕ) → HasBytes self.old.line pending
-            → has_no_feed pending ≡ true → StopsIn pending bytes.now self.old
-            (W.contents writer.old) (W.contents writer.new)) }
+    fn take<O: Outlet>(&mut self, outlet: &mut O, bytes: &[u8]) -> Result<(), SessionFault>
+        requires calls { calls_of self.old.session + length bytes.now < 2 ^ 64 - 1 }
+        requires ready { O.is_ready outlet.old }
+        ensures ready { OnOk result (O.is_ready outlet.new) }
+        ensures ok { OnOk result
+            (Takes O.handed O.has_log outlet.old outlet.new bytes.now self.old self.new) }
+        ensures err { OnErr result
+            (StopsIn O.handed O.stopped O.has_log outlet.old outlet.new bytes.now self.old) }
         ensures fault { IfErr result (λ e. e ≡ SessionFault.Write) }
         ensures calls { OnOk result
             (calls_of self.new.session ≤ calls_of self.old.session + length bytes.now) }
@@ -202,7 +236,7 @@ impl Run {
         let mut from = 0;
         let mut is_out_of_memory = false;
         while from < bytes.len() {
-            let extent = self.take_some(writer, &bytes[from..], is_out_of_memory)?;
+            let extent = self.take_some(outlet, &bytes[from..], is_out_of_memory)?;
             from += extent.taken;
             is_out_of_memory = extent.is_out_of_memory;
         }
@@ -211,34 +245,34 @@ impl Run {
 
     /// Takes the first of some bytes: lines that are answered together, unless memory ran out
     /// before, and then one line or the beginning of one.
-    fn take_some<W: Write>(
+    fn take_some<O: Outlet>(
         &mut self,
-        writer: &mut W,
+        outlet: &mut O,
         bytes: &[u8],
         is_out_of_memory: bool,
     ) -> Result<Extent, SessionFault>
-        requires { calls_of self.old.session + length bytes.now < 2 ^ 64 - 1 }
+        requires calls { calls_of self.old.session + length bytes.now < 2 ^ 64 - 1 }
+        requires ready { O.is_ready outlet.old }
+        ensures ready { OnOk result (O.is_ready outlet.new) }
         ensures within { IfOk result (λ extent. extent.taken ≤ length bytes.now) }
         ensures some { IfOk result (λ extent. 0 < length bytes.now → 0 < extent.taken) }
-        ensures ok { IfOk result (λ extent. (pending : List ℕ) → HasBytes self.old.line pending
-            → has_no_feed pending ≡ true → Takes pending (take extent.taken bytes.now)
-            self.old self.new (W.contents writer.old) (W.contents writer.new)) }
-        ensures err { OnErr result ((pending : List ℕ) → HasBytes self.old.line pending
-            → has_no_feed pending ≡ true → StopsIn pending bytes.now self.old
-            (W.contents writer.old) (W.contents writer.new)) }
+        ensures ok { IfOk result (λ extent. Takes O.handed O.has_log outlet.old outlet.new
+            (take extent.taken bytes.now) self.old self.new) }
+        ensures err { OnErr result
+            (StopsIn O.handed O.stopped O.has_log outlet.old outlet.new bytes.now self.old) }
         ensures fault { IfErr result (λ e. e ≡ SessionFault.Write) }
         ensures calls { IfOk result (λ extent.
             calls_of self.new.session ≤ calls_of self.old.session + extent.taken) }
     {
         if is_out_of_memory {
-            let taken = self.take_line(writer, bytes)?;
+            let taken = self.take_line(outlet, bytes)?;
             return Ok(Extent {
                 taken,
                 is_out_of_memory,
             });
         }
-        let extent = self.take_together(writer, bytes)?;
-        let more = self.take_line(writer, &bytes[extent.taken..])?;
+        let extent = self.take_together(outlet, bytes)?;
+        let more = self.take_line(outlet, &bytes[extent.taken..])?;
         Ok(Extent {
             taken: extent.taken + more,
             is_out_of_memory: extent.is_out_of_memory,
@@ -246,19 +280,19 @@ impl Run {
     }
 
     /// Answers the lines that some bytes begin with together, where no line has begun before them.
-    fn take_together<W: Write>(
+    fn take_together<O: Outlet>(
         &mut self,
-        writer: &mut W,
+        outlet: &mut O,
         bytes: &[u8],
     ) -> Result<Extent, SessionFault>
-        requires { calls_of self.old.session + length bytes.now < 2 ^ 64 - 1 }
+        requires calls { calls_of self.old.session + length bytes.now < 2 ^ 64 - 1 }
+        requires ready { O.is_ready outlet.old }
+        ensures ready { OnOk result (O.is_ready outlet.new) }
         ensures within { IfOk result (λ extent. extent.taken ≤ length bytes.now) }
-        ensures ok { IfOk result (λ extent. (pending : List ℕ) → HasBytes self.old.line pending
-            → has_no_feed pending ≡ true → Takes pending (take extent.taken bytes.now)
-            self.old self.new (W.contents writer.old) (W.contents writer.new)) }
-        ensures err { OnErr result ((pending : List ℕ) → HasBytes self.old.line pending
-            → has_no_feed pending ≡ true → StopsIn pending bytes.now self.old
-            (W.contents writer.old) (W.contents writer.new)) }
+        ensures ok { IfOk result (λ extent. Takes O.handed O.has_log outlet.old outlet.new
+            (take extent.taken bytes.now) self.old self.new) }
+        ensures err { OnErr result
+            (StopsIn O.handed O.stopped O.has_log outlet.old outlet.new bytes.now self.old) }
         ensures fault { IfErr result (λ e. e ≡ SessionFault.Write) }
         ensures calls { IfOk result (λ extent.
             calls_of self.new.session ≤ calls_of self.old.session + extent.taken) }
@@ -267,7 +301,7 @@ impl Run {
             return Ok(Extent::of(0));
         }
         let extent = self.answer_together(bytes);
-        self.hand_over_much(writer)?;
+        self.hand_over_much(outlet)?;
         Ok(extent)
     }
 
@@ -275,7 +309,8 @@ impl Run {
     fn answer_together(&mut self, bytes: &[u8]) -> Extent
         requires { calls_of self.old.session + length bytes.now < 2 ^ 64 - 1 }
         ensures answered { AnswersFront bytes.now result.taken self.old.session self.new.session
-            self.old.out.items self.new.out.items }
+            self.old.out.items self.new.out.items
+            self.old.workspace.lines self.new.workspace.lines }
         ensures line { self.new.line ≡ self.old.line }
     {
         let extent = self
@@ -285,23 +320,23 @@ impl Run {
             self.retries = MAX_RETRIES;
         }
         if extent.is_out_of_memory {
-            self.workspace = Workspace::new(self.alloc);
+            self.workspace.release(self.alloc);
         }
         extent
     }
 
     /// Takes the bytes up to the first line feed, and answers the line that ends in it. Where there
     /// is no line feed, the bytes are kept. Returns how many were taken.
-    fn take_line<W: Write>(&mut self, writer: &mut W, bytes: &[u8]) -> Result<usize, SessionFault>
-        requires { calls_of self.old.session + length bytes.now < 2 ^ 64 - 1 }
+    fn take_line<O: Outlet>(&mut self, outlet: &mut O, bytes: &[u8]) -> Result<usize, SessionFault>
+        requires calls { calls_of self.old.session + length bytes.now < 2 ^ 64 - 1 }
+        requires ready { O.is_ready outlet.old }
+        ensures ready { OnOk result (O.is_ready outlet.new) }
         ensures within { IfOk result (λ n. n ≤ length bytes.now) }
         ensures some { IfOk result (λ n. 0 < length bytes.now → 0 < n) }
-        ensures ok { IfOk result (λ n. (pending : List ℕ) → HasBytes self.old.line pending
-            → has_no_feed pending ≡ true → Takes pending (take n bytes.now) self.old self.new
-            (W.contents writer.old) (W.contents writer.new)) }
-        ensures err { OnErr result ((pending : List ℕ) → HasBytes self.old.line pending
-            → has_no_feed pending ≡ true → StopsIn pending bytes.now self.old
-            (W.contents writer.old) (W.contents writer.new)) }
+        ensures ok { IfOk result (λ n. Takes O.handed O.has_log outlet.old outlet.new
+            (take n bytes.now) self.old self.new) }
+        ensures err { OnErr result
+            (StopsIn O.handed O.stopped O.has_log outlet.old outlet.new bytes.now self.old) }
         ensures fault { IfErr result (λ e. e ≡ SessionFault.Write) }
         ensures calls { IfOk result (λ n.
             calls_of self.new.session ≤ calls_of self.old.session + n) }
@@ -311,7 +346,7 @@ impl Run {
             return Ok(bytes.len());
         };
         self.extend_line(&bytes[..end]);
-        self.answer_line(writer)?;
+        self.answer_line(outlet)?;
         Ok(end + 1)
     }
 
@@ -321,41 +356,49 @@ impl Run {
             → HasBytes self.new.line (bytes ++ more.now) }
         ensures session { self.new.session ≡ self.old.session }
         ensures out { self.new.out.items ≡ self.old.out.items }
+        ensures lines { self.new.workspace.lines ≡ self.old.workspace.lines }
     {
         self.line.extend(more);
     }
 
     /// Answers the line whose end has been read, and begins the next one.
-    fn answer_line<W: Write>(&mut self, writer: &mut W) -> Result<(), SessionFault>
-        requires { calls_of self.old.session < 2 ^ 64 - 1 }
-        ensures ok { OnOk result ((pending : List ℕ) → HasBytes self.old.line pending
-            → has_no_feed pending ≡ true → Takes pending (10 ∷ []) self.old self.new
-            (W.contents writer.old) (W.contents writer.new)) }
-        ensures err { OnErr result ((pending : List ℕ) → HasBytes self.old.line pending
-            → has_no_feed pending ≡ true → StopsIn pending (10 ∷ []) self.old
-            (W.contents writer.old) (W.contents writer.new)) }
+    fn answer_line<O: Outlet>(&mut self, outlet: &mut O) -> Result<(), SessionFault>
+        requires calls { calls_of self.old.session < 2 ^ 64 - 1 }
+        requires ready { O.is_ready outlet.old }
+        ensures ready { OnOk result (O.is_ready outlet.new) }
+        ensures ok { OnOk result
+            (Takes O.handed O.has_log outlet.old outlet.new (10 ∷ []) self.old self.new) }
+        ensures err { OnErr result
+            (StopsIn O.handed O.stopped O.has_log outlet.old outlet.new (10 ∷ []) self.old) }
         ensures fault { IfErr result (λ e. e ≡ SessionFault.Write) }
         ensures calls { calls_of self.new.session ≤ calls_of self.old.session + 1 }
     {
-        self.answer_request(writer)?;
+        self.answer_request(outlet)?;
         self.begin_line();
-        self.hand_over_much(writer)
+        self.hand_over_much(outlet)
     }
 
-    /// Hands over the answers so far, where they are many bytes.
-    fn hand_over_much<W: Write>(&mut self, writer: &mut W) -> Result<(), SessionFault>
-        ensures given { OnOk result (Gives (W.contents writer.old) (W.contents writer.new)
-            self.old.out.items self.new.out.items []) }
-        ensures prefix { OnErr result (AppendsPrefix
-            (W.contents writer.old) (W.contents writer.new) self.old.out.items) }
+    /// Hands over the answers so far, where they and the lines to log are many bytes.
+    fn hand_over_much<O: Outlet>(&mut self, outlet: &mut O) -> Result<(), SessionFault>
+        requires { O.is_ready outlet.old }
+        ensures ready { OnOk result (O.is_ready outlet.new) }
+        ensures stands { OnOk result
+            (StandsOn O.handed O.has_log outlet.old outlet.new self.old self.new) }
+        ensures err { OnErr result
+            (StopsBetween O.handed O.stopped O.has_log outlet.old outlet.new self.old) }
         ensures session { self.new.session ≡ self.old.session }
         ensures line { self.new.line ≡ self.old.line }
         ensures fault { IfErr result (λ e. e ≡ SessionFault.Write) }
     {
-        if self.out.len() < MANY_BYTES {
+        if self
+            .out
+            .len()
+            .saturating_add(self.workspace.lines.byte_len())
+            < MANY_BYTES
+        {
             return Ok(());
         }
-        self.hand_over(writer)
+        self.hand_over(outlet)
     }
 
     /// Begins the next line.
@@ -363,19 +406,21 @@ impl Run {
         ensures line { HasBytes self.new.line [] }
         ensures session { self.new.session ≡ self.old.session }
         ensures out { self.new.out.items ≡ self.old.out.items }
+        ensures lines { self.new.workspace.lines ≡ self.old.workspace.lines }
     {
         self.line.clear();
         self.retries = MAX_RETRIES;
     }
 
     /// Answers the line whose end has been read, unless it is passed over.
-    fn answer_request<W: Write>(&mut self, writer: &mut W) -> Result<(), SessionFault>
-        requires { calls_of self.old.session < 2 ^ 64 - 1 }
-        ensures ok { OnOk result ((bytes : List ℕ) → HasBytes self.old.line bytes
-            → AnswersOne bytes self.old self.new
-            (W.contents writer.old) (W.contents writer.new)) }
-        ensures err { OnErr result ((bytes : List ℕ) → HasBytes self.old.line bytes
-            → StopsAt bytes self.old (W.contents writer.old) (W.contents writer.new)) }
+    fn answer_request<O: Outlet>(&mut self, outlet: &mut O) -> Result<(), SessionFault>
+        requires calls { calls_of self.old.session < 2 ^ 64 - 1 }
+        requires ready { O.is_ready outlet.old }
+        ensures ready { OnOk result (O.is_ready outlet.new) }
+        ensures ok { OnOk result
+            (AnswersOne O.handed O.has_log outlet.old outlet.new self.old self.new) }
+        ensures err { OnErr result
+            (StopsAt O.handed O.stopped O.has_log outlet.old outlet.new self.old) }
         ensures fault { IfErr result (λ e. e ≡ SessionFault.Write) }
         ensures calls { calls_of self.new.session ≤ calls_of self.old.session + 1 }
     {
@@ -384,14 +429,14 @@ impl Run {
         }
         if self.line.is_too_long() {
             let answer = self.session.answer_too_long();
-            return self.write_short(writer, &answer);
+            return self.hand_over_short(outlet, &answer);
         }
         if self.answer_with_memory() {
             return Ok(());
         }
-        self.workspace = Workspace::new(self.alloc);
+        self.workspace.release(self.alloc);
         let answer = self.session.answer_without_memory();
-        self.write_short(writer, &answer)
+        self.hand_over_short(outlet, &answer)
     }
 
     /// Answers the line, and returns whether there was memory for it. Where there wasn't, nothing is
@@ -404,9 +449,14 @@ impl Run {
         ensures session { IsTrue result → (bytes : List ℕ) → HasBytes self.old.line bytes
             → is_too_long bytes ≡ false → self.new.session
             ≡ (turn_with_memory self.old.session bytes).session }
+        ensures lines { IsTrue result → (bytes : List ℕ) → HasBytes self.old.line bytes
+            → is_too_long bytes ≡ false → self.new.workspace.lines ≡ with_lines
+            self.old.workspace.lines (logged_by self.old.session self.new.session bytes) }
         ensures calls { calls_of self.new.session ≤ calls_of self.old.session + 1 }
         ensures text_stays { result ≡ false → self.new.out.items ≡ self.old.out.items }
         ensures session_stays { result ≡ false → self.new.session ≡ self.old.session }
+        ensures lines_stay { result ≡ false
+            → self.new.workspace.lines ≡ self.old.workspace.lines }
     {
         match self.line.bytes() {
             Some(line) => self
@@ -418,50 +468,39 @@ impl Run {
     }
 
     /// Hands over the answers so far, and then a short one.
-    fn write_short<W: Write>(
+    fn hand_over_short<O: Outlet>(
         &mut self,
-        writer: &mut W,
+        outlet: &mut O,
         answer: &ShortAnswer,
     ) -> Result<(), SessionFault>
-        ensures ok { OnOk result (Appends (W.contents writer.old) (W.contents writer.new)
-            (self.old.out.items ++ short_text answer.now)) }
-        ensures prefix { AppendsPrefix (W.contents writer.old) (W.contents writer.new)
-            (self.old.out.items ++ short_text answer.now) }
+        requires { O.is_ready outlet.old }
+        ensures ready { OnOk result (O.is_ready outlet.new) }
+        ensures ok { OnOk result (HandsOverShort O.handed O.has_log outlet.old outlet.new self.old
+            (short_text answer.now)) }
+        ensures err { OnErr result (StopsInShort O.handed O.stopped O.has_log
+            outlet.old outlet.new self.old (short_text answer.now)) }
         ensures out { OnOk result (self.new.out.items ≡ []) }
+        ensures lines { OnOk result
+            (self.new.workspace.lines ≡ no_lines self.old.workspace.lines) }
         ensures session { self.new.session ≡ self.old.session }
         ensures fault { IfErr result (λ e. e ≡ SessionFault.Write) }
     {
-        let mut retries = MAX_RETRIES;
-        self.write_out(writer, &mut retries)?;
-        if answer.write_to(writer, &mut retries).is_err() {
-            return Err(SessionFault::Write);
+        self.hand_over(outlet)?;
+        let text = answer.text();
+        match outlet.hand_over(self.workspace.lines.lines(), text.as_str().as_bytes()) {
+            Ok(()) => Ok(()),
+            Err(_) => Err(SessionFault::Write),
         }
-        Ok(())
-    }
-
-    /// Writes the answers that aren't handed over yet, and doesn't flush the writer.
-    fn write_out<W: Write>(&mut self, writer: &mut W, retries: &mut u32) -> Result<(), SessionFault>
-        ensures ok { OnOk result
-            (Appends (W.contents writer.old) (W.contents writer.new) self.old.out.items) }
-        ensures prefix { AppendsPrefix
-            (W.contents writer.old) (W.contents writer.new) self.old.out.items }
-        ensures out { OnOk result (self.new.out.items ≡ []) }
-        ensures session { self.new.session ≡ self.old.session }
-        ensures fault { IfErr result (λ e. e ≡ SessionFault.Write) }
-    {
-        if write_piece(writer, self.out.as_slice(), retries).is_err() {
-            return Err(SessionFault::Write);
-        }
-        self.clear_out();
-        Ok(())
     }
 
     /// Forgets the answers that are handed over, and gives the memory of very long ones back.
     fn clear_out(&mut self)
         ensures out { self.new.out.items ≡ [] }
+        ensures lines { self.new.workspace.lines ≡ no_lines self.old.workspace.lines }
         ensures session { self.new.session ≡ self.old.session }
         ensures line { self.new.line ≡ self.old.line }
     {
+        self.workspace.lines.clear();
         if self.out.capacity() > 2 * MANY_BYTES {
             self.out = Vec::new(self.alloc);
         } else {
@@ -470,36 +509,42 @@ impl Run {
     }
 
     /// Answers the bytes after the last line feed, if there are any, and hands over all answers.
-    fn end<W: Write>(&mut self, writer: &mut W) -> Result<(), SessionFault>
-        requires { calls_of self.old.session < 2 ^ 64 - 1 }
-        ensures ok { OnOk result ((pending : List ℕ) → HasBytes self.old.line pending
-            → has_no_feed pending ≡ true → AnswersLast pending self.old
-            (W.contents writer.old) (W.contents writer.new)) }
-        ensures err { OnErr result ((pending : List ℕ) → HasBytes self.old.line pending
-            → has_no_feed pending ≡ true → StopsInLast pending self.old
-            (W.contents writer.old) (W.contents writer.new)) }
+    fn end<O: Outlet>(&mut self, outlet: &mut O) -> Result<(), SessionFault>
+        requires calls { calls_of self.old.session < 2 ^ 64 - 1 }
+        requires ready { O.is_ready outlet.old }
+        ensures ok { OnOk result (Ends O.handed O.has_log outlet.old outlet.new self.old) }
+        ensures err { OnErr result
+            (StopsLast O.handed O.stopped O.has_log outlet.old outlet.new self.old) }
         ensures fault { IfErr result (λ e. e ≡ SessionFault.Write) }
     {
-        self.answer_request(writer)?;
-        self.hand_over(writer)
+        if self.line.is_empty() {
+            return self.hand_over(outlet);
+        }
+        self.answer_request(outlet)?;
+        self.hand_over(outlet)
     }
 
-    /// Writes the answers that aren't handed over yet, and flushes the writer.
-    fn hand_over<W: Write>(&mut self, writer: &mut W) -> Result<(), SessionFault>
+    /// Hands over the answers that aren't handed over yet, and logs the lines that are to be logged.
+    fn hand_over<O: Outlet>(&mut self, outlet: &mut O) -> Result<(), SessionFault>
+        requires { O.is_ready outlet.old }
+        ensures ready { OnOk result (O.is_ready outlet.new) }
         ensures ok { OnOk result
-            (Appends (W.contents writer.old) (W.contents writer.new) self.old.out.items) }
-        ensures prefix { AppendsPrefix
-            (W.contents writer.old) (W.contents writer.new) self.old.out.items }
+            (HandsOver O.handed O.has_log outlet.old outlet.new self.old) }
+        ensures err { OnErr result
+            (StopsBetween O.handed O.stopped O.has_log outlet.old outlet.new self.old) }
         ensures out { OnOk result (self.new.out.items ≡ []) }
+        ensures lines { OnOk result
+            (self.new.workspace.lines ≡ no_lines self.old.workspace.lines) }
         ensures session { self.new.session ≡ self.old.session }
         ensures line { self.new.line ≡ self.old.line }
         ensures fault { IfErr result (λ e. e ≡ SessionFault.Write) }
     {
-        let mut retries = MAX_RETRIES;
-        if write_text(writer, self.out.as_slice(), &mut retries).is_err() {
-            return Err(SessionFault::Write);
+        match outlet.hand_over(self.workspace.lines.lines(), self.out.as_slice()) {
+            Ok(()) => {
+                self.clear_out();
+                Ok(())
+            }
+            Err(_) => Err(SessionFault::Write),
         }
-        self.clear_out();
-        Ok(())
     }
 }

@@ -5,10 +5,12 @@ ghost use Rattle.tt_requests.specs.Opening.{opening_of};
 ghost use Rattle.tt_answers.specs.AnswerText.{opening_text};
 
 use crate::open_session::{Extent, OpenSession};
+use crate::pending_lines::PendingLines;
 use crate::repairing::status_of;
 use crate::short_answer::ShortAnswer;
 use crate::workspace::{Workspace, append};
 use std::alloc::{AllocError, Global};
+use std::mem;
 use tt_answers::{Answer, push_opening};
 use tt_grammar::DocFault;
 use tt_requests::{Opening, is_passed_over};
@@ -18,6 +20,8 @@ use tt_requests::{Opening, is_passed_over};
 pub enum Session {
     /// No line has opened it yet.
     NotOpen,
+    /// It holds a database that was read back from a log. A line opens it that asks for that.
+    Restored(OpenSession),
     /// It holds a database.
     Open(OpenSession),
 }
@@ -26,6 +30,19 @@ impl Session {
     ghost use Rattle.tt_session.specs.Run.{turn_with_memory, turn_without_memory, turn_of_long_line, calls_of};
     ghost use Rattle.tt_session.specs.ShortAnswers.{short_text};
     ghost use Rattle.tt_session.specs.Together.{AnswersFront};
+    ghost use Rattle.tt_session.specs.Logged.{logged_by, with_lines};
+    ghost use Rattle.tt_session.specs.Session.{OpenSession};
+    ghost use Rattle.tt_session.specs.declared.session.Session.TheVariants.{Restored, Open};
+
+    /// How many calls there were.
+    pub(crate) fn calls(&self) -> u64
+        ensures { result ≡ calls_of self.now }
+    {
+        match self {
+            Session::NotOpen => 0,
+            Session::Restored(session) | Session::Open(session) => session.calls(),
+        }
+    }
 
     /// Answers a line: pushes the text of its answer, which is empty where the line is passed over,
     /// and becomes the session after it. Where memory runs out, the session and the text are as
@@ -45,11 +62,12 @@ impl Session {
         ensures text_stays { OnErr result (out.new.items ≡ out.old.items) }
         ensures session_stays { OnErr result (self.new ≡ self.old) }
     {
-        let mut workspace = Workspace::new(alloc);
+        let mut workspace = Workspace::new(alloc, false);
         self.answer_line(alloc, out, line, &mut workspace)
     }
 
-    /// As [`answer`](Session::answer), for a caller that keeps the workspace from line to line.
+    /// As [`answer`](Session::answer), for a caller that keeps the workspace from line to line, and
+    /// the line with it if it is to be logged.
     pub(crate) fn answer_line(
         &mut self,
         alloc: Global,
@@ -63,17 +81,38 @@ impl Session {
         ensures session { OnOk result
             (self.new ≡ (turn_with_memory self.old line.now).session) }
         ensures calls { calls_of self.new ≤ calls_of self.old + 1 }
+        ensures lines { OnOk result (workspace.new.lines
+            ≡ with_lines workspace.old.lines (logged_by self.old self.new line.now)) }
         ensures text_stays { OnErr result (out.new.items ≡ out.old.items) }
         ensures session_stays { OnErr result (self.new ≡ self.old) }
+        ensures lines_stay { OnErr result (workspace.new.lines ≡ workspace.old.lines) }
     {
         if is_passed_over(line) {
             return Ok(());
         }
-        if let Session::Open(session) = self {
-            return session.answer_line(out, line, workspace);
+        match self {
+            Session::Open(session) => session.answer_line(out, line, workspace),
+            Session::NotOpen => {
+                *self = open(alloc, out, line, &mut workspace.lines)?;
+                Ok(())
+            }
+            Session::Restored(session) => {
+                if session.reopen(out, line)? {
+                    self.go_on();
+                }
+                Ok(())
+            }
         }
-        *self = open(alloc, out, line)?;
-        Ok(())
+    }
+
+    /// Opens a session that was read back.
+    fn go_on(&mut self)
+        ensures { (session : OpenSession) → self.old ≡ Restored session → self.new ≡ Open session }
+    {
+        *self = match mem::replace(self, Session::NotOpen) {
+            Session::Restored(session) => Session::Open(session),
+            session => session,
+        };
     }
 
     /// Answers the lines that some bytes begin with, together, where the session is open: pushes
@@ -87,10 +126,10 @@ impl Session {
     ) -> Extent
         requires { calls_of self.old + length bytes.now < 2 ^ 64 - 1 }
         ensures { AnswersFront bytes.now result.taken self.old self.new
-            out.old.items out.new.items }
+            out.old.items out.new.items workspace.old.lines workspace.new.lines }
     {
         match self {
-            Session::NotOpen => Extent::of(0),
+            Session::NotOpen | Session::Restored(_) => Extent::of(0),
             Session::Open(session) => session.answer_lines(out, bytes, workspace),
         }
     }
@@ -104,7 +143,7 @@ impl Session {
         ensures calls { calls_of self.new ≤ calls_of self.old + 1 }
     {
         match self {
-            Session::NotOpen => ShortAnswer::OpeningOutOfMemory,
+            Session::NotOpen | Session::Restored(_) => ShortAnswer::OpeningOutOfMemory,
             Session::Open(session) => ShortAnswer::CallOutOfMemory(session.count_call()),
         }
     }
@@ -118,21 +157,59 @@ impl Session {
         ensures calls { calls_of self.new ≤ calls_of self.old + 1 }
     {
         match self {
-            Session::NotOpen => ShortAnswer::OpeningTooLong,
+            Session::NotOpen | Session::Restored(_) => ShortAnswer::OpeningTooLong,
             Session::Open(session) => ShortAnswer::CallTooLong(session.count_call()),
         }
     }
 }
 
 ghost use Rattle.tt_session.specs.Run.{turn_by_opening, calls_of};
+ghost use Rattle.tt_session.specs.Logged.{logged_by, with_lines};
+ghost use Rattle.tt_session.specs.declared.session.Session.TheVariants.{NotOpen};
+ghost use Rattle.tt_session.specs.Run.{begun};
 
-/// Answers a line that is an opening. Returns the session after it, which isn't open after a fault.
-fn open(alloc: Global, out: &mut Vec<u8>, line: &[u8]) -> Result<Session, AllocError>
+/// Answers a line that is an opening, and keeps it if it is to be logged. Returns the session after
+/// it, which isn't open after a fault. Where memory runs out, the text and the lines are as before.
+fn open(
+    alloc: Global,
+    out: &mut Vec<u8>,
+    line: &[u8],
+    lines: &mut PendingLines,
+) -> Result<Session, AllocError>
     ensures text { OnOk result (out.new.items ≡ out.old.items
         ++ (turn_by_opening (opening_of (value_of_line line.now))).text) }
     ensures session { IfOk result (λ s.
         s ≡ (turn_by_opening (opening_of (value_of_line line.now))).session) }
     ensures calls { IfOk result (λ s. calls_of s ≡ 0) }
+    ensures lines { IfOk result (λ s.
+        lines.new ≡ with_lines lines.old (logged_by NotOpen s line.now)) }
+    ensures text_stays { OnErr result (out.new.items ≡ out.old.items) }
+    ensures lines_stay { OnErr result (lines.new ≡ lines.old) }
+{
+    let before = out.len();
+    match open_or_stay(alloc, out, line)? {
+        Some(session) => match lines.push(line) {
+            Ok(()) => Ok(Session::Open(session)),
+            Err(AllocError) => {
+                out.truncate(before);
+                Err(AllocError)
+            }
+        },
+        None => Ok(Session::NotOpen),
+    }
+}
+
+/// Answers a line that is an opening. Returns the session that it opens, if it has no fault.
+pub(crate) fn open_or_stay(
+    alloc: Global,
+    out: &mut Vec<u8>,
+    line: &[u8],
+) -> Result<Option<OpenSession>, AllocError>
+    ensures text { OnOk result (out.new.items ≡ out.old.items
+        ++ (turn_by_opening (opening_of (value_of_line line.now))).text) }
+    ensures session { IfOk result (λ opened. begun opened
+        ≡ (turn_by_opening (opening_of (value_of_line line.now))).session) }
+    ensures calls { IfOk result (λ opened. calls_of (begun opened) ≡ 0) }
     ensures text_stays { OnErr result (out.new.items ≡ out.old.items) }
 {
     match Opening::from_line(alloc, line) {
@@ -140,18 +217,22 @@ fn open(alloc: Global, out: &mut Vec<u8>, line: &[u8]) -> Result<Session, AllocE
             let session = OpenSession::new(alloc, opening);
             let status = status_of(session.db());
             push_opening_answer(alloc, out, &Answer::Standing(status))?;
-            Ok(Session::Open(session))
+            Ok(Some(session))
         }
         Err(DocFault::Memory) => Err(AllocError),
         Err(fault) => {
             push_opening_answer(alloc, out, &Answer::Faulty(fault))?;
-            Ok(Session::NotOpen)
+            Ok(None)
         }
     }
 }
 
 /// Adds the text of an answer to an opening.
-fn push_opening_answer(alloc: Global, out: &mut Vec<u8>, answer: &Answer) -> Result<(), AllocError>
+pub(crate) fn push_opening_answer(
+    alloc: Global,
+    out: &mut Vec<u8>,
+    answer: &Answer,
+) -> Result<(), AllocError>
     ensures text { OnOk result (out.new.items ≡ out.old.items ++ opening_text answer.now) }
     ensures text_stays { OnErr result (out.new.items ≡ out.old.items) }
 {

@@ -1,12 +1,13 @@
 //! Answers that are written without taking memory.
-ghost use Rattle.std.specs.Prelude.{◌≡◌, ◌≤◌, ◌++◌, codes, decimal, OnOk, IfErr};
+ghost use Rattle.std.specs.Prelude.{◌≡◌, ◌≤◌, ◌++◌, length, codes, decimal, OnOk, IfErr};
 ghost use Rattle.std.specs.Io.KnownBytes.{Appends};
 ghost use Rattle.tt_streams.specs.Writing.{AppendsPrefix};
 ghost use Rattle.tt_session.specs.ShortAnswers.{short_text};
 
+use arrayvec::ArrayString;
 use itoa::Buffer;
 use std::io::Write;
-use tt_streams::{StreamError, write_piece, write_text};
+use tt_streams::{StreamError, write_text};
 
 /// An answer to a line for which there is no memory, or of which nothing is kept.
 #[derive(Clone, Copy, Debug, PartialEq, Eq)]
@@ -21,7 +22,29 @@ pub enum ShortAnswer {
     CallTooLong(u64),
 }
 
+/// As many bytes hold the line of each short answer.
+const MAX_BYTES: usize = 128;
+
 impl ShortAnswer {
+    /// The line of the answer. Takes no memory.
+    pub(crate) fn text(&self) -> ArrayString<MAX_BYTES>
+        ensures { result.bytes ≡ short_text self.now }
+    {
+        match self {
+            ShortAnswer::OpeningOutOfMemory => text_of("{\"refused\":\"memory\"}\n"),
+            ShortAnswer::OpeningTooLong => {
+                text_of("{\"fault\":{\"path\":\"$\",\"cause\":\"longer than 16777216 bytes\"}}\n")
+            }
+            ShortAnswer::CallOutOfMemory(call) => {
+                text_of_call(*call, ",\"refused\":\"memory\"}\n")
+            }
+            ShortAnswer::CallTooLong(call) => text_of_call(
+                *call,
+                ",\"fault\":{\"path\":\"$\",\"cause\":\"longer than 16777216 bytes\"}}\n",
+            ),
+        }
+    }
+
     /// Writes the line of the answer, and flushes the writer. After a fault a prefix of the line is
     /// written. An interrupted write is tried again, as long as there are retries. Takes no memory.
     pub fn write_to<W: Write>(&self, writer: &mut W, retries: &mut u32) -> Result<(), StreamError>
@@ -32,44 +55,30 @@ impl ShortAnswer {
         ensures fault { IfErr result (λ e. e ≡ StreamError.Write) }
         ensures retries { retries.new ≤ retries.old }
     {
-        match self {
-            ShortAnswer::OpeningOutOfMemory => {
-                write_text(writer, b"{\"refused\":\"memory\"}\n", retries)
-            }
-            ShortAnswer::OpeningTooLong => write_text(
-                writer,
-                b"{\"fault\":{\"path\":\"$\",\"cause\":\"longer than 16777216 bytes\"}}\n",
-                retries,
-            ),
-            ShortAnswer::CallOutOfMemory(call) => {
-                write_call(writer, *call, b",\"refused\":\"memory\"}\n", retries)
-            }
-            ShortAnswer::CallTooLong(call) => write_call(
-                writer,
-                *call,
-                b",\"fault\":{\"path\":\"$\",\"cause\":\"longer than 16777216 bytes\"}}\n",
-                retries,
-            ),
-        }
+        let text = self.text();
+        write_text(writer, text.as_str().as_bytes(), retries)
     }
 }
 
-/// Writes the line of an answer to a call, which ends like this, and flushes the writer.
-fn write_call<W: Write>(
-    writer: &mut W,
-    call: u64,
-    end: &[u8],
-    retries: &mut u32,
-) -> Result<(), StreamError>
-    ensures ok { OnOk result (Appends (W.contents writer.old) (W.contents writer.new)
-        (codes "{\"call\":" ++ (decimal call ++ end.now))) }
-    ensures prefix { AppendsPrefix (W.contents writer.old) (W.contents writer.new)
-        (codes "{\"call\":" ++ (decimal call ++ end.now)) }
-    ensures fault { IfErr result (λ e. e ≡ StreamError.Write) }
-    ensures retries { retries.new ≤ retries.old }
+/// A short text.
+fn text_of(text: &str) -> ArrayString<MAX_BYTES>
+    requires { length text.now ≤ 64 }
+    ensures { result.bytes ≡ text.now }
+{
+    let mut line = ArrayString::new();
+    line.push_str(text);
+    line
+}
+
+/// The line of an answer to a call, which ends like this.
+fn text_of_call(call: u64, end: &str) -> ArrayString<MAX_BYTES>
+    requires { length end.now ≤ 64 }
+    ensures { result.bytes ≡ codes "{\"call\":" ++ (decimal call ++ end.now) }
 {
     let mut digits = Buffer::new();
-    write_piece(writer, b"{\"call\":", retries)?;
-    write_piece(writer, digits.format(call).as_bytes(), retries)?;
-    write_text(writer, end, retries)
+    let mut line = ArrayString::new();
+    line.push_str("{\"call\":");
+    line.push_str(digits.format(call));
+    line.push_str(end);
+    line
 }

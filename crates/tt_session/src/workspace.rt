@@ -1,6 +1,7 @@
 //! What answering lines needs.
-ghost use Rattle.std.specs.Prelude.{◌≡◌, ◌++◌, OnOk, OnErr};
+ghost use Rattle.std.specs.Prelude.{◌≡◌, ◌++◌, [], Some, None, if◌then◌else◌, OnOk, OnErr};
 
+use crate::pending_lines::PendingLines;
 use std::alloc::{AllocError, Global};
 use std::mem;
 use tt_json::Scratch;
@@ -15,15 +16,28 @@ pub(crate) struct Workspace {
     pub(crate) scratch: Scratch,
     /// Where answers are made, before they are added to those that are to be handed over.
     pub(crate) text: Vec<u8>,
+    /// Lines that are to be logged before the answers are handed over.
+    pub(crate) lines: PendingLines,
 }
 
 impl Workspace {
-    /// A workspace that holds nothing yet.
-    pub(crate) fn new(alloc: Global) -> Workspace {
+    /// A workspace that holds nothing yet, where there is a log or there is none.
+    pub(crate) fn new(alloc: Global, has_log: bool) -> Workspace
+        ensures { result.lines ≡ (if has_log then Some [] else None) }
+    {
         Workspace {
             scratch: Scratch::new(alloc),
             text: Vec::new(alloc),
+            lines: PendingLines::new(alloc, has_log),
         }
+    }
+
+    /// Gives memory back. The lines that are to be logged stay.
+    pub(crate) fn release(&mut self, alloc: Global)
+        ensures { self.new.lines ≡ self.old.lines }
+    {
+        self.scratch = Scratch::new(alloc);
+        self.text = Vec::new(alloc);
     }
 }
 

@@ -53,6 +53,8 @@ impl OpenSession {
         ensures session { OnOk result
             (Open self.new ≡ (turn_by_request (counted self.old) asked).session) }
         ensures calls { OnOk result (self.new.calls ≡ self.old.calls + 1) }
+        ensures reads { OnOk result
+            (asks_read_only asked ≡ true → self.new.database ≡ self.old.database) }
         ensures text_stays { OnErr result (out.new.items ≡ out.old.items) }
         ensures session_stays { OnErr result (self.new ≡ self.old) }
     {
@@ -96,6 +98,8 @@ impl OpenSession {
         ensures session { OnOk result
             (Open self.new ≡ (turn_by_request self.old asked).session) }
         ensures calls { OnOk result (self.new.calls ≡ self.old.calls) }
+        ensures database { OnOk result
+            (asks_read_only asked ≡ true → self.new.database ≡ self.old.database) }
         ensures text_stays { OnErr result (out.new.items ≡ out.old.items) }
         ensures rest { OnErr result (self.new ≡ with_database self.old self.new.database) }
         ensures reads { OnErr result (asks_read_only asked ≡ true → self.new ≡ self.old) }

@@ -11,7 +11,8 @@ ghost use Rattle.tt_requests.specs.Requests.{request_of};
 ghost use Rattle.tt_session.specs.Session.{counted, with_earlier_records};
 ghost use Rattle.tt_session.specs.Commands.{asks_for_records};
 ghost use Rattle.tt_session.specs.Run.{turn_by_request};
-ghost use Rattle.tt_session.specs.Together.{AnswersFront, AnswersWith, BeginsWithLine};
+ghost use Rattle.tt_session.specs.Logged.{logged_by, with_lines};
+ghost use Rattle.tt_session.specs.Together.{AnswersFront, AnswersWith, BeginsWithLine, Grows};
 
 use super::OpenSession;
 use crate::commands::asks_for_records;
@@ -55,7 +56,7 @@ impl OpenSession {
     ) -> Extent
         requires { self.old.calls + length bytes.now < 2 ^ 64 - 1 }
         ensures { AnswersFront bytes.now result.taken (Open self.old) (Open self.new)
-            out.old.items out.new.items }
+            out.old.items out.new.items workspace.old.lines workspace.new.lines }
     {
         let mut taken = 0;
         while out.len() < MANY_BYTES {
@@ -74,7 +75,7 @@ impl OpenSession {
     }
 
     /// Answers the first line and those behind it. Returns how many bytes were taken. Where memory
-    /// runs out, the session and the text are as before.
+    /// runs out, the session, the text and the lines to log are as before.
     fn answer_first(
         &mut self,
         out: &mut Vec<u8>,
@@ -83,22 +84,26 @@ impl OpenSession {
     ) -> Result<usize, AllocError>
         requires { self.old.calls + length bytes.now < 2 ^ 64 - 1 }
         ensures answered { IfOk result (λ count. AnswersFront bytes.now count
-            (Open self.old) (Open self.new) out.old.items out.new.items) }
+            (Open self.old) (Open self.new) out.old.items out.new.items
+            workspace.old.lines workspace.new.lines) }
         ensures session_stays { OnErr result (self.new ≡ self.old) }
         ensures text_stays { OnErr result (out.new.items ≡ out.old.items) }
+        ensures lines_stay { OnErr result (workspace.new.lines ≡ workspace.old.lines) }
     {
         match FirstLine::of(self.alloc, self.db.catalog(), bytes, &mut workspace.scratch)? {
             FirstLine::NotWhole => Ok(0),
             FirstLine::PassedOver(len) => Ok(len),
             FirstLine::Read(RequestLine { asked, len }) => {
-                let more = self.answer_and_further(out, asked, &bytes[len..], workspace)?;
+                let (line, behind) = (&bytes[..len - 1], &bytes[len..]);
+                let more = self.answer_and_further(out, asked, line, behind, workspace)?;
                 Ok(len + more)
             }
         }
     }
 
-    /// Answers a line, as a call: adds the text of the answer, and goes on as the call leaves the
-    /// session. Where memory runs out, the session and the text are as before.
+    /// Answers a line, as a call: adds the text of the answer, goes on as the call leaves the
+    /// session, and keeps the line if it is to be logged. Where memory runs out, the session, the
+    /// text and the lines to log are as before.
     pub(crate) fn answer_line(
         &mut self,
         out: &mut Vec<u8>,
@@ -112,66 +117,83 @@ impl OpenSession {
         ensures session { OnOk result (Open self.new ≡ (turn_by_request (counted self.old)
             (request_of self.old.database.catalog (value_of_line line.now))).session) }
         ensures calls { OnOk result (self.new.calls ≡ self.old.calls + 1) }
+        ensures lines { OnOk result (workspace.new.lines ≡ with_lines workspace.old.lines
+            (logged_by (Open self.old) (Open self.new) line.now)) }
         ensures text_stays { OnErr result (out.new.items ≡ out.old.items) }
         ensures session_stays { OnErr result (self.new ≡ self.old) }
+        ensures lines_stay { OnErr result (workspace.new.lines ≡ workspace.old.lines) }
     {
         let asked = read_request(self.alloc, self.db.catalog(), line, &mut workspace.scratch)?;
-        self.answer_and_further(out, asked, &[], workspace)?;
+        self.answer_and_further(out, asked, line, &[], workspace)?;
         Ok(())
     }
 
     /// Answers what a line asks, and the lines behind it. Returns how many bytes of these were
-    /// taken. Where memory runs out, the session and the text are as before.
+    /// taken. Where memory runs out, the session, the text and the lines to log are as before.
     fn answer_and_further(
         &mut self,
         out: &mut Vec<u8>,
         asked: Result<Request, DocFault>,
+        line: &[u8],
         behind: &[u8],
         workspace: &mut Workspace,
     ) -> Result<usize, AllocError>
         requires { self.old.calls + length behind.now < 2 ^ 64 - 1 }
-        ensures answered { IfOk result (λ count. AnswersWith asked behind.now count
-            self.old self.new out.old.items out.new.items) }
+        ensures answered { IfOk result (λ count. AnswersWith asked line.now behind.now count
+            self.old self.new out.old.items out.new.items
+            workspace.old.lines workspace.new.lines) }
         ensures session_stays { OnErr result (self.new ≡ self.old) }
         ensures text_stays { OnErr result (out.new.items ≡ out.old.items) }
+        ensures lines_stay { OnErr result (workspace.new.lines ≡ workspace.old.lines) }
     {
         // A fork has no earlier records, and costs more than a checkpoint for one line.
         if asks_for_records(&asked) || behind.is_empty() {
-            self.answer_alone(out, &mut workspace.text, asked)?;
+            self.log_alone(out, asked, line, workspace)?;
             return Ok(0);
         }
-        self.answer_on_fork(out, asked, behind, workspace)
+        let mark = workspace.lines.byte_len();
+        match self.answer_on_fork(out, asked, line, behind, workspace) {
+            Ok(taken) => Ok(taken),
+            Err(AllocError) => {
+                workspace.lines.truncate(mark);
+                Err(AllocError)
+            }
+        }
     }
 
     /// Answers what a line asks, and the lines behind it, on a fork, and catches up with it.
     /// Returns how many bytes of the lines behind it were taken. Where memory runs out, the session
-    /// and the text are as before.
+    /// and the text are as before, and there may be further lines to log.
     fn answer_on_fork(
         &mut self,
         out: &mut Vec<u8>,
         asked: Result<Request, DocFault>,
+        line: &[u8],
         behind: &[u8],
         workspace: &mut Workspace,
     ) -> Result<usize, AllocError>
         requires calls { self.old.calls + length behind.now < 2 ^ 64 - 1 }
         requires records { asks_for_records asked ≡ false }
-        ensures answered { IfOk result (λ count. AnswersWith asked behind.now count
-            self.old self.new out.old.items out.new.items) }
+        ensures answered { IfOk result (λ count. AnswersWith asked line.now behind.now count
+            self.old self.new out.old.items out.new.items
+            workspace.old.lines workspace.new.lines) }
         ensures session_stays { OnErr result (self.new ≡ self.old) }
         ensures text_stays { OnErr result (out.new.items ≡ out.old.items) }
+        ensures lines_grow { OnErr result (Grows workspace.old.lines workspace.new.lines) }
     {
         // For the proof: what is known of each session.
         let _ = &self.records;
         let mut ahead = self.fork()?;
         workspace.text.clear();
-        ahead.answer_in_place(&mut workspace.text, asked)?;
+        ahead.log_in_place(asked, line, workspace)?;
         let (taken, next) = ahead.answer_further(behind, workspace)?;
         self.commit(out, &mut workspace.text, ahead)?;
         let Some(next) = next else {
             return Ok(taken);
         };
-        match self.answer_alone(out, &mut workspace.text, next.asked) {
-            Ok(()) => Ok(taken + next.len),
+        let end = taken + next.len;
+        match self.log_alone(out, next.asked, &behind[taken..end - 1], workspace) {
+            Ok(()) => Ok(end),
             // The line is left for the next time.
             Err(AllocError) => Ok(taken),
         }
@@ -180,7 +202,8 @@ impl OpenSession {
     /// Answers the lines that some bytes begin with in place, up to one that isn't whole or asks
     /// for the records of earlier calls, or until there are many bytes of answers. Returns how many
     /// bytes were taken, and the line that asks for records. Where memory runs out, nothing is
-    /// promised of the session and of the text in the workspace.
+    /// promised of the session and of the text in the workspace, and there may be further lines to
+    /// log.
     fn answer_further(
         &mut self,
         bytes: &[u8],
@@ -190,11 +213,13 @@ impl OpenSession {
         ensures answered { IfOk result (λ r. (earlier : List Record) → AnswersFront bytes.now r.0
             (Open (with_earlier_records earlier self.old))
             (Open (with_earlier_records earlier self.new))
-            workspace.old.text.items workspace.new.text.items) }
+            workspace.old.text.items workspace.new.text.items
+            workspace.old.lines workspace.new.lines) }
         ensures next { IfOk result (λ r. IfSome r.1 (λ next. BeginsWithLine
             self.new.database.catalog (drop r.0 bytes.now) next.len next.asked)) }
         ensures records { IfOk result (λ r. IfSome r.1 (λ next.
             asks_for_records next.asked ≡ true)) }
+        ensures lines_grow { OnErr result (Grows workspace.old.lines workspace.new.lines) }
     {
         let mut taken = 0;
         while workspace.text.len() < MANY_BYTES {
@@ -206,7 +231,7 @@ impl OpenSession {
                     if asks_for_records(&line.asked) {
                         return Ok((taken, Some(line)));
                     }
-                    self.answer_in_place(&mut workspace.text, line.asked)?;
+                    self.log_in_place(line.asked, &rest[..line.len - 1], workspace)?;
                     taken += line.len;
                 }
             }

@@ -7,11 +7,11 @@ use Rattle.tt_session.proofs.TogetherLemmas.{front-nil, front-passed, front-with
 use Rattle.tt_session.proofs.open_session.OpenSession.answer_first.Goals as goal
 
 pub returns-in-NotWhole-clause-answered : goal.returns-in-NotWhole-clause-answered
-returns-in-NotWhole-clause-answered c = front-nil c.args.bytes.now (Open c.args.self.now) c.args.out.now.items
+returns-in-NotWhole-clause-answered c = front-nil c.args.bytes.now (Open c.args.self.now) c.args.out.now.items c.args.workspace.now.lines
 
 pub returns-in-PassedOver-clause-answered : goal.returns-in-PassedOver-clause-answered
 returns-in-PassedOver-clause-answered c =
-    front-passed c.args.bytes.now c.in-PassedOver.len (Open c.args.self.now) c.args.out.now.items
+    front-passed c.args.bytes.now c.in-PassedOver.len (Open c.args.self.now) c.args.out.now.items c.args.workspace.now.lines
     (subst (IsFirstLine c.catalog.result.now c.args.bytes.now) c.in-PassedOver.is c.in_ok-of.ensures)
 
 pub returns-in_ok-more-in-Read-clause-answered : goal.returns-in_ok-more-in-Read-clause-answered
@@ -19,5 +19,6 @@ returns-in_ok-more-in-Read-clause-answered c =
     let line = c.in-Read.field-0 in
     let tables = c.catalog.result.now in
     front-with tables c.args.bytes.now line.len c.in_ok-more-in-Read.more (line.len + c.in_ok-more-in-Read.more) line.asked c.args.self.now c.answer_and_further.new.self c.args.out.now.items c.answer_and_further.new.out.items
+    c.args.workspace.now.lines c.answer_and_further.new.workspace.lines
     (c.catalog.ensures ∙ ap (λ (s : OpenSession). s.database.catalog) c.self.view_is) (subst (IsFirstLine tables c.args.bytes.now) c.in-Read.is c.in_ok-of.ensures)
     c.in_ok-more-in-Read.ensures.answered refl

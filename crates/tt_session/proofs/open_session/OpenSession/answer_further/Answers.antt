@@ -5,14 +5,15 @@ use Rattle.tt_session.specs.declared.session.Session.TheVariants.{Open}
 use Rattle.tt_session.specs.Commands.{asks_for_records}
 use Rattle.tt_session.specs.Session.{OpenSession, with_earlier_records}
 use Rattle.tt_session.specs.Together.{AnswersFront, IsFirstLine}
-use Rattle.tt_session.proofs.TogetherLemmas.{front-nil, front-passed, front-more, front-earlier, line-fits}
+use Rattle.tt_session.proofs.ResultLemmas.{on_err}
+use Rattle.tt_session.proofs.TogetherLemmas.{front-nil, front-passed, front-more, front-earlier, front-grows, line-fits}
 use Rattle.tt_session.proofs.open_session.OpenSession.answer_further.Goals as goal
 
 pub loop-rest-init : goal.loop-rest-init
 loop-rest-init c = record {
   within = omega arith;
   calls = omega arith;
-  answered = λ earlier. front-nil c.args.bytes.now (Open (with_earlier_records earlier c.args.self.now)) c.args.workspace.now.text.items;
+  answered = λ earlier. front-nil c.args.bytes.now (Open (with_earlier_records earlier c.args.self.now)) c.args.workspace.now.text.items c.args.workspace.now.lines;
 }
 
 pub loop-rest-preserved-in-PassedOver : goal.loop-rest-preserved-in-PassedOver
@@ -22,14 +23,15 @@ loop-rest-preserved-in-PassedOver c =
     let rest = take (length bytes - l.taken) (drop l.taken bytes) in
     let passed = subst (IsFirstLine c.catalog.result.now rest) c.in-PassedOver.is c.in_ok-of.ensures in
     let text = l.workspace.text.items in
-    let all : (earlier : List Record) → AnswersFront bytes (l.taken + c.in-PassedOver.len) (Open (with_earlier_records earlier c.args.self.now)) (Open (with_earlier_records earlier l.self)) c.args.workspace.now.text.items text =
+    let all : (earlier : List Record) → AnswersFront bytes (l.taken + c.in-PassedOver.len) (Open (with_earlier_records earlier c.args.self.now)) (Open (with_earlier_records earlier l.self)) c.args.workspace.now.text.items text c.args.workspace.now.lines l.workspace.lines =
     λ earlier.
     front-more bytes l.taken c.in-PassedOver.len (l.taken + c.in-PassedOver.len) (Open (with_earlier_records earlier c.args.self.now)) (Open (with_earlier_records earlier l.self)) (Open (with_earlier_records earlier l.self))
-    c.args.workspace.now.text.items text text (l.invariant.answered earlier) (front-passed rest c.in-PassedOver.len (Open (with_earlier_records earlier l.self)) text passed) refl in
+    c.args.workspace.now.text.items text text c.args.workspace.now.lines l.workspace.lines l.workspace.lines (l.invariant.answered earlier)
+    (front-passed rest c.in-PassedOver.len (Open (with_earlier_records earlier l.self)) text l.workspace.lines passed) refl in
     record { within = (all []).within; calls = (all []).calls; answered = all }
 
-pub answer_in_place-requires : goal.answer_in_place-requires
-answer_in_place-requires c =
+pub log_in_place-requires : goal.log_in_place-requires
+log_in_place-requires c =
     let l = c.loop-rest in
     let bytes = c.args.bytes.now in
     let rest = take (length bytes - l.taken) (drop l.taken bytes) in
@@ -43,14 +45,22 @@ loop-rest-preserved c =
     let rest = take (length bytes - l.taken) (drop l.taken bytes) in
     let tables = c.catalog.result.now in
     let line = c.in-Read.line in
-    let new = c.answer_in_place.new in
-    let done = c.in_ok-answer_in_place-in-Read.ensures in
+    let new = c.log_in_place.new in
+    let done = c.in_ok-log_in_place-in-Read.ensures in
     let same = c.catalog.ensures ∙ ap (λ (s : OpenSession). s.database.catalog) c.self.view_is in
     let is = subst (IsFirstLine tables rest) c.in-Read.is c.in_ok-of.ensures in
     let other : asks_for_records line.asked ≡ false = sym c.asks_for_records.ensures ∙ c.if-asks_for_records.false in
-    let all : (earlier : List Record) → AnswersFront bytes (l.taken + line.len) (Open (with_earlier_records earlier c.args.self.now)) (Open (with_earlier_records earlier new.self)) c.args.workspace.now.text.items new.text.items =
+    let all : (earlier : List Record) → AnswersFront bytes (l.taken + line.len) (Open (with_earlier_records earlier c.args.self.now)) (Open (with_earlier_records earlier new.self)) c.args.workspace.now.text.items new.workspace.text.items c.args.workspace.now.lines new.workspace.lines =
     λ earlier.
     front-more bytes l.taken line.len (l.taken + line.len) (Open (with_earlier_records earlier c.args.self.now)) (Open (with_earlier_records earlier l.self)) (Open (with_earlier_records earlier new.self))
-    c.args.workspace.now.text.items l.workspace.text.items new.text.items (l.invariant.answered earlier)
-    (front-earlier earlier tables rest line.len line.asked l.self new.self l.workspace.text.items new.text.items same other is done.session done.text done.calls) refl in
+    c.args.workspace.now.text.items l.workspace.text.items new.workspace.text.items c.args.workspace.now.lines l.workspace.lines new.workspace.lines (l.invariant.answered earlier)
+    (front-earlier earlier tables rest line.len line.asked l.self new.self l.workspace.text.items new.workspace.text.items l.workspace.lines new.workspace.lines
+    same other is done.session done.text done.calls done.lines) refl in
     record { within = (all []).within; calls = (all []).calls; answered = all }
+
+pub returns-in_err-of-clause-lines_grow : goal.returns-in_err-of-clause-lines_grow
+returns-in_err-of-clause-lines_grow c =
+    let l = c.loop-rest in
+    on_err c.from_residual.result
+    (front-grows c.args.bytes.now l.taken (Open (with_earlier_records [] c.args.self.now)) (Open (with_earlier_records [] l.self)) c.args.workspace.now.text.items l.workspace.text.items
+    c.args.workspace.now.lines l.workspace.lines (l.invariant.answered []))

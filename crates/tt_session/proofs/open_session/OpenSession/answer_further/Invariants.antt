@@ -11,7 +11,7 @@ invariant-loop-rest l = record {
   within : l.taken ≤ length l.bytes;
   calls : l.self.calls ≤ l.initial.self.calls + l.taken;
   answered : (earlier : List Record)
-      → AnswersFront l.bytes l.taken (Open (with_earlier_records earlier l.initial.self)) (Open (with_earlier_records earlier l.self)) l.initial.workspace.text.items l.workspace.text.items;
+      → AnswersFront l.bytes l.taken (Open (with_earlier_records earlier l.initial.self)) (Open (with_earlier_records earlier l.self)) l.initial.workspace.text.items l.workspace.text.items l.initial.workspace.lines l.workspace.lines;
 }
 
 abbrev pub decreases-loop-rest : goal.decreases-loop-rest

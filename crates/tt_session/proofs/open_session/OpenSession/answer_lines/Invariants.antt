@@ -5,7 +5,7 @@ use Rattle.tt_session.specs.Together.{AnswersFront}
 use Rattle.tt_session.proofs.open_session.OpenSession.answer_lines.Given as goal
 
 abbrev pub invariant-loop-self : goal.invariant-loop-self
-invariant-loop-self l = AnswersFront l.bytes l.taken (Open l.initial.self) (Open l.self) l.initial.out.items l.out.items
+invariant-loop-self l = AnswersFront l.bytes l.taken (Open l.initial.self) (Open l.self) l.initial.out.items l.out.items l.initial.workspace.lines l.workspace.lines
 
 abbrev pub decreases-loop-self : goal.decreases-loop-self
 decreases-loop-self l = length l.bytes - l.taken

@@ -1,9 +1,10 @@
 -- Nothing is handed over, or all.
-use Rattle.tt_session.proofs.AnsweringLemmas.{gives-nothing, and_result, on_err}
+use Rattle.tt_session.proofs.ResultLemmas.{and_results}
+use Rattle.tt_session.proofs.RunningLemmas.{stands-handed}
 use Rattle.tt_session.proofs.run.Run.hand_over_much.Goals as goal
 
-pub returns-clause-given : goal.returns-clause-given
-returns-clause-given g c = and_result c.hand_over.result c.hand_over.ensures.out c.hand_over.ensures.ok (λ out written. gives-nothing _ _ _ _ written out)
-
-pub returns-clause-prefix : goal.returns-clause-prefix
-returns-clause-prefix g c = on_err c.hand_over.result c.hand_over.ensures.prefix
+pub returns-clause-stands : goal.returns-clause-stands
+returns-clause-stands g c =
+    let done = c.hand_over.ensures in
+    and_results c.hand_over.result done.ok done.out done.lines (λ over out lines first start reads stands.
+    stands-handed _ _ _ _ _ start reads _ _ _ _ stands reads (over first start reads stands) out lines)

@@ -1,7 +1,7 @@
--- the bytes read so far are taken, their answers are written, and there are no more calls than bytes
-use Rattle.std.proofs.Common.{◌≡◌, ◌-◌, ◌<◌, ◌≤◌, [], length}
+-- the bytes read so far are taken, their answers are handed over, and there are no more calls than bytes
+use Rattle.std.proofs.Common.{◌-◌, ◌<◌, ◌≤◌, length}
 use Rattle.tt_session.specs.Run.{calls_of}
-use Rattle.tt_session.specs.Answering.{Serves}
+use Rattle.tt_session.specs.Ends.{ServesSoFar}
 use Rattle.tt_session.proofs.run.Run.serve.Given as goal
 
 abbrev pub invariant-loop-total : goal.invariant-loop-total
@@ -10,8 +10,8 @@ invariant-loop-total g l = record {
   few : length l.buffer ≤ 65536;
   within : l.total < 18446744073709551615 - 1;
   calls : calls_of l.self.session ≤ l.total;
-  out : l.self.out.items ≡ [];
-  served : Serves (g.R.Read.remaining l.initial.reader) (g.R.Read.remaining l.reader) l.initial.self l.self (g.W.Write.contents l.initial.writer) (g.W.Write.contents l.writer);
+  ready : g.O.Outlet.is_ready l.outlet;
+  served : ServesSoFar g.O.Outlet.handed g.O.Outlet.has_log (g.R.Read.remaining l.initial.reader) (g.R.Read.remaining l.reader) l.initial.outlet l.outlet l.initial.self l.self;
 }
 
 abbrev pub decreases-loop-total : goal.decreases-loop-total

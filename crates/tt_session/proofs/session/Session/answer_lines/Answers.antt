@@ -9,4 +9,5 @@ pub returns-in-NotOpen : goal.returns-in-NotOpen
 returns-in-NotOpen c =
     let session = c.args.self.now in
     let out = c.args.out.now.items in
-    subst (λ n. AnswersFront c.args.bytes.now n session session out out) (sym (ap (λ (b : Extent). b.taken) c.of.ensures)) (front-nil c.args.bytes.now session out)
+    let lines = c.args.workspace.now.lines in
+    subst (λ n. AnswersFront c.args.bytes.now n session session out out lines lines) (sym (ap (λ (b : Extent). b.taken) c.of.ensures)) (front-nil c.args.bytes.now session out lines)

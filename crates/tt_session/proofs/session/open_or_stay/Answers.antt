@@ -3,7 +3,7 @@ use Rattle.std.proofs.Common.{◌++◌, ap, ◌∙◌}
 use Rattle.tt_requests.specs.LineValue.{value_of_line}
 use Rattle.tt_requests.specs.Opening.{opening_of}
 use Rattle.tt_session.proofs.OpeningLemmas.{is_opening, opened-text}
-use Rattle.tt_session.proofs.session.open.Goals as goal
+use Rattle.tt_session.proofs.session.open_or_stay.Goals as goal
 
 pub new-session-requires-clause-keep : goal.new-session-requires-clause-keep
 new-session-requires-clause-keep c = (is_opening (value_of_line c.args.line.now) c.in-Ok.opening c.in-Ok.ensures).keep

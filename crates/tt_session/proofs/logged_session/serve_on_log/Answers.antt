@@ -1,0 +1,39 @@
+-- The session begins with nothing read, and its outlet is the log.
+use Rattle.std.proofs.Common.{sym, ap, subst}
+use Rattle.tt_log.specs.Log.{IsSettled}
+use Rattle.tt_session.specs.OnLog.{telling}
+use Rattle.tt_session.proofs.EndingLemmas.{rests-first, hands-map, fails-map}
+use Rattle.tt_session.proofs.OnLogLemmas.{handed-none, handed-of, stopped-of}
+use Rattle.tt_session.proofs.logged_session.serve_on_log.Goals as goal
+
+pub returns-in-Ok-clause-ok : goal.returns-in-Ok-clause-ok
+returns-in-Ok-clause-ok g c = λ told.
+    let D = g.D.Device in
+    let of = telling D.tells D.seen D.shown D.moment D.left_since D.failures in
+    let begun = c.new-run.ensures in
+    let outlet = c.new-outlet.result in
+    let first = ap (λ l. l.device) c.new-outlet.ensures.log in
+    let last = ap (λ l. l.device) (sym c.into_parts-log.ensures) in
+    let rests =
+    rests-first _ _ outlet c.args.session c.new-run.result begun.line
+    (λ tells. handed-none of D.may_leave outlet.log.device c.args.session tells (subst (λ l. IsSettled D.seen D.may_leave l) (sym c.new-outlet.ensures.log) (c.requires.settled told)).durable (g.met.D.Device.only_now outlet.log.device))
+    begun.session begun.out (λ log. begun.lines) in
+    hands-map _ _ _ _ (λ reads handed.
+    handed-of of _ _ _ _ c.args.session reads first last (handed (subst D.tells (sym first) told))) (c.in-Ok.ensures.ok outlet c.args.session rests)
+
+pub returns-in-Err-clause-err : goal.returns-in-Err-clause-err
+returns-in-Err-clause-err g c = λ told.
+    let D = g.D.Device in
+    let of = telling D.tells D.seen D.shown D.moment D.left_since D.failures in
+    let begun = c.new-run.ensures in
+    let outlet = c.new-outlet.result in
+    let first = ap (λ l. l.device) c.new-outlet.ensures.log in
+    let last = ap (λ l. l.device) (sym c.into_parts-log-in-Err.ensures) in
+    let rests =
+    rests-first _ _ outlet c.args.session c.new-run.result begun.line
+    (λ tells. handed-none of D.may_leave outlet.log.device c.args.session tells (subst (λ l. IsSettled D.seen D.may_leave l) (sym c.new-outlet.ensures.log) (c.requires.settled told)).durable (g.met.D.Device.only_now outlet.log.device))
+    begun.session begun.out (λ log. begun.lines) in
+    fails-map _ _ _ _ _ _ _ (λ reads handed.
+    handed-of of _ _ _ _ c.args.session reads first last (handed (subst D.tells (sym first) told)))
+    (λ reads stopped.
+    stopped-of of _ _ _ _ c.args.session reads first last (stopped (subst D.tells (sym first) told))) (c.in-Err.ensures.fault outlet c.args.session rests)

@@ -1,0 +1,50 @@
+-- How a session goes on whose lines are logged, and what a crash leaves of it.
+use Rattle.std.specs.Prelude.{◌≡◌, ◌⊎◌, ℕ, ◌<◌, ◌≤◌, ◌^◌, List, ◌++◌, length, take}
+use Rattle.tt_log.specs.Device.{Left, LeavesOnly}
+use Rattle.tt_log.specs.Lines.{logged, joined}
+use Rattle.tt_session.specs.declared.session.Session.{Session}
+use Rattle.tt_session.specs.Answering.{LineRead, turns_of}
+use Rattle.tt_session.specs.Logged.{logged_of}
+
+-- A crash left the lines that were there, and the first few of those that are logged of what a session reads. What had been handed over are answers to the first lines read, or the first bytes of
+-- them, and whichever of these lines is logged, is there.
+pub record LeavesAnswered (start : Session) (lines : List (List ℕ)) (reads : List LineRead) (shown : List ℕ) (left : Left) : Type 0 where
+  pub count : ℕ
+  pub no_more : count ≤ length (logged_of start reads)
+  pub lines_are : logged left.file ≡ lines ++ take count (logged_of start reads)
+  pub answered : List LineRead
+  pub others : List LineRead
+  pub reads_are : reads ≡ answered ++ others
+  pub bytes : ℕ
+  pub shown_is : left.shown ≡ shown ++ take bytes (turns_of start answered).text
+  pub all_there : length (logged_of start answered) ≤ count
+
+-- what a device tells of itself
+pub record Telling (D : Type 0) : Type 1 where
+  pub tells : D → Type 0
+  pub seen : D → List ℕ
+  pub shown : D → List ℕ
+  pub moment : D → ℕ
+  pub left_since : D → ℕ → Left → Type 0
+  pub failures : D → ℕ
+
+abbrev pub telling : {D : Type 0} → (D → Type 0) → (D → List ℕ) → (D → List ℕ) → (D → ℕ) → (D → ℕ → Left → Type 0) → (D → ℕ) → Telling D
+telling tells seen shown moment left_since failures =
+    record { tells = tells; seen = seen; shown = shown; moment = moment; left_since = left_since; failures = failures }
+
+-- since a device was like this, the answers to lines that a session read were handed over, and the lines that make an entry were logged before
+pub record HandedOnLog {D : Type 0} (of : Telling D) (before after : D) (start : Session) (reads : List LineRead) : Type 0 where
+  pub tells : of.tells after
+  pub lines_are : logged (of.seen after) ≡ logged (of.seen before) ++ logged_of start reads
+  pub shown_is : of.shown after ≡ of.shown before ++ (turns_of start reads).text
+  pub any_moment : LeavesOnly of.moment of.left_since before after (LeavesAnswered start (logged (of.seen before)) reads (of.shown before))
+  pub failures : of.failures before ≤ of.failures after
+
+-- so many lines don't fit into a log
+abbrev pub IsFull : List (List ℕ) → Type 0
+IsFull lines = 2 ^ 60 ≤ length (joined lines)
+
+-- the same, but that the device has failed, or the log is full
+pub record StoppedOnLog {D : Type 0} (of : Telling D) (before after : D) (start : Session) (reads : List LineRead) : Type 0 where
+  pub any_moment : LeavesOnly of.moment of.left_since before after (LeavesAnswered start (logged (of.seen before)) reads (of.shown before))
+  pub why : (of.failures before < of.failures after) ⊎ IsFull (logged (of.seen before) ++ logged_of start reads)

@@ -1,0 +1,57 @@
+//! Answers whose lines are logged.
+ghost use Rattle.std.specs.Prelude.{◌≡◌};
+ghost use Rattle.tt_log.specs.Log.{IsSettled};
+ghost use Rattle.tt_session.specs.OnLog.{telling, HandedOnLog, StoppedOnLog};
+
+use crate::outlet::{Outlet, OutletError};
+use tt_log::{Device, Lines, Log, LogError};
+
+/// The outlet of a session with a log.
+#[derive(Drop)]
+pub(crate) struct LogOutlet<D> {
+    log: Log<D>,
+    /// Why it has failed, if it has.
+    error: Option<LogError>,
+}
+
+impl<D: Device> LogOutlet<D> {
+    ghost use Rattle.std.specs.Prelude.{None};
+
+    /// Hands over what a log's device takes.
+    pub(crate) fn new(log: Log<D>) -> LogOutlet<D>
+        ensures log { result.log ≡ log }
+    {
+        LogOutlet { log, error: None }
+    }
+
+    /// The log, and why it has failed, if it has.
+    pub(crate) fn into_parts(self) -> (Log<D>, Option<LogError>)
+        ensures { result.0 ≡ self.log }
+    {
+        (self.log, self.error)
+    }
+}
+
+impl<D: Device> Outlet for LogOutlet<D> {
+    ghost has_log = { Unit {0} };
+
+    ghost is_ready = { λ o. D.tells o.log.device → IsSettled D.seen D.may_leave o.log };
+
+    ghost handed = { λ before after start reads. D.tells before.log.device → HandedOnLog
+        (telling D.tells D.seen D.shown D.moment D.left_since D.failures)
+        before.log.device after.log.device start reads };
+
+    ghost stopped = { λ before after start reads. D.tells before.log.device → StoppedOnLog
+        (telling D.tells D.seen D.shown D.moment D.left_since D.failures)
+        before.log.device after.log.device start reads };
+
+    fn hand_over(&mut self, lines: &Lines, text: &[u8]) -> Result<(), OutletError> {
+        match self.log.hand_over(lines, text) {
+            Ok(()) => Ok(()),
+            Err(error) => {
+                self.error = Some(error);
+                Err(OutletError)
+            }
+        }
+    }
+}

@@ -1,0 +1,177 @@
+//! A session whose lines are logged.
+ghost use Rattle.std.specs.Prelude.{◌≡◌, ◌⊎◌, ◌+◌, ◌-◌, ◌^◌, ◌<◌, ◌≤◌, length, IfOk, IfErr};
+ghost use Rattle.tt_log.specs.Log.{IsSettled};
+ghost use Rattle.tt_session.specs.Run.{calls_of};
+ghost use Rattle.tt_session.specs.Ends.{HandsOverAll, Fails};
+ghost use Rattle.tt_session.specs.OnLog.{telling, HandedOnLog, StoppedOnLog};
+ghost use Rattle.tt_session.specs.LoggedSession.{GoesOnLog, BeginsOnLog, FailsAtStart, FailsOnLog};
+ghost use Rattle.tt_session.specs.LoggedFaults.{fault_at_start, IsFaultOf};
+
+use crate::log_outlet::LogOutlet;
+use crate::restoring::{RestoreFault, restore};
+use crate::run::{BUFFER_BYTES, Run, SessionEnd, SessionFault};
+use crate::session::Session;
+use std::alloc::Global;
+use std::io::Read;
+use tt_log::{Device, Log, LogError, UnreadLog};
+
+/// Why a session with a log has ended before its input.
+#[derive(Clone, Copy, Debug, PartialEq, Eq)]
+pub enum LoggedFault {
+    /// The reader failed, or was interrupted too often.
+    Read,
+    /// Not all answers could be handed over. The lines that they answer are logged.
+    Write,
+    /// There was no memory to begin with.
+    Memory,
+    /// The log can't be read.
+    LogRead,
+    /// This line of the log, counted from 1, is none that a session logs: the file is no log, or
+    /// one of a session with other limits. The file is as it was.
+    LogLine(u64),
+    /// The log can't be written, or would be longer than 2^60 bytes. The lines that weren't answered
+    /// may be logged or not; the next session on the log tells.
+    LogWrite,
+}
+
+/// A session on a log: reads back what the log has, and then answers the lines of a reader, one
+/// after another, until its end. Before an answer is handed over, each line up to the one that it
+/// answers is on the disk, if it opens the session or makes an entry in the history; so after a
+/// crash at any moment the next session on the log has all that was answered. Where the log has
+/// lines, the first line of the reader opens the session again.
+///
+/// Returns the device, which isn't to be used again after a fault of the log.
+pub fn run_logged_session<R: Read, D: Device>(
+    alloc: Global,
+    reader: &mut R,
+    device: D,
+) -> Result<(SessionEnd, D), (LoggedFault, D)>
+    ensures ok { IfOk result (λ end. D.tells device
+        → HandsOverAll (R.remaining reader.old) (R.remaining reader.new) (GoesOnLog
+        (telling D.tells D.seen D.shown D.moment D.left_since D.failures)
+        D.may_leave device end.1)) }
+    ensures err { IfErr result (λ e. D.tells device
+        → FailsOnLog e.0 (R.remaining reader.old) (R.remaining reader.new)
+        (telling D.tells D.seen D.shown D.moment D.left_since D.failures)
+        D.may_leave device e.1) }
+{
+    let mut zeros = match vec![in alloc; 0; BUFFER_BYTES] {
+        Ok(zeros) => zeros,
+        Err(_) => return Err((LoggedFault::Memory, device)),
+    };
+    let (session, log) = match begin(alloc, device, zeros.as_mut_slice()) {
+        Ok(begun) => begun,
+        Err(fault) => return Err(fault),
+    };
+    match serve_on_log(alloc, session, reader, log, zeros.as_mut_slice()) {
+        Ok((session, log)) => Ok((SessionEnd::of(session), log.into_device())),
+        Err((fault, error, log)) => Err((fault_of(fault, error), log.into_device())),
+    }
+}
+
+/// Opens a log, and reads the session back whose log this is.
+fn begin<D: Device>(
+    alloc: Global,
+    device: D,
+    buffer: &mut [u8],
+) -> Result<(Session, Log<D>), (LoggedFault, D)>
+    requires some { 0 < length buffer.old }
+    requires few { length buffer.old ≤ 65536 }
+    ensures ok { IfOk result (λ begun. D.tells device → BeginsOnLog
+        (telling D.tells D.seen D.shown D.moment D.left_since D.failures)
+        D.may_leave device begun.0 begun.1) }
+    ensures calls { IfOk result (λ begun. calls_of begun.0 < 2 ^ 64 - 65537) }
+    ensures settled { IfOk result (λ begun. D.tells begun.1.device
+        → IsSettled D.seen D.may_leave begun.1) }
+    ensures err { IfErr result (λ e. D.tells device → FailsAtStart e.0
+        (telling D.tells D.seen D.shown D.moment D.left_since D.failures)
+        D.may_leave device e.1) }
+{
+    let mut log = match UnreadLog::open(device) {
+        Ok(log) => log,
+        Err((error, device)) => return Err((fault_at_start(error), device)),
+    };
+    let session = match restore(alloc, &mut log, buffer) {
+        Ok(session) => session,
+        Err(fault) => return Err((LoggedFault::from(fault), log.into_device())),
+    };
+    match log.settle(buffer) {
+        Ok(log) => Ok((session, log)),
+        Err((error, device)) => Err((fault_at_start(error), device)),
+    }
+}
+
+impl From<RestoreFault> for LoggedFault {
+    ghost use Rattle.tt_session.specs.LoggedFaults.{fault_of_restore};
+
+    ghost from_gives = { λ fault e. e ≡ fault_of_restore fault };
+
+    fn from(fault: RestoreFault) -> LoggedFault {
+        match fault {
+            RestoreFault::Read => LoggedFault::LogRead,
+            RestoreFault::Line(number) => LoggedFault::LogLine(number),
+            RestoreFault::Memory => LoggedFault::Memory,
+        }
+    }
+}
+
+/// Why a session doesn't begin, where a log can't be opened or settled.
+fn fault_at_start(error: LogError) -> LoggedFault
+    ensures { result ≡ fault_at_start error }
+{
+    match error {
+        LogError::Read => LoggedFault::LogRead,
+        _ => LoggedFault::LogWrite,
+    }
+}
+
+/// Why a session has ended on a log that has failed in this way, if it has.
+fn fault_of(fault: SessionFault, error: Option<LogError>) -> LoggedFault
+    ensures { IsFaultOf fault result }
+{
+    match fault {
+        SessionFault::Read => LoggedFault::Read,
+        SessionFault::Memory => LoggedFault::Memory,
+        SessionFault::Write => match error {
+            Some(LogError::HandOver) => LoggedFault::Write,
+            _ => LoggedFault::LogWrite,
+        },
+    }
+}
+
+/// Goes on with a session whose log this is: answers the lines of a reader until its end.
+fn serve_on_log<R: Read, D: Device>(
+    alloc: Global,
+    session: Session,
+    reader: &mut R,
+    log: Log<D>,
+    buffer: &mut [u8],
+) -> Result<(Session, Log<D>), (SessionFault, Option<LogError>, Log<D>)>
+    requires some { 0 < length buffer.old }
+    requires few { length buffer.old ≤ 65536 }
+    requires calls { calls_of session < 2 ^ 64 - 65537 }
+    requires settled { D.tells log.device → IsSettled D.seen D.may_leave log }
+    ensures ok { IfOk result (λ end. D.tells log.device
+        → HandsOverAll (R.remaining reader.old) (R.remaining reader.new)
+        (HandedOnLog (telling D.tells D.seen D.shown D.moment D.left_since D.failures)
+        log.device end.1.device session)) }
+    ensures err { IfErr result (λ e. D.tells log.device
+        → Fails e.0 (R.remaining reader.old) (R.remaining reader.new)
+        (HandedOnLog (telling D.tells D.seen D.shown D.moment D.left_since D.failures)
+        log.device e.2.device session)
+        (StoppedOnLog (telling D.tells D.seen D.shown D.moment D.left_since D.failures)
+        log.device e.2.device session)) }
+{
+    let mut run = Run::new(alloc, session, true);
+    let mut outlet = LogOutlet::new(log);
+    match run.serve(reader, &mut outlet, buffer) {
+        Ok(()) => {
+            let (log, _) = outlet.into_parts();
+            Ok((run.into_session(), log))
+        }
+        Err(fault) => {
+            let (log, error) = outlet.into_parts();
+            Err((fault, error, log))
+        }
+    }
+}
