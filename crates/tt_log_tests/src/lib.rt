@@ -20,4 +20,6 @@ mod random;
 #[cfg(test)]
 mod same;
 #[cfg(test)]
+mod sessions;
+#[cfg(test)]
 mod starts;
