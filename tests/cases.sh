@@ -415,9 +415,10 @@ collect_command_lines() {
   answers_help replay --help
   answers_help run --help
   answers_help session --help
+  answers_help log --help
   answers_version --version
   refuses_usage "'timetravel' requires a subcommand but one was not provided
-  [subcommands: replay, run, session, help]" '<COMMAND>'
+  [subcommands: replay, run, session, log, help]" '<COMMAND>'
   refuses_usage "unrecognized subcommand 'fly'" '<COMMAND>' fly
   refuses_bytes $'\xff'
   for command in replay run; do
@@ -443,10 +444,22 @@ collect_command_lines() {
   refuses_word --rounds 'replay [OPTIONS]' replay --rounds 1
   refuses_bytes session $'\xff'
   for word in --quick now --batch --rounds --closed --version session replay; do
-    refuses_word "$word" session session "$word"
+    refuses_word "$word" 'session [OPTIONS]' session "$word"
   done
-  refuses_word --batch session session --batch 16
-  refuses_word --rounds session session --rounds 8
+  refuses_word --batch 'session [OPTIONS]' session --batch 16
+  refuses_word --rounds 'session [OPTIONS]' session --rounds 8
+  refuses_usage "a value is required for '--log <FILE>' but none was supplied" '' session --log
+  refuses_usage "the argument '--log <FILE>' cannot be used multiple times" 'session [OPTIONS]' \
+    session --log a --log b
+  refuses_early --log session --log a session
+  refuses_word --log 'replay [OPTIONS]' replay --log a
+  refuses_usage "the following required arguments were not provided:
+  <FILE>" 'log <FILE>' log
+  refuses_word b 'log <FILE>' log a b
+  refuses_usage "unexpected argument '--log' found
+
+  tip: to pass '--log' as a value, use '-- --log'" 'log <FILE>' log --log a
+  refuses_bytes log $'\xff'
 }
 
 collect_cases() {

@@ -15,13 +15,13 @@ one wasn't, 2 where the tests can't be run.
 import itertools
 import json
 import os
-import shutil
 import subprocess
 import sys
 import tempfile
 from concurrent.futures import ThreadPoolExecutor
 
 from session_model import Session, is_passed_over, text_of
+from shared_objects import built
 
 ROOT = os.path.dirname(os.path.dirname(os.path.realpath(__file__)))
 SECONDS = 60  # that a run may take
@@ -152,16 +152,6 @@ class Hostile:
             met.add(lost)
         self.check({0, 1} <= met, 'a line of 4 MB: a fault, and then `memory`', NO_ANSWER)
 
-    def build_refusal(self):
-        """The shared object that refuses growths."""
-        made = f'{self.folder}/refuse_growth.so'
-        for compiler in compilers():
-            words = [compiler, '-O1', '-shared', '-fPIC', '-fno-builtin', '-nostdlib', '-o', made,
-                     f'{ROOT}/tests/refuse_growth.c']
-            if subprocess.run(words, capture_output=True).returncode == 0:
-                return made
-        return None
-
     def refused(self, library, words, document, first, last, number, scenarios=None):
         """A run in which the growths from first to last are refused: whether one was met, and the
         answer."""
@@ -270,7 +260,7 @@ class Hostile:
             self.check(name in self.seen, f'there is no test {name}', NO_ANSWER)
 
     def library(self):
-        library = self.build_refusal()
+        library = built('refuse_growth', self.folder)
         if library is None:
             raise Untestable('no C compiler builds tests/refuse_growth.c')
         return library
@@ -414,16 +404,6 @@ def told(answer):
 
 def rows_told(rows):
     return ' '.join([f'rows {len(rows)}', *map(text_of, rows)])
-
-
-def compilers():
-    """The commands that may build C: the system's, and the kit's clang."""
-    found = [it for it in ('cc', 'gcc', 'clang') if shutil.which(it)]
-    rt = shutil.which('rt')
-    if rt:
-        page = subprocess.run([rt, 'doc'], capture_output=True, text=True).stdout.strip()
-        found.append(f'{os.path.dirname(page)}/toolchain/bin/clang')
-    return [it for it in found if shutil.which(it)]
 
 
 def main():

@@ -1,22 +1,26 @@
 #!/usr/bin/env python3
-"""Sessions on a file that are killed, whose file is torn, and whose calls fail.
+"""Sessions with a log that are killed, whose file is torn, and whose calls fail.
 
   tests/logs.py PROGRAM [--tears N]
 
-PROGRAM is crates/tt_log_example/out/tt_log_example. Each check prints a line where it fails, and the
-status is 1 then. The file is torn in 300 ways, or in N. What isn't synced is torn, and calls fail, by
-a shared object (tests/tear_unsynced.c) that stands before the C library; where no C compiler builds
-it, the status is 1, too. It takes a minute.
+PROGRAM is crates/tt_cli/out/tt_cli. Each check prints a line where it fails, and the status is 1 then.
+The file is torn in 2,000 ways, or in N. What isn't synced is torn, and calls fail, by a shared object
+(tests/tear_unsynced.c) that stands before the C library; where no C compiler builds it, the status is
+1, too. Where no file system can be mounted, a line says that the full one is left out. It takes two
+minutes.
 """
+import itertools
 import os
 import random
-import shutil
 import signal
 import subprocess
 import sys
 import tempfile
+import threading
+from concurrent.futures import ThreadPoolExecutor
 
-ROOT = os.path.dirname(os.path.dirname(os.path.realpath(__file__)))
+from shared_objects import built
+
 OPENING = ('{"version":2,"tables":[{"name":"acct","columns":[{"name":"id","kind":"int"},'
            '{"name":"owner","kind":"text","partition":true},{"name":"bal","kind":"int"}]}]}')
 LINES = [
@@ -38,6 +42,16 @@ LINES = [
 ]
 # Whether the line is logged.
 IS_LOGGED = [1, 1, 1, 0, 0, 1, 0, 1, 1, 1, 0, 1, 0, 1]
+WIDE = '{"insert":"acct","row":[%d,"' + 'x' * 1000 + '",0]}'
+# With the program, where the file system goes, and a folder for what is given and told.
+FILL = """
+mount -t tmpfs -o size=1m tmpfs "$2" && : >"$3/mounted" || exit 77
+"$1" session --log "$2/log" <"$3/lines" >"$3/answers" 2>"$3/told"
+echo $? >"$3/status"
+mount -o remount,size=16m "$2" &&
+  "$1" log "$2/log" >"$3/logged" &&
+  "$1" session --log "$2/log" <"$3/questions" >"$3/after"
+"""
 QUESTIONS = ['{"slots":[1,9]}', '{"status":true}', '{"select":"acct","where":[]}']
 
 
@@ -45,34 +59,34 @@ def text_of(lines):
     return ''.join(line + '\n' for line in lines)
 
 
-def compilers():
-    found = [it for it in ('cc', 'gcc', 'clang') if shutil.which(it)]
-    return found + [it for it in ('/opt/rattle/toolchain/bin/clang',) if os.path.exists(it)]
-
-
 class Logs:
     def __init__(self, program, folder):
         self.program = os.path.abspath(program)
         self.folder = folder
-        self.made = 0
+        self.numbers = itertools.count(1)
+        self.lock = threading.Lock()
         self.failed = 0
         self.checks = 0
 
     def check(self, holds, what, *shown):
-        self.checks += 1
-        if not holds:
-            self.failed += 1
-            print(f'tests/logs.py: {what}', *(repr(it)[:300] for it in shown), file=sys.stderr)
+        with self.lock:
+            self.checks += 1
+            if not holds:
+                self.failed += 1
+                print(f'tests/logs.py: {what}', *(repr(it)[:300] for it in shown), file=sys.stderr)
 
     def new_file(self):
-        self.made += 1
-        return f'{self.folder}/log{self.made}'
+        return f'{self.folder}/log{next(self.numbers)}'
 
     def run(self, file, lines, environment=None):
         """A session to its end: its status, its answers, and what it says on standard error."""
-        ended = subprocess.run([self.program, file], input=text_of(lines).encode(), timeout=60,
+        ended = subprocess.run(self.session(file), input=text_of(lines).encode(), timeout=60,
                                capture_output=True, env={**os.environ, **(environment or {})})
         return ended.returncode, ended.stdout.decode().splitlines(), ended.stderr.decode()
+
+    def session(self, file):
+        """The command of a session with its log in a file."""
+        return [self.program, 'session', '--log', file]
 
     def logged(self, file):
         """The lines of a file that count."""
@@ -90,9 +104,25 @@ class Logs:
         want = self.run(fresh, [*(before or [OPENING]), *QUESTIONS])[1]
         self.check(status == 0 and answers[1:] == want[-len(QUESTIONS):], what, status, answers, told)
         self.check(self.logged(file) == (before or [OPENING]), f'{what}: another log')
+        self.is_shown(file, what, False)
         with open(file, 'rb') as it:
             rest = it.read()[len(text_of(before or [OPENING])):]
         self.check(not rest.strip(b'\0'), f'{what}: bytes behind the lines')
+
+    def is_shown(self, file, what, is_torn):
+        """`timetravel log` prints the lines of a file, tells how many, and leaves it as it is."""
+        with open(file, 'rb') as it:
+            before = it.read()
+        text = text_of(self.logged(file))
+        lines, size = text.count('\n'), len(text.encode())
+        torn = ', and a torn rest that counts for nothing' if is_torn else ''
+        shown = subprocess.run([self.program, 'log', file], stdin=subprocess.DEVNULL, timeout=60,
+                               capture_output=True)
+        self.check(shown.returncode == 0 and shown.stdout == text.encode()
+                   and shown.stderr.decode() == f'timetravel: lines: {lines}, bytes: {size}{torn}\n',
+                   f'{what}: shown otherwise', shown.returncode, shown.stdout, shown.stderr)
+        with open(file, 'rb') as it:
+            self.check(it.read() == before, f'{what}: changed by a look at it')
 
     def has_answered(self, file, answered, what):
         """A file has the first of the logged lines, at least those that were answered."""
@@ -104,7 +134,7 @@ class Logs:
     def kill_at_each_answer(self):
         for count in range(1, len(LINES) + 1):
             file = self.new_file()
-            with subprocess.Popen([self.program, file], stdin=subprocess.PIPE,
+            with subprocess.Popen(self.session(file), stdin=subprocess.PIPE,
                                   stdout=subprocess.PIPE) as held:
                 for line in LINES[:count]:
                     held.stdin.write(line.encode() + b'\n')
@@ -124,41 +154,47 @@ class Logs:
             with open(file, 'w') as it:
                 it.write(text)
             status, answers, told = self.run(file, [OPENING])
-            self.check((status, answers) == (1, []) and told.endswith(f': log: line {number}\n'),
+            self.check((status, answers) == (1, []) and told == f'timetravel: log: line {number}\n',
                        'a file that is no log', text, status, told)
             with open(file) as it:
                 self.check(it.read() == text, 'a file that is no log has changed', text)
+            self.is_shown(file, 'a file that is no log', False)
         with open(file, 'w') as it:
             it.write(text_of([OPENING, LINES[1]]) + '{"insert":"acct","ro')
+        self.is_shown(file, 'a torn last line', True)
         other = OPENING.replace('"bal"', '"sum"')
         answers = self.run(file, [other, LINES[1], OPENING])[1]
         self.check(answers[0] == '{"refused":"another opening"}' and 'fault' in answers[1]
                    and answers[2].startswith('{"time":1,'), 'another opening', answers)
         self.goes_on(file, 'a torn last line')
         status, _, told = self.run(f'{self.folder}/none/log', [OPENING])
-        self.check(status == 1 and told.endswith(': cannot read the log\n'), 'no folder', told)
+        self.check((status, told) == (1, 'timetravel: cannot read the log\n'), 'no folder', told)
+        for path in (f'{self.folder}/none', self.folder):
+            shown = subprocess.run([self.program, 'log', path], capture_output=True, timeout=60)
+            self.check((shown.returncode, shown.stdout, shown.stderr)
+                       == (1, b'', b'timetravel: cannot read the log\n'), 'no file to look at', path)
 
     def hold_twice(self):
         file = self.new_file()
-        with subprocess.Popen([self.program, file], stdin=subprocess.PIPE,
+        with subprocess.Popen(self.session(file), stdin=subprocess.PIPE,
                               stdout=subprocess.PIPE) as held:
             held.stdin.write(OPENING.encode() + b'\n')
             held.stdin.flush()
             held.stdout.readline()
             status, answers, told = self.run(file, [OPENING])
-            self.check((status, answers) == (1, []) and told.endswith(': the log is in use\n'),
+            self.check((status, answers) == (1, []) and told == 'timetravel: the log is in use\n',
                        'a second session on a file', status, told)
+            self.is_shown(file, 'a file that is in use', False)
             held.stdin.close()
         self.check(self.run(file, [OPENING])[0] == 0, 'a session after another one has ended')
 
-    def fill_the_disk(self):
-        """The file may grow to a MiB and no further, as on a disk that is full."""
+    def grow_no_further(self):
+        """The file may grow to a MiB and no further."""
         file = self.new_file()
-        wide = '{"insert":"acct","row":[%d,"' + 'x' * 1000 + '",0]}'
-        lines = [OPENING, *(wide % number for number in range(2000))]
-        limited = ['bash', '-c', 'ulimit -f 1024; trap "" XFSZ; exec "$0" "$1"', self.program, file]
+        lines = [OPENING, *(WIDE % number for number in range(2000))]
+        limited = ['bash', '-c', 'ulimit -f 1024; trap "" XFSZ; exec "$@"', 'bash', *self.session(file)]
         ended = subprocess.run(limited, input=text_of(lines).encode(), capture_output=True)
-        self.check(ended.returncode == 4 and ended.stderr.endswith(b': cannot write the log\n'),
+        self.check(ended.returncode == 4 and ended.stderr == b'timetravel: cannot write the log\n',
                    'a full disk', ended.returncode, ended.stderr)
         answered = ended.stdout.count(b'\n')
         logged = self.logged(file)
@@ -167,29 +203,77 @@ class Logs:
         status, answers, _ = self.run(file, [OPENING, '{"status":true}'])
         self.check(status == 0 and f'"entries":{len(logged) - 1},' in answers[1], 'a disk with room')
 
+    def fill_a_disk(self):
+        """A file system of a MiB gets full, and is then made larger."""
+        disk, beside = f'{self.folder}/disk', f'{self.folder}/beside'
+        os.mkdir(disk)
+        os.mkdir(beside)
+        lines = [OPENING, *(WIDE % number for number in range(2000))]
+        for name, given in (('lines', lines), ('questions', [OPENING, '{"status":true}'])):
+            with open(f'{beside}/{name}', 'w') as it:
+                it.write(text_of(given))
+        words = ['unshare', '--mount', *(['--map-root-user'] if os.geteuid() else []),
+                 'sh', '-c', FILL, 'sh', self.program, disk, beside]
+        try:
+            ended = subprocess.run(words, capture_output=True, timeout=60).returncode
+        except FileNotFoundError:
+            ended = 77
+        if not os.path.exists(f'{beside}/mounted'):
+            print('tests/logs.py: no file system can be mounted: left out is a disk that is full',
+                  file=sys.stderr)
+            return
+        found = {}
+        for name in ('status', 'told', 'answers', 'logged', 'after'):
+            with open(f'{beside}/{name}') as it:
+                found[name] = it.read()
+        logged = found['logged'].splitlines()
+        self.check((ended, found['status'], found['told'])
+                   == (0, '4\n', 'timetravel: cannot write the log\n'), 'a full file system', found['told'])
+        self.check(logged == lines[:len(logged)] and found['answers'].count('\n') <= len(logged),
+                   'a full file system: lines that were answered are lost', len(logged))
+        self.check(f'"entries":{len(logged) - 1},' in found['after'], 'a file system with room')
+
     def tear(self, library, ways):
         chance = random.Random(1)
-        for seed in range(ways):
-            file = self.new_file()
-            before = chance.randrange(len(LINES))
-            if before:
-                self.run(file, LINES[:before])
-            environment = {'LD_PRELOAD': library, 'TEAR_AT': str(chance.randrange(1, 40)),
-                           'TEAR_SEED': str(seed)}
-            given = [OPENING, *LINES[max(before, 1):]] if before else LINES
-            if chance.random() < 0.5:
-                answers = self.run(file, given, environment)[1]
-            else:
-                answers = self.one_by_one(file, given, environment)
-            answered = max(before - 1, 0) + len(answers) if answers else before
-            what = f'torn in way {seed}'
-            self.has_answered(file, max(answered, before), what)
-            self.goes_on(file, what)
-            os.remove(file)
+        torn = [(library, seed, chance.randrange(len(LINES)), chance.randrange(1, 40), chance.random() < 0.5)
+                for seed in range(ways)]
+        with ThreadPoolExecutor(os.cpu_count()) as threads:
+            for _ in threads.map(lambda given: self.tear_once(*given), torn):
+                pass
+
+    def tear_once(self, library, seed, before, call, at_once):
+        """A session on a file with the first lines is torn at a call, by a seed."""
+        file = self.new_file()
+        if before:
+            self.run(file, LINES[:before])
+        environment = {'LD_PRELOAD': library, 'TEAR_AT': str(call), 'TEAR_SEED': str(seed)}
+        given = [OPENING, *LINES[max(before, 1):]] if before else LINES
+        if at_once:
+            answers = self.run(file, given, environment)[1]
+        else:
+            answers = self.one_by_one(file, given, environment)
+        answered = max(before - 1, 0) + len(answers) if answers else before
+        what = f'torn in way {seed}'
+        self.has_answered(file, max(answered, before), what)
+        self.goes_on(file, what)
+        os.remove(file)
+
+    def lose_the_power_after_a_start(self, library):
+        """A session is killed between a write and its sync; another one tells what it finds; then all
+        is lost that wasn't synced. What was told is there."""
+        told_more = set()
+        for call in range(1, 40):
+            file, synced = self.new_file(), self.new_file()
+            self.one_by_one(file, LINES, {'LD_PRELOAD': library, 'KILL_AT': str(call)})
+            told = self.run(file, [OPENING, *QUESTIONS], {'LD_PRELOAD': library, 'KEEP_SYNCED': synced})
+            found = self.run(synced, [OPENING, *QUESTIONS])
+            self.check(told == found, f'killed at call {call}: what a start has told is lost', told, found)
+            told_more.add(len(self.logged(synced)))
+        self.check(len(told_more) > 5, 'sessions that are killed: all at one place', told_more)
 
     def one_by_one(self, file, lines, environment):
         answers = []
-        with subprocess.Popen([self.program, file], stdin=subprocess.PIPE, stdout=subprocess.PIPE,
+        with subprocess.Popen(self.session(file), stdin=subprocess.PIPE, stdout=subprocess.PIPE,
                               env={**os.environ, **environment}) as held:
             try:
                 for line in lines:
@@ -208,7 +292,7 @@ class Logs:
         return answers
 
     def fail_calls(self, library):
-        told_of = {0: '', 1: ': cannot read the log\n', 4: ': cannot write the log\n'}
+        told_of = {0: '', 1: 'timetravel: cannot read the log\n', 4: 'timetravel: cannot write the log\n'}
         met = set()
         for last in (0, 1 << 40):
             for first in range(1, 40):
@@ -221,36 +305,29 @@ class Logs:
                 given = [OPENING, *LINES[3:]] if before else LINES
                 status, answers, told = self.run(file, given, environment)
                 met.add((status, told))
-                is_output = status == 4 and told.endswith(': cannot write standard output\n')
-                self.check(status in told_of and (told.endswith(told_of[status]) or is_output),
+                is_output = (status, told) == (4, 'timetravel: cannot write standard output\n')
+                self.check(status in told_of and (told == told_of[status] or is_output),
                            f'call {first} fails', status, told)
                 answered = max(len(before) - 1, 0) + len(answers) if answers else len(before)
                 self.has_answered(file, max(answered, len(before)), f'call {first} fails')
                 self.goes_on(file, f'call {first} fails')
         self.check(len(met) == 4, 'calls that fail: not all endings are met', met)
 
-    def build_library(self):
-        made = f'{self.folder}/tear_unsynced.so'
-        for compiler in compilers():
-            words = [compiler, '-O1', '-shared', '-fPIC', '-fno-builtin', '-nostdlib', '-o', made,
-                     f'{ROOT}/tests/tear_unsynced.c']
-            if subprocess.run(words, capture_output=True).returncode == 0:
-                return made
-        self.check(False, 'no C compiler builds tests/tear_unsynced.c')
-        return None
-
 
 def main(words):
-    ways = int(words[3]) if words[2:3] == ['--tears'] else 300
+    ways = int(words[3]) if words[2:3] == ['--tears'] else 2000
     with tempfile.TemporaryDirectory() as folder:
         logs = Logs(words[1], folder)
         logs.kill_at_each_answer()
         logs.refuse_files()
         logs.hold_twice()
-        logs.fill_the_disk()
-        library = logs.build_library()
+        logs.grow_no_further()
+        logs.fill_a_disk()
+        library = built('tear_unsynced', folder)
+        logs.check(library, 'no C compiler builds tests/tear_unsynced.c')
         if library:
             logs.fail_calls(library)
+            logs.lose_the_power_after_a_start(library)
             logs.tear(library, ways)
         print(f'tests/logs.py: {logs.checks} checks, {logs.failed} failed')
         return 1 if logs.failed else 0

@@ -5,6 +5,8 @@
 //   TEAR_AT, TEAR_SEED  after the call of this number, which is carried out, the process is killed as
 //                       by a power failure: each byte that was written since the last sync is the old
 //                       one or the new one, and a length that was changed is any between the two
+//   KILL_AT             after the call of this number the process is killed, and nothing is torn
+//   KEEP_SYNCED         the path of a file that gets what the log has after each sync
 // It needs no header, so that it can be built where only the kit's clang is there.
 typedef __SIZE_TYPE__ size_t;
 typedef long ssize_t;
@@ -16,14 +18,16 @@ extern long strtol(const char *, char **, int);
 extern void *malloc(size_t);
 extern int *__errno_location(void);
 
-enum { EIO = 5, SYS_write = 1, SYS_pread = 17, SYS_pwrite = 18, SYS_getpid = 39 };
+enum { EIO = 5, SYS_write = 1, SYS_open = 2, SYS_close = 3, SYS_pread = 17, SYS_pwrite = 18, SYS_getpid = 39 };
 enum { SYS_kill = 62, SYS_flock = 73, SYS_fsync = 74, SYS_fdatasync = 75, SYS_ftruncate = 77, SYS_statx = 332 };
-enum { SEEK_END = 2, SYS_lseek = 8, SIGKILL = 9, MANY = 4096 };
+enum { SEEK_END = 2, SYS_lseek = 8, SIGKILL = 9, MANY = 4096, PIECE = 65536 };
+enum { O_WRONLY = 01, O_CREAT = 0100, O_TRUNC = 01000 };
 
 static struct { off_t at; size_t count; unsigned char *old; } written[MANY];
 static int writes, log_fd = -1;
 static off_t synced_len = -1;
-static long calls, fail_from, fail_to, tear_at;
+static long calls, fail_from, fail_to, tear_at, kill_at;
+static const char *keep_synced;
 static unsigned long state;
 
 static long number(const char *name) {
@@ -35,6 +39,8 @@ __attribute__((constructor)) static void read_environment(void) {
   fail_from = number("FAIL_FROM");
   fail_to = number("FAIL_TO");
   tear_at = number("TEAR_AT");
+  kill_at = number("KILL_AT");
+  keep_synced = getenv("KEEP_SYNCED");
   state = (unsigned long)number("TEAR_SEED") * 2 + 1;
 }
 
@@ -42,6 +48,8 @@ static unsigned long chance(unsigned long limit) {
   state = state * 6364136223846793005ul + 1442695040888963407ul;
   return (state >> 33) % limit;
 }
+
+static void die(void) { syscall(SYS_kill, syscall(SYS_getpid), SIGKILL); }
 
 // By the seed, of the bytes that differ none, all, the first ones or any are new.
 static void tear(void) {
@@ -59,7 +67,20 @@ static void tear(void) {
       syscall(SYS_ftruncate, log_fd, synced_len + (off_t)chance((unsigned long)(len - synced_len) + 1));
     }
   }
-  syscall(SYS_kill, syscall(SYS_getpid), SIGKILL);
+  die();
+}
+
+// Copies a file that was synced; a folder can't be read.
+static void keep(int fd) {
+  unsigned char *piece = malloc(PIECE);
+  ssize_t count = syscall(SYS_pread, fd, piece, PIECE, 0l);
+  if (count < 0) return;
+  int copy = (int)syscall(SYS_open, keep_synced, O_WRONLY | O_CREAT | O_TRUNC, 0600);
+  for (off_t at = 0; count > 0; count = syscall(SYS_pread, fd, piece, PIECE, at)) {
+    syscall(SYS_write, copy, piece, count);
+    at += count;
+  }
+  syscall(SYS_close, copy);
 }
 
 static int fails(void) {
@@ -71,6 +92,7 @@ static int fails(void) {
 
 static void ends(void) {
   if (calls == tear_at) tear();
+  if (calls == kill_at) die();
 }
 
 ssize_t pwrite(int fd, const void *bytes, size_t count, off_t at) {
@@ -101,6 +123,7 @@ static int synced(int fd, long how) {
   if (fails()) return -1;
   int done = (int)syscall(how, fd);
   if (fd == log_fd) writes = 0, synced_len = -1;
+  if (keep_synced) keep(fd);
   ends();
   return done;
 }

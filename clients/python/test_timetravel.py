@@ -19,7 +19,7 @@ from pathlib import Path
 from typing import Any
 
 from timetravel import (
-    ChangedSelect, ChangedWrite, Changes, Closed, Column, EditedTwice, Error, Fault, Full, Later, Lost, Moved,
+    AnotherOpening, ChangedSelect, ChangedWrite, Changes, Closed, Column, EditedTwice, Error, Fault, Full, Later, Lost, Moved,
     NoAnswer, NoGeneration, NoSlot, NotRepairing, NotStarted, OutOfMemory, Previewed, Progress, Refused,
     Repairing, Reply, Selected, Session, Slot, Slots, Status, Stepped, Switched, Table, Tables, Written,
     cancel, delete, do, insert, preview, replace, select, update)
@@ -382,7 +382,7 @@ class StandIn(Conversation):
     def test_a_program_that_is_killed(self) -> None:
         session = self.open(told())
         future = session.send({"status": True})
-        session._kill()
+        session._program.kill()
         self.assert_raises(future.result, Lost, {"status": -9})
 
     def test_a_program_that_ends_before_it_is_open(self) -> None:
@@ -513,6 +513,49 @@ class StandIn(Conversation):
             '{"select":"acct","where":[],"in":0,"most":1000}',
             '{"select":"acct","where":[],"at":5,"in":0,"after":1,"most":1000}'])
 
+    def test_a_log_is_named_to_the_program(self) -> None:
+        path = self.folder / "bank.log"
+        with self.open(told(), log=path) as session:
+            self.assertEqual(session._program._process.args[-2:], ["--log", str(path)])
+        self.assertRaises(ValueError, self.open, told(), reopen=True)
+
+    def test_calls_are_counted_behind_those_of_a_log(self) -> None:
+        answers = "".join(INSERTED % (call, call) + "\n" for call in range(8, 28))
+        with self.open(told() + [["read", 20], ["write", answers]], log="bank.log") as session:
+            futures = [session.send(insert("acct", [key, "ann", 0])) for key in range(20)]
+            self.assertEqual([future.result().call for future in futures], list(range(8, 28)))
+
+    def test_a_log_of_another_opening(self) -> None:
+        steps = [["read", 1], ["write", '{"refused":"another opening"}\n']]
+        self.assert_raises(lambda: self.open(steps, log="bank.log"), AnotherOpening,
+                           {"cause": "another opening"})
+
+    def test_a_program_that_dies_is_not_started_again(self) -> None:
+        session = self.open(told() + [["read", 1], ["exit", 3]], log="bank.log")
+        self.assertRaises(Lost, session.status)
+        self.assertRaises(Lost, session.status)
+
+    def test_a_program_that_dies_is_started_again_where_that_is_asked(self) -> None:
+        steps = told(INSERTED % (1, 1)) + [["read", 3], ["exit", 4]]
+        session = self.open(steps, log="bank.log", reopen=True)
+        session.insert("acct", [1, "ann", 0])
+        futures = [session.send({"status": True}) for _ in range(3)]
+        for future in futures:
+            self.assert_raises(future.result, Lost, {"status": 4})
+        self.assertEqual(session.insert("acct", [2, "ann", 0]).slot, 1)    # by the same steps
+        self.assertEqual(self.lines()[-1], '{"insert":"acct","row":[2,"ann",0]}')
+        session.close()
+        self.assertRaises(Closed, session.status)
+
+    def test_a_program_that_is_started_again_and_does_not_open(self) -> None:
+        session = self.open(told() + [["read", 1], ["exit", 4]], log="bank.log", reopen=True)
+        self.assertRaises(Lost, session.status)
+        (self.folder / "steps").write_text(json.dumps([["say", "timetravel: log: line 2\n"], ["exit", 1]]))
+        for _ in range(2):
+            self.assert_raises(session.status, Lost, {"status": 1})
+        (self.folder / "steps").write_text(json.dumps(told(INSERTED % (5, 3))))
+        self.assertEqual(session.insert("acct", [2, "ann", 0]).slot, 3)
+
     def test_requests_for_sending(self) -> None:
         with self.open(told('{"call":1,"done":3,"rows":[]}', '{"call":2,"time":3,"rows":[]}')) as session:
             previewed = session.send(preview("acct", {"id": 1}), worker=2, if_time=3)
@@ -554,8 +597,38 @@ class Program(Conversation):
 
     def test_a_program_that_is_killed(self) -> None:
         session = self.open()
-        session._kill()
+        session._program.kill()
         self.assert_raises(session.status, Lost, {"status": -9})
+
+    def test_a_session_with_a_log(self) -> None:
+        with tempfile.TemporaryDirectory() as folder:
+            path = Path(folder) / "bank.log"
+            with self.open(log=path) as session:
+                session.insert("acct", [1, "ann", 10])
+                self.assertRaises(Lost, self.open, log=path)    # It is in use.
+            with self.open(log=path) as session:
+                self.assertEqual(session.opened, Status(0, 1, 0, 0, 1, None))
+                self.assertEqual(session.select("acct").rows, [[1, "ann", 10]])
+                self.assertEqual(session.insert("acct", [2, "bob", 0]).call, 3)
+            self.assertRaises(AnotherOpening, self.open, log=path, keep=0)
+            with self.open(log=path) as session:
+                self.assertEqual([slot.slot for slot in session.slots(1, 9).slots], [1, 2])
+
+    def test_a_session_that_is_opened_again(self) -> None:
+        with tempfile.TemporaryDirectory() as folder:
+            session = self.open(log=Path(folder) / "bank.log", reopen=True)
+            for time_before in range(20):
+                future = session.send(insert("acct", [time_before, "ann", 0]), worker=2, if_time=time_before)
+                session._program.kill()
+                try:
+                    future.result()
+                except Lost:    # It is sent again, and is there once.
+                    try:
+                        session.insert("acct", [time_before, "ann", 0], worker=2, if_time=time_before)
+                    except Moved as moved:
+                        self.assertEqual(moved.now, time_before + 1)
+            self.assertEqual(len(session.select("acct").rows), 20)
+            self.assertEqual(session.status().time, 20)
 
 
 if __name__ == "__main__":

@@ -13,7 +13,12 @@ writes can be taken back while a service goes on.
         print(session.select("acct").rows)    # [[1, 'ann', 10]]
 
 A session starts the program and holds it through pipes. The database lives in the program, and ends
-with it. All methods may be called from several threads; docs/SESSION.md is the manual.
+with it, unless it is kept in a file:
+
+    with Session([accounts], log="bank.log") as session:
+        print(session.opened.time)    # what is there already
+
+All methods may be called from several threads; docs/SESSION.md is the manual.
 """
 
 from __future__ import annotations
@@ -60,7 +65,8 @@ class Closed(Error):
 
 
 class Lost(Error):
-    """The program has ended, and its database with it."""
+    """The program has ended. Its database has ended with it, or is in its log, with each request that
+    was answered, and perhaps with this one."""
 
     def __init__(self, status: int, standard_error: str) -> None:
         said = standard_error.strip()
@@ -135,6 +141,10 @@ class Full(Refused):
     limit: int
 
 
+class AnotherOpening(Refused):
+    """The log is of a session with other tables, or with another `keep`."""
+
+
 class OutOfMemory(Refused):
     """The program has no memory for this request; the database is as it was."""
 
@@ -142,7 +152,7 @@ class OutOfMemory(Refused):
 _REFUSALS: dict[str, type[Refused]] = {
     "moved": Moved, "later": Later, "no generation": NoGeneration, "not repairing": NotRepairing,
     "repairing": Repairing, "no slot": NoSlot, "edited twice": EditedTwice, "full": Full,
-    "memory": OutOfMemory}
+    "another opening": AnotherOpening, "memory": OutOfMemory}
 
 
 # Tables
@@ -343,34 +353,16 @@ def _given(members: Mapping[str, Any]) -> dict[str, Any]:
     return {name: value for name, value in members.items() if value is not None}
 
 
-class Session:
-    """A database in a program of its own. A context manager: at its end the program ends, too.
+class _Program:
+    """One run of the program: its pipes, and who waits for its answers."""
 
-    Each method sends a request and waits for its answer. It returns the answer or raises an `Error`;
-    what JSON can't carry is a `TypeError` or a `ValueError`, and is not sent. Every request takes the
-    `worker` in whose name it is made (1 where it isn't given), and `if_time`: where this isn't the
-    current time, the request is refused as `Moved`. `send` sends a request without waiting.
-    """
-
-    def __init__(self, tables: Iterable[Table | Mapping[str, Any]], *, keep: int | None = None,
-                 records: int | None = None, command: Sequence[str] = ("timetravel", "session"),
-                 timeout: float | None = None) -> None:
-        """Starts the program and opens the database.
-
-        `keep` is how many closed generations stay readable, `records` of how many answers the session
-        keeps a record for `changes`. `timeout` is how many seconds a method waits for its answer once
-        its request is sent, and `close` for the program to end, which it is made to do after that;
-        without it they wait for as long as the program runs.
-        """
-        declared = [asdict(table) if isinstance(table, Table) else dict(table) for table in tables]
-        opening = _line({"version": 2, "tables": declared, **_given({"keep": keep, "records": records})})
-        self._timeout = timeout
-        self._closed = False
-        self._sending = threading.Lock()    # held while a line is numbered and written
+    def __init__(self, command: Sequence[str], has_log: bool) -> None:
         self._state = threading.Lock()    # guards the three members below; held for a moment only
         self._waiting: dict[int, tuple[str | None, Future[Any]]] = {}
-        self._next_call = 0    # the opening isn't counted: it has number 0 here
+        self._next_number = 0    # lines are numbered from the opening on, which has 0
         self._end: tuple[int, str] | None = None    # status and standard error of a program that ended
+        # The call behind the opening. Calls are counted behind those of a log, so its answer tells.
+        self._first_call = None if has_log else 1
         # Standard error goes to a file, so that nobody needs to read it for the program to go on.
         self._standard_error = tempfile.TemporaryFile()
         try:
@@ -385,11 +377,155 @@ class Session:
         self._input, self._output = self._process.stdin, self._process.stdout
         self._reader = threading.Thread(target=self._read, name="timetravel answers", daemon=True)
         self._reader.start()
+
+    @property
+    def exit_status(self) -> int | None:
+        with self._state:
+            return None if self._end is None else self._end[0]
+
+    def put(self, line: bytes, kind: str | None) -> Future[Any]:
+        """Sends a line. Calls of this and of `end_input` follow one another."""
+        future: Future[Any] = Future()
+        future.set_running_or_notify_cancel()    # What is sent can't be cancelled.
         try:
-            self.opened: Status = self._result(self._put(opening, "status"))
+            with self._state:
+                if self._end is not None:
+                    raise Lost(*self._end)
+                self._waiting[self._next_number] = (kind, future)
+                self._next_number += 1
+            self._input.write(line)
+            self._input.flush()
+        except OSError:
+            self._wait()    # It reads no more. The reader wakes whoever waits, this future too.
         except BaseException:
-            self.close()
+            self.kill()    # The line may be sent in part, and nothing can follow it.
             raise
+        return future
+
+    def end_input(self) -> None:
+        try:
+            self._input.close()
+        except OSError:
+            pass    # It has ended before.
+
+    def join(self, timeout: float | None) -> None:
+        """Waits until it has ended, and ends it where it doesn't in time."""
+        self._reader.join(timeout)
+        if self._reader.is_alive():
+            self.kill()
+            self._reader.join()
+
+    def kill(self) -> None:
+        """Ends the program at once, with whatever it has started."""
+        try:
+            if self._process.poll() is None:
+                os.killpg(self._process.pid, signal.SIGKILL)
+        except ProcessLookupError:
+            pass    # It has just ended.
+
+    def _read(self) -> None:
+        """The thread that reads the answers, until the program closes its standard output."""
+        said, line = "", b""
+        try:
+            for line in self._output:
+                if line.endswith(b"\n"):    # Else it has ended within an answer.
+                    self._hand_over(line)
+        except Exception as error:    # Whatever it is, those who wait have to be told.
+            said = f"what it wrote is no answer: {line[:200]!r}: {error!r}\n"
+            self.kill()
+        status = self._wait()
+        size = os.fstat(self._standard_error.fileno()).st_size
+        wrote = os.pread(self._standard_error.fileno(), _SAID, max(0, size - _SAID))
+        self._standard_error.close()
+        self._output.close()
+        with self._state:
+            self._end = (status, wrote.decode(errors="replace") + said)
+            waiting = list(self._waiting.values())
+            self._waiting.clear()
+        for _, future in waiting:
+            future.set_exception(Lost(*self._end))
+
+    def _hand_over(self, line: bytes) -> None:
+        members = json.loads(line.decode())
+        number = self._number(members.setdefault("call", 0))
+        with self._state:
+            kind, future = self._waiting[number]
+        try:
+            answer = _answer(kind, members)
+        except Error as error:
+            answer = error
+        with self._state:
+            del self._waiting[number]
+        if isinstance(answer, Error):
+            future.set_exception(answer)
+        else:
+            future.set_result(answer)
+
+    def _number(self, call: int) -> int:
+        """The number of the line whose call this is."""
+        if call == 0:
+            return 0
+        if self._first_call is None:
+            self._first_call = call
+        return call - self._first_call + 1
+
+    def _wait(self) -> int:
+        """Waits until the program has ended, and ends it where it doesn't."""
+        try:
+            return self._process.wait(_GRACE)
+        except subprocess.TimeoutExpired:
+            self.kill()
+            return self._process.wait()
+
+
+class Session:
+    """A database in a program of its own. A context manager: at its end the program ends, too.
+
+    Each method sends a request and waits for its answer. It returns the answer or raises an `Error`;
+    what JSON can't carry is a `TypeError` or a `ValueError`, and is not sent. Every request takes the
+    `worker` in whose name it is made (1 where it isn't given), and `if_time`: where this isn't the
+    current time, the request is refused as `Moved`. `send` sends a request without waiting.
+    """
+
+    def __init__(self, tables: Iterable[Table | Mapping[str, Any]], *, keep: int | None = None,
+                 records: int | None = None, log: str | os.PathLike[str] | None = None,
+                 reopen: bool = False, command: Sequence[str] = ("timetravel", "session"),
+                 timeout: float | None = None) -> None:
+        """Starts the program and opens the database.
+
+        `keep` is how many closed generations stay readable, `records` of how many answers the session
+        keeps a record for `changes`. `timeout` is how many seconds a method waits for its answer once
+        its request is sent, and `close` for the program to end, which it is made to do after that;
+        without it they wait for as long as the program runs.
+
+        `log` is the path of a file in which the database is kept; what it has already is there, and
+        `opened` tells how far that is. It has to be of the same tables and `keep`, else `AnotherOpening`
+        is raised. With `reopen` a program that has ended is started again on its log by the next
+        request. Whoever waits for an answer when the program ends gets `Lost` all the same: the request
+        may be carried out or not. One that had `if_time` can be sent again with it.
+        """
+        if reopen and log is None:
+            raise ValueError("only a session with a log can be opened again")
+        declared = [asdict(table) if isinstance(table, Table) else dict(table) for table in tables]
+        self._opening = _line({"version": 2, "tables": declared, **_given({"keep": keep, "records": records})})
+        self._command = [*command, *([] if log is None else ["--log", os.fspath(log)])]
+        self._has_log = log is not None
+        self._reopens = reopen
+        self._timeout = timeout
+        self._closed = False
+        self._sending = threading.Lock()    # held while a line is sent, or the program is started again
+        self._program = self._start()
+
+    def _start(self) -> _Program:
+        """Starts the program, and waits until the database is open."""
+        program = _Program(self._command, self._has_log)
+        try:
+            self.opened: Status = self._result(program.put(self._opening, "status"))
+        except BaseException:
+            program.end_input()
+            program.join(self._timeout)
+            raise
+        return program
 
     def __enter__(self) -> Session:
         return self
@@ -400,25 +536,19 @@ class Session:
     @property
     def exit_status(self) -> int | None:
         """The program's exit status, or None while it runs."""
-        with self._state:
-            return None if self._end is None else self._end[0]
+        return self._program.exit_status
 
     def close(self) -> None:
         """Ends the program's input. It answers what it was sent, and ends; this waits for it."""
         self._closed = True
         if self._sending.acquire(timeout=-1 if self._timeout is None else self._timeout):
             try:
-                self._input.close()
-            except OSError:
-                pass    # It has ended before.
+                self._program.end_input()
             finally:
                 self._sending.release()
         else:
-            self._kill()
-        self._reader.join(self._timeout)
-        if self._reader.is_alive():
-            self._kill()
-            self._reader.join()
+            self._program.kill()
+        self._program.join(self._timeout)
 
     # Writes
 
@@ -546,79 +676,13 @@ class Session:
             raise NoAnswer(self._timeout or 0.0) from None
 
     def _put(self, line: bytes, kind: str | None) -> Future[Any]:
-        future: Future[Any] = Future()
-        future.set_running_or_notify_cancel()    # What is sent can't be cancelled.
         with self._sending:
             if self._closed:
                 raise Closed("the session is closed")
-            try:
-                with self._state:
-                    if self._end is not None:
-                        raise Lost(*self._end)
-                    self._waiting[self._next_call] = (kind, future)
-                    self._next_call += 1
-                self._input.write(line)
-                self._input.flush()
-            except OSError:
-                self._wait()    # It reads no more. The reader wakes whoever waits, this future too.
-            except BaseException:
-                self._kill()    # The line may be sent in part, and nothing can follow it.
-                raise
-        return future
-
-    def _read(self) -> None:
-        """The thread that reads the answers, until the program closes its standard output."""
-        said, line = "", b""
-        try:
-            for line in self._output:
-                if line.endswith(b"\n"):    # Else it has ended within an answer.
-                    self._hand_over(line)
-        except Exception as error:    # Whatever it is, those who wait have to be told.
-            said = f"what it wrote is no answer: {line[:200]!r}: {error!r}\n"
-            self._kill()
-        status = self._wait()
-        size = os.fstat(self._standard_error.fileno()).st_size
-        wrote = os.pread(self._standard_error.fileno(), _SAID, max(0, size - _SAID))
-        self._standard_error.close()
-        self._output.close()
-        with self._state:
-            self._end = (status, wrote.decode(errors="replace") + said)
-            waiting = list(self._waiting.values())
-            self._waiting.clear()
-        for _, future in waiting:
-            future.set_exception(Lost(*self._end))
-
-    def _hand_over(self, line: bytes) -> None:
-        members = json.loads(line.decode())
-        call = members.setdefault("call", 0)
-        with self._state:
-            kind, future = self._waiting[call]
-        try:
-            answer = _answer(kind, members)
-        except Error as error:
-            answer = error
-        with self._state:
-            del self._waiting[call]
-        if isinstance(answer, Error):
-            future.set_exception(answer)
-        else:
-            future.set_result(answer)
-
-    def _wait(self) -> int:
-        """Waits until the program has ended, and ends it where it doesn't."""
-        try:
-            return self._process.wait(_GRACE)
-        except subprocess.TimeoutExpired:
-            self._kill()
-            return self._process.wait()
-
-    def _kill(self) -> None:
-        """Ends the program at once, with whatever it has started."""
-        try:
-            if self._process.poll() is None:
-                os.killpg(self._process.pid, signal.SIGKILL)
-        except ProcessLookupError:
-            pass    # It has just ended.
+            if self._reopens and self._program.exit_status is not None:
+                self._program.end_input()
+                self._program = self._start()
+            return self._program.put(line, kind)
 
 
 def _line(members: Mapping[str, Any]) -> bytes:

@@ -1,6 +1,9 @@
 -- What a parse of the command line that succeeds has found.
-use Rattle.std.proofs.Common.{◌≡◌, ◌∙◌, ◌≢◌, [], ap, ℕ, Bool, Box, IsSomeAnd, List, Option, Some, None, codes, false, inl, inr, option_map, refl, subst, sym, true, unwrap_or}
+use Rattle.std.proofs.Common.{◌≡◌, ◌∙◌, ◌≢◌, [], ap, arith, ℕ, Bool, Box, IsSomeAnd, List, Option, Some, None, codes, false, inl, inr, option_map, slice_index, refl, subst, sym, true, unwrap_or}
 use Rattle.std.specs.Box.{box_value}
+use Rattle.clap.specs.Walk.{first_of}
+use Rattle.clap.specs.Matches.{first_value}
+use Rattle.clap.specs.declared.builder.value_parser.Reading.TheVariants.{AsWritten}
 use Rattle.clap.specs.Words.{App, HasMatchesOf, Row, Text, fault_of, found_of, is_simple_and_free, one_of, one_text, rows_of, subcommand_name_of, subcommand_of, subcommand_rows, subcommand_rows_of}
 use Rattle.clap.specs.Matches.{ReadsOne}
 use Rattle.clap.specs.Simple.{is_simple}
@@ -9,12 +12,13 @@ use Rattle.clap.specs.declared.parser.matches.ArgMatches.{ArgMatches}
 use Rattle.clap.specs.declared.parser.matches.ArgMatches.TheViews.{out-ArgMatches, out-SubCommand}
 use Rattle.clap.specs.declared.parser.matches.SubCommand.{SubCommand}
 use Rattle.clap.proofs.OnLiterals.{clap_on_literals}
-use Rattle.clap.proofs.WalkLemmas.{both, one_text-rows}
+use Rattle.clap.proofs.WalkLemmas.{both, first_value-rows, one_text-rows}
 use Rattle.tt_cli.specs.declared.command_line.Cli.{Cli}
-use Rattle.tt_cli.specs.CommandLine.{IsBatchOf, IsClosedOf, IsCommandOf, IsNumberOr, IsRoundsOf, IsSignedOr, command_line, given_text, name_of}
+use Rattle.tt_cli.specs.CommandLine.{Asks, IsBatchOf, IsClosedOf, IsCommandOf, IsNumberOr, IsRoundsOf, IsSignedOr, command_line, given_text}
 use Rattle.tt_cli.proofs.NumberLemmas.{ReadsBatch, ReadsNumber, ReadsRounds, reads_batch, reads_rounds}
 use Rattle.tt_cli.proofs.ClosedLemmas.{reads_closed}
-use Rattle.tt_cli.proofs.SubcommandLemmas.{HasCommand, HasOptions, batch_of, closed_of, rounds_of, takes_one}
+use Rattle.tt_cli.proofs.SubcommandLemmas.{FitPath, HasCommand, HasLog, HasOptions, HasSession, batch_of, closed_of, rounds_of, takes_one}
+use Rattle.tt_cli.proofs.RowLemmas.{first_is_given, given_is_some}
 
 is_simple_line : is_simple_and_free command_line ≡ true
 unfolding clap_on_literals
@@ -34,6 +38,21 @@ enters_one a words m is passes matches =
     let takes = takes_one words (sym (ap (λ (x : App). fault_of x words) is) ∙ passes) in
     let simple : is_simple a ≡ true = (both (is_simple a) _ (is_simple_command a is)).0 in
     (takes.0, takes.1, takes.2, (matches simple).1 ∙ (ap (λ (x : App). subcommand_of x words) is ∙ takes.2), takes.3)
+
+session_no_replay : codes "session" ≢ codes "replay"
+session_no_replay e = cc
+
+session_no_run : codes "session" ≢ codes "run"
+session_no_run e = cc
+
+session_no_log : codes "session" ≢ codes "log"
+session_no_log e = cc
+
+log_no_replay : codes "log" ≢ codes "replay"
+log_no_replay e = cc
+
+log_no_run : codes "log" ≢ codes "run"
+log_no_run e = let bad : ◌≡◌ {A = ℕ} 108 114 = ap (λ (t : Text). slice_index t 0) e in absurd (omega arith)
 
 abbrev rows_in : Option (Text × List Row) → Option (List Row)
 rows_in = option_map (λ sub. sub.1)
@@ -56,19 +75,61 @@ module _ (words : List Text) (m : ArgMatches) (enters : Enters words m) where
         let given : Some name ≡ Some enters.0 = found ∙ (name_in (out-ArgMatches m).subcommand ∙ ap (option_map (λ sub. sub.0)) enters.3) in
         cc
 
-    pub command_is : (cli : Cli) → name ≡ name_of cli → IsCommandOf words cli
-    unfolding IsCommandOf
-    command_is cli is =
-        subst (λ (sub : Option (Text × List Row)). IsSomeAnd sub (λ s. s.0 ≡ name_of cli)) (sym enters.2) (sym name_is ∙ is)
+    pub name_as : (text : Text) → name ≡ text → enters.0 ≡ text
+    name_as text is = sym name_is ∙ is
 
-    pub has_options : name ≢ codes "session" → HasOptions enters.0 enters.1
-    has_options other = elim enters.4 [ inl options ↦ options | inr session ↦ absurd (other (name_is ∙ session)) ]
+    pub has_options : name ≢ codes "session" → name ≢ codes "log" → HasOptions enters.0 enters.1
+    has_options other no_log = elim enters.4 [
+      | inl options ↦ options
+      | inr (inl session) ↦ absurd (other (name_is ∙ session.0))
+      | inr (inr log) ↦ absurd (no_log (name_is ∙ log.0))
+    ]
 
-    pub is_replay : name ≢ codes "session" → name ≢ codes "run" → name ≡ codes "replay"
-    is_replay other not_run = elim (has_options other) [
+    pub is_replay : name ≢ codes "session" → name ≢ codes "log" → name ≢ codes "run" → name ≡ codes "replay"
+    is_replay other no_log not_run = elim (has_options other no_log) [
       | inl replay ↦ name_is ∙ replay.0
       | inr run ↦ absurd (not_run (name_is ∙ run.0))
     ]
+
+    pub has_session : name ≡ codes "session" → HasSession enters.0 enters.1
+    has_session is = elim enters.4 [
+      | inl (inl replay) ↦ absurd (session_no_replay (sym is ∙ (name_is ∙ replay.0)))
+      | inl (inr run) ↦ absurd (session_no_run (sym is ∙ (name_is ∙ run.0)))
+      | inr (inl session) ↦ session
+      | inr (inr log) ↦ absurd (session_no_log (sym is ∙ (name_is ∙ log.0)))
+    ]
+
+    pub has_log : name ≡ codes "log" → HasLog enters.0 enters.1
+    has_log is = elim enters.4 [
+      | inl (inl replay) ↦ absurd (log_no_replay (sym is ∙ (name_is ∙ replay.0)))
+      | inl (inr run) ↦ absurd (log_no_run (sym is ∙ (name_is ∙ run.0)))
+      | inr (inl session) ↦ absurd (session_no_log (sym (sym is ∙ (name_is ∙ session.0))))
+      | inr (inr log) ↦ log
+    ]
+
+  pub command_is : (cli : Cli) → Asks enters.0 enters.1 cli → IsCommandOf words cli
+  unfolding IsCommandOf
+  command_is cli asks = subst (λ (sub : Option (Text × List Row)). IsSomeAnd sub (λ s. Asks s.0 s.1 cli)) (sym enters.2) asks
+
+  -- the matches of the subcommand
+  module _ (inner : ArgMatches) (found : Some (rows_of (found_of inner)) ≡ rows_in (subcommand_rows_of m)) where
+    rows_are : rows_of (found_of inner) ≡ enters.1
+    rows_are =
+        let given : Some (rows_of (found_of inner)) ≡ Some enters.1 = found ∙ ap rows_in enters.3 in
+        cc
+
+    first_is : (id : Text) → first_value (found_of inner) id ≡ first_of id enters.1
+    first_is id = first_value-rows (found_of inner) id ∙ ap (first_of id) rows_are
+
+    -- the path that is read is the one that the words give
+    pub path_is : (id : Text) (read : Option Text) → FitPath id enters.1 → read ≡ first_value (found_of inner) id → given_text id enters.1 ≡ read
+    path_is id read fit is = sym (is ∙ first_is id ∙ first_is_given id AsWritten enters.1 fit)
+
+    pub never_without : (id : Text) → FitPath id enters.1 → is_given id enters.1 ≡ true → None ≡ first_value (found_of inner) id → ⊥
+    never_without id fit given none =
+        let some = given_is_some id AsWritten enters.1 fit given in
+        let bad : None ≡ Some some.0 = none ∙ first_is id ∙ some.1 in
+        absurd (cc)
 
   -- what is read of an option
   module _ (has : HasOptions enters.0 enters.1) (inner : ArgMatches) (found : Some (rows_of (found_of inner)) ≡ rows_in (subcommand_rows_of m)) where

@@ -1,7 +1,10 @@
 -- The row of one argument: the words' own, whose first value passes, or the default.
 use Rattle.std.proofs.Common.{◌≡◌, ◌∷◌, ◌++◌, ◌⊎◌, [], Bool, List, Some, None, bytes_eq, cond, false, find, inl, inr, refl, slice_get, subst, true, ◌||◌}
 use Rattle.std.specs.List.{AllByRecursion as Each}
-use Rattle.clap.specs.Walk.{Row, Text, at_row, has_row, more_values, with_values, without}
+use Rattle.std.specs.Prelude.{⊤, Option}
+use Rattle.clap.specs.Takes.{is_given}
+use Rattle.clap.specs.Walk.{Row, Text, first_of, at_row, has_row, more_values, with_values, without}
+use Rattle.tt_cli.specs.CommandLine.{given_text}
 use Rattle.clap.specs.declared.builder.value_parser.Reading.{Reading}
 use Rattle.clap.specs.declared.parser.matches.ValueSource.{ValueSource}
 use Rattle.clap.specs.declared.parser.matches.ValueSource.TheVariants.{CommandLine, DefaultValue}
@@ -141,3 +144,37 @@ none_has id how (r ∷ rs) p = go (bytes_eq r.id id) refl (none_has id how rs p.
     go : (b : Bool) → bytes_eq r.id id ≡ b → find (λ x. bytes_eq x.id id) rs ≡ None → cond b (Some r) (find (λ x. bytes_eq x.id id) rs) ≡ None
     go true same rest = absurd ((p.0 same).4)
     go false other rest = rest
+
+-- rows that fit an argument have no row of it but the words'
+given_of : (id : Text) (how : Reading) (rows : List Row) (r : Row) → AllFit id how (λ _. ⊤) rows → find (λ x. bytes_eq x.id id) rows ≡ Some r → IsGiven id how (λ _. ⊤) r
+given_of id how [] r p e = absurd (cc)
+given_of id how (x ∷ rows) r p e = go (bytes_eq x.id id) refl (given_of id how rows r p.1) e
+  where
+    go : (b : Bool) → bytes_eq x.id id ≡ b → (find (λ y. bytes_eq y.id id) rows ≡ Some r → IsGiven id how (λ _. ⊤) r) → cond b (Some x) (find (λ y. bytes_eq y.id id) rows) ≡ Some r
+        → IsGiven id how (λ _. ⊤) r
+    go true same rest f =
+        let is : x ≡ r = cc in
+        subst (IsGiven id how (λ _. ⊤)) is (p.0 same)
+    go false other rest f = rest f
+
+-- so the text that is read is the one that the words give
+pub first_is_given : (id : Text) (how : Reading) (rows : List Row) → AllFit id how (λ _. ⊤) rows → first_of id rows ≡ given_text id rows
+first_is_given id how rows p = go (find (λ x. bytes_eq x.id id) rows) refl
+  where
+    go : (o : Option Row) → find (λ x. bytes_eq x.id id) rows ≡ o → first_of id rows ≡ given_text id rows
+    go None e = rw e refl
+    go (Some r) e =
+        let g = given_of id how rows r p e in
+        rw (e, g.3) refl
+
+-- and there is one where the argument is given
+pub given_is_some : (id : Text) (how : Reading) (rows : List Row) → AllFit id how (λ _. ⊤) rows → is_given id rows ≡ true → (v : Text) × (first_of id rows ≡ Some v)
+given_is_some id how rows p given = go (find (λ x. bytes_eq x.id id) rows) refl
+  where
+    go : (o : Option Row) → find (λ x. bytes_eq x.id id) rows ≡ o → (v : Text) × (first_of id rows ≡ Some v)
+    go None e =
+        let none : is_given id rows ≡ false = rw e refl in
+        absurd (cc)
+    go (Some r) e =
+        let g = given_of id how rows r p e in
+        (g.0, rw (e, g.1) refl)

@@ -1,7 +1,8 @@
 -- What words that the command line takes leave in the rows of the subcommand that they enter.
-use Rattle.std.proofs.Common.{◌≡◌, ◌∷◌, ◌⊎◌, [], arith, ℕ, Bool, List, Option, Some, None, codes, cond, drop, eqb-true, false, find, inl, inr, is_some, length, pos, refl, subst, sym, true, ◌==◌, bytes_eq, option_map}
+use Rattle.std.proofs.Common.{◌≡◌, ◌∷◌, ◌⊎◌, [], arith, ℕ, Bool, List, Option, Some, None, codes, cond, drop, eqb-true, false, find, inl, inr, is_some, length, not, pos, refl, subst, sym, true, ◌==◌, ◌||◌, bytes_eq, option_map}
 use Rattle.std.specs.List.{AllByRecursion as Each}
-use Rattle.clap.specs.Kinds.{Kinds, or_else, range_kinds}
+use Rattle.std.specs.Prelude.{⊤}
+use Rattle.clap.specs.Kinds.{Kinds, check_kinds, or_else, range_kinds}
 use Rattle.clap.specs.ValueTests.{is_signed_in}
 use Rattle.clap.specs.Simple.{Shape, built, entered, names_of, subcommand_of}
 use Rattle.clap.specs.Walk.{Row, Rule, Text, Waiting, Held, finished, has_row, idle, nothing_held, answers_to, option, positional, rows_after, settled, subcommand_met, walk, walk_from, with_default}
@@ -12,7 +13,8 @@ use Rattle.clap.specs.declared.builder.value_parser.ValueParser.TheVariants as p
 use Rattle.clap.specs.declared.error.kind.ErrorKind.{ErrorKind}
 use Rattle.clap.specs.declared.error.kind.ErrorKind.TheVariants as kind
 use Rattle.clap.specs.declared.parser.matches.ValueSource.TheVariants.{CommandLine}
-use Rattle.tt_cli.specs.CommandLine.{batch, closed, command_line, rounds}
+use Rattle.clap.specs.Takes.{is_given}
+use Rattle.tt_cli.specs.CommandLine.{batch, closed, command_line, log_argument, log_option, rounds}
 use Rattle.tt_cli.proofs.RowLemmas.{AllFit, Fits, HasRow, default_has, default_keeps, default_stays, new_row, none_has, use_keeps}
 use Rattle.tt_cli.proofs.WalkLemmas.{Keeps, StopsAt, none_of, settles, walk_keeps, walk_stops}
 
@@ -36,6 +38,12 @@ closed_rule = record closed {
   range = Some (record { start_inclusive = 0; end_inclusive = 0 });
 }
 
+abbrev log_rule : Rule
+log_rule = record log_option { range = Some (record { start_inclusive = 1; end_inclusive = 1 }); parser = Some parser.String }
+
+abbrev file_rule : Rule
+file_rule = record log_argument { range = Some (record { start_inclusive = 1; end_inclusive = 1 }); parser = Some parser.String; index = Some 1 }
+
 abbrev help_rule : Rule
 help_rule = record Rattle.clap.specs.Simple.help_rule { range = Some (record { start_inclusive = 0; end_inclusive = 0 }); parser = Some parser.String }
 
@@ -51,6 +59,10 @@ abbrev third_shape : List Shape → Shape
 third_shape [] = top
 third_shape (s ∷ ss) = second_shape ss
 
+abbrev fourth_shape : List Shape → Shape
+fourth_shape [] = top
+fourth_shape (s ∷ ss) = third_shape ss
+
 abbrev replay_leaf : Shape
 replay_leaf = first_shape (built command_line).subs
 
@@ -60,11 +72,20 @@ run_leaf = second_shape (built command_line).subs
 abbrev session_leaf : Shape
 session_leaf = third_shape (built command_line).subs
 
+abbrev log_leaf : Shape
+log_leaf = fourth_shape (built command_line).subs
+
 replay_rules : replay_leaf.rules ≡ batch_rule ∷ closed_rule ∷ help_rule ∷ []
 replay_rules = refl
 
 run_rules : run_leaf.rules ≡ batch_rule ∷ rounds_rule ∷ closed_rule ∷ help_rule ∷ []
 run_rules = refl
+
+session_rules : session_leaf.rules ≡ log_rule ∷ help_rule ∷ []
+session_rules = refl
+
+log_rules : log_leaf.rules ≡ file_rule ∷ help_rule ∷ []
+log_rules = refl
 
 -- ---- a use of an option
 
@@ -131,6 +152,26 @@ module _ (id : Text) (how : Reading) (Passes : Text → Type 0) where
       let none = no_value (length (v ∷ rest)) parts.0 in
       absurd (omega arith)
 
+  -- a path is any text
+  abbrev PathFits : Text → Type 0
+  PathFits name = (v : Text) → Fits id how Passes (new_row name AsWritten CommandLine (v ∷ []))
+
+  log_keeps : PathFits (codes "log") → Keeps false (AllFit id how Passes) log_rule
+  log_keeps fits [] rows p e = absurd (cc)
+  log_keeps fits (v ∷ []) rows p e = use_keeps id how Passes (codes "log") AsWritten CommandLine (v ∷ []) (fits v) rows p
+  log_keeps fits (v ∷ w ∷ rest) rows p e =
+      let parts = none_of (range_kinds 1 1 (length (v ∷ w ∷ rest))) _ e in
+      let one = one_value (length (v ∷ w ∷ rest)) parts.0 in
+      absurd (omega arith)
+
+  file_keeps : PathFits (codes "file") → Keeps false (AllFit id how Passes) file_rule
+  file_keeps fits [] rows p e = absurd (cc)
+  file_keeps fits (v ∷ []) rows p e = use_keeps id how Passes (codes "file") AsWritten CommandLine (v ∷ []) (fits v) rows p
+  file_keeps fits (v ∷ w ∷ rest) rows p e =
+      let parts = none_of (range_kinds 1 1 (length (v ∷ w ∷ rest))) _ e in
+      let one = one_value (length (v ∷ w ∷ rest)) parts.0 in
+      absurd (omega arith)
+
   help_keeps : Keeps false (AllFit id how Passes) help_rule
   help_keeps values rows p e =
       let parts = none_of (range_kinds 0 0 (length values)) (kind.DisplayHelp ∷ []) e in
@@ -188,6 +229,10 @@ FitNoRounds = AllFit (codes "rounds") WithoutMinus (λ _. ⊥)
 abbrev FitClosed : List Row → Type 0
 FitClosed = AllFit (codes "closed") AsWritten IsTrueText
 
+-- any text from the words
+abbrev pub FitPath : Text → List Row → Type 0
+FitPath name = AllFit name AsWritten (λ _. ⊤)
+
 -- the uses of a subcommand's options keep the property
 abbrev Uses : Shape → (List Row → Type 0) → Type 0
 Uses s P = Each (Keeps false P) s.rules
@@ -211,6 +256,12 @@ closed_uses = (
   replay_uses (codes "closed") AsWritten IsTrueText (λ v passed same. absurd (cc)) (λ same. (codes "true", refl, refl, refl, refl)),
   run_uses (codes "closed") AsWritten IsTrueText (λ v passed same. absurd (cc))
       (λ v passed same. absurd (cc)) (λ same. (codes "true", refl, refl, refl, refl)),
+)
+
+path_uses : Uses session_leaf (FitPath (codes "log")) × Uses log_leaf (FitPath (codes "file"))
+path_uses = (
+  (log_keeps (codes "log") AsWritten (λ _. ⊤) (λ v same. (v, refl, refl, refl, tt)), (help_keeps (codes "log") AsWritten (λ _. ⊤), tt)),
+  (file_keeps (codes "file") AsWritten (λ _. ⊤) (λ v same. (v, refl, refl, refl, tt)), (help_keeps (codes "file") AsWritten (λ _. ⊤), tt)),
 )
 
 same_rows : {X : Type 0} (P : X → Type 0) (b : Bool) (rows : X) → P rows → P (cond b rows rows)
@@ -242,9 +293,17 @@ HasRun name rows = (name ≡ codes "run") × HasBatch rows × HasClosed rows × 
 abbrev pub HasOptions : Text → List Row → Type 0
 HasOptions name rows = HasReplay name rows ⊎ HasRun name rows
 
--- the same, or `session` was entered
+-- `session` was entered, and has a row for its option where that is given
+abbrev pub HasSession : Text → List Row → Type 0
+HasSession name rows = (name ≡ codes "session") × FitPath (codes "log") rows
+
+-- `log` was entered, and has a row for its argument
+abbrev pub HasLog : Text → List Row → Type 0
+HasLog name rows = (name ≡ codes "log") × FitPath (codes "file") rows × (is_given (codes "file") rows ≡ true)
+
+-- one of them was entered
 abbrev pub HasCommand : Text → List Row → Type 0
-HasCommand name rows = HasOptions name rows ⊎ (name ≡ codes "session")
+HasCommand name rows = HasOptions name rows ⊎ (HasSession name rows ⊎ HasLog name rows)
 
 pub batch_of : (name : Text) (rows : List Row) → HasOptions name rows → HasBatch rows
 batch_of name rows has = elim has [ inl replay ↦ replay.1 | inr run ↦ run.1 ]
@@ -297,31 +356,63 @@ at_run words e =
     let last = with_default (with_default (with_default rows batch_rule) rounds_rule) closed_rule in
     same_rows (HasOptions (codes "run")) (has_row (codes "help") last) last (inr (run_has rows batch_fit rounds_fit closed_fit))
 
+at_session : (words : List Text) → level_fault session_leaf [] nothing_held words false [] ≡ [] → HasSession (codes "session") (rows_after session_leaf.rules [] words)
+at_session words e =
+    let rows = rows_of session_leaf words in
+    let fit = words_fit session_leaf (FitPath (codes "log")) path_uses.0 tt words e in
+    let first = with_default rows log_rule in
+    (refl, same_rows (FitPath (codes "log")) (has_row (codes "help") first) first (same_rows (FitPath (codes "log")) (has_row (codes "log") rows) rows fit))
+
+needs_file : (rows : List Row) → check_fault log_leaf rows false ≡ [] → is_given (codes "file") rows ≡ true
+needs_file rows e = go (is_given (codes "file") rows) refl e
+  where
+    go : (given : Bool) → is_given (codes "file") rows ≡ given → check_kinds false false (not given || false) ≡ [] → is_given (codes "file") rows ≡ true
+    go true is f = is
+    go false is f = absurd (cc)
+
+at_log : (words : List Text) → level_fault log_leaf [] nothing_held words false [] ≡ [] → HasLog (codes "log") (rows_after log_leaf.rules [] words)
+at_log words e =
+    let end = (walk log_leaf.rules [] nothing_held words).held in
+    let rows = rows_of log_leaf words in
+    let fit = words_fit log_leaf (FitPath (codes "file")) path_uses.1 tt words e in
+    let first = with_default rows file_rule in
+    let steps = none_of (walk_fault log_leaf [] (walk_from nothing_held) words) _ e in
+    let ends = none_of (settle_fault log_leaf.rules log_leaf.args_override_self end) _ steps.1 in
+    let checks = none_of (defaults_fault (settled log_leaf.rules end).rows log_leaf.rules) _ ends.1 in (
+      refl,
+      same_rows (FitPath (codes "file")) (has_row (codes "help") first) first (same_rows (FitPath (codes "file")) (has_row (codes "file") rows) rows fit),
+      needs_file (finished log_leaf.rules end) checks.1,
+    )
+
 -- ---- the subcommand
 
 abbrev label : Text → Text × List Text
 label text = (text, [])
 
 abbrev IsSubcommand : Text → Type 0
-IsSubcommand name = (name ≡ codes "replay") ⊎ ((name ≡ codes "run") ⊎ (name ≡ codes "session"))
+IsSubcommand name = (name ≡ codes "replay") ⊎ ((name ≡ codes "run") ⊎ ((name ≡ codes "session") ⊎ (name ≡ codes "log")))
+
+abbrev label_met : Bool → Bool → Bool → Bool → Bool → Option (Text × List Text)
+label_met replay run session log help =
+    cond replay (Some (label (codes "replay"))) (cond run (Some (label (codes "run")))
+    (cond session (Some (label (codes "session"))) (cond log (Some (label (codes "log"))) (cond help (Some (label (codes "help"))) None))))
 
 enters_one : (waiting : Waiting) (word name : Text) (h : Held) → subcommand_met (names_of (built command_line)) waiting word ≡ Some name
     → other_fault top (Some name) word h ≡ [] → IsSubcommand name
 enters_one idle word name h met e =
     go (answers_to word (label (codes "replay"))) (answers_to word (label (codes "run"))) (answers_to word (label (codes "session")))
-    (answers_to word (label (codes "help"))) met
+    (answers_to word (label (codes "log"))) (answers_to word (label (codes "help"))) met
   where
-    go : (b c d f : Bool)
-        → option_map (λ s. s.0) (cond b (Some (label (codes "replay"))) (cond c (Some (label (codes "run"))) (cond d (Some (label (codes "session"))) (cond f (Some (label (codes "help"))) None)))) ≡ Some name
-        → IsSubcommand name
-    go true c d f g = inl (cc)
-    go false true d f g = inr (inl (cc))
-    go false false true f g = inr (inr (cc))
-    go false false false true g =
+    go : (b c d l f : Bool) → option_map (λ s. s.0) (label_met b c d l f) ≡ Some name → IsSubcommand name
+    go true c d l f g = inl (cc)
+    go false true d l f g = inr (inl (cc))
+    go false false true l f g = inr (inr (inl (cc)))
+    go false false false true f g = inr (inr (inr (cc)))
+    go false false false false true g =
         let same : name ≡ codes "help" = cc in
         let bad : kind.DisplayHelp ∷ kind.InvalidSubcommand ∷ [] ≡ [] = subst (λ (x : Text). other_fault top (Some x) word h ≡ []) same e in
         absurd (cc)
-    go false false false false g = absurd (cc)
+    go false false false false false g = absurd (cc)
 enters_one (option waits) word name h met e = absurd (cc)
 enters_one positional word name h met e = absurd (cc)
 
@@ -341,8 +432,10 @@ takes_at name rest is = elim is [
       subst (λ (x : Text). TakesAt x rest) (sym replay) (λ e. (codes "replay", rows_after replay_leaf.rules [] rest, refl, inl (at_replay rest e)))
   | inr (inl run) ↦
       subst (λ (x : Text). TakesAt x rest) (sym run) (λ e. (codes "run", rows_after run_leaf.rules [] rest, refl, inl (at_run rest e)))
-  | inr (inr session) ↦
-      subst (λ (x : Text). TakesAt x rest) (sym session) (λ e. (codes "session", rows_after session_leaf.rules [] rest, refl, inr refl))
+  | inr (inr (inl session)) ↦
+      subst (λ (x : Text). TakesAt x rest) (sym session) (λ e. (codes "session", rows_after session_leaf.rules [] rest, refl, inr (inl (at_session rest e))))
+  | inr (inr (inr log)) ↦
+      subst (λ (x : Text). TakesAt x rest) (sym log) (λ e. (codes "log", rows_after log_leaf.rules [] rest, refl, inr (inr (at_log rest e))))
 ]
 
 at_stop : (stop : Option (Text × List Text)) → StopsAt IsSubcommand stop → is_some (entered (built command_line) stop) ≡ true

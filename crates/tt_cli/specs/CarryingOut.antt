@@ -5,11 +5,13 @@ use Rattle.clap.specs.declared.error.Error.{Error}
 use Rattle.clap.specs.Words.{Text, HasKind, fault_of, kind_of}
 use Rattle.tt_workload.specs.declared.run_fault.RunFault.{RunFault}
 use Rattle.tt_cli.specs.declared.command_line.Cli.{Cli}
+use Rattle.tt_cli.specs.declared.command_line.Cli.TheVariants as commands
 use Rattle.tt_cli.specs.declared.ending.Ending.{Ending}
 use Rattle.tt_cli.specs.declared.ending.Ending.TheVariants as endings
 use Rattle.tt_cli.specs.CommandLine.{command_line, options_of, IsCommandOf, IsBatchOf, IsRoundsOf, IsClosedOf}
 use Rattle.tt_cli.specs.Ending.{IsEndingOfUsage}
 use Rattle.tt_cli.specs.Status.{has_text}
+use Rattle.tt_cli.specs.Logging.{IsEndingOfSession, IsEndingOfLook}
 use Rattle.tt_cli.specs.Running.{WritesBy, EndsEarlyBy, IsFaultBy}
 
 -- the words of a command line have no fault, and ask for this command with these options
@@ -28,6 +30,8 @@ pub record EndsWithoutLine (cli : Cli) (unread left old new : Option (List ℕ))
 
 -- the ending of what a command asks for: done where the report or the answers were written, and otherwise the fault
 abbrev pub EndsBy : Cli → Option (List ℕ) → Option (List ℕ) → Option (List ℕ) → Option (List ℕ) → Ending → Type 0
+EndsBy (commands.LoggedSession path) unread left old new ending = IsEndingOfSession ending
+EndsBy (commands.Log path) unread left old new ending = IsEndingOfLook ending
 EndsBy cli unread left old new endings.Done = WritesBy cli unread left old new
 EndsBy cli unread left old new (endings.Fault fault) = EndsEarlyBy cli fault unread left old new
 EndsBy cli unread left old new endings.OutOfMemory = EndsWithoutLine cli unread left old new
@@ -35,6 +39,8 @@ EndsBy cli unread left old new _ = ⊥
 
 -- the same, whatever was read
 abbrev pub IsEndingBy : Cli → Ending → Type 0
+IsEndingBy (commands.LoggedSession path) ending = IsEndingOfSession ending
+IsEndingBy (commands.Log path) ending = IsEndingOfLook ending
 IsEndingBy cli endings.Done = ⊤
 IsEndingBy cli (endings.Fault fault) = IsFaultBy cli fault
 IsEndingBy cli endings.OutOfMemory = ⊤

@@ -1,5 +1,5 @@
--- The command line: `timetravel`, with its version and three subcommands. `replay` takes `--batch` and
--- `--closed`; `run` takes `--rounds`, too; `session` takes no option.
+-- The command line: `timetravel`, with its version and four subcommands. `replay` takes `--batch` and
+-- `--closed`; `run` takes `--rounds`, too; `session` takes `--log`; `log` takes a file.
 use Rattle.std.specs.Prelude.{◌≡◌, ℕ, ◌∷◌, [], List, Option, Some, None, Ok, IsSomeAnd, codes, pos}
 use Rattle.std.specs.Prelude.{Bool, if◌then◌else◌, true}
 use Rattle.std.specs.Int.{w64}
@@ -44,6 +44,14 @@ rounds = record (new_rule (codes "rounds")) {
 abbrev pub closed : Rule
 closed = record (new_rule (codes "closed")) { long = Some (codes "closed"); action = Some SetTrue }
 
+-- `--log FILE`
+abbrev pub log_option : Rule
+log_option = record (new_rule (codes "log")) { long = Some (codes "log"); action = Some Set; value_names = 1 }
+
+-- `FILE`, which must be given
+abbrev pub log_argument : Rule
+log_argument = record (new_rule (codes "file")) { action = Some Set; value_names = 1; required = true }
+
 abbrev pub replay : App
 replay = with_rule (with_rule (new_app (codes "replay")) batch) closed
 
@@ -51,34 +59,40 @@ abbrev pub run : App
 run = with_rule (with_rule (with_rule (new_app (codes "run")) batch) rounds) closed
 
 abbrev pub session : App
-session = new_app (codes "session")
+session = with_rule (new_app (codes "session")) log_option
+
+abbrev pub log : App
+log = with_rule (new_app (codes "log")) log_argument
 
 -- the command without its subcommands
 abbrev pub program : App
 program = requiring_subcommand (with_version (new_app (codes "timetravel")))
 
 abbrev pub command_line : App
-command_line = with_subcommand (with_subcommand (with_subcommand program replay.top) run.top) session.top
-
--- the name of the subcommand that asks for a command
-abbrev pub name_of : Cli → Text
-name_of (commands.Replay options) = codes "replay"
-name_of (commands.Run options) = codes "run"
-name_of commands.Session = codes "session"
+command_line =
+    with_subcommand (with_subcommand (with_subcommand (with_subcommand program replay.top) run.top) session.top) log.top
 
 -- the options of a command, where it has some
 abbrev pub options_of : Cli → Option Options
 options_of (commands.Replay options) = Some options
 options_of (commands.Run options) = Some options
-options_of commands.Session = None
+options_of _ = None
+
+-- the text that the words give for an option or an argument; a default is none
+abbrev pub given_text : Text → List Row → Option Text
+given_text id rows = if is_given id rows then first_of id rows else None
+
+-- the subcommand of this name asks for a command, with the file that is given, if one is
+abbrev pub Asks : Text → List Row → Cli → Type 0
+Asks name rows (commands.Replay options) = name ≡ codes "replay"
+Asks name rows (commands.Run options) = name ≡ codes "run"
+Asks name rows commands.Session = (name ≡ codes "session") × (given_text (codes "log") rows ≡ None)
+Asks name rows (commands.LoggedSession path) = (name ≡ codes "session") × (given_text (codes "log") rows ≡ Some path.now)
+Asks name rows (commands.Log path) = (name ≡ codes "log") × (given_text (codes "file") rows ≡ Some path.now)
 
 -- the words give the subcommand that asks for this command
 unfoldable pub IsCommandOf : List Text → Cli → Type 0
-IsCommandOf words cli = IsSomeAnd (subcommand_of command_line words) (λ sub. sub.0 ≡ name_of cli)
-
--- the text that the words give for an option; a default is none
-abbrev pub given_text : Text → List Row → Option Text
-given_text id rows = if is_given id rows then first_of id rows else None
+IsCommandOf words cli = IsSomeAnd (subcommand_of command_line words) (λ sub. Asks sub.0 sub.1 cli)
 
 -- the number that the text writes, or the fallback where there is no text
 abbrev pub IsNumberOr : ℕ → Option Text → ℕ → Type 0

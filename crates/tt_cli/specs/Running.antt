@@ -75,20 +75,23 @@ pub record IsFaultOfSession (fault : RunFault) : Type 0 where
   pub ended : SessionFault
   pub same : fault ≡ fault_of_session ended
 
--- what the command asks for was written: the report, with its options, of a run in one thread or of one in threads, or the answers to all lines that the reader had
+-- what a command without a log asks for was written: the report, with its options, of a run in one thread or of one in threads, or the answers to all lines that the reader had
 abbrev pub WritesBy : Cli → Option (List ℕ) → Option (List ℕ) → Option (List ℕ) → Option (List ℕ) → Type 0
 WritesBy (commands.Replay options) unread left old new = IfSome unread (λ remaining. WritesReport options remaining old new)
 WritesBy (commands.Run options) unread left old new = IfSome unread (λ remaining. WritesSomeReport options.closed remaining old new)
 WritesBy commands.Session unread left old new = session.AnswersAll unread left old new
+WritesBy _ unread left old new = ⊥
 
--- after a fault of what the command asks for
+-- after a fault of what a command without a log asks for
 abbrev pub EndsEarlyBy : Cli → RunFault → Option (List ℕ) → Option (List ℕ) → Option (List ℕ) → Option (List ℕ) → Type 0
 EndsEarlyBy (commands.Replay options) fault unread left old new = IfSome unread (λ remaining. EndsEarly options fault remaining old new)
 EndsEarlyBy (commands.Run options) fault unread left old new = IfSome unread (λ remaining. EndsRunEarly options.closed fault remaining old new)
 EndsEarlyBy commands.Session fault unread left old new = EndsSessionEarly fault unread left old new
+EndsEarlyBy _ fault unread left old new = ⊥
 
 -- the same, whatever was read
 abbrev pub IsFaultBy : Cli → RunFault → Type 0
 IsFaultBy (commands.Replay options) fault = IsFaultOfRun fault
 IsFaultBy (commands.Run options) fault = IsFaultOfThreads fault
 IsFaultBy commands.Session fault = IsFaultOfSession fault
+IsFaultBy _ fault = ⊥

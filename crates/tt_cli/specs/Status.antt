@@ -2,7 +2,10 @@
 use Rattle.std.specs.Prelude.{ℕ, List, ◌++◌, codes, Bool, true, false}
 use Rattle.tt_grammar.specs.declared.fault.DocFault.TheVariants as document_faults
 use Rattle.tt_workload.specs.declared.run_fault.RunFault.{RunFault}
+use Rattle.std.specs.Fmt.{decimal}
 use Rattle.tt_workload.specs.declared.run_fault.RunFault.TheVariants as faults
+use Rattle.tt_cli.specs.declared.log_fault.LogFault.{LogFault}
+use Rattle.tt_cli.specs.declared.log_fault.LogFault.TheVariants as log_faults
 
 -- 1 for what is read, 3 for out of memory, 4 for the store and for what is written
 abbrev pub status_of : RunFault → ℕ
@@ -22,6 +25,24 @@ fault_line (faults.Document document_faults.Memory) = codes "timetravel: want of
 fault_line (faults.Store text) = codes "timetravel: store: " ++ (text ++ codes "\n")
 fault_line faults.Write = codes "timetravel: cannot write standard output\n"
 fault_line faults.Memory = codes "timetravel: want of memory\n"
+
+-- 1 for a log that can't be read or gone on with, 4 for one that can't be written
+abbrev pub status_of_log : LogFault → ℕ
+status_of_log log_faults.Unreadable = 1
+status_of_log log_faults.InUse = 1
+status_of_log (log_faults.Line number) = 1
+status_of_log log_faults.Unwritable = 4
+
+abbrev pub log_fault_line : LogFault → List ℕ
+log_fault_line log_faults.Unreadable = codes "timetravel: cannot read the log\n"
+log_fault_line log_faults.InUse = codes "timetravel: the log is in use\n"
+log_fault_line (log_faults.Line number) = codes "timetravel: log: line " ++ (decimal number ++ codes "\n")
+log_fault_line log_faults.Unwritable = codes "timetravel: cannot write the log\n"
+
+-- a fault whose line has a number
+abbrev pub has_number : LogFault → Bool
+has_number (log_faults.Line number) = true
+has_number _ = false
 
 -- a fault whose line has a text that differs from fault to fault
 abbrev pub has_text : RunFault → Bool

@@ -2,7 +2,8 @@
 ghost use Rattle.std.specs.Prelude.{◌≡◌, IfOk, IfSome, map, string_bytes};
 ghost use Rattle.clap.specs.Words.{FailsBy, app_of, fault_of, rule_of};
 ghost use Rattle.tt_cli.specs.CommandLine.{IsCommandOf, IsBatchOf, IsRoundsOf, IsClosedOf};
-ghost use Rattle.tt_cli.specs.CommandLine.{batch, rounds, closed, replay, run, session};
+ghost use Rattle.tt_cli.specs.CommandLine.{batch, rounds, closed, replay, run};
+ghost use Rattle.tt_cli.specs.CommandLine.{log_option, log_argument, session, log};
 ghost use Rattle.tt_cli.specs.CommandLine.{program, command_line, options_of};
 ghost use Rattle.tt_workload.specs.Options.{AreWithin};
 
@@ -46,7 +47,8 @@ The report goes to standard output: a line for each call, one for the repair and
 that it has changed, one for each table, and a last line. With --closed, one for each table of each
 closed generation that is kept follows the changed replies: its rows at that generation's last
 time.
-`session` reads no such document, but requests: see `timetravel session --help`."#;
+`session` reads no such document, but requests: see `timetravel session --help`. `log` reads the log
+of a session."#;
 
 const LINES: &str =
     r#"Standard input is JSON, one text a line. The first line opens a database; each further line is a
@@ -68,22 +70,35 @@ The members of a write or a select are those of a document. A write is answered 
 its slot, and edits name slots: here the repair cancels slot 2, the update, and `changes` then lists
 the answers that would be others now. There are also requests of the kinds delete, do, abort, slots
 and tables: see docs/SESSION.md.
-The database ends with the input."#;
+The database ends with the input. With --log FILE it is kept in FILE, which is made where there is
+none: a request that changes it is on the disk before it is answered, so the next session on FILE
+has all that was answered, after a crash, too. Its first line is an opening again, with the same
+tables and `keep`, and is answered with what is there."#;
+
+const ABOUT_LOG: &str =
+    r#"What a session with --log FILE has logged: the line that opened it, and that of each request that
+made an entry in its history, in order. FILE stays as it is, and a session may go on with it
+meanwhile. How many lines there are, and how many bytes they have, goes to standard error, and
+whether something else follows them, as a crash leaves it of lines that were being written."#;
 
 /// What the command line asks for.
 #[derive(Clone, Copy)]
-pub enum Cli {
+pub enum Cli<'a> {
     /// A run of the document in one thread.
     Replay(Options),
     /// A run of the document with each worker in a thread of its own.
     Run(Options),
-    /// A session, which answers line by line.
+    /// A session in memory, which answers line by line.
     Session,
+    /// A session whose log is in the file with this path.
+    LoggedSession(&'a str),
+    /// What the log in the file with this path has.
+    Log(&'a str),
 }
 
 /// Reads the words of the command line, the program's name first. An error is a fault of usage,
 /// help or the version that was asked for, or out of memory.
-pub fn command_of<'a>(alloc: Global, words: &'a [String]) -> Result<Cli, Error>
+pub fn command_of<'a>(alloc: Global, words: &'a [String]) -> Result<Cli<'a>, Error>
     ensures kinds { FailsBy (fault_of command_line (map string_bytes words.entry.now)) result }
     ensures command { IfOk result (IsCommandOf (map string_bytes words.entry.now)) }
     ensures within { IfOk result (λ cli. IfSome (options_of cli) AreWithin) }
@@ -100,7 +115,16 @@ pub fn command_of<'a>(alloc: Global, words: &'a [String]) -> Result<Cli, Error>
         unreachable!()
     };
     if name == "session" {
-        return Ok(Cli::Session);
+        let Some(path) = given.get_str("log") else {
+            return Ok(Cli::Session);
+        };
+        return Ok(Cli::LoggedSession(path));
+    }
+    if name == "log" {
+        let Some(path) = given.get_str("file") else {
+            unreachable!()
+        };
+        return Ok(Cli::Log(path));
     }
     let Some(batch) = given.get_one::<u32>("batch") else {
         unreachable!()
@@ -127,7 +151,8 @@ fn command<'a>(alloc: Global) -> Result<Command<'a>, AllocError>
     program(alloc)?
         .subcommand(replay(alloc)?)?
         .subcommand(run(alloc)?)?
-        .subcommand(session(alloc))
+        .subcommand(session(alloc)?)?
+        .subcommand(log(alloc)?)
 }
 
 /// The program's command, without its subcommands.
@@ -168,12 +193,23 @@ fn run<'a>(alloc: Global) -> Result<Command<'a>, AllocError>
 }
 
 /// The subcommand that answers line by line.
-fn session<'a>(alloc: Global) -> Command<'a>
-    ensures { app_of result ≡ session }
+fn session<'a>(alloc: Global) -> Result<Command<'a>, AllocError>
+    ensures { IfOk result (λ command. app_of command ≡ session) }
 {
     Command::new(alloc, "session")
         .about("Holds a live database, and answers each line of standard input")
         .after_help(LINES)
+        .arg(log_option(alloc))
+}
+
+/// The subcommand that prints a log.
+fn log<'a>(alloc: Global) -> Result<Command<'a>, AllocError>
+    ensures { IfOk result (λ command. app_of command ≡ log) }
+{
+    Command::new(alloc, "log")
+        .about("Prints the lines that a session with --log FILE has logged")
+        .after_help(ABOUT_LOG)
+        .arg(log_argument(alloc))
 }
 
 /// The option `--batch`.
@@ -200,6 +236,28 @@ fn rounds<'a>(alloc: Global) -> Arg<'a>
         .value_parser(clap::value_parser!(u32).range(0..=1_000))
         .default_value("8")
         .help("The most rounds of catching up before a repair is finished, 0 to 1,000")
+}
+
+/// The option `--log`.
+fn log_option<'a>(alloc: Global) -> Arg<'a>
+    ensures { rule_of result ≡ log_option }
+{
+    Arg::new(alloc, "log")
+        .long("log")
+        .action(ArgAction::Set)
+        .value_name("FILE")
+        .help("Keeps the database in FILE, and goes on with what is there")
+}
+
+/// The argument `FILE` of `log`.
+fn log_argument<'a>(alloc: Global) -> Arg<'a>
+    ensures { rule_of result ≡ log_argument }
+{
+    Arg::new(alloc, "file")
+        .action(ArgAction::Set)
+        .required(true)
+        .value_name("FILE")
+        .help("The log of a session")
 }
 
 /// The option `--closed`.

@@ -1,5 +1,6 @@
 //! The ending of the program, and its status.
 
+use crate::log_fault::LogFault;
 use crate::status::status_of;
 use clap::error::ErrorKind;
 use std::io;
@@ -19,6 +20,8 @@ pub enum Ending {
     WordNotText,
     /// The run or the session failed.
     Fault(RunFault),
+    /// The log of a session can't be used.
+    LogFault(LogFault),
     /// No memory was left to read the command line or to build the line of a fault.
     OutOfMemory,
 }
@@ -37,6 +40,7 @@ impl Ending {
             Ending::Done | Ending::Help => 0,
             Ending::Usage | Ending::WordNotText => 2,
             Ending::Fault(fault) => status_of(fault),
+            Ending::LogFault(fault) => fault.status(),
             Ending::OutOfMemory => 3,
         }
     }

@@ -2,13 +2,15 @@
 ghost use Rattle.std.specs.Prelude.{◌≡◌, OnOk, OnErr, IfErr};
 ghost use Rattle.std.specs.IoError.{error_kind};
 ghost use Rattle.clap.specs.Values.{kind_of};
-ghost use Rattle.tt_cli.specs.Ending.{IsEndingOfFault, IsEndingOfUsage, ending_of_words};
+ghost use Rattle.tt_cli.specs.Ending.{IsEndingOfFault, IsEndingOfLog, IsEndingOfUsage, ending_of_words};
 
 use crate::ending::Ending;
+use crate::log_fault::LogFault;
 use crate::status::fault_line;
 use std::alloc::AllocError;
 use std::borrow::CowStr;
 use std::io;
+use tt_log::LogSummary;
 use tt_workload::RunFault;
 
 /// Prints the line of the fault of a run or a session, if it had one.
@@ -27,25 +29,46 @@ pub fn print_fault(rt: &(impl Eprint + AllocGlobal), fault: RunFault) -> Ending
     ensures { IsEndingOfFault fault result }
 {
     let line = fault_line(rt.alloc(), &fault);
-    print_line(rt, fault, line)
+    print_line(rt, Ending::Fault(fault), line)
 }
 
-/// Prints the line of a fault where there was memory for it.
+/// Prints the line of the fault of a log.
+pub fn print_log_fault(rt: &(impl Eprint + AllocGlobal), fault: LogFault) -> Ending
+    ensures { IsEndingOfLog fault result }
+{
+    print_line(rt, Ending::LogFault(fault), fault.line(rt.alloc()))
+}
+
+/// Prints the line of an ending where there was memory for it.
 pub fn print_line(
     rt: &impl Eprint,
-    fault: RunFault,
+    ending: Ending,
     line: Result<CowStr<'static>, AllocError>,
 ) -> Ending
-    ensures printed { OnOk line.entry (result ≡ Ending.Fault fault) }
+    ensures printed { OnOk line.entry (result ≡ ending) }
     ensures out_of_memory { OnErr line.entry (result ≡ Ending.OutOfMemory) }
 {
     match line {
         Ok(line) => {
             let _ = eprint!(rt; "{line}");
-            Ending::Fault(fault)
+            ending
         }
         Err(AllocError) => print_out_of_memory(rt),
     }
+}
+
+/// Prints what a log has.
+pub fn print_summary(rt: &impl Eprint, summary: &LogSummary) {
+    let LogSummary {
+        lines,
+        bytes,
+        is_torn,
+    } = summary;
+    let rest = match is_torn {
+        true => ", and a torn rest that counts for nothing",
+        false => "",
+    };
+    let _ = eprintln!(rt; "timetravel: lines: {lines}, bytes: {bytes}{rest}");
 }
 
 fn print_out_of_memory(rt: &impl Eprint) -> Ending

@@ -1,4 +1,5 @@
-//! What the commands do: the two runs of a document, in threads and in one thread, and a session.
+//! What the commands do: the two runs of a document, in threads and in one thread, and a session in
+//! memory.
 ghost use Rattle.std.specs.Prelude.{◌≡◌, ◌≢◌, IfOk, IfErr, IfSome, OnOk};
 ghost use Rattle.std.specs.Io.KnownBytes.{Keeps};
 ghost use Rattle.tt_document.specs.Document.{IsValidDocument};
@@ -7,12 +8,9 @@ ghost use Rattle.tt_workload.specs.Ends.{max_bytes_read, ConsumesAtMost};
 ghost use Rattle.tt_workload.specs.Options.{AreWithin};
 ghost use Rattle.tt_workload.specs.Run.{WritesReport, EndsEarly, IsFaultOfRun};
 ghost use Rattle.tt_workers.specs.Faults.{IsStoreFault};
-ghost use Rattle.tt_cli.specs.CommandLine.{options_of};
 ghost use Rattle.tt_cli.specs.Running.{IsTextOfRun, WritesSomeReport, EndsRunEarly};
 ghost use Rattle.tt_cli.specs.Running.{EndsSessionEarly, fault_of_session, IsFaultOfThreads};
-ghost use Rattle.tt_cli.specs.Running.{WritesBy, EndsEarlyBy, IsFaultBy};
 
-use crate::command_line::Cli;
 use std::alloc::Global;
 use std::io::{Read, Write};
 use std::sync::Wait;
@@ -21,36 +19,6 @@ use tt_session::{SessionFault, run_session_to_end};
 use tt_store::NoGate;
 use tt_workers::{run_workers, text_of_report};
 use tt_workload::{Document, Options, RunFault, read_document, run_to_end, write_text};
-
-/// Does what is asked for: runs the document of a reader, with the options, and writes the report,
-/// nothing of it before the whole report is known; or answers the reader's lines.
-pub fn run_by<R: Read, W: Write>(
-    rt: &(impl Threads + Wait + Sync),
-    alloc: Global,
-    reader: &mut R,
-    writer: &mut W,
-    cli: &Cli,
-) -> Result<(), RunFault>
-    requires options { IfSome (options_of cli.now) AreWithin }
-    ensures ok { OnOk result (WritesBy cli.now (R.remaining reader.old) (R.remaining reader.new)
-        (W.contents writer.old) (W.contents writer.new)) }
-    ensures err { IfErr result (λ e.
-        EndsEarlyBy cli.now e (R.remaining reader.old) (R.remaining reader.new)
-        (W.contents writer.old) (W.contents writer.new)) }
-    ensures kind { IfErr result (IsFaultBy cli.now) }
-
-    // Of a document.
-    ensures unchanged { cli.now ≢ Cli.Session → IfErr result (λ e.
-        e ≢ RunFault.Write → Keeps (W.contents writer.old) (W.contents writer.new)) }
-    ensures limit { cli.now ≢ Cli.Session → ConsumesAtMost max_bytes_read
-        (R.remaining reader.old) (R.remaining reader.new) }
-{
-    match cli {
-        Cli::Replay(options) => replay(alloc, reader, writer, options),
-        Cli::Run(options) => run_in_threads(rt, alloc, reader, writer, options),
-        Cli::Session => answer_lines(alloc, reader, writer),
-    }
-}
 
 /// Runs the document of a reader in threads, and writes its report.
 pub fn run_in_threads<R: Read, W: Write>(
@@ -126,7 +94,7 @@ pub fn replay<R: Read, W: Write>(
 
 /// Leaks the memory of a run or a session: releasing it piece by piece takes long, and the system
 /// takes it back as a whole when the program ends.
-fn leak<T: Drop>(alloc: Global, end: T) {
+pub fn leak<T: Drop>(alloc: Global, end: T) {
     if let Ok(last) = Box::new(alloc, end) {
         let _ = Box::leak(last);
     }

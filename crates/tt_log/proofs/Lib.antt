@@ -3,6 +3,7 @@ pub mod MomentLemmas
 mod PendingLemmas
 mod ReadingLemmas
 mod RestLemmas
+mod ShowLemmas
 mod StepLemmas
 mod TornLemmas
 mod WriteLemmas

@@ -44,6 +44,10 @@ pub record LeavesOnly {D : Type 0} (moment : D → ℕ) (left_since : D → ℕ 
   -- for what began earlier
   pub before : (t : ℕ) (c : Left) → t ≤ moment old → left_since new t c → left_since old t c ⊎ P c
 
+-- of these bytes the first ones have been handed over
+abbrev pub ShowsFirst : List ℕ → List ℕ → List ℕ → Type 0
+ShowsFirst old new bytes = (n : ℕ) × (new ≡ old ++ take n bytes)
+
 -- an error is counted: it comes only where the device has failed once more
 pub record CountsFailure {T : Type 0} (before now : ℕ) (result : Result T DeviceError) : Type 0 where
   pub later : before ≤ now

@@ -3,3 +3,4 @@ pub mod Device
 pub mod Lines
 pub mod Log
 pub mod Reading
+pub mod Show

@@ -1,7 +1,7 @@
 //! What a log is kept on.
 ghost use Rattle.std.specs.Prelude.{◌≡◌, ◌↔◌, ◌≤◌, ◌+◌, ◌++◌, List, ℕ, length, take, drop, IfOk, OnOk};
 ghost use Rattle.tt_log.specs.Crash.{written_over, MayBeWritten, MayBeLonger};
-ghost use Rattle.tt_log.specs.Device.{Left, Only, AllAsLong, NothingNew, Follows, Now, NowShowing, Elapses, CountsFailure};
+ghost use Rattle.tt_log.specs.Device.{Left, Only, AllAsLong, NothingNew, Follows, Now, NowShowing, Elapses, CountsFailure, ShowsFirst};
 ghost use Rattle.tt_log.specs.Lines.{zeros};
 
 use thiserror::Error;
@@ -14,8 +14,8 @@ pub struct DeviceError;
 /// A file, and an output that answers are handed over to, under one clock: a crash leaves the file
 /// as it may be at that moment, and what had been handed over by then.
 ///
-/// The clauses speak of devices that tell what a crash may leave. One in memory can; a real file
-/// can't, and implements this trait with `tells` never true: of it nothing is proved.
+/// The clauses speak of devices that tell what a crash may leave. A real file can't, and implements
+/// this trait with `tells` never true: of it nothing is proved.
 pub trait Device {
     /// That it tells what its file holds, what has been handed over, and what a crash may leave.
     ghost tells: { Self → Type 0 };
@@ -38,18 +38,19 @@ pub trait Device {
     /// How often the device has failed.
     ghost failures: { Self → ℕ };
 
-    /// The length of the file, in bytes.
+    /// The length of the file, in bytes. An error changes nothing.
     fn length(&self) -> Result<u64, DeviceError>
         ensures { tells self.now → IfOk result (λ n. n ≡ length (seen self.now)) };
 
-    /// Fills a buffer with the bytes of the file from a place on.
+    /// Fills a buffer with the bytes of the file from a place on. After an error nothing is known
+    /// of the buffer, and the file is as before.
     fn read_at(&self, at: u64, buffer: &mut [u8]) -> Result<(), DeviceError>
         requires { tells self.now → at + length buffer.old ≤ length (seen self.now) }
         ensures { tells self.now → OnOk result
             (buffer.new ≡ take (length buffer.old) (drop at (seen self.now))) };
 
-    /// Writes over bytes that are there. Until the next sync, a crash may leave the old byte or the
-    /// new one at each place.
+    /// Writes over bytes that are there. Until the next sync, and after an error, a crash may leave
+    /// the old byte or the new one at each place.
     fn write_at(&mut self, at: u64, bytes: &[u8]) -> Result<(), DeviceError>
         requires within { tells self.old → at + length bytes.now ≤ length (seen self.old) }
 
@@ -67,12 +68,13 @@ pub trait Device {
         ensures failed { tells self.old
             → CountsFailure (failures self.old) (failures self.new) result };
 
-    /// Makes the file longer by bytes 0, up to a length. Until the next sync, a crash may leave any
-    /// length from the old one on up to the new one.
+    /// Makes the file longer by bytes 0, up to a length. Until the next sync, and after an error, a
+    /// crash may leave any length from the old one on up to the new one.
     fn grow(&mut self, len: u64) -> Result<(), DeviceError>
         requires { tells self.old → length (seen self.old) ≤ len }
         ensures tells { tells self.old ↔ tells self.new }
-        ensures grown { tells self.old → OnOk result (MayBeLonger len (seen self.old) (seen self.new)) }
+        ensures grown { tells self.old → OnOk result
+            (MayBeLonger len (seen self.old) (seen self.new)) }
         ensures len { tells self.old → OnOk result (length (seen self.new) ≡ len) }
         ensures shown { tells self.old → shown self.new ≡ shown self.old }
         ensures crash { tells self.old → Follows (MayBeLonger len)
@@ -98,11 +100,13 @@ pub trait Device {
         ensures failed { tells self.old
             → CountsFailure (failures self.old) (failures self.new) result };
 
-    /// Hands bytes over to the output, from the first on.
+    /// Hands bytes over to the output, from the first on. After an error the first ones may be
+    /// handed over.
     fn hand_over(&mut self, bytes: &[u8]) -> Result<(), DeviceError>
         ensures tells { tells self.old ↔ tells self.new }
         ensures shown { tells self.old → OnOk result
             (shown self.new ≡ shown self.old ++ bytes.now) }
+        ensures first { tells self.old → ShowsFirst (shown self.old) (shown self.new) bytes.now }
         ensures seen { tells self.old → seen self.new ≡ seen self.old }
         ensures crash { tells self.old → NothingNew (may_leave self.old) (may_leave self.new) }
         ensures time { tells self.old → Elapses (moment self.old) (moment self.new)

@@ -9,8 +9,8 @@ use tt_streams::{MAX_RETRIES, write_text};
 
 /// A file of the operating system, and a writer that answers are handed over to.
 ///
-/// It tells nothing: that a file, its kernel and its disk keep what the clauses of [`Device`] say is
-/// trusted, and no proof shows it.
+/// It tells nothing: that a file, its kernel and its disk keep what the clauses of [`Device`] say
+/// is trusted, and no proof shows it.
 #[derive(Drop)]
 pub struct FileDevice<W: Write> {
     file: File,
@@ -20,7 +20,8 @@ pub struct FileDevice<W: Write> {
 }
 
 impl<W: Write> FileDevice<W> {
-    /// A file that is open for reading and writing, and that no other process writes.
+    /// A file that is open for reading and, unless it is only looked at, for writing; then no other
+    /// process may write it.
     pub fn new(file: File, output: W) -> FileDevice<W> {
         FileDevice {
             file,

@@ -7,6 +7,7 @@ mod lines;
 mod log;
 mod log_error;
 mod rest;
+mod show;
 mod unread_log;
 
 pub use device::{Device, DeviceError};
@@ -14,4 +15,5 @@ pub use file_device::FileDevice;
 pub use lines::{LineError, Lines};
 pub use log::Log;
 pub use log_error::LogError;
+pub use show::{LogSummary, show_log};
 pub use unread_log::UnreadLog;

@@ -1,7 +1,7 @@
 //! A log that is written.
 ghost use Rattle.std.specs.Prelude.{◌≡◌, ◌≢◌, ◌↔◌, ◌+◌, ◌++◌, ◌<◌, ◌≤◌, ◌^◌, length, IfOk, IfErr, OnOk, IsErrOf};
 ghost use Rattle.tt_log.specs.Lines.{logged, joined};
-ghost use Rattle.tt_log.specs.Device.{LeavesOnly};
+ghost use Rattle.tt_log.specs.Device.{LeavesOnly, ShowsFirst};
 
 use crate::{Device, Lines, LogError};
 
@@ -49,8 +49,9 @@ impl<D: Device> Log<D> {
         self.device
     }
 
-    /// Writes lines behind those that are there, and syncs them: after `Ok` a crash leaves them all.
-    /// Where there are none, nothing is done.
+    /// Writes lines behind those that are there, and syncs them: after `Ok` a crash leaves them
+    /// all. Where there are none, nothing is done. After an error some of the first ones may be
+    /// there, or none.
     pub fn append(&mut self, lines: &Lines) -> Result<(), LogError>
         requires { D.tells self.old.device → IsSettled D.seen D.may_leave self.old }
         ensures tells { D.tells self.old.device ↔ D.tells self.new.device }
@@ -88,7 +89,8 @@ impl<D: Device> Log<D> {
         Ok(())
     }
 
-    /// Appends lines, and only then hands the answers over.
+    /// Appends lines, and only then hands the answers over. After `HandOver` all lines are logged,
+    /// and the first bytes of the answers may be handed over; after any other error none is.
     pub fn hand_over(&mut self, lines: &Lines, answers: &[u8]) -> Result<(), LogError>
         requires { D.tells self.old.device → IsSettled D.seen D.may_leave self.old }
         ensures tells { D.tells self.old.device ↔ D.tells self.new.device }
@@ -104,6 +106,9 @@ impl<D: Device> Log<D> {
             self.old.device self.new.device
             (KeepsAnswered (logged (D.seen self.old.device)) lines.now
             (D.shown self.old.device) answers.now) }
+
+        ensures first { D.tells self.old.device → ShowsFirst
+            (D.shown self.old.device) (D.shown self.new.device) answers.now }
 
         // Where the file failed, nothing was handed over; where the output failed, all is logged.
         ensures unshown { D.tells self.old.device → IfErr result (λ e. e ≢ LogError.HandOver

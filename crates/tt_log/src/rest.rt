@@ -1,5 +1,5 @@
 //! What stands behind the lines of a file, and is overwritten by bytes 0.
-ghost use Rattle.std.specs.Prelude.{◌≡◌, ◌↔◌, ◌+◌, ◌-◌, ◌<◌, ◌≤◌, ◌++◌, ℕ, List, length, min, IfOk, IfErr, OnOk, OnErr, IsErrOf, IsTrue};
+ghost use Rattle.std.specs.Prelude.{◌≡◌, ◌↔◌, ◌+◌, ◌-◌, ◌<◌, ◌≤◌, ◌++◌, ℕ, List, length, min, IfOk, IfErr, OnOk, OnErr, IsErrOf, IsTrue, false};
 ghost use Rattle.tt_log.specs.Crash.{written_over};
 ghost use Rattle.tt_log.specs.Device.{Only, LeavesOnly};
 ghost use Rattle.tt_log.specs.Lines.{logged, joined, zeros};
@@ -7,8 +7,8 @@ ghost use Rattle.tt_log.specs.Log.{IsAtRest, Keeps};
 
 use crate::{Device, LogError};
 
-/// Overwrites by bytes 0 what stands behind the lines of a file, if there are other bytes, and syncs
-/// that. The lines end here, and the file has this length. A crash at any moment leaves the lines.
+/// Overwrites by bytes 0 what stands behind the lines of a file, if there are other bytes, and
+/// syncs that. The lines end here, and the file has this length. A crash at any moment leaves the lines.
 pub(crate) fn clear_rest<D: Device>(
     device: &mut D,
     end: u64,
@@ -34,6 +34,7 @@ pub(crate) fn clear_rest<D: Device>(
     ensures failures { D.tells device.old → D.failures device.old ≤ D.failures device.new }
     ensures write { D.tells device.old → IsErrOf result LogError.Write
         → D.failures device.old < D.failures device.new }
+    ensures read { IsErrOf result LogError.Read → device.new ≡ device.old }
     ensures no_full { IsErrOf result LogError.Full → ⊥ }
     ensures no_hand_over { IsErrOf result LogError.HandOver → ⊥ }
 {
@@ -47,12 +48,20 @@ pub(crate) fn clear_rest<D: Device>(
 }
 
 /// Whether each byte of a file from a place on is 0. The file has this length.
-fn is_clear<D: Device>(device: &D, from: u64, len: u64, buffer: &mut [u8]) -> Result<bool, LogError>
+pub(crate) fn is_clear<D: Device>(
+    device: &D,
+    from: u64,
+    len: u64,
+    buffer: &mut [u8],
+) -> Result<bool, LogError>
     requires some { 0 < length buffer.old }
     requires within { from ≤ len }
     requires len { D.tells device.now → len ≡ length (D.seen device.now) }
     ensures clear { D.tells device.now → IfOk result (λ b. IsTrue b
         → D.seen device.now ≡ written_over (D.seen device.now) from (zeros (len - from))) }
+    ensures other { D.tells device.now → IfOk result (λ b. b ≡ false
+        → D.seen device.now ≡ written_over (D.seen device.now) from (zeros (len - from)) → ⊥) }
+    ensures some { 0 < length buffer.new }
     ensures read { IfErr result (λ e. e ≡ LogError.Read) }
 {
     let mut at = from;
@@ -114,7 +123,8 @@ pub(crate) fn piece_len(most: usize, left: u64) -> usize
 
 /// Whether each byte is 0.
 fn is_zeros(bytes: &[u8]) -> bool
-    ensures { IsTrue result → bytes.now ≡ zeros (length bytes.now) }
+    ensures zeros { IsTrue result → bytes.now ≡ zeros (length bytes.now) }
+    ensures other { result ≡ false → bytes.now ≡ zeros (length bytes.now) → ⊥ }
 {
     bytes.iter().all(|b| *b == 0)
 }

@@ -27,8 +27,9 @@ impl<D: Device> UnreadLog<D> {
     ghost use Rattle.tt_log.specs.Log.{IsSettled, Keeps, KeepsOnceSynced};
     ghost use Rattle.tt_log.specs.Reading.{unread, IsReading};
 
-    /// Opens a log. Its file is synced first: what a process has written that was killed may be read
-    /// and not be on the disk. An error gives the device back.
+    /// Opens a log. Its file is synced first: what a process has written that was killed may be
+    /// read and not be on the disk. It is `Write` if that fails, and `Read` if the length can't be
+    /// told; either gives the device back.
     pub fn open(device: D) -> Result<UnreadLog<D>, (LogError, D)>
         ensures tells { IfOk result (λ log. D.tells device ↔ D.tells log.device) }
         ensures reading { IfOk result (λ log. D.tells device → IsReading D.seen D.may_leave log) }
@@ -45,6 +46,9 @@ impl<D: Device> UnreadLog<D> {
         ensures any_moment_err { IfErr result (λ e. D.tells device
             → LeavesOnly D.moment D.left_since device e.1 (KeepsOnceSynced (D.may_leave device)
             (logged (D.seen device)) (D.shown device))) }
+        ensures shown_err { IfErr result (λ e. D.tells device → D.shown e.1 ≡ D.shown device) }
+        ensures seen_err { IfErr result (λ e. D.tells device → e.0 ≡ LogError.Read
+            → D.seen e.1 ≡ D.seen device) }
         ensures failures { IfOk result (λ log. D.tells device
             → D.failures device ≤ D.failures log.device) }
         ensures write { IfErr result (λ e. D.tells device → e.0 ≡ LogError.Write
@@ -140,7 +144,9 @@ impl<D: Device> UnreadLog<D> {
     }
 
     /// Ends the reading: what stands behind the last line is overwritten by bytes 0, if there are
-    /// others. Where the file fails, a crash leaves the same lines. The buffer is used on the way.
+    /// others. It is `Read` if these can't be read, with the file as it was, and `Write` if they
+    /// can't be overwritten; either gives the device back, and a crash leaves the same lines. The
+    /// buffer is used on the way.
     pub fn settle(self, buffer: &mut [u8]) -> Result<Log<D>, (LogError, D)>
         requires some { 0 < length buffer.old }
         requires reading { D.tells self.device → IsReading D.seen D.may_leave self }
@@ -160,6 +166,10 @@ impl<D: Device> UnreadLog<D> {
         ensures any_moment_err { IfErr result (λ e. D.tells self.device
             → LeavesOnly D.moment D.left_since self.device e.1
             (Keeps (logged (D.seen self.device)) (D.shown self.device))) }
+        ensures shown_err { IfErr result (λ e. D.tells self.device
+            → D.shown e.1 ≡ D.shown self.device) }
+        ensures seen_err { IfErr result (λ e. D.tells self.device → e.0 ≡ LogError.Read
+            → D.seen e.1 ≡ D.seen self.device) }
         ensures failures { IfOk result (λ log. D.tells self.device
             → D.failures self.device ≤ D.failures log.device) }
         ensures write { IfErr result (λ e. D.tells self.device → e.0 ≡ LogError.Write
@@ -185,13 +195,13 @@ impl<D: Device> UnreadLog<D> {
 /// How many of some bytes stand before the first 0, and how many of these the lines have that end
 /// in them, with their line feeds.
 #[derive(Clone, Copy)]
-struct Extent {
-    taken: usize,
-    end: usize,
+pub(crate) struct Extent {
+    pub(crate) taken: usize,
+    pub(crate) end: usize,
 }
 
 /// Looks for lines among some bytes.
-fn extent_of(bytes: &[u8]) -> Extent
+pub(crate) fn extent_of(bytes: &[u8]) -> Extent
     ensures taken { result.taken ≡ length (text bytes.now) }
     ensures end { result.end ≡ length (joined (logged bytes.now)) }
     ensures within { result.taken ≤ length bytes.now }

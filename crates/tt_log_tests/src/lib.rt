@@ -22,4 +22,6 @@ mod same;
 #[cfg(test)]
 mod sessions;
 #[cfg(test)]
+mod shows;
+#[cfg(test)]
 mod starts;

@@ -18,6 +18,7 @@ pub mod RunningLemmas
 pub mod OnLogLemmas
 pub mod ReopeningLemmas
 pub mod RestoringLemmas
+pub mod ReplayLemmas
 pub mod LoggedSessionLemmas
 pub mod EndingLemmas
 pub mod RecordLemmas

@@ -1,8 +1,8 @@
 -- What a crash leaves of a session whose lines are logged.
-use Rattle.std.proofs.Common.{◌≡◌, ℕ, ◌+◌, ◌≤◌, ◌^◌, List, [], ◌++◌, length, take, append-nil, append_assoc, length-append, inl, inr, Result, Err, refl, sym, ap, ◌∙◌, subst, arith}
+use Rattle.std.proofs.Common.{◌≡◌, ℕ, ◌+◌, ◌≤◌, ◌^◌, List, [], ◌++◌, length, take, append-nil, append_assoc, length-append, inl, inr, Option, Result, Err, refl, sym, ap, ◌∙◌, subst, arith}
 use Rattle.std.proofs.Math.Seq.{take-append-add, take-length}
 use Rattle.std.proofs.lemmas.List.{take-append-le}
-use Rattle.tt_log.specs.Device.{Left, Now, Only}
+use Rattle.tt_log.specs.Device.{Left, Now, Only, ShowsFirst}
 use Rattle.tt_log.specs.Lines.{logged, joined}
 use Rattle.tt_log.specs.Log.{KeepsFirst, KeepsAnswered}
 use Rattle.tt_log.specs.declared.log_error.LogError.{LogError}
@@ -92,29 +92,30 @@ module _ (start : Session) (lines : List (List ℕ)) (over kept : List LineRead)
     all_there = omega (arith, ap length all_lines, length-append (logged_of start over) new);
   }
 
+  -- and the first bytes of them
+  pub shown-first : (after : List ℕ) → ShowsFirst shown_now after text → ShowsFirst shown after (turns_of start (over ++ kept)).text
+  shown-first after (n, is) = (
+    length (turns_of start over).text + n,
+    is ∙ ap (λ t. t ++ take n text) shown_now_is ∙ append_assoc shown (turns_of start over).text (take n text)
+        ∙ ap (λ t. shown ++ t) (sym (take-append-add (turns_of start over).text text n) ∙ ap (take (length (turns_of start over).text + n)) (sym all_text)),
+  )
+
   pub shown-all : (after : List ℕ) → after ≡ shown_now ++ text → after ≡ shown ++ (turns_of start (over ++ kept)).text
   shown-all after is = is ∙ ap (λ t. t ++ text) shown_now_is ∙ append_assoc shown (turns_of start over).text text ∙ ap (λ t. shown ++ t) (sym all_text)
 
   pub lines-all : (after : List (List ℕ)) → after ≡ lines_now ++ new → after ≡ lines ++ logged_of start (over ++ kept)
   lines-all after is = is ∙ ap (λ ls. ls ++ new) lines_now_are ∙ append_assoc lines (logged_of start over) new ∙ ap (λ ls. lines ++ ls) (sym all_lines)
 
--- more lines don't fit either
-pub full-more : (lines more : List (List ℕ)) → IsFull lines → IsFull (lines ++ more)
-full-more lines more full = omega (arith, full, ap length (joined-append lines more), length-append (joined lines) (joined more))
-
--- the log of a session is full, and would be with further lines
-pub full-stopped : (start : Session) (lines : List (List ℕ)) (reads more : List LineRead) (lines_now new : List (List ℕ)) (end : ℕ) → lines_now ++ new ≡ lines ++ logged_of start reads → end ≡ length (joined lines_now)
-    → 2 ^ 60 ≤ end + length (joined new) → IsFull (lines ++ logged_of start (reads ++ more))
-full-stopped start lines reads more lines_now new end all end_is much =
-    let later = logged_of (turns_of start reads).session more in
-    let whole : (lines_now ++ new) ++ later ≡ lines ++ logged_of start (reads ++ more) =
-    ap (λ ls. ls ++ later) all ∙ append_assoc lines (logged_of start reads) later ∙ ap (λ ls. lines ++ ls) (sym (logged_of-append start reads more)) in
+-- the log of a session is full
+pub full-stopped : (start : Session) (lines : List (List ℕ)) (reads : List LineRead) (lines_now new : List (List ℕ)) (end : ℕ) → lines_now ++ new ≡ lines ++ logged_of start reads → end ≡ length (joined lines_now)
+    → 2 ^ 60 ≤ end + length (joined new) → IsFull (lines ++ logged_of start reads)
+full-stopped start lines reads lines_now new end all end_is much =
     let full : IsFull (lines_now ++ new) = omega (arith, much, end_is, ap length (joined-append lines_now new), length-append (joined lines_now) (joined new)) in
-    subst IsFull whole (full-more (lines_now ++ new) later full)
+    subst IsFull all full
 
 -- why a log has failed
-pub why-stopped : {A : Type 0} (result : Result A LogError) (error : LogError) (P : Type 0) → result ≡ Err error → (result ≡ Err errors.Write → P) → (result ≡ Err errors.HandOver → P)
-    → (result ≡ Err errors.Full → P) → (result ≡ Err errors.Read → ⊥) → P
+pub why-stopped : {A : Type 0} (result : Result A LogError) (error : LogError) (P : LogError → Type 0) → result ≡ Err error → (result ≡ Err errors.Write → P errors.Write)
+    → (result ≡ Err errors.HandOver → P errors.HandOver) → (result ≡ Err errors.Full → P errors.Full) → (result ≡ Err errors.Read → ⊥) → P error
 why-stopped result errors.Write P is write hand_over full read = write is
 why-stopped result errors.HandOver P is write hand_over full read = hand_over is
 why-stopped result errors.Full P is write hand_over full read = full is
@@ -139,5 +140,7 @@ handed-none of may_leave device start told durable only_now = record {
 pub handed-of : {D : Type 0} (of : Telling D) (a b c d : D) (start : Session) (reads : List LineRead) → a ≡ b → c ≡ d → HandedOnLog of a c start reads → HandedOnLog of b d start reads
 handed-of of a b c d start reads first last p = subst (λ x. HandedOnLog of x d start reads) first (subst (λ x. HandedOnLog of a x start reads) last p)
 
-pub stopped-of : {D : Type 0} (of : Telling D) (a b c d : D) (start : Session) (reads : List LineRead) → a ≡ b → c ≡ d → StoppedOnLog of a c start reads → StoppedOnLog of b d start reads
-stopped-of of a b c d start reads first last p = subst (λ x. StoppedOnLog of x d start reads) first (subst (λ x. StoppedOnLog of a x start reads) last p)
+pub stopped-of : {D : Type 0} (error told : Option LogError) (of : Telling D) (a b c d : D) (start : Session) (reads : List LineRead) → error ≡ told → a ≡ b → c ≡ d → StoppedOnLog error of a c start reads
+    → StoppedOnLog told of b d start reads
+stopped-of error told of a b c d start reads same first last p =
+    subst (λ e. StoppedOnLog e of b d start reads) same (subst (λ x. StoppedOnLog error of x d start reads) first (subst (λ x. StoppedOnLog error of a x start reads) last p))

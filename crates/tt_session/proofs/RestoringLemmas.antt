@@ -26,19 +26,19 @@ use Rattle.tt_session.proofs.RunningLemmas.{turns-session, cuts-more, cuts-line,
 
 -- ---- lines of a log
 
-kept-append : (lines : List (List ℕ)) (line : List ℕ) → map kept_line (lines ++ line ∷ []) ≡ map kept_line lines ++ kept_line line ∷ []
+pub kept-append : (lines : List (List ℕ)) (line : List ℕ) → map kept_line (lines ++ line ∷ []) ≡ map kept_line lines ++ kept_line line ∷ []
 kept-append lines line = map-append kept_line lines (line ∷ [])
 
-after-append : (lines : List (List ℕ)) (line : List ℕ) → after_lines (lines ++ line ∷ []) ≡ (turn_of_read (after_lines lines) (kept_line line)).session
+pub after-append : (lines : List (List ℕ)) (line : List ℕ) → after_lines (lines ++ line ∷ []) ≡ (turn_of_read (after_lines lines) (kept_line line)).session
 after-append lines line = ap (λ rs. (turns_of NotOpen rs).session) (kept-append lines line) ∙ turns-session NotOpen (map kept_line lines) (kept_line line ∷ [])
 
-logged-append : (lines : List (List ℕ)) (line : List ℕ) → AreLogged lines → makes_entry (after_lines lines) (turn_of_read (after_lines lines) (kept_line line)).session ≡ true → AreLogged (lines ++ line ∷ [])
+pub logged-append : (lines : List (List ℕ)) (line : List ℕ) → AreLogged lines → makes_entry (after_lines lines) (turn_of_read (after_lines lines) (kept_line line)).session ≡ true → AreLogged (lines ++ line ∷ [])
 logged-append lines line are made =
     ap (logged_of NotOpen) (kept-append lines line) ∙ logged_of-append NotOpen (map kept_line lines) (kept_line line ∷ [])
     ∙ (λ i. are i ++ with_line_if (made i) line [])
 
 -- what a line makes of a session, where it is neither passed over nor too long
-read-value : (session : Session) (line : List ℕ) → is_passed_over line ≡ false → turn_of_read session (kept_line line) ≡ turn_by_value session (value_of_line line)
+pub read-value : (session : Session) (line : List ℕ) → is_passed_over line ≡ false → turn_of_read session (kept_line line) ≡ turn_by_value session (value_of_line line)
 read-value session line told = read-kept session line ∙ (rw told refl)
 
 -- ---- a session that is being read back

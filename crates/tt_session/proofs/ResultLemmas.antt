@@ -25,3 +25,7 @@ and_results (Err e) p q s f = tt
 pub err_at : {A E P : Type 0} (F : E → Type 0) (r : Result A E) (error : E) → IfErr r (λ e. e ≡ error) → OnErr r P → (P → F error) → IfErr r F
 err_at F (Ok a) error is p f = tt
 err_at F (Err e) error is p f = subst F (sym is) (f p)
+
+-- what holds of an error holds of the one that there is
+pub at_err : {A E : Type 0} (F : E → Type 0) (r : Result A E) (error : E) → r ≡ Err error → IfErr r F → F error
+at_err F r error is p = subst (λ x. IfErr x F) is p

@@ -1,5 +1,5 @@
 -- Why a session with a log ends.
-use Rattle.std.specs.Prelude.{◌≡◌, ◌⊎◌}
+use Rattle.std.specs.Prelude.{Option, Some}
 use Rattle.tt_log.specs.declared.log_error.LogError.{LogError}
 use Rattle.tt_log.specs.declared.log_error.LogError.TheVariants as errors
 use Rattle.tt_session.specs.declared.run.SessionFault.{SessionFault}
@@ -20,8 +20,13 @@ abbrev pub fault_at_start : LogError → LoggedFault
 fault_at_start errors.Read = faults.LogRead
 fault_at_start error = faults.LogWrite
 
--- the reader failed, or the log or its output
-abbrev pub IsFaultOf : SessionFault → LoggedFault → Type 0
-IsFaultOf ends.Read fault = fault ≡ faults.Read
-IsFaultOf ends.Memory fault = fault ≡ faults.Memory
-IsFaultOf ends.Write fault = (fault ≡ faults.Write) ⊎ (fault ≡ faults.LogWrite)
+-- the outlet has failed, for this error of the log
+abbrev pub fault_of_outlet : Option LogError → LoggedFault
+fault_of_outlet (Some errors.HandOver) = faults.Write
+fault_of_outlet error = faults.LogWrite
+
+-- a session has ended in this fault, on a log with this error
+abbrev pub fault_of : SessionFault → Option LogError → LoggedFault
+fault_of ends.Read error = faults.Read
+fault_of ends.Memory error = faults.Memory
+fault_of ends.Write error = fault_of_outlet error

@@ -1,6 +1,8 @@
 -- How a session goes on whose lines are logged, and what a crash leaves of it.
-use Rattle.std.specs.Prelude.{◌≡◌, ◌⊎◌, ℕ, ◌<◌, ◌≤◌, ◌^◌, List, ◌++◌, length, take}
-use Rattle.tt_log.specs.Device.{Left, LeavesOnly}
+use Rattle.std.specs.Prelude.{◌≡◌, ◌⊎◌, ℕ, ◌<◌, ◌≤◌, ◌^◌, List, ◌++◌, length, take, Option, Some}
+use Rattle.tt_log.specs.Device.{Left, LeavesOnly, ShowsFirst}
+use Rattle.tt_log.specs.declared.log_error.LogError.{LogError}
+use Rattle.tt_log.specs.declared.log_error.LogError.TheVariants as errors
 use Rattle.tt_log.specs.Lines.{logged, joined}
 use Rattle.tt_session.specs.declared.session.Session.{Session}
 use Rattle.tt_session.specs.Answering.{LineRead, turns_of}
@@ -44,7 +46,27 @@ pub record HandedOnLog {D : Type 0} (of : Telling D) (before after : D) (start :
 abbrev pub IsFull : List (List ℕ) → Type 0
 IsFull lines = 2 ^ 60 ≤ length (joined lines)
 
--- the same, but that the device has failed, or the log is full
-pub record StoppedOnLog {D : Type 0} (of : Telling D) (before after : D) (start : Session) (reads : List LineRead) : Type 0 where
-  pub any_moment : LeavesOnly of.moment of.left_since before after (LeavesAnswered start (logged (of.seen before)) reads (of.shown before))
-  pub why : (of.failures before < of.failures after) ⊎ IsFull (logged (of.seen before) ++ logged_of start reads)
+-- The log couldn't be written, since the device has failed, or is full: the answers to the first lines read were handed over, and nothing of those to the lines that were to be logged then.
+pub record StoppedInLog {D : Type 0} (of : Telling D) (before after : D) (start : Session) (reads : List LineRead) : Type 0 where
+  pub answered : List LineRead
+  pub pending : List LineRead
+  pub others : List LineRead
+  pub reads_are : reads ≡ (answered ++ pending) ++ others
+  pub shown_is : of.shown after ≡ of.shown before ++ (turns_of start answered).text
+  pub any_moment : LeavesOnly of.moment of.left_since before after (LeavesAnswered start (logged (of.seen before)) (answered ++ pending) (of.shown before))
+  pub why : (of.failures before < of.failures after) ⊎ IsFull (logged (of.seen before) ++ logged_of start (answered ++ pending))
+
+-- The output has failed while it was handed the answers to the first lines read: of these lines those are logged that make an entry, and no others are.
+pub record StoppedInOutput {D : Type 0} (of : Telling D) (before after : D) (start : Session) (reads : List LineRead) : Type 0 where
+  pub answered : List LineRead
+  pub others : List LineRead
+  pub reads_are : reads ≡ answered ++ others
+  pub shown_is : ShowsFirst (of.shown before) (of.shown after) (turns_of start answered).text
+  pub any_moment : LeavesOnly of.moment of.left_since before after (LeavesAnswered start (logged (of.seen before)) answered (of.shown before))
+  pub lines_are : logged (of.seen after) ≡ logged (of.seen before) ++ logged_of start answered
+  pub failed : of.failures before < of.failures after
+
+-- answers couldn't be handed over, and this is why
+abbrev pub StoppedOnLog : {D : Type 0} → Option LogError → Telling D → D → D → Session → List LineRead → Type 0
+StoppedOnLog (Some errors.HandOver) of before after start reads = StoppedInOutput of before after start reads
+StoppedOnLog error of before after start reads = StoppedInLog of before after start reads

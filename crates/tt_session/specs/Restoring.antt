@@ -1,8 +1,9 @@
 -- How a session is read back from the lines of a log: each is answered, and each of them makes an entry.
-use Rattle.std.specs.Prelude.{◌≡◌, ℕ, ◌+◌, List, [], ◌∷◌, ◌++◌, map, length}
+use Rattle.std.specs.Prelude.{◌≡◌, ℕ, ◌+◌, ◌≤◌, List, [], ◌∷◌, ◌++◌, map, length, take, Option, None, Some}
+use Rattle.tt_db.specs.Database.{Database}
 use Rattle.tt_session.specs.declared.session.Session.{Session}
 use Rattle.tt_session.specs.declared.session.Session.TheVariants as sessions
-use Rattle.tt_session.specs.Answering.{turn_of_read, turns_of}
+use Rattle.tt_session.specs.Answering.{LineRead, turn_of_read, turns_of}
 use Rattle.tt_session.specs.Logged.{logged_by, logged_of}
 use Rattle.tt_session.specs.Together.{kept_line}
 
@@ -33,3 +34,23 @@ pub record IsNoLine (lines : List (List ℕ)) (number : ℕ) : Type 0 where
   pub number_is : number ≡ length front + 1
   pub are_logged : AreLogged front
   pub not_logged : logged_by (after_lines front) (turn_of_read (after_lines front) (kept_line line)).session line ≡ []
+
+-- the database of a session, if it has one
+abbrev pub database_of : Session → Option Database
+database_of sessions.NotOpen = None
+database_of (sessions.Restored session) = Some session.database
+database_of (sessions.Open session) = Some session.database
+
+-- the first so many of the lines that a session logs, behind those that it was read back from, are the lines of a log again: this has the database that the session had after the first lines read
+pub record ReadsBack (lines : List (List ℕ)) (start : Session) (reads : List LineRead) (count : ℕ) : Type 0 where
+  pub front : List LineRead
+  pub others : List LineRead
+  pub reads_are : reads ≡ front ++ others
+  pub first : take count (logged_of start reads) ≡ logged_of start front
+  pub are_logged : AreLogged (lines ++ logged_of start front)
+  pub database : database_of (after_lines (lines ++ logged_of start front)) ≡ database_of (turns_of start front).session
+
+-- whatever a crash leaves of a session, the next start reads back
+abbrev pub LogsAreReadBack : Type 0
+LogsAreReadBack = (lines : List (List ℕ)) (start : Session) (reads : List LineRead) (count : ℕ) → Restores lines start → count ≤ length (logged_of start reads) →
+    ReadsBack lines start reads count

@@ -4,6 +4,7 @@ ghost use Rattle.tt_session.specs.Invariants.{OpenSessionsStaySound, SessionsSta
 ghost use Rattle.tt_session.specs.Laws.{OtherErrorsAnswerNoLine, NextChangesEndAsChanges};
 ghost use Rattle.tt_session.specs.ReadBack.{PrintedWritesReplace, PrintedActionsReplace};
 ghost use Rattle.tt_session.specs.ReadBack.{PrintedTablesOpen};
+ghost use Rattle.tt_session.specs.Restoring.{LogsAreReadBack};
 
 /// A repair that is under way can be finished, with none of its steps refused, and can be given up:
 /// where the history is legal (`Db::events` tells so) and has room for the end of the repair (as
@@ -32,6 +33,13 @@ pub fn sessions_stay_sound()
 #[tactic(auto, using(crate::proofs::RefusalLemmas::other_errors_answer_no_line))]
 pub fn other_errors_answer_no_line()
     ensures { OtherErrorsAnswerNoLine }
+{}
+
+/// What a session has logged, and the first lines of that, however many a crash has left, are the
+/// lines of a log from which the next session begins: each makes an entry again, and they make the
+/// database that the session had behind these lines.
+pub fn logs_are_read_back()
+    ensures { LogsAreReadBack }
 {}
 
 /// Once the repair under way has done all slots, `next` tells the changes that `now` tells right

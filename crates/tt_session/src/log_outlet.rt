@@ -20,13 +20,15 @@ impl<D: Device> LogOutlet<D> {
     /// Hands over what a log's device takes.
     pub(crate) fn new(log: Log<D>) -> LogOutlet<D>
         ensures log { result.log ≡ log }
+        ensures error { result.error ≡ None }
     {
         LogOutlet { log, error: None }
     }
 
     /// The log, and why it has failed, if it has.
     pub(crate) fn into_parts(self) -> (Log<D>, Option<LogError>)
-        ensures { result.0 ≡ self.log }
+        ensures log { result.0 ≡ self.log }
+        ensures error { result.1 ≡ self.error }
     {
         (self.log, self.error)
     }
@@ -41,8 +43,8 @@ impl<D: Device> Outlet for LogOutlet<D> {
         (telling D.tells D.seen D.shown D.moment D.left_since D.failures)
         before.log.device after.log.device start reads };
 
-    ghost stopped = { λ before after start reads. D.tells before.log.device → StoppedOnLog
-        (telling D.tells D.seen D.shown D.moment D.left_since D.failures)
+    ghost stopped = { λ before after start reads. D.tells before.log.device
+        → StoppedOnLog after.error (telling D.tells D.seen D.shown D.moment D.left_since D.failures)
         before.log.device after.log.device start reads };
 
     fn hand_over(&mut self, lines: &Lines, text: &[u8]) -> Result<(), OutletError> {

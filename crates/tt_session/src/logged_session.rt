@@ -5,7 +5,7 @@ ghost use Rattle.tt_session.specs.Run.{calls_of};
 ghost use Rattle.tt_session.specs.Ends.{HandsOverAll, Fails};
 ghost use Rattle.tt_session.specs.OnLog.{telling, HandedOnLog, StoppedOnLog};
 ghost use Rattle.tt_session.specs.LoggedSession.{GoesOnLog, BeginsOnLog, FailsAtStart, FailsOnLog};
-ghost use Rattle.tt_session.specs.LoggedFaults.{fault_at_start, IsFaultOf};
+ghost use Rattle.tt_session.specs.LoggedFaults.{fault_at_start, fault_of};
 
 use crate::log_outlet::LogOutlet;
 use crate::restoring::{RestoreFault, restore};
@@ -18,19 +18,21 @@ use tt_log::{Device, Log, LogError, UnreadLog};
 /// Why a session with a log has ended before its input.
 #[derive(Clone, Copy, Debug, PartialEq, Eq)]
 pub enum LoggedFault {
-    /// The reader failed, or was interrupted too often.
+    /// The reader failed, or was interrupted too often. The lines that were read to their ends are
+    /// answered.
     Read,
     /// Not all answers could be handed over. The lines that they answer are logged.
     Write,
-    /// There was no memory to begin with.
+    /// There was no memory to begin with, or to read the log back. Nothing was read but the log, and
+    /// the file is as it was.
     Memory,
-    /// The log can't be read.
+    /// The log can't be read. Nothing else was read, and the file is as it was.
     LogRead,
     /// This line of the log, counted from 1, is none that a session logs: the file is no log, or
     /// one of a session with other limits. The file is as it was.
     LogLine(u64),
-    /// The log can't be written, or would be longer than 2^60 bytes. The lines that weren't answered
-    /// may be logged or not; the next session on the log tells.
+    /// The log can't be written, or would be longer than 2^60 bytes. The lines that weren't
+    /// answered may be logged or not; the next session on the log tells.
     LogWrite,
 }
 
@@ -127,7 +129,7 @@ fn fault_at_start(error: LogError) -> LoggedFault
 
 /// Why a session has ended on a log that has failed in this way, if it has.
 fn fault_of(fault: SessionFault, error: Option<LogError>) -> LoggedFault
-    ensures { IsFaultOf fault result }
+    ensures { result ≡ fault_of fault error }
 {
     match fault {
         SessionFault::Read => LoggedFault::Read,
@@ -159,7 +161,7 @@ fn serve_on_log<R: Read, D: Device>(
         → Fails e.0 (R.remaining reader.old) (R.remaining reader.new)
         (HandedOnLog (telling D.tells D.seen D.shown D.moment D.left_since D.failures)
         log.device e.2.device session)
-        (StoppedOnLog (telling D.tells D.seen D.shown D.moment D.left_since D.failures)
+        (StoppedOnLog e.1 (telling D.tells D.seen D.shown D.moment D.left_since D.failures)
         log.device e.2.device session)) }
 {
     let mut run = Run::new(alloc, session, true);

@@ -1,5 +1,5 @@
 //! Lines that are to be logged with the next answers.
-ghost use Rattle.std.specs.Prelude.{◌≡◌, ◌∷◌, [], Option, None, Some, List, ℕ, if◌then◌else◌, IfOk, OnOk, OnErr};
+ghost use Rattle.std.specs.Prelude.{◌≡◌, ◌∷◌, [], Option, None, Some, List, ℕ, if◌then◌else◌, is_some, OnOk, OnErr};
 ghost use Rattle.tt_session.specs.Logged.{with_lines};
 ghost use Rattle.tt_session.specs.PendingLines.{bytes_of, no_lines};
 
@@ -40,6 +40,13 @@ impl PendingLines {
         &self.lines
     }
 
+    /// Whether there is a log.
+    pub(crate) fn has_log(&self) -> bool
+        ensures { result ≡ is_some self.now }
+    {
+        self.has_log
+    }
+
     /// How many bytes the lines have in a log.
     pub(crate) fn byte_len(&self) -> usize
         ensures { result ≡ bytes_of self.now }
@@ -63,21 +70,6 @@ impl PendingLines {
             // No line has a byte 0 or a line feed that makes an entry.
             Err(_) => Err(AllocError),
         }
-    }
-
-    /// Adds a line if it's wanted. Returns how many bytes the lines had before.
-    pub(crate) fn push_if(&mut self, is_wanted: bool, line: &[u8]) -> Result<usize, AllocError>
-        ensures mark { IfOk result (λ mark. mark ≡ bytes_of self.old) }
-        ensures ok { OnOk result (self.new
-            ≡ with_lines self.old (if is_wanted then line.now ∷ [] else [])) }
-        ensures err { OnErr result (self.new ≡ self.old) }
-    {
-        let mark = self.byte_len();
-        if !is_wanted {
-            return Ok(mark);
-        }
-        self.push(line)?;
-        Ok(mark)
     }
 
     /// Keeps the first lines, which have so many bytes in a log.

@@ -19,7 +19,7 @@ use crate::open_session::Extent;
 use crate::outlet::Outlet;
 use crate::session::Session;
 use crate::short_answer::ShortAnswer;
-use crate::workspace::{MANY_BYTES, Workspace};
+use crate::workspace::{MANY_BYTES, Workspace, is_much};
 use std::alloc::{AllocError, Global};
 use std::io::{Read, Write};
 use tt_streams::{MAX_RETRIES, read_once};
@@ -272,6 +272,9 @@ impl Run {
             });
         }
         let extent = self.take_together(outlet, bytes)?;
+        if extent.taken == bytes.len() {
+            return Ok(extent);
+        }
         let more = self.take_line(outlet, &bytes[extent.taken..])?;
         Ok(Extent {
             taken: extent.taken + more,
@@ -390,12 +393,7 @@ impl Run {
         ensures line { self.new.line ≡ self.old.line }
         ensures fault { IfErr result (λ e. e ≡ SessionFault.Write) }
     {
-        if self
-            .out
-            .len()
-            .saturating_add(self.workspace.lines.byte_len())
-            < MANY_BYTES
-        {
+        if !is_much(self.out.len(), &self.workspace.lines) {
             return Ok(());
         }
         self.hand_over(outlet)

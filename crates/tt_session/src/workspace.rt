@@ -6,8 +6,14 @@ use std::alloc::{AllocError, Global};
 use std::mem;
 use tt_json::Scratch;
 
-/// As many bytes of answers are handed over before a further line is answered.
+/// As many bytes of answers, and of lines to log with them, are handed over before a further line is
+/// answered.
 pub(crate) const MANY_BYTES: usize = 1_048_576;
+
+/// Whether so many bytes of answers and of lines to log are kept that they are handed over.
+pub(crate) fn is_much(answers: usize, lines: &PendingLines) -> bool {
+    answers.saturating_add(lines.byte_len()) >= MANY_BYTES
+}
 
 /// What answering lines needs, and keeps from line to line.
 #[derive(Drop)]

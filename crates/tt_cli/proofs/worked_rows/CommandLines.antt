@@ -1,10 +1,12 @@
 -- Command lines, computed: what the words of some ask for, and the fault of others.
-use Rattle.std.proofs.Common.{◌≡◌, ℕ, List, [], ◌∷◌, Bool, false, codes, refl}
+use Rattle.std.proofs.Common.{◌≡◌, ℕ, List, [], ◌∷◌, Bool, false, codes, refl, sym, ap, Some}
+use Rattle.std.specs.Borrow.{Bor}
 use Rattle.clap.specs.Words.{Text, fault_of}
-use Rattle.clap.specs.declared.error.kind.ErrorKind.TheVariants.{ValueValidation, UnknownArgument}
+use Rattle.clap.specs.declared.error.kind.ErrorKind.TheVariants.{MissingRequiredArgument, ValueValidation, UnknownArgument}
 use Rattle.clap.proofs.OnLiterals.{clap_on_literals}
-use Rattle.tt_cli.specs.declared.command_line.Cli.{Cli}
-use Rattle.tt_cli.specs.CommandLine.{command_line, name_of, IsCommandOf, IsBatchOf, IsRoundsOf, IsClosedOf}
+use Rattle.tt_workload.specs.declared.options.Options.{Options}
+use Rattle.tt_cli.specs.declared.command_line.Cli.TheVariants as commands
+use Rattle.tt_cli.specs.CommandLine.{command_line, IsCommandOf, IsBatchOf, IsRoundsOf, IsClosedOf}
 
 -- the words of a command line, behind the program's name
 abbrev line : List Text → List Text
@@ -18,9 +20,9 @@ run_is_taken : fault_of command_line run_alone ≡ []
 unfolding clap_on_literals
 run_is_taken = refl
 
-run_is_run : (cli : Cli) → IsCommandOf run_alone cli → codes "run" ≡ name_of cli
+run_is_run : (options : Options) → IsCommandOf run_alone (commands.Run options)
 unfolding IsCommandOf clap_on_literals
-run_is_run cli is = is
+run_is_run options = refl
 
 batch_of_run : (n : ℕ) → IsBatchOf run_alone n → n ≡ 16
 unfolding IsBatchOf clap_on_literals
@@ -42,9 +44,9 @@ replay_is_taken : fault_of command_line replay_alone ≡ []
 unfolding clap_on_literals
 replay_is_taken = refl
 
-replay_is_replay : (cli : Cli) → IsCommandOf replay_alone cli → codes "replay" ≡ name_of cli
+replay_is_replay : (options : Options) → IsCommandOf replay_alone (commands.Replay options)
 unfolding IsCommandOf clap_on_literals
-replay_is_replay cli is = is
+replay_is_replay options = refl
 
 batch_of_replay : (n : ℕ) → IsBatchOf replay_alone n → n ≡ 16
 unfolding IsBatchOf clap_on_literals
@@ -66,3 +68,29 @@ many_rounds_are_refused = refl
 rounds_of_replay_are_refused : fault_of command_line (line (codes "replay" ∷ codes "--rounds" ∷ codes "8" ∷ [])) ≡ UnknownArgument ∷ []
 unfolding clap_on_literals
 rounds_of_replay_are_refused = refl
+
+-- a session in memory, and one on a log
+session_is_session : IsCommandOf (line (codes "session" ∷ [])) commands.Session
+unfolding IsCommandOf clap_on_literals
+session_is_session = (refl, refl)
+
+logged_session_is_logged : (path : Bor Text) → path.now ≡ codes "bank.log" → IsCommandOf (line (codes "session" ∷ codes "--log=bank.log" ∷ [])) (commands.LoggedSession path)
+unfolding IsCommandOf clap_on_literals
+logged_session_is_logged path is = (refl, ap Some (sym is))
+
+logged_session_is_no_other : IsCommandOf (line (codes "session" ∷ codes "--log" ∷ codes "bank.log" ∷ [])) commands.Session → ⊥
+unfolding IsCommandOf clap_on_literals
+logged_session_is_no_other is = let bad = is.1 in absurd (cc)
+
+-- a look at a log, which takes a file, and no more than one
+log_is_log : (path : Bor Text) → path.now ≡ codes "bank.log" → IsCommandOf (line (codes "log" ∷ codes "bank.log" ∷ [])) (commands.Log path)
+unfolding IsCommandOf clap_on_literals
+log_is_log path is = (refl, ap Some (sym is))
+
+no_file_is_refused : fault_of command_line (line (codes "log" ∷ [])) ≡ MissingRequiredArgument ∷ []
+unfolding clap_on_literals
+no_file_is_refused = refl
+
+two_files_are_refused : fault_of command_line (line (codes "log" ∷ codes "a" ∷ codes "b" ∷ [])) ≡ UnknownArgument ∷ []
+unfolding clap_on_literals
+two_files_are_refused = refl

@@ -1,12 +1,15 @@
 //! Lines that an open session answers, and keeps for the log if they make an entry.
-ghost use Rattle.std.specs.Prelude.{◌≡◌, ◌+◌, ◌<◌, ◌-◌, ◌^◌, ◌++◌, OnOk, OnErr};
+ghost use Rattle.std.specs.Prelude.{◌≡◌, ◌+◌, ◌<◌, ◌-◌, ◌^◌, ◌++◌, [], None, length, not, IfOk, IfSome, OnOk, OnErr};
 ghost use Rattle.tt_session.specs.declared.session.Session.TheVariants.{Open};
 ghost use Rattle.tt_session.specs.Session.{counted};
 ghost use Rattle.tt_session.specs.Run.{turn_by_request};
-ghost use Rattle.tt_session.specs.Logged.{logged_by, with_lines};
+ghost use Rattle.tt_session.specs.Commands.{asks_read_only};
+ghost use Rattle.tt_session.specs.Logged.{logged_by, with_line_if, with_lines};
+ghost use Rattle.tt_session.specs.PendingLines.{bytes_of};
 
 use super::OpenSession;
 use crate::commands::asks_read_only;
+use crate::pending_lines::PendingLines;
 use crate::workspace::Workspace;
 use std::alloc::AllocError;
 use tt_grammar::DocFault;
@@ -62,13 +65,51 @@ impl OpenSession {
         ensures session_stays { OnErr result (self.new ≡ self.old) }
         ensures lines_stay { OnErr result (workspace.new.lines ≡ workspace.old.lines) }
     {
-        let events = self.db.events();
-        let mark = workspace.lines.push_if(!asks_read_only(&asked), line)?;
+        let mark = self.keep_line(&asked, line, &mut workspace.lines)?;
         let result = self.answer_alone(out, &mut workspace.text, asked);
-        if result.is_ok() && self.db.events() != events {
-            return Ok(());
+        if let Some(Mark { events, byte_len }) = mark {
+            if result.is_err() || self.db.events() == events {
+                workspace.lines.truncate(byte_len);
+            }
         }
-        workspace.lines.truncate(mark);
         result
     }
+
+    /// Keeps a line for the log, unless what it asks makes no entry. Returns where the history and
+    /// the lines ended before, if there is a log.
+    fn keep_line(
+        &self,
+        asked: &Result<Request, DocFault>,
+        line: &[u8],
+        lines: &mut PendingLines,
+    ) -> Result<Option<Mark>, AllocError>
+        ensures none { IfOk result (λ mark. mark ≡ None → lines.old ≡ None) }
+        ensures mark { IfOk result (λ mark. IfSome mark (λ mark.
+            (mark.events ≡ length self.now.database.history)
+            × (mark.byte_len ≡ bytes_of lines.old))) }
+        ensures kept { OnOk result (lines.new ≡ with_lines lines.old
+            (with_line_if (not (asks_read_only asked.now)) line.now [])) }
+        ensures err { OnErr result (lines.new ≡ lines.old) }
+    {
+        if !lines.has_log() {
+            return Ok(None);
+        }
+        let byte_len = lines.byte_len();
+        if !asks_read_only(asked) {
+            lines.push(line)?;
+        }
+        Ok(Some(Mark {
+            events: self.db.events(),
+            byte_len,
+        }))
+    }
+}
+
+/// Where a history and the lines to log end.
+#[derive(Clone, Copy)]
+struct Mark {
+    /// How many entries the history has.
+    events: u64,
+    /// How many bytes the lines have.
+    byte_len: usize,
 }

@@ -17,7 +17,7 @@ ghost use Rattle.tt_session.specs.Together.{AnswersFront, AnswersWith, BeginsWit
 use super::OpenSession;
 use crate::commands::asks_for_records;
 use crate::first_line::{FirstLine, RequestLine, read_request};
-use crate::workspace::{MANY_BYTES, Workspace, append};
+use crate::workspace::{Workspace, append, is_much};
 use std::alloc::AllocError;
 use tt_grammar::DocFault;
 use tt_requests::Request;
@@ -47,7 +47,7 @@ impl OpenSession {
     ghost use Rattle.tt_records.specs.declared.record.Record.{Record};
 
     /// Answers the lines that some bytes begin with, up to one that isn't whole or finds no memory,
-    /// or until there are many bytes of answers.
+    /// or until much is kept.
     pub(crate) fn answer_lines(
         &mut self,
         out: &mut Vec<u8>,
@@ -59,7 +59,7 @@ impl OpenSession {
             out.old.items out.new.items workspace.old.lines workspace.new.lines }
     {
         let mut taken = 0;
-        while out.len() < MANY_BYTES {
+        while taken < bytes.len() && !is_much(out.len(), &workspace.lines) {
             match self.answer_first(out, &bytes[taken..], workspace) {
                 Ok(0) => return Extent::of(taken),
                 Ok(count) => taken += count,
@@ -186,7 +186,7 @@ impl OpenSession {
         let mut ahead = self.fork()?;
         workspace.text.clear();
         ahead.log_in_place(asked, line, workspace)?;
-        let (taken, next) = ahead.answer_further(behind, workspace)?;
+        let (taken, next) = ahead.answer_further(behind, out.len(), workspace)?;
         self.commit(out, &mut workspace.text, ahead)?;
         let Some(next) = next else {
             return Ok(taken);
@@ -200,13 +200,14 @@ impl OpenSession {
     }
 
     /// Answers the lines that some bytes begin with in place, up to one that isn't whole or asks
-    /// for the records of earlier calls, or until there are many bytes of answers. Returns how many
-    /// bytes were taken, and the line that asks for records. Where memory runs out, nothing is
-    /// promised of the session and of the text in the workspace, and there may be further lines to
-    /// log.
+    /// for the records of earlier calls, or until much is kept, with so many bytes of answers that
+    /// were kept before. Returns how many bytes were taken, and the line that asks for records.
+    /// Where memory runs out, nothing is promised of the session and of the text in the workspace,
+    /// and there may be further lines to log.
     fn answer_further(
         &mut self,
         bytes: &[u8],
+        kept: usize,
         workspace: &mut Workspace,
     ) -> Result<(usize, Option<RequestLine>), AllocError>
         requires { self.old.calls + length bytes.now ≤ 2 ^ 64 - 1 }
@@ -222,7 +223,7 @@ impl OpenSession {
         ensures lines_grow { OnErr result (Grows workspace.old.lines workspace.new.lines) }
     {
         let mut taken = 0;
-        while workspace.text.len() < MANY_BYTES {
+        while !is_much(kept.saturating_add(workspace.text.len()), &workspace.lines) {
             let rest = &bytes[taken..];
             match FirstLine::of(self.alloc, self.db.catalog(), rest, &mut workspace.scratch)? {
                 FirstLine::NotWhole => return Ok((taken, None)),

@@ -1,8 +1,8 @@
-use Rattle.std.proofs.Common.{◌≡◌, ◌≢◌, ◌∙◌, ap, arith, codes, map, refl, rules, string_bytes, subst, sym, unwrap_or}
+use Rattle.std.proofs.Common.{None, Some, ◌≡◌, ◌≢◌, ◌∙◌, ap, arith, codes, map, refl, rules, string_bytes, subst, sym, unwrap_or}
 use Rattle.clap.specs.Words.{App, HasKind, app_of, fault_of}
 use Rattle.tt_cli.specs.declared.command_line.Cli.TheVariants as commands
 use Rattle.tt_cli.specs.CommandLine.{command_line}
-use Rattle.tt_cli.proofs.CommandLemmas.{batch_is, batch_read, closed_is, command_is, enters_one, has_options, is_replay, is_simple_command, never_none, rounds_are, rounds_read}
+use Rattle.tt_cli.proofs.CommandLemmas.{never_without, path_is, has_log, has_session, name_as, batch_is, batch_read, closed_is, command_is, enters_one, has_options, is_replay, is_simple_command, never_none, rounds_are, rounds_read}
 use Rattle.tt_cli.proofs.NumberLemmas.{ReadsRounds}
 use Rattle.tt_cli.proofs.command_line.command_of.Goals as goal
 
@@ -21,6 +21,39 @@ unreachable-requires c =
     let enters = enters_one (app_of c.in_ok-command.command) words c.in_ok-matches.matches line_is passes c.in_ok-matches.ensures.matches in
     never_none words c.in_ok-matches.matches enters c.in_default.ensures.rows
 
+pub returns-in_default-get_str-clause-kinds : goal.returns-in_default-get_str-clause-kinds
+returns-in_default-get_str-clause-kinds c =
+    let line_is : app_of c.in_ok-command.command ≡ command_line = c.in_ok-command.ensures in
+    let words = map string_bytes c.args.words.now in
+    let passes = c.in_ok-matches.ensures.kinds (is_simple_command (app_of c.in_ok-command.command) line_is) in
+    sym (ap (λ (a : App). fault_of a words) line_is) ∙ passes
+
+pub returns-then-eq-clause-kinds : goal.returns-then-eq-clause-kinds
+returns-then-eq-clause-kinds c =
+    let line_is : app_of c.in_ok-command.command ≡ command_line = c.in_ok-command.ensures in
+    let words = map string_bytes c.args.words.now in
+    let passes = c.in_ok-matches.ensures.kinds (is_simple_command (app_of c.in_ok-command.command) line_is) in
+    sym (ap (λ (a : App). fault_of a words) line_is) ∙ passes
+
+pub returns-then-eq-2-clause-kinds : goal.returns-then-eq-2-clause-kinds
+returns-then-eq-2-clause-kinds c =
+    let line_is : app_of c.in_ok-command.command ≡ command_line = c.in_ok-command.ensures in
+    let words = map string_bytes c.args.words.now in
+    let passes = c.in_ok-matches.ensures.kinds (is_simple_command (app_of c.in_ok-command.command) line_is) in
+    sym (ap (λ (a : App). fault_of a words) line_is) ∙ passes
+
+pub returns-in_default-get_str-clause-command : goal.returns-in_default-get_str-clause-command
+returns-in_default-get_str-clause-command c =
+    let line_is : app_of c.in_ok-command.command ≡ command_line = c.in_ok-command.ensures in
+    let words = map string_bytes c.args.words.now in
+    let passes = c.in_ok-matches.ensures.kinds (is_simple_command (app_of c.in_ok-command.command) line_is) in
+    let enters = enters_one (app_of c.in_ok-command.command) words c.in_ok-matches.matches line_is passes c.in_ok-matches.ensures.matches in
+    let name = c.in-Some.name.now in
+    let is : name ≡ codes "session" = search rules in
+    let session = has_session words c.in_ok-matches.matches enters name c.in-Some.ensures.name is in
+    command_is words c.in_ok-matches.matches enters commands.Session
+    (session.0, path_is words c.in_ok-matches.matches enters c.in-Some.given.now c.in-Some.ensures.rows (codes "log") None session.1 c.in_default-get_str.ensures)
+
 pub returns-then-eq-clause-command : goal.returns-then-eq-clause-command
 returns-then-eq-clause-command c =
     let line_is : app_of c.in_ok-command.command ≡ command_line = c.in_ok-command.ensures in
@@ -29,7 +62,34 @@ returns-then-eq-clause-command c =
     let enters = enters_one (app_of c.in_ok-command.command) words c.in_ok-matches.matches line_is passes c.in_ok-matches.ensures.matches in
     let name = c.in-Some.name.now in
     let is : name ≡ codes "session" = search rules in
-    command_is words c.in_ok-matches.matches enters name c.in-Some.ensures.name commands.Session is
+    let session = has_session words c.in_ok-matches.matches enters name c.in-Some.ensures.name is in
+    let path = c.in-Some-get_str.path in
+    command_is words c.in_ok-matches.matches enters (commands.LoggedSession path)
+    (session.0, path_is words c.in_ok-matches.matches enters c.in-Some.given.now c.in-Some.ensures.rows (codes "log") (Some path.now) session.1 c.in-Some-get_str.ensures)
+
+pub unreachable-requires-in_default-get_str-2 : goal.unreachable-requires-in_default-get_str-2
+unreachable-requires-in_default-get_str-2 c =
+    let line_is : app_of c.in_ok-command.command ≡ command_line = c.in_ok-command.ensures in
+    let words = map string_bytes c.args.words.now in
+    let passes = c.in_ok-matches.ensures.kinds (is_simple_command (app_of c.in_ok-command.command) line_is) in
+    let enters = enters_one (app_of c.in_ok-command.command) words c.in_ok-matches.matches line_is passes c.in_ok-matches.ensures.matches in
+    let name = c.in-Some.name.now in
+    let is : name ≡ codes "log" = search rules in
+    let log = has_log words c.in_ok-matches.matches enters name c.in-Some.ensures.name is in
+    never_without words c.in_ok-matches.matches enters c.in-Some.given.now c.in-Some.ensures.rows (codes "file") log.1 log.2 c.in_default-get_str-2.ensures
+
+pub returns-then-eq-2-clause-command : goal.returns-then-eq-2-clause-command
+returns-then-eq-2-clause-command c =
+    let line_is : app_of c.in_ok-command.command ≡ command_line = c.in_ok-command.ensures in
+    let words = map string_bytes c.args.words.now in
+    let passes = c.in_ok-matches.ensures.kinds (is_simple_command (app_of c.in_ok-command.command) line_is) in
+    let enters = enters_one (app_of c.in_ok-command.command) words c.in_ok-matches.matches line_is passes c.in_ok-matches.ensures.matches in
+    let name = c.in-Some.name.now in
+    let is : name ≡ codes "log" = search rules in
+    let log = has_log words c.in_ok-matches.matches enters name c.in-Some.ensures.name is in
+    let path = c.in-Some-get_str-2.path in
+    command_is words c.in_ok-matches.matches enters (commands.Log path)
+    (log.0, path_is words c.in_ok-matches.matches enters c.in-Some.given.now c.in-Some.ensures.rows (codes "file") (Some path.now) log.1 c.in-Some-get_str-2.ensures)
 
 pub unreachable-requires-in_default-get_one : goal.unreachable-requires-in_default-get_one
 unreachable-requires-in_default-get_one c =
@@ -38,14 +98,15 @@ unreachable-requires-in_default-get_one c =
     let passes = c.in_ok-matches.ensures.kinds (is_simple_command (app_of c.in_ok-command.command) line_is) in
     let enters = enters_one (app_of c.in_ok-command.command) words c.in_ok-matches.matches line_is passes c.in_ok-matches.ensures.matches in
     let other : c.in-Some.name.now ≢ codes "session" = search rules in
-    let has = has_options words c.in_ok-matches.matches enters c.in-Some.name.now c.in-Some.ensures.name other in
+    let no_log : c.in-Some.name.now ≢ codes "log" = search rules in
+    let has = has_options words c.in_ok-matches.matches enters c.in-Some.name.now c.in-Some.ensures.name other no_log in
     let reads = batch_read words c.in_ok-matches.matches enters has c.in-Some.given.now c.in-Some.ensures.rows c.get_one.result c.get_one.ensures.value in
     let is = c.in_default-get_one.is in
     let number = reads.1 in
     cc
 
-pub returns-then-eq-2 : goal.returns-then-eq-2
-returns-then-eq-2 c =
+pub returns-then-eq-3 : goal.returns-then-eq-3
+returns-then-eq-3 c =
     let line_is : app_of c.in_ok-command.command ≡ command_line = c.in_ok-command.ensures in
     let words = map string_bytes c.args.words.now in
     let passes = c.in_ok-matches.ensures.kinds (is_simple_command (app_of c.in_ok-command.command) line_is) in
@@ -53,7 +114,8 @@ returns-then-eq-2 c =
     let name = c.in-Some.name.now in
     let is_run : name ≡ codes "run" = search rules in
     let other : name ≢ codes "session" = search rules in
-    let has = has_options words c.in_ok-matches.matches enters name c.in-Some.ensures.name other in
+    let no_log : name ≢ codes "log" = search rules in
+    let has = has_options words c.in_ok-matches.matches enters name c.in-Some.ensures.name other no_log in
     let inner = c.in-Some.given.now in
     let found = c.in-Some.ensures.rows in
     let batch = batch_read words c.in_ok-matches.matches enters has inner found c.get_one.result c.get_one.ensures.value in
@@ -66,7 +128,7 @@ returns-then-eq-2 c =
     let most = rounds.0 in
     record {
       kinds = sym (ap (λ (a : App). fault_of a words) line_is) ∙ passes;
-      command = command_is words c.in_ok-matches.matches enters name c.in-Some.ensures.name (commands.Run _) is_run;
+      command = command_is words c.in_ok-matches.matches enters (commands.Run _) (name_as words c.in_ok-matches.matches enters name c.in-Some.ensures.name (codes "run") is_run);
       within = record { some_batch = omega arith; batch = omega arith; rounds = most };
       batch = batch_is words c.in_ok-matches.matches enters c.get_one.result c.in-Some-get_one.batch batch is;
       closed = closed_is words c.in_ok-matches.matches enters has inner found c.get_flag-closed.result c.get_flag-closed.ensures.value c.get_flag-closed.ensures.other;
@@ -82,8 +144,9 @@ returns c =
     let name = c.in-Some.name.now in
     let not_run : name ≢ codes "run" = search rules in
     let other : name ≢ codes "session" = search rules in
-    let has = has_options words c.in_ok-matches.matches enters name c.in-Some.ensures.name other in
-    let is_replay = is_replay words c.in_ok-matches.matches enters name c.in-Some.ensures.name other not_run in
+    let no_log : name ≢ codes "log" = search rules in
+    let has = has_options words c.in_ok-matches.matches enters name c.in-Some.ensures.name other no_log in
+    let is_replay = is_replay words c.in_ok-matches.matches enters name c.in-Some.ensures.name other no_log not_run in
     let inner = c.in-Some.given.now in
     let found = c.in-Some.ensures.rows in
     let batch = batch_read words c.in_ok-matches.matches enters has inner found c.get_one.result c.get_one.ensures.value in
@@ -96,7 +159,7 @@ returns c =
     let most = rounds.0 in
     record {
       kinds = sym (ap (λ (a : App). fault_of a words) line_is) ∙ passes;
-      command = command_is words c.in_ok-matches.matches enters name c.in-Some.ensures.name (commands.Replay _) is_replay;
+      command = command_is words c.in_ok-matches.matches enters (commands.Replay _) (name_as words c.in_ok-matches.matches enters name c.in-Some.ensures.name (codes "replay") is_replay);
       within = record { some_batch = omega arith; batch = omega arith; rounds = most };
       batch = batch_is words c.in_ok-matches.matches enters c.get_one.result c.in-Some-get_one.batch batch is;
       closed = closed_is words c.in_ok-matches.matches enters has inner found c.get_flag-closed.result c.get_flag-closed.ensures.value c.get_flag-closed.ensures.other;

@@ -1,6 +1,14 @@
-use Rattle.std.proofs.Common.{ap, ◌∙◌}
+use Rattle.std.proofs.Common.{ap, ap₂, codes, ◌≡◌, ◌∙◌}
+use Rattle.std.proofs.lemmas.Result.{IfOk-weaker}
+use Rattle.clap.specs.Words.{Rule, app_of, new_app, with_rule}
 use Rattle.clap.specs.Simple.{app_of_fields}
+use Rattle.tt_cli.proofs.BuildLemmas.{simple_is_local}
 use Rattle.tt_cli.proofs.command_line.session.Goals as goal
 
 pub returns : goal.returns
-returns c = ap app_of_fields c.after_help.ensures ∙ (ap app_of_fields c.about.ensures ∙ c.new.ensures.app)
+returns c =
+    let described_is : app_of c.after_help.result ≡ new_app (codes "session") =
+    ap app_of_fields c.after_help.ensures ∙ (ap app_of_fields c.about.ensures ∙ c.new.ensures.app) in
+    IfOk-weaker c.arg.result _ _
+    (λ r h. h.shape (simple_is_local c.log_option.result (ap (λ (a : Rule). a.is_simple) c.log_option.ensures)) ∙ ap₂ with_rule described_is c.log_option.ensures)
+    c.arg.ensures

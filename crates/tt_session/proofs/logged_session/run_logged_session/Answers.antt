@@ -1,14 +1,14 @@
 -- The session begins with what was read back, and goes on.
 use Rattle.std.proofs.Common.{sym, subst}
-use Rattle.tt_session.specs.LoggedSession.{GoesOnLog, StopsOnLog, FailsOnLog}
+use Rattle.tt_session.specs.LoggedSession.{GoesOnLog, FailsOnLog}
 use Rattle.tt_session.specs.Ends.{HandsOverAll}
 use Rattle.tt_session.specs.OnLog.{telling}
 use Rattle.tt_session.proofs.EndingLemmas.{hands-map, fails-map}
-use Rattle.tt_session.proofs.LoggedSessionLemmas.{goes-on, stops-on, fails-at-start, fails-on-log}
+use Rattle.tt_session.proofs.LoggedSessionLemmas.{StopsFor, goes-on, stops-for, fails-at-start, fails-on-log, keeps-same}
 use Rattle.tt_session.proofs.logged_session.run_logged_session.Goals as goal
 
 pub returns-in-Err-begin-clause-err : goal.returns-in-Err-begin-clause-err
-returns-in-Err-begin-clause-err g c = λ told. fails-at-start c.in-Err-begin.fault.0 _ _ _ _ _ _ (c.in-Err-begin.ensures.err told)
+returns-in-Err-begin-clause-err g c = λ told. fails-at-start c.in-Err-begin.fault.0 _ _ _ _ _ _ (keeps-same (g.R.Read.remaining c.args.reader.now)) (c.in-Err-begin.ensures.err told)
 
 pub returns-in-Ok-serve_on_log-clause-ok : goal.returns-in-Ok-serve_on_log-clause-ok
 returns-in-Ok-serve_on_log-clause-ok g c = λ told.
@@ -26,8 +26,9 @@ returns-clause-err g c = λ told.
     let begun = c.in-Ok-begin.ensures.ok told in
     let after = c.in-Err-serve_on_log.log.device in
     let whole =
-    fails-map c.in-Err-serve_on_log.fault _ _ _ (GoesOnLog of D.may_leave c.args.device after) _ (StopsOnLog of D.may_leave c.args.device after)
+    fails-map c.in-Err-serve_on_log.fault _ _ _ (GoesOnLog of D.may_leave c.args.device after) _ (StopsFor c.in-Err-serve_on_log.error of D.may_leave c.args.device after)
     (λ reads handed. goes-on of D.may_leave c.args.device c.in-Ok-begin.begun.0 c.in-Ok-begin.begun.1 begun after reads handed)
-    (λ reads stopped. stops-on of D.may_leave c.args.device c.in-Ok-begin.begun.0 c.in-Ok-begin.begun.1 begun after reads stopped) (c.in-Err-serve_on_log.ensures.err begun.tells) in
+    (λ reads stopped. stops-for c.in-Err-serve_on_log.error of D.may_leave c.args.device c.in-Ok-begin.begun.0 c.in-Ok-begin.begun.1 begun after reads stopped) (c.in-Err-serve_on_log.ensures.err begun.tells) in
     subst (λ d. FailsOnLog c.fault_of.result (g.R.Read.remaining c.args.reader.now) (g.R.Read.remaining c.serve_on_log.new.reader) of D.may_leave c.args.device d) (sym c.into_device-in-Err-serve_on_log.ensures)
-    (fails-on-log c.in-Err-serve_on_log.fault c.fault_of.result _ _ of D.may_leave c.args.device after c.fault_of.ensures whole)
+    (subst (λ f. FailsOnLog f (g.R.Read.remaining c.args.reader.now) (g.R.Read.remaining c.serve_on_log.new.reader) of D.may_leave c.args.device after) (sym c.fault_of.ensures)
+    (fails-on-log c.in-Err-serve_on_log.fault c.in-Err-serve_on_log.error _ _ of D.may_leave c.args.device after whole))

@@ -13,7 +13,7 @@ returns-in-Ok-clause-ok g c = λ told.
     let begun = c.new-run.ensures in
     let outlet = c.new-outlet.result in
     let first = ap (λ l. l.device) c.new-outlet.ensures.log in
-    let last = ap (λ l. l.device) (sym c.into_parts-log.ensures) in
+    let last = ap (λ l. l.device) (sym c.into_parts-log.ensures.log) in
     let rests =
     rests-first _ _ outlet c.args.session c.new-run.result begun.line
     (λ tells. handed-none of D.may_leave outlet.log.device c.args.session tells (subst (λ l. IsSettled D.seen D.may_leave l) (sym c.new-outlet.ensures.log) (c.requires.settled told)).durable (g.met.D.Device.only_now outlet.log.device))
@@ -28,7 +28,7 @@ returns-in-Err-clause-err g c = λ told.
     let begun = c.new-run.ensures in
     let outlet = c.new-outlet.result in
     let first = ap (λ l. l.device) c.new-outlet.ensures.log in
-    let last = ap (λ l. l.device) (sym c.into_parts-log-in-Err.ensures) in
+    let last = ap (λ l. l.device) (sym c.into_parts-log-in-Err.ensures.log) in
     let rests =
     rests-first _ _ outlet c.args.session c.new-run.result begun.line
     (λ tells. handed-none of D.may_leave outlet.log.device c.args.session tells (subst (λ l. IsSettled D.seen D.may_leave l) (sym c.new-outlet.ensures.log) (c.requires.settled told)).durable (g.met.D.Device.only_now outlet.log.device))
@@ -36,4 +36,4 @@ returns-in-Err-clause-err g c = λ told.
     fails-map _ _ _ _ _ _ _ (λ reads handed.
     handed-of of _ _ _ _ c.args.session reads first last (handed (subst D.tells (sym first) told)))
     (λ reads stopped.
-    stopped-of of _ _ _ _ c.args.session reads first last (stopped (subst D.tells (sym first) told))) (c.in-Err.ensures.fault outlet c.args.session rests)
+    stopped-of _ c.into_parts-log-in-Err.result.1 of _ _ _ _ c.args.session reads (sym c.into_parts-log-in-Err.ensures.error) first last (stopped (subst D.tells (sym first) told))) (c.in-Err.ensures.fault outlet c.args.session rests)

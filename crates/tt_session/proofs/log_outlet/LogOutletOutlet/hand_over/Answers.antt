@@ -1,10 +1,14 @@
 -- The lines are logged behind those that are there, and then the text is handed over.
-use Rattle.std.proofs.Common.{◌++◌, inl, inr, refl, arith}
+use Rattle.std.proofs.Common.{◌≡◌, ◌≢◌, ◌⊎◌, ◌<◌, ◌++◌, Some, inl, inr, refl, ◌∙◌, arith}
 use Rattle.tt_log.specs.Lines.{logged}
+use Rattle.tt_log.specs.declared.log_error.LogError.{LogError}
+use Rattle.tt_log.specs.declared.log_error.LogError.TheVariants as errors
 use Rattle.tt_log.specs.Log.{KeepsAnswered}
 use Rattle.tt_log.proofs.MomentLemmas as moments
-use Rattle.tt_session.specs.OnLog.{LeavesAnswered}
-use Rattle.tt_session.proofs.OnLogLemmas.{leaves-more, leaves-shown, shown-all, lines-all, full-stopped, why-stopped}
+use Rattle.tt_session.specs.Logged.{logged_of}
+use Rattle.tt_session.specs.OnLog.{telling, LeavesAnswered, StoppedInLog, StoppedOnLog, IsFull}
+use Rattle.tt_session.proofs.ResultLemmas.{at_err}
+use Rattle.tt_session.proofs.OnLogLemmas.{leaves-more, leaves-shown, shown-all, shown-first, lines-all, full-stopped, why-stopped}
 use Rattle.tt_session.proofs.log_outlet.LogOutletOutlet.hand_over.Goals as goal
 
 pub returns-in-Ok-clause-handed : goal.returns-in-Ok-clause-handed
@@ -43,16 +47,33 @@ returns-in-Err-clause-stopped g c = λ first start over kept more so_far is told
     let new = c.hand_over.new.self.device in
     let lines = logged (D.seen begun) in
     let shown = D.shown begun in
-    let all = lines-all start lines over kept shown c.args.lines.now c.args.text.now (logged (D.seen old)) (D.shown old) (is.lines_are tt) is.text_is h.lines_are h.shown_is _ refl in
-    record {
-      any_moment =
-          moments.joined D.moment D.left_since begun old new (LeavesAnswered start lines over shown) (KeepsAnswered (logged (D.seen old)) c.args.lines.now (D.shown old) c.args.text.now)
-          (LeavesAnswered start lines ((over ++ kept) ++ more) shown) h.any_moment (done.any_moment h.tells)
-          (λ left p. leaves-more start lines (over ++ kept) more shown left (leaves-more start lines over kept shown left p))
-          (λ left p.
-          leaves-more start lines (over ++ kept) more shown left
-          (leaves-shown start lines over kept shown c.args.lines.now c.args.text.now (logged (D.seen old)) (D.shown old) (is.lines_are tt) is.text_is h.lines_are h.shown_is left p));
-      why =
-          why-stopped c.hand_over.result c.in-Err.error _ c.in-Err.is (λ e. inl (omega (arith, h.failures, done.write h.tells e))) (λ e. inl (omega (arith, h.failures, done.hand_over h.tells e)))
-          (λ e. inr (full-stopped start lines (over ++ kept) more (logged (D.seen old)) c.args.lines.now c.args.self.now.log.end all (c.requires h.tells).end (done.full e))) done.no_read;
-    }
+    let of = telling D.tells D.seen D.shown D.moment D.left_since D.failures in
+    let now = logged (D.seen old) in
+    let all = lines-all start lines over kept shown c.args.lines.now c.args.text.now now (D.shown old) (is.lines_are tt) is.text_is h.lines_are h.shown_is _ refl in
+    let moment =
+    moments.joined D.moment D.left_since begun old new (LeavesAnswered start lines over shown) (KeepsAnswered now c.args.lines.now (D.shown old) c.args.text.now)
+    (LeavesAnswered start lines (over ++ kept) shown) h.any_moment (done.any_moment h.tells) (λ left p. leaves-more start lines over kept shown left p)
+    (λ left p.
+    leaves-shown start lines over kept shown c.args.lines.now c.args.text.now now (D.shown old) (is.lines_are tt) is.text_is h.lines_are h.shown_is left p) in
+    let in_log : D.shown new ≡ D.shown old → (D.failures begun < D.failures new) ⊎ IsFull (lines ++ logged_of start (over ++ kept)) → StoppedInLog of begun new start ((over ++ kept) ++ more) = λ unshown why. record {
+      answered = over;
+      pending = kept;
+      others = more;
+      reads_are = refl;
+      shown_is = unshown ∙ h.shown_is;
+      any_moment = moment;
+      why = why;
+    } in
+    let unless_output = λ (e : LogError). e ≢ errors.HandOver → D.shown new ≡ D.shown old in
+    why-stopped c.hand_over.result c.in-Err.error (λ e. StoppedOnLog (Some e) of begun new start ((over ++ kept) ++ more)) c.in-Err.is
+    (λ e. in_log (at_err unless_output c.hand_over.result errors.Write e (done.unshown h.tells) (λ same. cc)) (inl (omega (arith, h.failures, done.write h.tells e))))
+    (λ e. record {
+      answered = over ++ kept;
+      others = more;
+      reads_are = refl;
+      shown_is = shown-first start lines over kept shown c.args.lines.now c.args.text.now now (D.shown old) (is.lines_are tt) is.text_is h.lines_are h.shown_is _ (done.first h.tells);
+      any_moment = moment;
+      lines_are = done.all_logged h.tells e ∙ all;
+      failed = omega (arith, h.failures, done.hand_over h.tells e);
+    })
+    (λ e. in_log (at_err unless_output c.hand_over.result errors.Full e (done.unshown h.tells) (λ same. cc)) (inr (full-stopped start lines (over ++ kept) now c.args.lines.now c.args.self.now.log.end all (c.requires h.tells).end (done.full e)))) done.no_read

@@ -5,19 +5,19 @@ use Rattle.tt_session.specs.declared.session.Session.TheVariants.{Open}
 use Rattle.tt_session.proofs.TogetherLemmas.{front-nil, front-more}
 use Rattle.tt_session.proofs.open_session.OpenSession.answer_lines.Goals as goal
 
-pub loop-self-init : goal.loop-self-init
-loop-self-init c = front-nil c.args.bytes.now (Open c.args.self.now) c.args.out.now.items c.args.workspace.now.lines
+pub loop-taken-init : goal.loop-taken-init
+loop-taken-init c = front-nil c.args.bytes.now (Open c.args.self.now) c.args.out.now.items c.args.workspace.now.lines
 
 pub returns-in-Ok-eq0 : goal.returns-in-Ok-eq0
 returns-in-Ok-eq0 c =
-    let l = c.loop-self in
+    let l = c.loop-taken in
     front-more c.args.bytes.now l.taken _ c.of.result.taken (Open c.args.self.now) (Open l.self) (Open c.answer_first.new.self) c.args.out.now.items l.out.items c.answer_first.new.out.items
     c.args.workspace.now.lines l.workspace.lines c.answer_first.new.workspace.lines
     l.invariant c.in-Ok-eq0.ensures.answered (omega (arith, c.in-Ok-eq0.field-0-is, c.in-Ok-eq0.field-0-test, ap (λ (e : Extent). e.taken) c.of.ensures))
 
-pub loop-self-preserved : goal.loop-self-preserved
-loop-self-preserved c =
-    let l = c.loop-self in
+pub loop-taken-preserved : goal.loop-taken-preserved
+loop-taken-preserved c =
+    let l = c.loop-taken in
     front-more c.args.bytes.now l.taken _ (l.taken + c.in-Ok.count) (Open c.args.self.now) (Open l.self) (Open c.answer_first.new.self) c.args.out.now.items l.out.items c.answer_first.new.out.items
     c.args.workspace.now.lines l.workspace.lines c.answer_first.new.workspace.lines
     l.invariant c.in-Ok.ensures.answered (ap (λ n. l.taken + n) c.in-Ok.count-is)

@@ -4,8 +4,8 @@ use Rattle.tt_session.specs.declared.session.Session.TheVariants.{Open}
 use Rattle.tt_session.specs.Together.{AnswersFront}
 use Rattle.tt_session.proofs.open_session.OpenSession.answer_lines.Given as goal
 
-abbrev pub invariant-loop-self : goal.invariant-loop-self
-invariant-loop-self l = AnswersFront l.bytes l.taken (Open l.initial.self) (Open l.self) l.initial.out.items l.out.items l.initial.workspace.lines l.workspace.lines
+abbrev pub invariant-loop-taken : goal.invariant-loop-taken
+invariant-loop-taken l = AnswersFront l.bytes l.taken (Open l.initial.self) (Open l.self) l.initial.out.items l.out.items l.initial.workspace.lines l.workspace.lines
 
-abbrev pub decreases-loop-self : goal.decreases-loop-self
-decreases-loop-self l = length l.bytes - l.taken
+abbrev pub decreases-loop-taken : goal.decreases-loop-taken
+decreases-loop-taken l = length l.bytes - l.taken
