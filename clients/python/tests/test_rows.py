@@ -1,0 +1,183 @@
+"""Tests of rows by the names of their columns, and of updates by them."""
+
+from __future__ import annotations
+
+import copy
+import json
+import pickle
+import unittest
+from pathlib import Path
+from typing import Any
+
+import timetravel
+from timetravel import (
+    ChangedSelect, Column, Fault, Full, Lost, Moved, NoAnswer, NotConnected, NotStarted, Refused, Row, Table,
+    Value, cancel, delete, do, errors, insert, replace, update)
+
+from stand_in import Case, StandInCase, told
+
+ANSWER = '{"call":%d,"time":1,"rows":[[1,"ann",10],[2,"bob",-5]]}'
+WRITTEN = '{"call":%d,"slot":%d,"replies":["inserted"]}'
+
+
+class Rows(StandInCase):
+
+    def test_values_by_their_columns(self) -> None:
+        with self.open(told(ANSWER % 1, '{"call":2,"done":1,"rows":[[1,"ann",10]]}')) as session:
+            rows = session.select("acct").rows
+            self.assertEqual([row["bal"] for row in rows], [10, -5])
+            self.assertEqual(session.preview("acct").rows[0]["owner"], "ann")
+        row = rows[0]
+        self.assertEqual(row, [1, "ann", 10])
+        self.assertEqual([1, "ann", 10], row)
+        self.assertIsInstance(row, list)
+        self.assertIsInstance(row, Row)
+        self.assertEqual((row[0], row[-1], row[1:], len(row)), (1, 10, ["ann", 10], 3))
+        self.assertEqual(list(row), [1, "ann", 10])
+        self.assertEqual(dict(row), {"id": 1, "owner": "ann", "bal": 10})
+        self.assertEqual(row.keys(), ["id", "owner", "bal"])
+        self.assertEqual((repr(row), json.dumps(row)), ("[1, 'ann', 10]", '[1, "ann", 10]'))
+        with self.assertRaises(KeyError) as caught:
+            row["name"]
+        self.assertIn("name", str(caught.exception))
+        self.assertRaises(IndexError, lambda: row[3])
+
+    def test_copies_of_a_row(self) -> None:
+        with self.open(told(ANSWER % 1)) as session:
+            selected = session.select("acct")
+        for copied in (pickle.loads(pickle.dumps(selected)), copy.deepcopy(selected), copy.copy(selected)):
+            self.assertEqual(copied, selected)
+            self.assertEqual(copied.rows[1]["owner"], "bob")
+        self.assertEqual(copy.copy(selected.rows[0])["bal"], 10)
+
+    def test_tables_that_are_given_as_json_has_them(self) -> None:
+        tables = [{"name": "note", "columns": [{"name": "k", "kind": "int"}]}, Table("acct", [
+            Column("key", "int"), Column("name", "text"), Column("sum", "int")])]
+        odd: list[Any] = [{"name": [], "columns": 7}, {"name": [], "columns": []}, {"name": "x"}]
+        with self.open(told(ANSWER % 1), tables=[*odd, *tables]) as session:    # The program refuses these.
+            self.assertEqual(session.send({"select": "acct", "where": []}).result().rows[0]["sum"], 10)
+
+    def test_rows_that_slots_have_written(self) -> None:
+        with self.open(told('{"call":1,"time":4,"slots":[{"slot":1,"worker":1,"do":[{"insert":"acct","row":'
+                            '[1,"ann",10]}],"replies":["inserted"],"asked":[{"insert":"acct","row":'
+                            '[1,"ann",7]},{"delete":"acct","where":[]}]}]}')) as session:
+            slot = session.slots(1, 9).slots[0]
+        assert slot.do is not None and slot.asked is not None
+        self.assertEqual((slot.do[0]["row"]["bal"], slot.asked[0]["row"]["bal"]), (10, 7))
+        self.assertEqual(slot.do, [insert("acct", [1, "ann", 10])])
+
+    def test_rows_of_changes_have_no_names(self) -> None:
+        with self.open(told('{"call":1,"from":1,"changed":[{"call":1,"time":2,"before":[[1,"ann",0]],'
+                            '"after":[]}]}')) as session:
+            change = session.changes().changed[0]
+        self.assertEqual(change, ChangedSelect(1, 2, [Row([1, "ann", 0])], []))
+        assert isinstance(change, ChangedSelect)
+        with self.assertRaises(KeyError):
+            change.before[0]["id"]
+
+    def test_inserting_by_names(self) -> None:
+        row: dict[str, Value] = {"bal": 10, "owner": "ann", "id": 1}
+        with self.open(told(*(WRITTEN % (call, call) for call in range(1, 5)),
+                            '{"call":5,"done":0,"left":4,"rerun":0}')) as session:
+            session.insert("acct", row)
+            session.do([insert("acct", row), delete("acct", {}), insert("acct", [2, "bob", 0])])
+            session.send(insert("acct", row)).result()
+            session.send({"insert": "acct", "row": row}).result()
+            session.begin([replace(1, insert("acct", row)), replace(2, do([insert("acct", row)])), cancel(3)])
+        written = '{"insert":"acct","row":[1,"ann",10]}'
+        self.assertEqual(self.lines()[1:], [
+            written,
+            '{"do":[' + written + ',{"delete":"acct","where":[]},{"insert":"acct","row":[2,"bob",0]}]}',
+            written, written,
+            '{"begin":[{"replace":1,"by":' + written + '},{"replace":2,"by":{"do":[' + written + ']}},'
+            '{"cancel":3}]}'])
+
+    def test_a_row_whose_columns_are_not_those_of_the_table(self) -> None:
+        short: dict[str, Value] = {"id": 1, "owner": "ann"}
+        long: dict[str, Value] = {**short, "bal": 0, "name": "x"}
+        with self.open(told(WRITTEN % (1, 1))) as session:
+            for ask in (lambda row: session.insert("acct", row),
+                        lambda row: session.do([insert("acct", row)]),
+                        lambda row: session.send(insert("acct", row)),
+                        lambda row: session.begin([replace(1, insert("acct", row))])):
+                with self.assertRaisesRegex(ValueError, "acct has no value for column bal"):
+                    ask(short)
+                with self.assertRaisesRegex(ValueError, "acct has no column name"):
+                    ask(long)
+            with self.assertRaisesRegex(ValueError, "no table note"):
+                session.insert("note", short)
+            for bad in ("ann", {1, 2, 3}, b"ann"):
+                self.assertRaises(TypeError, session.insert, "acct", bad)
+            session.insert("acct", [1, "ann", 0])    # None of these was sent.
+        self.assertEqual(len(self.lines()), 2)
+
+    def test_a_row_is_taken_as_it_is(self) -> None:
+        row: list[Value] = [1, "ann", 0]
+        write = insert("acct", row)
+        row[2] = 7
+        self.assertEqual(write["row"], [1, "ann", 0])
+        self.assertEqual(insert("acct", (1, "ann")), {"insert": "acct", "row": [1, "ann"]})
+
+
+class Updates(StandInCase):
+
+    def test_both_forms(self) -> None:
+        wanted = {"update": "acct", "change": [["set", "owner", "eve"], ["add", "bal", -5]],
+                  "where": [["id", 1]]}
+        self.assertEqual(update("acct", [("set", "owner", "eve"), ("add", "bal", -5)], {"id": 1}), wanted)
+        self.assertEqual(update("acct", {"id": 1}, set={"owner": "eve"}, add={"bal": -5}), wanted)
+        self.assertEqual(update("acct", where=[("id", 1)], set={"owner": "eve"}, add={"bal": -5}), wanted)
+        self.assertEqual(update("acct", change=[("add", "bal", 1)], where={}),
+                         update("acct", {}, add={"bal": 1}))
+        with self.open(told(*(WRITTEN % (call, call) for call in range(1, 3)))) as session:
+            session.update("acct", {"id": 1}, set={"bal": 0}, worker=2)
+            session.update("acct", where={}, add={"bal": 1}, if_time=1)
+        self.assertEqual(self.lines()[1:], [
+            '{"worker":2,"update":"acct","change":[["set","bal",0]],"where":[["id",1]]}',
+            '{"if":1,"update":"acct","change":[["add","bal",1]],"where":[]}'])
+
+    def test_what_is_missing(self) -> None:
+        change: Any = update
+        for bad in (lambda: change("acct", [("set", "bal", 0)]),
+                    lambda: change("acct", set={"bal": 0}),
+                    lambda: change("acct", where={}),
+                    lambda: change("acct", {"bal": 0}, {"id": 1}),
+                    lambda: change("acct", [("set", "bal", 0)], {}, set={"bal": 0})):
+            self.assertRaises(TypeError, bad)
+
+
+class Errors(Case):
+
+    def test_copies(self) -> None:
+        examples: list[timetravel.Error] = [
+            Fault("$.row[0]", "wrong type", 7), Refused("something new", 3, size=4),
+            Lost(-9, "said\n"), Lost(None, "said"), timetravel.Disconnected("bank.sock", "said"),
+            NotStarted(["none", "session"]), NotStarted([]), NotConnected("bank.sock"), NoAnswer(0.5),
+            timetravel.Closed(), timetravel.Forked()]
+        examples += [kind(cause, 5, now=4, limit=3) for cause, kind in errors.REFUSALS.items()]
+        for error in examples:
+            for copied in (pickle.loads(pickle.dumps(error)), copy.copy(error), copy.deepcopy(error)):
+                with self.subTest(repr(error)):
+                    self.assertIs(type(copied), type(error))
+                    self.assertEqual((copied.args, copied.__dict__, str(copied)),
+                                     (error.args, error.__dict__, str(error)))
+
+    def test_a_copy_has_its_members(self) -> None:
+        moved = pickle.loads(pickle.dumps(Moved("moved", 3, now=9)))
+        self.assertEqual((moved.cause, moved.call, moved.now), ("moved", 3, 9))
+        self.assertEqual(pickle.loads(pickle.dumps(Full("full", 1, limit=8))).limit, 8)
+
+    def test_a_program_that_is_not_there(self) -> None:
+        with self.assertRaisesRegex(NotStarted, "command="):
+            timetravel.Session([], command=["/nowhere/timetravel", "session"])
+
+    def test_names(self) -> None:
+        for name in timetravel.__all__:
+            self.assertTrue(hasattr(timetravel, name), name)
+        self.assertEqual(timetravel.__version__, "0.1.0")
+        folder = Path(timetravel.__file__).parent
+        self.assertTrue((folder / "py.typed").exists())
+
+
+if __name__ == "__main__":
+    unittest.main()

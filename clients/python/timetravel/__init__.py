@@ -1,0 +1,49 @@
+"""A client of `timetravel session`: a database that keeps every version of every row, and whose past
+writes can be taken back while a service goes on.
+
+    from timetravel import Column, Session, Table, cancel
+
+    accounts = Table("acct", [
+        Column("id", "int"), Column("owner", "text", partition=True), Column("bal", "int")])
+    with Session([accounts]) as session:
+        session.insert("acct", {"id": 1, "owner": "ann", "bal": 10})
+        bad = session.update("acct", {"owner": "ann"}, set={"bal": 0})
+        session.repair([cancel(bad.slot)])
+        print(session.select("acct").rows[0]["bal"])    # 10
+
+A session starts the program and holds it through pipes. The database lives in the program, and ends
+with it, unless it is kept in a file:
+
+    with Session([accounts], log="bank.log") as session:
+        print(session.opened.time)    # what is there already
+
+Where a server forwards the lines of many to one session, each connects to its socket:
+
+    with Session.connect("bank.sock", [accounts]) as session:
+        print(session.status().time)
+
+All methods may be called from several threads. `timetravel.aio.Session` has the same methods for
+asyncio. docs/SESSION.md is the manual.
+"""
+
+from . import aio
+from .answers import (
+    Answer, ChangedSelect, ChangedWrite, Changes, Previewed, Progress, Reply, Selected, Slot, Slots, Status,
+    Stepped, Switched, Tables, Written)
+from .errors import (
+    AnotherOpening, Closed, Disconnected, EditedTwice, Ended, Error, Fault, Forked, Full, Later, Lost, Moved,
+    NoAnswer, NoGeneration, NoSlot, NotConnected, NotRepairing, NotStarted, OutOfMemory, Refused, Repairing)
+from .requests import (
+    Change, Edit, NewRow, Where, Write, cancel, delete, do, insert, preview, replace, select, update)
+from .session import Session
+from .tables import Column, Row, Table, Value
+
+__version__ = "0.1.0"
+
+__all__ = [
+    "AnotherOpening", "Answer", "Change", "ChangedSelect", "ChangedWrite", "Changes", "Closed", "Column",
+    "Disconnected", "Edit", "EditedTwice", "Ended", "Error", "Fault", "Forked", "Full", "Later", "Lost",
+    "Moved", "NewRow", "NoAnswer", "NoGeneration", "NoSlot", "NotConnected", "NotRepairing", "NotStarted",
+    "OutOfMemory", "Previewed", "Progress", "Refused", "Repairing", "Reply", "Row", "Selected", "Session",
+    "Slot", "Slots", "Status", "Stepped", "Switched", "Table", "Tables", "Value", "Where", "Write", "Written",
+    "aio", "cancel", "delete", "do", "insert", "preview", "replace", "select", "update"]

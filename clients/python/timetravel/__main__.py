@@ -1,0 +1,171 @@
+"""The command line: `python3 -m timetravel serve`, `call`, `status` and `metrics`."""
+
+from __future__ import annotations
+
+import argparse
+import json
+import sys
+import threading
+from collections.abc import Sequence
+
+from .front import PATIENCE
+from .lines import BLANK, Conversation, SocketError
+from .metrics import ENTRIES, SLOTS, command_log, of_rows
+from .serving import serve
+
+_JOIN = b'{"join":true}'
+_PAGE = 1000    # rows that are asked for at once where they are counted
+
+
+def main(arguments: Sequence[str] | None = None) -> int:
+    given = list(sys.argv[1:] if arguments is None else arguments)
+    command: list[str] | None = None
+    if given[:1] == ["serve"] and "--" in given:
+        place = given.index("--")
+        given, command = given[:place], given[place + 1:]
+    parser = _parser()
+    options = parser.parse_args(given)
+    if options.what == "serve":
+        return _serve(parser, options, command)
+    try:
+        return int(options.run(options))
+    except (SocketError, OSError) as error:
+        print(f"timetravel: {error}", file=sys.stderr)
+        return 1
+
+
+def _parser() -> argparse.ArgumentParser:
+    parser = argparse.ArgumentParser(prog="python3 -m timetravel", description="One session for many.")
+    kinds = parser.add_subparsers(dest="what", required=True, metavar="serve|call|status|metrics")
+
+    serving = kinds.add_parser(
+        "serve", help="serve a session on a Unix socket",
+        usage="%(prog)s [SOCKET] [--restart] [--timeout SECONDS] -- timetravel session [--log FILE]")
+    serving.add_argument("socket", nargs="?", help="its path; not needed where systemd hands the socket over")
+    serving.add_argument("--restart", action="store_true", help="start a session with a log again")
+    serving.add_argument("--timeout", type=float, default=PATIENCE, metavar="SECONDS",
+                         help="close a connection whose answers wait this long (default: 60)")
+
+    calling = kinds.add_parser("call", help="send lines to a session that is served, and print the answers",
+                               usage="%(prog)s [--opening LINE] SOCKET [LINE..]")
+    calling.add_argument("socket")
+    calling.add_argument("lines", nargs="*", metavar="LINE",
+                         help="a request; where none is given, they are read from standard input")
+    calling.add_argument("--opening", metavar="LINE", help="open the session by this line if it isn't open")
+    calling.set_defaults(run=_call)
+
+    telling = kinds.add_parser("status", help="print the status of a session that is served")
+    telling.add_argument("socket")
+    telling.set_defaults(run=_status)
+
+    measuring = kinds.add_parser("metrics", help="print counts and times in Prometheus's text format")
+    measuring.add_argument("socket")
+    measuring.add_argument("--rows", action="store_true",
+                           help="count the rows of each table, too, by reading them")
+    measuring.set_defaults(run=_metrics)
+    return parser
+
+
+def _serve(parser: argparse.ArgumentParser, options: argparse.Namespace, command: list[str] | None) -> int:
+    if not command:
+        parser.error("serve: the session's command is missing behind --")
+    if options.restart and command_log(command) is None:
+        parser.error("serve: --restart needs a session with --log")
+    if not options.timeout > 0:
+        parser.error("serve: --timeout must be above 0")
+    return serve(options.socket, command, restart=options.restart, patience=options.timeout)
+
+
+def _opened(conversation: Conversation, opening: bytes = _JOIN) -> dict[str, object] | None:
+    """The status of the session, or `None` and what it said on standard error."""
+    answer = conversation.ask(opening)
+    status = json.loads(answer)
+    if "time" in status:
+        return dict(status)
+    print(f"timetravel: {answer.decode()}", file=sys.stderr)
+    return None
+
+
+def _call(options: argparse.Namespace) -> int:
+    given = [line.encode(errors="surrogateescape") for line in options.lines] or [sys.stdin.buffer.read()]
+    lines = [line for text in given for line in text.split(b"\n") if line.strip(BLANK)]
+    opening = _JOIN
+    if options.opening is not None:    # a line feed is white space of JSON, but would end the line
+        opening = options.opening.replace("\n", " ").encode(errors="surrogateescape")
+    if not opening.strip(BLANK):
+        raise SocketError("the opening is blank, and wouldn't be answered")
+    with Conversation(options.socket) as conversation:
+        if _opened(conversation, opening) is None:
+            return 1
+        threading.Thread(target=_send, args=(conversation, lines), daemon=True).start()
+        failed = False
+        for _ in lines:
+            answer = conversation.answer()
+            sys.stdout.buffer.write(answer + b"\n")
+            sys.stdout.buffer.flush()
+            failed |= _failed(answer)
+        return int(failed)
+
+
+def _send(conversation: Conversation, lines: Sequence[bytes]) -> None:
+    try:
+        for line in lines:
+            conversation.send(line + b"\n")
+        conversation.end()
+    except OSError:
+        pass    # the connection has ended, and so do the answers
+
+
+def _failed(answer: bytes) -> bool:
+    """Whether an answer is a fault, a refusal, or none. These begin an answer, perhaps behind `call`."""
+    begin = answer[:64]
+    if begin.startswith(b'{"call":'):
+        begin = b"{" + begin.partition(b",")[2]
+    return begin.startswith((b'{"fault"', b'{"refused"', b'{"lost"', b'{"closed"'))
+
+
+def _status(options: argparse.Namespace) -> int:
+    with Conversation(options.socket) as conversation:
+        status = _opened(conversation)
+    if status is None:
+        return 1
+    print(f"time: {status['time']} of {SLOTS}")
+    print(f"entries: {status['entries']} of {ENTRIES}")
+    print(f"generation: {status['generation']}")
+    print(f"oldest generation: {status['oldest']}")
+    repair = status["repair"]
+    if isinstance(repair, dict):
+        print(f"repair: {repair['done']} slots done, {repair['left']} left, {repair['rerun']} re-executed")
+    else:
+        print("repair: none")
+    return 0
+
+
+def _metrics(options: argparse.Namespace) -> int:
+    with Conversation(options.socket) as conversation:
+        text = json.loads(conversation.ask(b'{"metrics":true}'))["metrics"]
+        if options.rows and "timetravel_open 1\n" in text and _opened(conversation) is not None:
+            text += "\n".join(of_rows(_rows(conversation))) + "\n"
+    sys.stdout.write(text)
+    return 0
+
+
+def _rows(conversation: Conversation) -> dict[str, int]:
+    """How many rows each table has, read by pages, so that nobody waits long."""
+    tables = json.loads(conversation.ask(b'{"tables":true}'))["tables"]
+    return {table["name"]: _table_rows(conversation, table["name"]) for table in tables}
+
+
+def _table_rows(conversation: Conversation, table: str) -> int:
+    request: dict[str, object] = {"select": table, "where": [], "most": _PAGE}
+    number = 0
+    while True:
+        page = json.loads(conversation.ask(json.dumps(request).encode()))
+        number += len(page["rows"])
+        if not page["more"]:
+            return number
+        request["after"] = page["rows"][-1][0]
+
+
+if __name__ == "__main__":
+    sys.exit(main())

@@ -1,0 +1,681 @@
+"""A session for asyncio, without threads.
+
+    async with timetravel.aio.Session([accounts]) as session:
+        await session.insert("acct", {"id": 1, "owner": "ann", "bal": 10})
+
+    session = await timetravel.aio.Session.connect("bank.sock", [accounts])
+    ...
+    await session.close()
+"""
+
+from __future__ import annotations
+
+import asyncio
+import inspect
+import math
+import os
+import socket
+from abc import ABC, abstractmethod
+from collections.abc import AsyncIterator, Awaitable, Callable, Generator, Iterable, Mapping, Sequence
+from typing import Any, Literal, TypeVar, cast, overload
+
+from . import answers, program, requests
+from .answers import (
+    Changes, Decode, Previewed, Progress, Selected, Slots, Status, Stepped, Switched, Tables, Written)
+from .errors import (
+    Closed, Disconnected, Ended, Error, Forked, Lost, NoAnswer, NotConnected, NotRepairing, Refused)
+from .forks import close_in_children
+from .opening import Opening
+from .requests import Change, Edit, NewRow, Where, Write
+from .tables import Table, Value
+from .waiting import Cutter, Farewell, Waiters, WaitersByCall, WaitersInOrder
+
+__all__ = ["Session"]
+
+AnswerType = TypeVar("AnswerType")
+Found = TypeVar("Found")
+
+
+class _Wait:
+    """The future of an answer, which isn't set where who waited has given up."""
+    __slots__ = ("_future",)
+
+    def __init__(self, future: asyncio.Future[Any]) -> None:
+        self._future = future
+
+    def set_result(self, result: Any, /) -> None:
+        if not self._future.done():
+            self._future.set_result(result)
+
+    def set_exception(self, exception: Error, /) -> None:
+        if not self._future.done():
+            self._future.set_exception(exception)
+
+
+class _Channel(asyncio.Protocol, ABC):
+    """Lines that go to a session, and who waits for the answers."""
+
+    def __init__(self, waiters: Waiters) -> None:
+        self.waiters = waiters
+        self.has_ended = False
+        self.is_closing = False    # no line follows
+        self._loop = asyncio.get_running_loop()
+        self._end: asyncio.Future[None] = self._loop.create_future()
+        self._room: asyncio.Future[None] | None = None    # where the other side doesn't read as fast
+        self._cutter = Cutter()
+        self._said = ""
+        self._writer: asyncio.WriteTransport
+        self._ending: asyncio.Task[None] | None = None
+
+    # What differs
+
+    @abstractmethod
+    async def _note_end(self) -> None:
+        """Notes how it ended, once nothing more is read."""
+
+    @abstractmethod
+    def end_error(self) -> Ended:
+        """The error of who still waits after the end."""
+
+    @abstractmethod
+    def end_input(self) -> None:
+        """No line follows. Each that was sent is answered."""
+
+    @abstractmethod
+    def kill(self) -> None:
+        """Brings the end at once."""
+
+    @abstractmethod
+    def close_in_child(self) -> None:
+        """Closes this process's ends, and nothing else."""
+
+    # What is the same
+
+    async def put(self, line: bytes, decode: Decode[AnswerType]) -> asyncio.Future[AnswerType]:
+        """Sends a line, as soon as there is room."""
+        while self._room is not None:
+            await asyncio.shield(self._room)
+        if self.has_ended:
+            raise self.end_error()
+        if self.is_closing:
+            raise Closed
+        future: asyncio.Future[AnswerType] = self._loop.create_future()
+        self.waiters.add(decode, _Wait(future))
+        self._writer.write(line)
+        return future
+
+    async def join(self, seconds: float | None) -> None:
+        """Waits for the end, and brings it where it doesn't come in time."""
+        await asyncio.wait([self._end], timeout=seconds)
+        if not self._end.done():
+            self.kill()
+            await asyncio.wait([self._end])
+
+    def data_received(self, data: bytes) -> None:
+        line = b""
+        try:
+            for line in self._cutter.lines(data):
+                self.waiters.hand_over(line)
+        except Farewell as farewell:
+            self._said = str(farewell)
+            self.kill()
+        except Exception as error:    # Whatever it is, those who wait have to be told.
+            self._said = f"what came is no answer: {line[:200]!r}: {error!r}"
+            self.kill()
+
+    def connection_lost(self, error: Exception | None) -> None:
+        if error is not None and not self._said:
+            self._said = str(error)
+        if self._ending is None:
+            self._ending = self._loop.create_task(self._come_to_end())
+
+    async def _come_to_end(self) -> None:
+        try:
+            await self._note_end()
+        finally:
+            self.has_ended = True
+            self.resume_writing()
+            self.waiters.wake_all(self.end_error)
+            self._end.set_result(None)
+
+    def pause_writing(self) -> None:
+        if self._room is None and not self.has_ended:
+            self._room = self._loop.create_future()
+
+    def resume_writing(self) -> None:
+        room, self._room = self._room, None
+        if room is not None:
+            room.set_result(None)
+
+
+class _InputOf(asyncio.BaseProtocol):
+    """The pipe to a program, whose channel is told when it is full."""
+
+    def __init__(self, channel: _Channel) -> None:
+        self._channel = channel
+
+    def pause_writing(self) -> None:
+        self._channel.pause_writing()
+
+    def resume_writing(self) -> None:
+        self._channel.resume_writing()
+
+
+class _Program(_Channel):
+    """A session over the pipes of a program that was started for it."""
+
+    def __init__(self, command: Sequence[str], has_log: bool) -> None:
+        super().__init__(WaitersByCall(has_log))
+        self.exit_status: int | None = None
+        self._standard_error = ""
+        self._process = program.Process(command)
+        close_in_children(self)
+
+    def connection_made(self, transport: asyncio.BaseTransport) -> None:
+        self._answers = transport
+
+    async def start(self) -> None:
+        connect_input, connect_output = self._loop.connect_write_pipe, self._loop.connect_read_pipe
+        try:
+            self._writer, _ = await connect_input(lambda: _InputOf(self), self._process.input)
+            await connect_output(lambda: self, self._process.output)
+        except BaseException:
+            self._process.kill()
+            self._process.wait()
+            self._process.end_input()
+            self._process.take_standard_error()
+            raise
+
+    async def _note_end(self) -> None:
+        if not self._writer.is_closing():
+            self._writer.abort()
+        if self._said:
+            self._process.kill()
+        self.exit_status = await self._ended()
+        self._standard_error = self._process.take_standard_error() + (f"{self._said}\n" if self._said else "")
+
+    async def _ended(self) -> int:
+        """Waits until the process has ended, and ends it where it doesn't. It has closed its output, so
+        this takes no time as a rule."""
+        late, pause = self._loop.time() + program.GRACE, 0.0
+        while (status := self._process.poll()) is None:
+            if self._loop.time() > late:
+                self._process.kill()
+            await asyncio.sleep(pause)
+            pause = min(0.05, 2 * pause + 0.001)
+        return status
+
+    def end_error(self) -> Lost:
+        return Lost(self.exit_status or 0, self._standard_error)
+
+    def end_input(self) -> None:
+        self.is_closing = True
+        self._writer.close()
+
+    def kill(self) -> None:
+        self._process.kill()
+        self._answers.close()
+
+    def close_in_child(self) -> None:
+        self._process.close_in_child()
+
+
+class _Connection(_Channel):
+    """A session behind a socket, which others use, too."""
+
+    def __init__(self, path: str | os.PathLike[str]) -> None:
+        super().__init__(WaitersInOrder())
+        self._path = os.fspath(path)
+        self._socket = socket.socket(socket.AF_UNIX, socket.SOCK_STREAM)
+        close_in_children(self)
+
+    async def start(self) -> None:
+        try:
+            self._socket.setblocking(False)
+            await self._connect()
+        except (OSError, ValueError) as error:
+            self._socket.close()
+            raise NotConnected(self._path) from error
+        except BaseException:
+            self._socket.close()
+            raise
+        await self._loop.create_unix_connection(lambda: self, sock=self._socket)
+
+    def connection_made(self, transport: asyncio.BaseTransport) -> None:
+        self._writer = cast(asyncio.Transport, transport)
+
+    async def _connect(self) -> None:
+        """Connects, where need be when the server has taken some of those who wait for it already."""
+        while True:
+            try:
+                return self._socket.connect(self._path)
+            except BlockingIOError:
+                await asyncio.sleep(0.01)
+
+    def data_received(self, data: bytes) -> None:
+        super().data_received(data)
+        if self.is_closing and not len(self.waiters):
+            self._writer.close()
+
+    async def _note_end(self) -> None:
+        self._writer.close()
+
+    def end_error(self) -> Disconnected:
+        return Disconnected(self._path, self._said)
+
+    def end_input(self) -> None:
+        if self.is_closing:
+            return
+        self.is_closing = True
+        if self.has_ended or not len(self.waiters):
+            self._writer.close()
+        else:
+            self._writer.write_eof()    # The last answer brings the end.
+
+    def kill(self) -> None:
+        self._writer.abort()
+
+    def close_in_child(self) -> None:
+        self._socket.close()
+
+
+class Session:
+    """A database, in a program of its own or behind a socket, for tasks of one event loop. It is opened
+    by `async with` or by `await`, and is otherwise as `timetravel.Session`, also in what is raised.
+
+    A task that is cancelled while it waits gives up its answer alone. Its request may be carried out.
+    """
+
+    def __init__(self, tables: Iterable[Table | Mapping[str, Any]], *, keep: int | None = None,
+                 records: int | None = None, log: str | os.PathLike[str] | None = None,
+                 reopen: bool = False, command: Sequence[str] = ("timetravel", "session"),
+                 timeout: float | None = None) -> None:
+        """A session that starts the program once it is opened, with the same parameters as
+        `timetravel.Session`. Raises `ValueError` or `TypeError` for what a line can't carry."""
+        if reopen and log is None:
+            raise ValueError("only a session with a log can be opened again")
+        whole = [*command, *([] if log is None else ["--log", os.fspath(log)])]
+        self._prepare(lambda: _Program(whole, log is not None), Opening(tables, keep, records), reopen,
+                      timeout)
+
+    @classmethod
+    def connect(cls, socket: str | os.PathLike[str], tables: Iterable[Table | Mapping[str, Any]], *,
+                keep: int | None = None, records: int | None = None, reopen: bool = False,
+                timeout: float | None = None) -> Session:
+        """A session that connects to the socket with this path once it is opened, with the same
+        parameters as `timetravel.Session.connect`. Raises `ValueError` or `TypeError` for what a line
+        can't carry."""
+        session = cls.__new__(cls)
+        session._prepare(lambda: _Connection(socket), Opening(tables, keep, records), reopen, timeout)
+        return session
+
+    def _prepare(self, make: Callable[[], _Program | _Connection], opening: Opening, reopens: bool,
+                 timeout: float | None) -> None:
+        self._make = make
+        self._opening = opening
+        self._reopens = reopens
+        self._timeout = timeout
+        self._process = os.getpid()
+        self._closed = False
+        self._starting = asyncio.Lock()
+        self._channel: _Program | _Connection | None = None
+
+    async def open(self) -> Session:
+        """Starts the program or connects, and opens the database. A session that is open stays so.
+
+        Raises `NotStarted`, `NotConnected`, `Ended`, `AnotherOpening`, `Fault`, `OutOfMemory`,
+        `NoAnswer`, `Closed` after `close`, and `Forked`.
+        """
+        await self._within(self._timeout, self._current(True))
+        return self
+
+    def __await__(self) -> Generator[Any, None, Session]:
+        return self.open().__await__()
+
+    async def __aenter__(self) -> Session:
+        return await self.open()
+
+    async def __aexit__(self, *_: object) -> None:
+        await self.close()
+
+    @property
+    def exit_status(self) -> int | None:
+        """The program's exit status; None while it runs, and for a connection."""
+        return self._channel.exit_status if isinstance(self._channel, _Program) else None
+
+    async def close(self) -> None:
+        """Ends what is sent. All that was sent is answered; then the program ends, or this connection,
+        and this waits for it. A session that is closed stays so. In a child of the process that opened
+        the session, this does nothing. Raises nothing."""
+        if os.getpid() != self._process:
+            return
+        self._closed = True
+        if self._channel is not None:
+            self._channel.end_input()
+            await self._channel.join(self._timeout)
+
+    # Writes
+
+    async def insert(self, table: str, row: NewRow, *, worker: int | None = None,
+                     if_time: int | None = None, timeout: float | None = None) -> Written:
+        """Inserts a row: its values in the columns' order, or a dict of all of them by their columns'
+        names. Where the table has its key, the reply is "duplicate".
+
+        Raises `ValueError` where a column is missing or unknown, `Full`, and what any request does.
+        """
+        return await self._ask(requests.insert(table, row), answers.written, worker, if_time, timeout)
+
+    @overload
+    async def update(self, table: str, change: Iterable[Change], where: Where, *,
+                     worker: int | None = None, if_time: int | None = None,
+                     timeout: float | None = None) -> Written: ...
+
+    @overload
+    async def update(self, table: str, where: Where, /, *, set: Mapping[str, Value] = ...,
+                     add: Mapping[str, int] = ..., worker: int | None = None,
+                     if_time: int | None = None, timeout: float | None = None) -> Written: ...
+
+    @overload
+    async def update(self, table: str, *, where: Where, set: Mapping[str, Value] = ...,
+                     add: Mapping[str, int] = ..., worker: int | None = None,
+                     if_time: int | None = None, timeout: float | None = None) -> Written: ...
+
+    async def update(self, table: str, change: Any = None, where: Any = None, *,
+                     set: Mapping[str, Value] | None = None, add: Mapping[str, int] | None = None,
+                     worker: int | None = None, if_time: int | None = None,
+                     timeout: float | None = None) -> Written:
+        """Changes the rows that match: sets columns to values, adds numbers to columns. `where` is empty
+        for every row.
+
+        Raises `TypeError` where `where` or the changes are missing, `Full`, and what any request does.
+        """
+        request = requests.update(table, change, where, set=set, add=add)    # type: ignore[call-overload]
+        return await self._ask(request, answers.written, worker, if_time, timeout)
+
+    async def delete(self, table: str, where: Where, *, worker: int | None = None,
+                     if_time: int | None = None, timeout: float | None = None) -> Written:
+        """Deletes the rows that match. `where` is empty for every row.
+
+        Raises `Full`, and what any request does.
+        """
+        return await self._ask(requests.delete(table, where), answers.written, worker, if_time, timeout)
+
+    async def do(self, writes: Iterable[Write], *, worker: int | None = None,
+                 if_time: int | None = None, timeout: float | None = None) -> Written:
+        """Carries out up to 16 writes in order, as one slot at one time.
+
+        Raises `Full`, and what any request does.
+        """
+        return await self._ask(requests.do(writes), answers.written, worker, if_time, timeout)
+
+    # Reads
+
+    async def select(self, table: str, where: Where = (), *, at: int | None = None,
+                     generation: int | None = None, after: int | None = None, most: int | None = None,
+                     worker: int | None = None, if_time: int | None = None,
+                     timeout: float | None = None) -> Selected:
+        """The rows that match: now or at a time; of the current generation or of one that is kept;
+        those with a key greater than `after`, and of these the first `most`.
+
+        Raises `Later`, `NoGeneration`, and what any request does.
+        """
+        request = requests.select(table, where, at=at, generation=generation, after=after, most=most)
+        return await self._ask(request, self._opening.selected(table), worker, if_time, timeout)
+
+    async def pages(self, table: str, where: Where = (), *, at: int | None = None,
+                    generation: int | None = None, most: int = 1000, worker: int | None = None,
+                    timeout: float | None = None) -> AsyncIterator[Selected]:
+        """The rows that match, `most` at a time, all at one time of one generation, for `async for`.
+
+        What is written meanwhile doesn't show, nor does a switch, as long as the generation is kept.
+        A table without a matching row gives one page without rows. `timeout` is for each page.
+
+        Raises what `select` does.
+        """
+        conditions = requests.pairs(where)
+        if generation is None:
+            status = await self.status(worker=worker, timeout=timeout)
+            generation = status.generation
+            at = status.time if at is None else at
+        after = None
+        while True:
+            page = await self.select(table, conditions, at=at, generation=generation, after=after,
+                                     most=most, worker=worker, timeout=timeout)
+            yield page
+            if not page.more:
+                return
+            at, after = page.time, int(page.rows[-1][0])
+
+    # Repairs
+
+    async def repair(self, edits: Iterable[Edit], *, step: int = 100,
+                     progress: Callable[[Progress], object] | None = None, worker: int | None = None,
+                     timeout: float | None = None) -> Switched:
+        """A whole repair: begins it, does `step` slots at a time until none is left, and makes the
+        repaired data the current ones. Other requests are answered between the steps.
+
+        `progress` is called after each step, and awaited where it returns something to await. Where it
+        raises something, or a step fails, or the task is cancelled, the repair is aborted, and that is
+        raised. `timeout` is for each request.
+
+        Raises what `begin`, `step` and `finish` do. After a `NoAnswer` of the beginning or of the end the
+        repair may be under way, or done: `status` tells.
+        """
+        stepped = await self.begin(edits, worker=worker, timeout=timeout)
+        try:
+            while stepped.left > 0:
+                stepped = await self.step(step, worker=worker, timeout=timeout)
+                told = None if progress is None else progress(stepped)
+                if inspect.isawaitable(told):
+                    await told
+        except NotRepairing:
+            raise    # Somebody else has ended it.
+        except BaseException:
+            await self._give_up(worker, timeout)
+            raise
+        try:
+            return await self.finish(worker=worker, timeout=timeout)
+        except NotRepairing:
+            raise
+        except Refused:
+            await self._give_up(worker, timeout)
+            raise
+
+    async def _give_up(self, worker: int | None, timeout: float | None) -> None:
+        """Aborts a repair because of an error that is about to be raised."""
+        try:
+            await self.abort(worker=worker, timeout=timeout)
+        except Error:
+            pass    # What was to be raised tells more.
+
+    async def begin(self, edits: Iterable[Edit], *, worker: int | None = None,
+                    if_time: int | None = None, timeout: float | None = None) -> Stepped:
+        """Begins a repair: see `cancel` and `replace`.
+
+        Raises `Repairing`, `NoSlot`, `EditedTwice`, `Full`, and what any request does.
+        """
+        return await self._ask({"begin": list(edits)}, answers.stepped, worker, if_time, timeout)
+
+    async def step(self, slots: int = 1, *, worker: int | None = None, if_time: int | None = None,
+                   timeout: float | None = None) -> Stepped:
+        """Does the next slots of the repair, or all that are left where those are fewer.
+
+        Raises `NotRepairing`, and what any request does.
+        """
+        return await self._ask({"step": slots}, answers.stepped, worker, if_time, timeout)
+
+    async def preview(self, table: str, where: Where = (), *, after: int | None = None,
+                      most: int | None = None, worker: int | None = None, if_time: int | None = None,
+                      timeout: float | None = None) -> Previewed:
+        """The rows that match, as the repair has rebuilt them so far.
+
+        Raises `NotRepairing`, and what any request does.
+        """
+        request = requests.preview(table, where, after=after, most=most)
+        return await self._ask(request, self._opening.previewed(table), worker, if_time, timeout)
+
+    async def finish(self, *, worker: int | None = None, if_time: int | None = None,
+                     timeout: float | None = None) -> Switched:
+        """Does all slots that are left, and makes the repaired data the current ones.
+
+        Raises `NotRepairing`, and what any request does.
+        """
+        return await self._ask({"finish": True}, answers.switched, worker, if_time, timeout)
+
+    async def abort(self, *, worker: int | None = None, if_time: int | None = None,
+                    timeout: float | None = None) -> Status:
+        """Gives the repair up. The current data stay.
+
+        Raises `NotRepairing`, and what any request does.
+        """
+        return await self._ask({"abort": True}, answers.status, worker, if_time, timeout)
+
+    # What is there, and what was
+
+    async def status(self, *, worker: int | None = None, if_time: int | None = None,
+                     timeout: float | None = None) -> Status:
+        """The current time and generation, and the repair under way.
+
+        Raises what any request does.
+        """
+        return await self._ask({"status": True}, answers.status, worker, if_time, timeout)
+
+    async def slots(self, first: int, last: int, *, of: int | None = None,
+                    row: tuple[str, int] | None = None, worker: int | None = None,
+                    if_time: int | None = None, timeout: float | None = None) -> Slots:
+        """The slots from `first` to `last`: those of the worker `of`, and those that changed a row,
+        given as its table and its key.
+
+        Raises what any request does.
+        """
+        request = requests.slots(first, last, of, row)
+        return await self._ask(request, self._opening.slots, worker, if_time, timeout)
+
+    async def changes(self, which: Literal["now", "next"] = "now", *, worker: int | None = None,
+                      if_time: int | None = None, timeout: float | None = None) -> Changes:
+        """The answers that would be others now; with "next" those that the repair will have changed.
+
+        Raises `NotRepairing` with "next", and what any request does.
+        """
+        return await self._ask({"changes": which}, answers.changes, worker, if_time, timeout)
+
+    async def tables(self, *, worker: int | None = None, if_time: int | None = None,
+                     timeout: float | None = None) -> Tables:
+        """What the session was opened with.
+
+        Raises what any request does.
+        """
+        return await self._ask({"tables": True}, answers.tables, worker, if_time, timeout)
+
+    # Without waiting
+
+    @overload
+    async def send(self, request: Write | requests.DoRequest, *, worker: int | None = None,
+                   if_time: int | None = None, timeout: float | None = None
+                   ) -> asyncio.Future[Written]: ...
+
+    @overload
+    async def send(self, request: requests.SelectRequest, *, worker: int | None = None,
+                   if_time: int | None = None, timeout: float | None = None
+                   ) -> asyncio.Future[Selected]: ...
+
+    @overload
+    async def send(self, request: requests.PreviewRequest, *, worker: int | None = None,
+                   if_time: int | None = None, timeout: float | None = None
+                   ) -> asyncio.Future[Previewed]: ...
+
+    @overload
+    async def send(self, request: requests.BeginRequest | requests.StepRequest, *,
+                   worker: int | None = None, if_time: int | None = None,
+                   timeout: float | None = None) -> asyncio.Future[Stepped]: ...
+
+    @overload
+    async def send(self, request: requests.FinishRequest, *, worker: int | None = None,
+                   if_time: int | None = None, timeout: float | None = None
+                   ) -> asyncio.Future[Switched]: ...
+
+    @overload
+    async def send(self, request: requests.AbortRequest | requests.StatusRequest, *,
+                   worker: int | None = None, if_time: int | None = None,
+                   timeout: float | None = None) -> asyncio.Future[Status]: ...
+
+    @overload
+    async def send(self, request: requests.SlotsRequest, *, worker: int | None = None,
+                   if_time: int | None = None, timeout: float | None = None
+                   ) -> asyncio.Future[Slots]: ...
+
+    @overload
+    async def send(self, request: requests.ChangesRequest, *, worker: int | None = None,
+                   if_time: int | None = None, timeout: float | None = None
+                   ) -> asyncio.Future[Changes]: ...
+
+    @overload
+    async def send(self, request: requests.TablesRequest, *, worker: int | None = None,
+                   if_time: int | None = None, timeout: float | None = None
+                   ) -> asyncio.Future[Tables]: ...
+
+    @overload
+    async def send(self, request: Mapping[str, object], *, worker: int | None = None,
+                   if_time: int | None = None, timeout: float | None = None
+                   ) -> asyncio.Future[Any]: ...
+
+    async def send(self, request: Any, *, worker: int | None = None, if_time: int | None = None,
+                   timeout: float | None = None) -> asyncio.Future[Any]:
+        """Sends a request, and returns a future of what the method of its kind returns or raises.
+
+        Many may be sent before the first answer is there. This waits only where the pipe is full, for
+        the other side to read on, at most for the `timeout`.
+
+        Raises `ValueError` or `TypeError`, `NoAnswer`, `Ended`, `Closed` and `Forked` as any request
+        does; the future raises the rest.
+        """
+        line = self._opening.request(request, worker, if_time)
+        return await self._within(timeout, self._put(line, self._opening.decode(request)))
+
+    async def _ask(self, request: Mapping[str, Any], decode: Decode[AnswerType], worker: int | None,
+                   if_time: int | None, timeout: float | None) -> AnswerType:
+        line = self._opening.request(request, worker, if_time)
+        return await self._within(timeout, self._exchange(line, decode))
+
+    async def _exchange(self, line: bytes, decode: Decode[AnswerType]) -> AnswerType:
+        return await (await self._put(line, decode))
+
+    async def _put(self, line: bytes, decode: Decode[AnswerType]) -> asyncio.Future[AnswerType]:
+        channel = await self._current(self._reopens)
+        return await channel.put(line, decode)
+
+    async def _within(self, timeout: float | None, awaitable: Awaitable[Found]) -> Found:
+        """What this gives within the seconds of a call, or of the session."""
+        seconds = self._timeout if timeout is None else timeout
+        if seconds is None or seconds == math.inf:
+            return await awaitable
+        try:
+            return await asyncio.wait_for(awaitable, max(0.0, seconds))
+        except asyncio.TimeoutError:
+            raise NoAnswer(seconds) from None
+
+    async def _current(self, starts: bool) -> _Program | _Connection:
+        """The channel to a session that is open, which is started where that is to be."""
+        if os.getpid() != self._process:
+            raise Forked
+        if self._closed:
+            raise Closed
+        if self._channel is not None and not (starts and self._channel.has_ended):
+            return self._channel
+        if not starts:
+            raise Closed("the session isn't open yet")
+        async with self._starting:
+            if self._channel is None or self._channel.has_ended:
+                self._channel = await self._start()
+            return self._channel
+
+    async def _start(self) -> _Program | _Connection:
+        channel = self._make()
+        await channel.start()
+        try:
+            self.opened: Status = await (await channel.put(self._opening.line, answers.status))
+        except BaseException:
+            channel.end_input()
+            await channel.join(self._timeout)
+            raise
+        return channel

@@ -1,0 +1,255 @@
+"""Answers, and how they are read from their lines.
+
+`call` is the number of the request; that of the opening is 0.
+"""
+
+from __future__ import annotations
+
+import json
+from collections.abc import Callable, Mapping
+from dataclasses import dataclass
+from typing import Any, TypeVar, Union
+
+from .errors import REFUSALS, Error, Fault, Lost, Refused
+from .requests import Write
+from .tables import Column, Row, Table
+
+
+@dataclass(frozen=True)
+class Reply:
+    """What one write did: "inserted", "duplicate", or "updated" or "deleted" with a count of rows."""
+    kind: str
+    count: int | None = None
+
+    def __str__(self) -> str:
+        return self.kind if self.count is None else f"{self.kind} {self.count}"
+
+
+@dataclass(frozen=True)
+class Written:
+    """The slot of an action, and the replies to its writes."""
+    call: int
+    slot: int
+    replies: list[Reply]
+
+
+@dataclass(frozen=True)
+class Selected:
+    """Rows by rising key at a time. `more` is None where no `most` was given."""
+    call: int
+    time: int
+    rows: list[Row]
+    more: bool | None = None
+
+
+@dataclass(frozen=True)
+class Previewed:
+    """Rows as the repair has rebuilt them, with `done` slots done."""
+    call: int
+    done: int
+    rows: list[Row]
+    more: bool | None = None
+
+
+@dataclass(frozen=True)
+class Progress:
+    """How many slots of a repair are done, how many are left, how many of those done were re-executed."""
+    done: int
+    left: int
+    rerun: int
+
+
+@dataclass(frozen=True)
+class Stepped(Progress):
+    """Where a repair is after `begin` or `step`."""
+    call: int
+
+
+@dataclass(frozen=True)
+class Switched:
+    """The end of a repair: the generation that is now the current one, its slots, those re-executed."""
+    call: int
+    generation: int
+    slots: int
+    rerun: int
+
+
+@dataclass(frozen=True)
+class Status:
+    """The current time and generation, the oldest generation that is kept, and the repair under way."""
+    call: int
+    time: int
+    generation: int
+    oldest: int
+    entries: int
+    repair: Progress | None
+
+
+@dataclass(frozen=True)
+class Slot:
+    """A slot of the current generation. `do` and `replies` are None where a repair has cancelled it;
+    `asked` has the writes that were asked for, where a repair has cancelled or replaced them."""
+    slot: int
+    worker: int
+    do: list[Write] | None
+    replies: list[Reply] | None
+    asked: list[Write] | None = None
+
+
+@dataclass(frozen=True)
+class Slots:
+    """Slots by rising number, and the current time."""
+    call: int
+    time: int
+    slots: list[Slot]
+
+
+@dataclass(frozen=True)
+class ChangedWrite:
+    """A write whose replies are others now. `after` is None where its slot is cancelled."""
+    call: int
+    slot: int
+    before: list[Reply]
+    after: list[Reply] | None
+
+
+@dataclass(frozen=True)
+class ChangedSelect:
+    """A select whose rows are others now. They have no names of columns."""
+    call: int
+    time: int
+    before: list[Row]
+    after: list[Row]
+
+
+@dataclass(frozen=True)
+class Changes:
+    """The changed replies by rising call. Records are kept of `first_call` and of later calls."""
+    call: int
+    first_call: int
+    changed: list[ChangedWrite | ChangedSelect]
+
+
+@dataclass(frozen=True)
+class Tables:
+    """The opening of this session, with every member."""
+    call: int
+    version: int
+    tables: list[Table]
+    keep: int
+    records: int
+
+
+Answer = Union[Written, Selected, Previewed, Stepped, Switched, Status, Slots, Changes, Tables]
+
+# Lines
+
+Members = dict[str, Any]    # of an answer, as JSON has them
+AnswerType = TypeVar("AnswerType")
+Decode = Callable[[Members], AnswerType]    # how the answers of a kind are read
+
+_json = json.JSONDecoder().raw_decode
+
+
+def members_of(line: bytes) -> Members:
+    """The members of an answer. Raises `ValueError` where the line isn't an object of JSON."""
+    text = line.decode()
+    members, end = _json(text)
+    if end != len(text) and text[end:].strip() or type(members) is not dict:
+        raise ValueError("not an object")
+    return members
+
+
+def error_of(members: Members) -> Error | None:
+    """What is to be raised in place of returning this answer."""
+    if "fault" in members:
+        fault = members["fault"]
+        return Fault(fault["path"], fault["cause"], members.get("call", 0))
+    if "refused" in members:
+        cause = members["refused"]
+        told = {name: value for name, value in members.items() if name not in ("call", "refused")}
+        return REFUSALS.get(cause, Refused)(cause, members.get("call", 0), **told)
+    if "lost" in members:
+        return Lost(None, members["lost"])    # A server tells that its program has ended.
+    return None
+
+
+# A reply can't be changed, so one of a kind is enough.
+_REPLIES = {kind: Reply(kind) for kind in ("inserted", "duplicate")}
+
+
+def _reply(found: Any) -> Reply:
+    if isinstance(found, str):
+        return _REPLIES.get(found) or Reply(found)
+    (kind, count), = found.items()
+    return Reply(kind, count)
+
+
+def _replies(found: list[Any]) -> list[Reply]:
+    return [_reply(reply) for reply in found]
+
+
+def written(found: Members) -> Written:
+    return Written(found["call"], found["slot"], _replies(found["replies"]))
+
+
+def selected(row: type[Row], found: Members) -> Selected:
+    return Selected(found["call"], found["time"], list(map(row, found["rows"])), found.get("more"))
+
+
+def previewed(row: type[Row], found: Members) -> Previewed:
+    return Previewed(found["call"], found["done"], list(map(row, found["rows"])), found.get("more"))
+
+
+def stepped(found: Members) -> Stepped:
+    return Stepped(found["done"], found["left"], found["rerun"], found["call"])
+
+
+def switched(found: Members) -> Switched:
+    return Switched(found["call"], found["generation"], found["slots"], found["rerun"])
+
+
+def status(found: Members) -> Status:
+    repair = found["repair"]
+    progress = None if repair is None else Progress(repair["done"], repair["left"], repair["rerun"])
+    return Status(found.get("call", 0), found["time"], found["generation"], found["oldest"],
+                  found["entries"], progress)
+
+
+def slots(rows: Mapping[str, type[Row]], found: Members) -> Slots:
+    return Slots(found["call"], found["time"], [_slot(rows, each) for each in found["slots"]])
+
+
+def _slot(rows: Mapping[str, type[Row]], found: Members) -> Slot:
+    replies = None if found["replies"] is None else _replies(found["replies"])
+    return Slot(found["slot"], found["worker"], _writes(rows, found["do"]), replies,
+                _writes(rows, found.get("asked")))
+
+
+def _writes(rows: Mapping[str, type[Row]], found: list[Any] | None) -> list[Write] | None:
+    for write in found or ():
+        if "insert" in write:
+            write["row"] = rows.get(write["insert"], Row)(write["row"])
+    return found
+
+
+def changes(found: Members) -> Changes:
+    return Changes(found["call"], found["from"], [_changed(each) for each in found["changed"]])
+
+
+def _changed(found: Members) -> ChangedWrite | ChangedSelect:
+    if "time" in found:
+        return ChangedSelect(found["call"], found["time"], list(map(Row, found["before"])),
+                             list(map(Row, found["after"])))
+    after = None if found["after"] == "cancelled" else _replies(found["after"])
+    return ChangedWrite(found["call"], found["slot"], _replies(found["before"]), after)
+
+
+def tables(found: Members) -> Tables:
+    return Tables(found["call"], found["version"], [_table(each) for each in found["tables"]],
+                  found["keep"], found["records"])
+
+
+def _table(found: Members) -> Table:
+    return Table(found["name"], [Column(column["name"], column["kind"], column["partition"])
+                                 for column in found["columns"]])

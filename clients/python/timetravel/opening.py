@@ -1,0 +1,114 @@
+"""What a session is opened with: by its tables rows are written and read."""
+
+from __future__ import annotations
+
+from collections.abc import Iterable, Mapping
+from dataclasses import asdict
+from functools import partial
+from typing import Any
+
+from . import answers, requests
+from .answers import Decode, Previewed, Selected, Slots
+from .tables import Row, Table, in_order, row_of
+
+
+class Opening:
+    """The line that opens a session, the lines of its requests, and how their answers are read."""
+
+    def __init__(self, tables: Iterable[Table | Mapping[str, Any]], keep: int | None,
+                 records: int | None) -> None:
+        declared = [asdict(table) if isinstance(table, Table) else dict(table) for table in tables]
+        members: dict[str, object] = {"version": 2, "tables": declared}
+        if keep is not None:
+            members["keep"] = keep
+        if records is not None:
+            members["records"] = records
+        self.line = requests.line(members)
+        self._rows: dict[str, type[Row]] = {}
+        self._selected: dict[str, Decode[Selected]] = {}
+        self._previewed: dict[str, Decode[Previewed]] = {}
+        self.slots: Decode[Slots] = partial(answers.slots, self._rows)    # how answers with slots are read
+        for table in declared:
+            self._know(table)
+
+    def _know(self, table: Mapping[str, Any]) -> None:
+        """Knows a table by its name. One that is no table is for the program to refuse."""
+        try:
+            name, row = table["name"], row_of(tuple(str(column["name"]) for column in table["columns"]))
+            self._rows[name] = row
+        except (LookupError, TypeError):
+            return
+        self._selected[name] = partial(answers.selected, row)
+        self._previewed[name] = partial(answers.previewed, row)
+
+    def request(self, members: Mapping[str, Any], worker: int | None, if_time: int | None) -> bytes:
+        """A request as a line. Raises `ValueError` or `TypeError` for what a line can't carry."""
+        if "insert" in members:
+            if type(members.get("row")) is not list:
+                members = self._write(members)
+        elif "do" in members:
+            members = self._action(members)
+        elif "begin" in members and isinstance(members["begin"], (list, tuple)):
+            members = {**members, "begin": [self._edit(edit) for edit in members["begin"]]}
+        if if_time is not None:
+            members = {"if": if_time, **members}
+        if worker is not None:
+            members = {"worker": worker, **members}
+        return requests.line(members)
+
+    def _action(self, members: Mapping[str, Any]) -> Mapping[str, Any]:
+        writes = members["do"]
+        if not isinstance(writes, (list, tuple)):
+            return members
+        return {**members, "do": [self._write(write) for write in writes]}
+
+    def _edit(self, edit: Any) -> Any:
+        by = edit.get("by") if isinstance(edit, Mapping) else None
+        if not isinstance(by, Mapping):
+            return edit
+        return {**edit, "by": self._action(by) if "do" in by else self._write(by)}
+
+    def _write(self, write: Any) -> Any:
+        """A write whose row, where it names its columns, is a list of values."""
+        row = write.get("row") if isinstance(write, Mapping) else None
+        if not isinstance(row, Mapping) or "insert" not in write:
+            return write
+        table = write["insert"]
+        if not isinstance(table, str) or table not in self._rows:
+            raise ValueError(f"the session has no table {table}")
+        return {**write, "row": in_order(table, self._rows[table].places, row)}
+
+    def selected(self, table: str) -> Decode[Selected]:
+        """How an answer to a select from this table is read."""
+        return self._selected.get(table, _plainly_selected)
+
+    def previewed(self, table: str) -> Decode[Previewed]:
+        """How an answer to a preview of this table is read."""
+        return self._previewed.get(table, _plainly_previewed)
+
+    def decode(self, members: Mapping[str, Any]) -> Decode[Any]:
+        """How an answer to this request is read. The kind of a request is the first of these it has."""
+        for kind, decode in _DECODE.items():
+            if kind in members:
+                if kind == "select" and isinstance(members["select"], str):
+                    return self.selected(members["select"])
+                if kind == "preview" and isinstance(members["preview"], str):
+                    return self.previewed(members["preview"])
+                return self.slots if kind == "slots" else decode
+        return _refused
+
+
+def _refused(members: Mapping[str, Any]) -> Any:
+    raise ValueError("an answer to what is no request")
+
+
+_plainly_selected: Decode[Selected] = partial(answers.selected, Row)
+_plainly_previewed: Decode[Previewed] = partial(answers.previewed, Row)
+
+# The kinds of requests, in the order in which the program looks for them.
+_DECODE: dict[str, Decode[Any]] = {
+    "insert": answers.written, "update": answers.written, "delete": answers.written,
+    "select": _plainly_selected, "preview": _plainly_previewed, "do": answers.written,
+    "begin": answers.stepped, "step": answers.stepped, "finish": answers.switched,
+    "abort": answers.status, "status": answers.status, "slots": partial(answers.slots, {}),
+    "changes": answers.changes, "tables": answers.tables}

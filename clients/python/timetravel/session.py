@@ -1,0 +1,454 @@
+"""A session that waits for its answers, or gives futures of them."""
+
+from __future__ import annotations
+
+import math
+import os
+from collections.abc import Callable, Iterable, Iterator, Mapping, Sequence
+from concurrent.futures import Future
+from threading import Lock
+from typing import Any, Literal, TypeVar, overload
+
+from . import answers, requests
+from .answers import (
+    Changes, Decode, Previewed, Progress, Selected, Slots, Status, Stepped, Switched, Tables, Written)
+from .channel import Channel
+from .connection import Connection
+from .errors import Closed, Error, Forked, NoAnswer, NotRepairing, Refused
+from .opening import Opening
+from .program import Program
+from .requests import Change, Edit, NewRow, Where, Write
+from .tables import Table, Value
+from .waiting import Deadline, SentFuture, Wait, Waiting, seconds_left
+
+AnswerType = TypeVar("AnswerType")
+
+
+class Session:
+    """A database, in a program of its own or behind a socket. A context manager, which closes it at its
+    end.
+
+    Each method sends a request and waits for its answer. Every request takes the `worker` in whose name
+    it is made (1 where it isn't given); `if_time`: where this isn't the current time, the request is
+    refused as `Moved`; and `timeout`, the seconds that it may take, in place of the session's own
+    (`math.inf` for any time). `send` sends a request without waiting.
+
+    Any request raises what isn't said of it again:
+
+    - `ValueError` or `TypeError` for what a line can't carry to the database. It isn't sent.
+    - `Fault` where the grammar or the tables don't allow it, and `OutOfMemory`. It has changed nothing.
+    - `Moved`, with `if_time`. It has changed nothing.
+    - `NoAnswer` where the answer doesn't come in time. The request may still be carried out.
+    - `Lost` where the program has ended, `Disconnected` where the connection has: both are `Ended`.
+    - `Closed` after `close`, and `Forked` in a child of the process that opened the session.
+    """
+
+    def __init__(self, tables: Iterable[Table | Mapping[str, Any]], *, keep: int | None = None,
+                 records: int | None = None, log: str | os.PathLike[str] | None = None,
+                 reopen: bool = False, command: Sequence[str] = ("timetravel", "session"),
+                 timeout: float | None = None) -> None:
+        """Starts the program and opens the database.
+
+        `keep` is how many closed generations stay readable, `records` of how many answers the session
+        keeps a record for `changes`. `timeout` is how many seconds a method waits for its answer, and
+        `close` for the program to end, which it is made to do after that; without it they wait for as
+        long as the program runs.
+
+        `log` is the path of a file in which the database is kept; what it has already is there, and
+        `opened` tells how far that is. It has to be of the same tables and `keep`. With `reopen` a
+        program that has ended is started again on its log by the next request. Whoever waits for an
+        answer when the program ends gets `Lost` all the same: the request may be carried out or not.
+        One that had `if_time` can be sent again with it.
+
+        Raises `NotStarted`, `Lost` where the program ends again, `AnotherOpening`, `Fault`,
+        `OutOfMemory`, `NoAnswer`, and `ValueError` or `TypeError` for what a line can't carry.
+        """
+        if reopen and log is None:
+            raise ValueError("only a session with a log can be opened again")
+        whole = [*command, *([] if log is None else ["--log", os.fspath(log)])]
+        self._open(lambda deadline: Program(whole, log is not None), Opening(tables, keep, records),
+                   reopen, timeout)
+
+    @classmethod
+    def connect(cls, socket: str | os.PathLike[str], tables: Iterable[Table | Mapping[str, Any]], *,
+                keep: int | None = None, records: int | None = None, reopen: bool = False,
+                timeout: float | None = None) -> Session:
+        """Connects to the Unix socket with this path, and opens the session there, or joins in: it has
+        to be of the same tables and `keep`, and `opened` tells what is there.
+
+        With `reopen` the next request connects again after the connection has ended. Whoever waits for
+        an answer then gets `Disconnected` all the same. `timeout` is as for a program. `close` ends this
+        connection alone.
+
+        Raises `NotConnected`, `Disconnected`, `AnotherOpening`, `Fault`, `OutOfMemory`, `NoAnswer`, and
+        `ValueError` or `TypeError` for what a line can't carry.
+        """
+        session = cls.__new__(cls)
+        session._open(lambda deadline: Connection(socket, deadline), Opening(tables, keep, records),
+                      reopen, timeout)
+        return session
+
+    def _open(self, make: Callable[[Deadline | None], Channel], opening: Opening, reopens: bool,
+              timeout: float | None) -> None:
+        self._make = make
+        self._opening = opening
+        self._reopens = reopens
+        self._timeout = timeout
+        self._process = os.getpid()
+        self._closed = False
+        self._sending = Lock()    # held while a line is sent, or the session is opened again
+        self._channel = self._start(self._deadline(None))
+
+    def _start(self, deadline: Deadline | None) -> Channel:
+        """Starts the program, or connects, and waits until the database is open."""
+        channel = self._make(deadline)
+        try:
+            wait: Wait[Status] = Wait()
+            channel.put(self._opening.line, answers.status, wait, deadline)
+            self.opened: Status = wait.result(deadline)
+        except BaseException:
+            end = self._deadline(None)
+            channel.end_input(end)
+            channel.join(end)
+            raise
+        return channel
+
+    def __enter__(self) -> Session:
+        return self
+
+    def __exit__(self, *_: object) -> None:
+        self.close()
+
+    @property
+    def exit_status(self) -> int | None:
+        """The program's exit status; None while it runs, and for a connection."""
+        return self._channel.exit_status if isinstance(self._channel, Program) else None
+
+    def close(self) -> None:
+        """Ends what is sent. All that was sent is answered; then the program ends, or this connection,
+        and this waits for it. A session that is closed stays so. In a child of the process that opened
+        the session, this does nothing. Raises nothing."""
+        if os.getpid() != self._process:
+            return
+        self._closed = True
+        deadline = self._deadline(None)
+        if self._sending.acquire(timeout=seconds_left(deadline)):
+            try:
+                self._channel.end_input(deadline)
+            finally:
+                self._sending.release()
+        else:
+            self._channel.kill()
+        self._channel.join(deadline)
+
+    # Writes
+
+    def insert(self, table: str, row: NewRow, *, worker: int | None = None, if_time: int | None = None,
+               timeout: float | None = None) -> Written:
+        """Inserts a row: its values in the columns' order, or a dict of all of them by their columns'
+        names. Where the table has its key, the reply is "duplicate".
+
+        Raises `ValueError` where a column is missing or unknown, `Full`, and what any request does.
+        """
+        return self._ask(requests.insert(table, row), answers.written, worker, if_time, timeout)
+
+    @overload
+    def update(self, table: str, change: Iterable[Change], where: Where, *, worker: int | None = None,
+               if_time: int | None = None, timeout: float | None = None) -> Written: ...
+
+    @overload
+    def update(self, table: str, where: Where, /, *, set: Mapping[str, Value] = ...,
+               add: Mapping[str, int] = ..., worker: int | None = None, if_time: int | None = None,
+               timeout: float | None = None) -> Written: ...
+
+    @overload
+    def update(self, table: str, *, where: Where, set: Mapping[str, Value] = ...,
+               add: Mapping[str, int] = ..., worker: int | None = None, if_time: int | None = None,
+               timeout: float | None = None) -> Written: ...
+
+    def update(self, table: str, change: Any = None, where: Any = None, *,
+               set: Mapping[str, Value] | None = None, add: Mapping[str, int] | None = None,
+               worker: int | None = None, if_time: int | None = None,
+               timeout: float | None = None) -> Written:
+        """Changes the rows that match: sets columns to values, adds numbers to columns. `where` is empty
+        for every row.
+
+            session.update("acct", {"id": 1}, set={"owner": "ann"}, add={"bal": -5})
+            session.update("acct", [("set", "owner", "ann"), ("add", "bal", -5)], {"id": 1})
+
+        Raises `TypeError` where `where` or the changes are missing, `Full`, and what any request does.
+        """
+        request = requests.update(table, change, where, set=set, add=add)    # type: ignore[call-overload]
+        return self._ask(request, answers.written, worker, if_time, timeout)
+
+    def delete(self, table: str, where: Where, *, worker: int | None = None, if_time: int | None = None,
+               timeout: float | None = None) -> Written:
+        """Deletes the rows that match. `where` is empty for every row.
+
+        Raises `Full`, and what any request does.
+        """
+        return self._ask(requests.delete(table, where), answers.written, worker, if_time, timeout)
+
+    def do(self, writes: Iterable[Write], *, worker: int | None = None, if_time: int | None = None,
+           timeout: float | None = None) -> Written:
+        """Carries out up to 16 writes in order, as one slot at one time.
+
+        Raises `Full`, and what any request does.
+        """
+        return self._ask(requests.do(writes), answers.written, worker, if_time, timeout)
+
+    # Reads
+
+    def select(self, table: str, where: Where = (), *, at: int | None = None,
+               generation: int | None = None, after: int | None = None, most: int | None = None,
+               worker: int | None = None, if_time: int | None = None,
+               timeout: float | None = None) -> Selected:
+        """The rows that match: now or at a time; of the current generation or of one that is kept;
+        those with a key greater than `after`, and of these the first `most`.
+
+        Raises `Later`, `NoGeneration`, and what any request does.
+        """
+        request = requests.select(table, where, at=at, generation=generation, after=after, most=most)
+        return self._ask(request, self._opening.selected(table), worker, if_time, timeout)
+
+    def pages(self, table: str, where: Where = (), *, at: int | None = None,
+              generation: int | None = None, most: int = 1000, worker: int | None = None,
+              timeout: float | None = None) -> Iterator[Selected]:
+        """The rows that match, `most` at a time, all at one time of one generation.
+
+        What is written meanwhile doesn't show, nor does a switch, as long as the generation is kept.
+        A table without a matching row gives one page without rows. `timeout` is for each page.
+
+        Raises what `select` does.
+        """
+        conditions = requests.pairs(where)
+        if generation is None:
+            status = self.status(worker=worker, timeout=timeout)
+            generation = status.generation
+            at = status.time if at is None else at
+        after = None
+        while True:
+            page = self.select(table, conditions, at=at, generation=generation, after=after, most=most,
+                               worker=worker, timeout=timeout)
+            yield page
+            if not page.more:
+                return
+            at, after = page.time, int(page.rows[-1][0])
+
+    # Repairs
+
+    def repair(self, edits: Iterable[Edit], *, step: int = 100,
+               progress: Callable[[Progress], object] | None = None, worker: int | None = None,
+               timeout: float | None = None) -> Switched:
+        """A whole repair: begins it, does `step` slots at a time until none is left, and makes the
+        repaired data the current ones. Other requests are answered between the steps.
+
+        `progress` is called after each step. Where it raises something, or a step fails, or the waiting
+        is interrupted, the repair is aborted, and that is raised. `timeout` is for each request.
+
+        Raises what `begin`, `step` and `finish` do. After a `NoAnswer` of the beginning or of the end the
+        repair may be under way, or done: `status` tells.
+        """
+        stepped = self.begin(edits, worker=worker, timeout=timeout)
+        try:
+            while stepped.left > 0:
+                stepped = self.step(step, worker=worker, timeout=timeout)
+                if progress is not None:
+                    progress(stepped)
+        except NotRepairing:
+            raise    # Somebody else has ended it.
+        except BaseException:
+            self._give_up(worker, timeout)
+            raise
+        try:
+            return self.finish(worker=worker, timeout=timeout)
+        except NotRepairing:
+            raise
+        except Refused:
+            self._give_up(worker, timeout)
+            raise
+
+    def _give_up(self, worker: int | None, timeout: float | None) -> None:
+        """Aborts a repair because of an error that is about to be raised."""
+        try:
+            self.abort(worker=worker, timeout=timeout)
+        except Error:
+            pass    # What was to be raised tells more.
+
+    def begin(self, edits: Iterable[Edit], *, worker: int | None = None, if_time: int | None = None,
+              timeout: float | None = None) -> Stepped:
+        """Begins a repair: see `cancel` and `replace`.
+
+        Raises `Repairing`, `NoSlot`, `EditedTwice`, `Full`, and what any request does.
+        """
+        return self._ask({"begin": list(edits)}, answers.stepped, worker, if_time, timeout)
+
+    def step(self, slots: int = 1, *, worker: int | None = None, if_time: int | None = None,
+             timeout: float | None = None) -> Stepped:
+        """Does the next slots of the repair, or all that are left where those are fewer.
+
+        Raises `NotRepairing`, and what any request does.
+        """
+        return self._ask({"step": slots}, answers.stepped, worker, if_time, timeout)
+
+    def preview(self, table: str, where: Where = (), *, after: int | None = None,
+                most: int | None = None, worker: int | None = None, if_time: int | None = None,
+                timeout: float | None = None) -> Previewed:
+        """The rows that match, as the repair has rebuilt them so far.
+
+        Raises `NotRepairing`, and what any request does.
+        """
+        request = requests.preview(table, where, after=after, most=most)
+        return self._ask(request, self._opening.previewed(table), worker, if_time, timeout)
+
+    def finish(self, *, worker: int | None = None, if_time: int | None = None,
+               timeout: float | None = None) -> Switched:
+        """Does all slots that are left, and makes the repaired data the current ones.
+
+        Raises `NotRepairing`, and what any request does.
+        """
+        return self._ask({"finish": True}, answers.switched, worker, if_time, timeout)
+
+    def abort(self, *, worker: int | None = None, if_time: int | None = None,
+              timeout: float | None = None) -> Status:
+        """Gives the repair up. The current data stay.
+
+        Raises `NotRepairing`, and what any request does.
+        """
+        return self._ask({"abort": True}, answers.status, worker, if_time, timeout)
+
+    # What is there, and what was
+
+    def status(self, *, worker: int | None = None, if_time: int | None = None,
+               timeout: float | None = None) -> Status:
+        """The current time and generation, and the repair under way.
+
+        Raises what any request does.
+        """
+        return self._ask({"status": True}, answers.status, worker, if_time, timeout)
+
+    def slots(self, first: int, last: int, *, of: int | None = None,
+              row: tuple[str, int] | None = None, worker: int | None = None,
+              if_time: int | None = None, timeout: float | None = None) -> Slots:
+        """The slots from `first` to `last`: those of the worker `of`, and those that changed a row,
+        given as its table and its key.
+
+        Raises what any request does.
+        """
+        request = requests.slots(first, last, of, row)
+        return self._ask(request, self._opening.slots, worker, if_time, timeout)
+
+    def changes(self, which: Literal["now", "next"] = "now", *, worker: int | None = None,
+                if_time: int | None = None, timeout: float | None = None) -> Changes:
+        """The answers that would be others now; with "next" those that the repair will have changed.
+
+        Raises `NotRepairing` with "next", and what any request does.
+        """
+        return self._ask({"changes": which}, answers.changes, worker, if_time, timeout)
+
+    def tables(self, *, worker: int | None = None, if_time: int | None = None,
+               timeout: float | None = None) -> Tables:
+        """What the session was opened with.
+
+        Raises what any request does.
+        """
+        return self._ask({"tables": True}, answers.tables, worker, if_time, timeout)
+
+    # Without waiting
+
+    @overload
+    def send(self, request: Write | requests.DoRequest, *, worker: int | None = None,
+             if_time: int | None = None, timeout: float | None = None) -> Future[Written]: ...
+
+    @overload
+    def send(self, request: requests.SelectRequest, *, worker: int | None = None,
+             if_time: int | None = None, timeout: float | None = None) -> Future[Selected]: ...
+
+    @overload
+    def send(self, request: requests.PreviewRequest, *, worker: int | None = None,
+             if_time: int | None = None, timeout: float | None = None) -> Future[Previewed]: ...
+
+    @overload
+    def send(self, request: requests.BeginRequest | requests.StepRequest, *, worker: int | None = None,
+             if_time: int | None = None, timeout: float | None = None) -> Future[Stepped]: ...
+
+    @overload
+    def send(self, request: requests.FinishRequest, *, worker: int | None = None,
+             if_time: int | None = None, timeout: float | None = None) -> Future[Switched]: ...
+
+    @overload
+    def send(self, request: requests.AbortRequest | requests.StatusRequest, *,
+             worker: int | None = None, if_time: int | None = None,
+             timeout: float | None = None) -> Future[Status]: ...
+
+    @overload
+    def send(self, request: requests.SlotsRequest, *, worker: int | None = None,
+             if_time: int | None = None, timeout: float | None = None) -> Future[Slots]: ...
+
+    @overload
+    def send(self, request: requests.ChangesRequest, *, worker: int | None = None,
+             if_time: int | None = None, timeout: float | None = None) -> Future[Changes]: ...
+
+    @overload
+    def send(self, request: requests.TablesRequest, *, worker: int | None = None,
+             if_time: int | None = None, timeout: float | None = None) -> Future[Tables]: ...
+
+    @overload
+    def send(self, request: Mapping[str, object], *, worker: int | None = None,
+             if_time: int | None = None, timeout: float | None = None) -> Future[Any]: ...
+
+    def send(self, request: Any, *, worker: int | None = None, if_time: int | None = None,
+             timeout: float | None = None) -> Future[Any]:
+        """Sends a request, and returns a future of what the method of its kind returns or raises.
+
+        Many may be sent before the first answer is there. This waits only where the pipe is full, for
+        the other side to read on, at most for the `timeout`. Don't wait for answers in a callback of a
+        future: callbacks run in the thread that reads the answers.
+
+        Raises `ValueError` or `TypeError`, `NoAnswer`, `Ended`, `Closed` and `Forked` as any request
+        does; the future raises the rest.
+        """
+        line = self._opening.request(request, worker, if_time)
+        future: Future[Any] = SentFuture()
+        self._put(line, self._opening.decode(request), future, self._deadline(timeout))
+        return future
+
+    def _ask(self, request: Mapping[str, Any], decode: Decode[AnswerType], worker: int | None,
+             if_time: int | None, timeout: float | None) -> AnswerType:
+        line = self._opening.request(request, worker, if_time)
+        wait: Wait[AnswerType] = Wait()
+        deadline = self._deadline(timeout)
+        self._put(line, decode, wait, deadline)
+        return wait.result(deadline)
+
+    def _deadline(self, timeout: float | None) -> Deadline | None:
+        if timeout is None:
+            timeout = self._timeout
+        return None if timeout is None or timeout == math.inf else Deadline(timeout)
+
+    def _put(self, line: bytes, decode: Decode[Any], waiting: Waiting, deadline: Deadline | None) -> None:
+        if os.getpid() != self._process:
+            raise Forked    # Before the lock is asked for, which nobody here would release.
+        if deadline is None:
+            with self._sending:
+                self._put_next(line, decode, waiting, None)
+            return
+        held: list[bool] = []
+        try:
+            # Without a step between at which a Ctrl-C could leave the lock locked.
+            held.extend(map(self._sending.acquire, (True,), (deadline.left(),)))
+            if not held[0]:
+                raise NoAnswer(deadline.seconds)
+            self._put_next(line, decode, waiting, deadline)
+        finally:
+            if held and held[0]:
+                self._sending.release()
+
+    def _put_next(self, line: bytes, decode: Decode[Any], waiting: Waiting,
+                  deadline: Deadline | None) -> None:
+        if self._closed:
+            raise Closed
+        if self._reopens and self._channel.has_ended:
+            self._channel.end_input(deadline)
+            self._channel = self._start(deadline)
+        self._channel.put(line, decode, waiting, deadline)
