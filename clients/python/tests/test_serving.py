@@ -109,6 +109,11 @@ class Client:
         self.close()
 
 
+def connects(path: str) -> bool:
+    with socket.socket(socket.AF_UNIX) as probe:
+        return probe.connect_ex(path) == 0
+
+
 class Server:
     """A server of a test, in a folder of its own."""
 
@@ -129,8 +134,7 @@ class Server:
     def _connects(self) -> bool:
         if self.process.poll() is not None:
             raise AssertionError(f"the server has ended: {self.said()}")
-        with socket.socket(socket.AF_UNIX) as probe:
-            return probe.connect_ex(self.path) == 0
+        return connects(self.path)
 
     def client(self, opening: Any = OPENING) -> Client:
         client = Client(self.path, opening)
@@ -423,6 +427,15 @@ class Serving(unittest.TestCase):
                 self.assertEqual(answer[-2], {"refused": "another opening"})
             else:
                 self.assertEqual((answer[-2], "call" in answer[-1]), (EMPTY, True))
+
+    def test_another_opening_while_the_first_is_answered(self) -> None:
+        server = self.serving(command=("sh", "-c", 'sleep 1; exec "$0" session', PROGRAM))
+        first, second = server.client(None), server.client(None)
+        first.send(OPENING)
+        time.sleep(0.1)
+        second.send({**OPENING, "keep": 1})
+        self.assertEqual(first.answer(), EMPTY)
+        self.assertEqual(second.answer(), {"refused": "another opening"})
 
     def test_nothing_to_join(self) -> None:
         server = self.serving()
@@ -878,7 +891,7 @@ class Serving(unittest.TestCase):
         self.assertLess(longest, 10.0)
 
     def start_and_end(self, path: str, number: int, child: int) -> None:
-        until(lambda: os.path.exists(path), "the socket")
+        until(lambda: connects(path), "a connection")
         clients = [Client(path) for _ in range(3)]
         for client in clients:
             client.send(OPENING, *(insert(key) for key in range(number % 50)))

@@ -1,4 +1,4 @@
-"""The command line: `python3 -m timetravel serve`, `call`, `status` and `metrics`."""
+"""The command line: `python3 -m timetravel serve`, `replica`, `compact`, `call`, `status` and `metrics`."""
 
 from __future__ import annotations
 
@@ -8,9 +8,12 @@ import sys
 import threading
 from collections.abc import Sequence
 
+from .etcd import Access, EtcdError, read_user
 from .front import PATIENCE
 from .lines import BLANK, Conversation, SocketError
 from .metrics import ENTRIES, SLOTS, command_log, of_rows
+from .positions import PositionError
+from .replicas import BOUND, compact, replicate
 from .serving import serve
 
 _JOIN = b'{"join":true}'
@@ -20,23 +23,26 @@ _PAGE = 1000    # rows that are asked for at once where they are counted
 def main(arguments: Sequence[str] | None = None) -> int:
     given = list(sys.argv[1:] if arguments is None else arguments)
     command: list[str] | None = None
-    if given[:1] == ["serve"] and "--" in given:
+    if given[:1] in (["serve"], ["replica"]) and "--" in given:
         place = given.index("--")
         given, command = given[:place], given[place + 1:]
     parser = _parser()
     options = parser.parse_args(given)
     if options.what == "serve":
         return _serve(parser, options, command)
+    if options.what == "replica":
+        return _replica(parser, options, command)
     try:
         return int(options.run(options))
-    except (SocketError, OSError) as error:
+    except (SocketError, EtcdError, PositionError, ValueError, OSError) as error:
         print(f"timetravel: {error}", file=sys.stderr)
         return 1
 
 
 def _parser() -> argparse.ArgumentParser:
     parser = argparse.ArgumentParser(prog="python3 -m timetravel", description="One session for many.")
-    kinds = parser.add_subparsers(dest="what", required=True, metavar="serve|call|status|metrics")
+    kinds = parser.add_subparsers(dest="what", required=True,
+                                  metavar="serve|replica|compact|call|status|metrics")
 
     serving = kinds.add_parser(
         "serve", help="serve a session on a Unix socket",
@@ -45,6 +51,23 @@ def _parser() -> argparse.ArgumentParser:
     serving.add_argument("--restart", action="store_true", help="start a session with a log again")
     serving.add_argument("--timeout", type=float, default=PATIENCE, metavar="SECONDS",
                          help="close a connection whose answers wait this long (default: 60)")
+
+    replicating = kinds.add_parser(
+        "replica", help="serve a replica of a session, whose lines are ordered by etcd",
+        usage="%(prog)s --etcd URL,.. --prefix NAME [--bound SECONDS] [SOCKET] "
+              "-- timetravel session [--log FILE]")
+    replicating.add_argument("socket", nargs="?", help="its path; not needed where systemd hands it over")
+    _add_etcd(replicating)
+    replicating.add_argument("--bound", type=float, default=BOUND, metavar="SECONDS",
+                             help="give a request up that etcd hasn't taken in this time (default: 10)")
+    replicating.add_argument("--timeout", type=float, default=PATIENCE, metavar="SECONDS",
+                             help="close a connection whose answers wait this long (default: 60)")
+
+    compacting = kinds.add_parser("compact", help="drop the entries that all replicas have logged")
+    _add_etcd(compacting)
+    compacting.add_argument("positions", nargs="+", metavar="POSITION",
+                            help="a position of each replica: FILE.position, or a copy of it")
+    compacting.set_defaults(run=_compact)
 
     calling = kinds.add_parser("call", help="send lines to a session that is served, and print the answers",
                                usage="%(prog)s [--opening LINE] SOCKET [LINE..]")
@@ -74,6 +97,41 @@ def _serve(parser: argparse.ArgumentParser, options: argparse.Namespace, command
     if not options.timeout > 0:
         parser.error("serve: --timeout must be above 0")
     return serve(options.socket, command, restart=options.restart, patience=options.timeout)
+
+
+def _add_etcd(parser: argparse.ArgumentParser) -> None:
+    parser.add_argument("--etcd", required=True, metavar="URL,..", help="the URLs of etcd's members")
+    parser.add_argument("--prefix", required=True, metavar="NAME", help="what the keys of the log begin with")
+    parser.add_argument("--cacert", metavar="FILE", help="the authority that etcd's certificates are of")
+    parser.add_argument("--cert", metavar="FILE", help="a certificate to show to etcd")
+    parser.add_argument("--key", metavar="FILE", help="its key")
+    parser.add_argument("--user", metavar="FILE", help="a file with a line USER:PASSWORD")
+
+
+def _access(options: argparse.Namespace) -> Access:
+    user = read_user(options.user) if options.user is not None else None
+    urls = [url for url in options.etcd.split(",") if url]
+    return Access(urls, options.cacert, options.cert, options.key, user)
+
+
+def _replica(parser: argparse.ArgumentParser, options: argparse.Namespace, command: list[str] | None) -> int:
+    if not command:
+        parser.error("replica: the session's command is missing behind --")
+    if not (options.timeout > 0 and options.bound > 0):
+        parser.error("replica: --timeout and --bound must be above 0")
+    try:
+        access = _access(options)
+    except (OSError, ValueError) as error:
+        print(f"timetravel: {error}", file=sys.stderr)
+        return 1
+    return replicate(options.socket, command, access, options.prefix, bound=options.bound,
+                     patience=options.timeout)
+
+
+def _compact(options: argparse.Namespace) -> int:
+    number = compact(_access(options), options.prefix, options.positions)
+    print(f"entries dropped: {number}")
+    return 0
 
 
 def _opened(conversation: Conversation, opening: bytes = _JOIN) -> dict[str, object] | None:

@@ -301,12 +301,13 @@ class Session:
     @classmethod
     def connect(cls, socket: str | os.PathLike[str], tables: Iterable[Table | Mapping[str, Any]], *,
                 keep: int | None = None, records: int | None = None, reopen: bool = False,
-                timeout: float | None = None) -> Session:
+                reads: Literal["log", "replica"] | None = None, timeout: float | None = None) -> Session:
         """A session that connects to the socket with this path once it is opened, with the same
         parameters as `timetravel.Session.connect`. Raises `ValueError` or `TypeError` for what a line
         can't carry."""
         session = cls.__new__(cls)
-        session._prepare(lambda: _Connection(socket), Opening(tables, keep, records), reopen, timeout)
+        session._prepare(lambda: _Connection(socket), Opening(tables, keep, records, reads), reopen,
+                         timeout)
         return session
 
     def _prepare(self, make: Callable[[], _Program | _Connection], opening: Opening, reopens: bool,
@@ -673,6 +674,8 @@ class Session:
         channel = self._make()
         await channel.start()
         try:
+            if self._opening.reads is not None:
+                await (await channel.put(self._opening.reads, answers.reads))
             self.opened: Status = await (await channel.put(self._opening.line, answers.status))
         except BaseException:
             channel.end_input()

@@ -216,6 +216,11 @@ def status(found: Members) -> Status:
                   found["entries"], progress)
 
 
+def reads(found: Members) -> None:
+    """The answer to a choice of where a connection reads, which only tells it again."""
+    _ = found["reads"]
+
+
 def slots(rows: Mapping[str, type[Row]], found: Members) -> Slots:
     return Slots(found["call"], found["time"], [_slot(rows, each) for each in found["slots"]])
 

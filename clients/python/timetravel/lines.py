@@ -73,17 +73,14 @@ class Cutter:
 
 def listen(path: str) -> socket.socket:
     """A Unix socket at `path` that only its owner may connect to. One that a server has left behind is
-    replaced; one that is in use, and any other file, is left, and a `SocketError` raised. The path is there
-    only once connections are taken: until then the socket's name ends in `~`."""
+    replaced; one that is in use, and any other file, is left, and a `SocketError` raised."""
     listener = socket.socket(socket.AF_UNIX, socket.SOCK_STREAM)
     folder = _locked_folder(path)
     mask = os.umask(0o177)    # so that it has its mode from the first moment on
     try:
         _remove_left_behind(path)
-        _remove_left_behind(f"{path}~")
-        listener.bind(f"{path}~")
+        listener.bind(path)
         listener.listen(1024)
-        os.rename(f"{path}~", path)
     except OSError as error:
         listener.close()
         raise SocketError(f"cannot listen on {path}: {error.strerror or error}") from error

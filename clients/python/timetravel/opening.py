@@ -16,7 +16,7 @@ class Opening:
     """The line that opens a session, the lines of its requests, and how their answers are read."""
 
     def __init__(self, tables: Iterable[Table | Mapping[str, Any]], keep: int | None,
-                 records: int | None) -> None:
+                 records: int | None, reads: str | None = None) -> None:
         declared = [asdict(table) if isinstance(table, Table) else dict(table) for table in tables]
         members: dict[str, object] = {"version": 2, "tables": declared}
         if keep is not None:
@@ -24,6 +24,7 @@ class Opening:
         if records is not None:
             members["records"] = records
         self.line = requests.line(members)
+        self.reads = None if reads is None else requests.line({"read": reads})    # a line before it
         self._rows: dict[str, type[Row]] = {}
         self._selected: dict[str, Decode[Selected]] = {}
         self._previewed: dict[str, Decode[Previewed]] = {}

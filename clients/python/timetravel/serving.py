@@ -24,21 +24,24 @@ from .lines import Notifier, SocketError, handed_over, listen
 from .metrics import command_log, log_bytes, memory, metric, of_requests, of_status, one
 
 _LAST_PATIENCE = 5.0    # the patience while the server stops
-_STOPPING = 30.0    # seconds that connections have, once the session has ended, to read their answers
-_MEASURING = 2.0    # seconds that the session has to tell its status to whoever asks for metrics
+STOPPING = 30.0    # seconds that connections have, once the session has ended, to read their answers
+MEASURING = 2.0    # seconds that the session has to tell its status to whoever asks for metrics
 _GRACE = 5.0    # seconds that a program has to end once it has closed its output
-_FIRST_PAUSE, _LONGEST_PAUSE = 0.1, 5.0    # seconds before a session is started again
-_TRIES = 6    # starts in a row that answer nothing, after which it isn't
+FIRST_PAUSE, LONGEST_PAUSE = 0.1, 5.0    # seconds before a session is started again
+TRIES = 6    # starts in a row that answer nothing, after which it isn't
 
-_STATUS = b'{"status":true}'
+STATUS = b'{"status":true}'
 _LOST = b'{"lost":"the session has ended"}\n'
 
 
 class Program:
     """A program that answers lines over pipes: the backend of a front."""
 
-    def __init__(self, front: Front, command: Sequence[str], ended: Callable[[int], None]) -> None:
+    def __init__(self, front: Front, command: Sequence[str], ended: Callable[[int], None],
+                 answered: Callable[[bytes], None] | None = None) -> None:
+        """`answered` takes the answers in place of the front's."""
         self._front = front
+        self._answered = answered or front.answered
         self._ended = ended
         self._process = subprocess.Popen(command, stdin=subprocess.PIPE, stdout=subprocess.PIPE, bufsize=0,
                                          start_new_session=True)
@@ -102,7 +105,7 @@ class Program:
             self._begun.clear()
         if rest:
             self._begun.append(rest)
-        self._front.answered(answers)
+        self._answered(answers)
 
     def close_input(self) -> None:
         """Says that no line follows. All have been taken."""
@@ -138,7 +141,7 @@ class Server(Front):
         self._restart = restart
         self._notifier = notifier or Notifier({})
         self._path = path
-        self._made = _identity(path) if path is not None else None
+        self._made = identity(path) if path is not None else None
         self._program: Program | None = None
         self._opening: Opening | None = None
         self._opening_line: bytes | None = None    # what opened the session
@@ -161,7 +164,7 @@ class Server(Front):
         try:
             self._start_program()
         except OSError as error:
-            _complain(f"cannot start {self._command[0]}: {error.strerror}")
+            complain(f"cannot start {self._command[0]}: {error.strerror}")
             self.status, self._done = 1, True
         else:
             self._notify("READY=1")
@@ -216,7 +219,7 @@ class Server(Front):
         self.unwatch(self.listener.fileno())
         self.listener.close()
         self.listener = None
-        if self._path is not None and _identity(self._path) == self._made:
+        if self._path is not None and identity(self._path) == self._made:
             os.unlink(self._path)
 
     def _start_program(self) -> None:
@@ -231,21 +234,21 @@ class Server(Front):
     def _program_ended(self, status: int) -> None:
         self._program = self.backend = None
         self._lose()
-        self._stop_by = self.now + _STOPPING
+        self._stop_by = self.now + STOPPING
         self.at(self._stop_by + 0.01, lambda: None)
         if self._closed_input:
-            self.status = _exit_status(status)
+            self.status = exit_status(status)
             if status != 0:
-                _complain(f"the session has ended with {_how(status)}")
+                complain(f"the session has ended with {how_ended(status)}")
             return
         self._failures = 0 if self._answers() > self._answers_at_start else self._failures + 1
-        if self._restart and not self.stopping and self._failures < _TRIES:
-            _complain(f"the session has ended with {_how(status)}, and is started again")
+        if self._restart and not self.stopping and self._failures < TRIES:
+            complain(f"the session has ended with {how_ended(status)}, and is started again")
             self._notify()
             self._start_later()
             return
-        _complain(f"the session has ended with {_how(status)}")
-        self.status = _exit_status(status) or 1
+        complain(f"the session has ended with {how_ended(status)}")
+        self.status = exit_status(status) or 1
         self.stop()
 
     def _lose(self) -> None:
@@ -261,7 +264,7 @@ class Server(Front):
     def _start_later(self) -> None:
         self._starting = True
         self.block()
-        pause = min(_FIRST_PAUSE * 2 ** self._failures, _LONGEST_PAUSE)
+        pause = min(FIRST_PAUSE * 2 ** self._failures, LONGEST_PAUSE)
         self.at(self.now + pause, self._start_again)
 
     def _start_again(self) -> None:
@@ -270,9 +273,9 @@ class Server(Front):
         try:
             self._start_program()
         except OSError as error:
-            _complain(f"cannot start {self._command[0]}: {error.strerror}")
+            complain(f"cannot start {self._command[0]}: {error.strerror}")
             self._failures += 1
-            if self._failures < _TRIES:
+            if self._failures < TRIES:
                 self._start_later()
             else:
                 self.status = 1
@@ -287,7 +290,7 @@ class Server(Front):
         if is_status(answer):
             self._go_on()
         else:
-            _complain("the session that was started again doesn't take its opening: "
+            complain("the session that was started again doesn't take its opening: "
                       + answer[:1000].decode(errors="replace"))
             self._starting = False
             self._forget_waiting()
@@ -358,7 +361,7 @@ class Server(Front):
             self.metrics.refusals["not open"] += 1
             self.say(connection, refusal("not open"))
         else:
-            self.ask(connection, line, _STATUS,
+            self.ask(connection, line, STATUS,
                      lambda answer: self._answer_first(connection, without_call(answer)))
 
     def _release(self) -> None:
@@ -383,7 +386,7 @@ class Server(Front):
         connection, line = self._to_judge.popleft()
         judged = partial(self._judged, connection)
         try:
-            Judge(self, _without_log(self._command), line, judged)
+            Judge(self, without_log(self._command), line, judged)
             self._judging = True
         except OSError:
             judged(b"")
@@ -415,8 +418,8 @@ class Server(Front):
         if self._opening_line is None or self._starting or self._program is None:
             tell(b"{}")
         else:
-            self.ask(None, b"", _STATUS, tell)
-            self.at(self.now + _MEASURING, lambda: tell(b"{}"))
+            self.ask(None, b"", STATUS, tell)
+            self.at(self.now + MEASURING, lambda: tell(b"{}"))
 
     def _tell_metrics(self, connection: Connection, status: dict[str, Any]) -> None:
         text = "\n".join(self._told(status)) + "\n"
@@ -460,7 +463,7 @@ class Server(Front):
                     [("", {"process": name}, taken[1]) for name, taken in found])]
 
 
-def _identity(path: str) -> tuple[int, int] | None:
+def identity(path: str) -> tuple[int, int] | None:
     try:
         found = os.lstat(path)
     except OSError:
@@ -468,7 +471,7 @@ def _identity(path: str) -> tuple[int, int] | None:
     return found.st_dev, found.st_ino
 
 
-def _without_log(command: Sequence[str]) -> list[str]:
+def without_log(command: Sequence[str]) -> list[str]:
     """The command of the same session without a log."""
     if "--log" not in command:
         return list(command)
@@ -476,15 +479,15 @@ def _without_log(command: Sequence[str]) -> list[str]:
     return [*command[:place], *command[place + 2:]]
 
 
-def _exit_status(status: int) -> int:
+def exit_status(status: int) -> int:
     return 128 - status if status < 0 else status
 
 
-def _how(status: int) -> str:
+def how_ended(status: int) -> str:
     return f"signal {-status}" if status < 0 else f"status {status}"
 
 
-def _complain(text: str) -> None:
+def complain(text: str) -> None:
     try:
         print(f"timetravel: {text}", file=sys.stderr, flush=True)
     except OSError:
@@ -494,7 +497,7 @@ def _complain(text: str) -> None:
 def serve(path: str | None, command: Sequence[str], *, restart: bool = False,
           patience: float = PATIENCE) -> int:
     """Serves a session at `path`, or on the socket that systemd hands over; the exit status."""
-    with _Signals() as signals:    # first, so that no signal leaves a socket behind
+    with Signals() as signals:    # first, so that no signal leaves a socket behind
         try:
             notifier = Notifier(os.environ)
             listener = handed_over(os.environ)
@@ -504,14 +507,14 @@ def serve(path: str | None, command: Sequence[str], *, restart: bool = False,
                     raise SocketError("no path is given, and no socket handed over")
                 listener, made = listen(path), path
         except SocketError as error:
-            _complain(str(error))
+            complain(str(error))
             return 1
         server = Server(listener, command, path=made, restart=restart, patience=patience, notifier=notifier)
         signals.go_to(server)
         return server.run()
 
 
-class _Signals:
+class Signals:
     """While it lasts, signals to stop wait for a server's loop, and end nothing by themselves."""
 
     def __init__(self) -> None:
@@ -519,7 +522,7 @@ class _Signals:
         for end in (self._reader, self._writer):
             end.setblocking(False)
 
-    def __enter__(self) -> _Signals:
+    def __enter__(self) -> Signals:
         self._former_writer = signal.set_wakeup_fd(self._writer.fileno(), warn_on_full_buffer=False)
         self._former = {number: signal.signal(number, lambda *_: None)
                         for number in (signal.SIGTERM, signal.SIGINT)}

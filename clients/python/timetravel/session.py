@@ -72,20 +72,21 @@ class Session:
     @classmethod
     def connect(cls, socket: str | os.PathLike[str], tables: Iterable[Table | Mapping[str, Any]], *,
                 keep: int | None = None, records: int | None = None, reopen: bool = False,
-                timeout: float | None = None) -> Session:
+                reads: Literal["log", "replica"] | None = None, timeout: float | None = None) -> Session:
         """Connects to the Unix socket with this path, and opens the session there, or joins in: it has
         to be of the same tables and `keep`, and `opened` tells what is there.
 
         With `reopen` the next request connects again after the connection has ended. Whoever waits for
         an answer then gets `Disconnected` all the same. `timeout` is as for a program. `close` ends this
-        connection alone.
+        connection alone. `reads` is for a replica alone: whether reads go through the log, as they do
+        where it isn't given, or are answered by this replica as it is.
 
         Raises `NotConnected`, `Disconnected`, `AnotherOpening`, `Fault`, `OutOfMemory`, `NoAnswer`, and
         `ValueError` or `TypeError` for what a line can't carry.
         """
         session = cls.__new__(cls)
-        session._open(lambda deadline: Connection(socket, deadline), Opening(tables, keep, records),
-                      reopen, timeout)
+        session._open(lambda deadline: Connection(socket, deadline),
+                      Opening(tables, keep, records, reads), reopen, timeout)
         return session
 
     def _open(self, make: Callable[[Deadline | None], Channel], opening: Opening, reopens: bool,
@@ -103,6 +104,10 @@ class Session:
         """Starts the program, or connects, and waits until the database is open."""
         channel = self._make(deadline)
         try:
+            if self._opening.reads is not None:
+                chosen: Wait[None] = Wait()
+                channel.put(self._opening.reads, answers.reads, chosen, deadline)
+                chosen.result(deadline)
             wait: Wait[Status] = Wait()
             channel.put(self._opening.line, answers.status, wait, deadline)
             self.opened: Status = wait.result(deadline)

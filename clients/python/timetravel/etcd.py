@@ -1,0 +1,206 @@
+"""A client of etcd's JSON gateway, with what a log of numbered entries needs of it.
+
+A call is tried at one member after the other, each time with a bounded wait. Where a member's answer is
+lost, the call may have been carried out, and may even be carried out later: what is called here can be
+called again without harm, since an entry is put only where its key is absent.
+"""
+
+from __future__ import annotations
+
+import base64
+import http.client
+import json
+import ssl
+from collections.abc import Iterable, Mapping, Sequence
+from dataclasses import dataclass
+from typing import Any
+from urllib.parse import urlsplit
+
+ATTEMPT = 2.0    # seconds that one member has to answer
+PAGE = 16    # entries that are asked for at once
+
+_UNAUTHENTICATED = 16    # gRPC's code where a token isn't valid any more
+_DIGITS = 20
+_BEHIND_DIGITS = b":"    # the character behind "9"
+
+
+class EtcdError(Exception):
+    """No member has carried out a call, as far as is known. Its text says why."""
+
+
+class EntriesGone(Exception):
+    """Entries that were there, or have to be there, aren't. Its text says which."""
+
+
+@dataclass(frozen=True)
+class Access:
+    """How etcd's members are reached: their URLs, the files of TLS, and a user with a password."""
+    urls: Sequence[str]
+    authority: str | None = None
+    certificate: str | None = None
+    key: str | None = None
+    user: tuple[str, str] | None = None
+
+
+def read_user(path: str) -> tuple[str, str]:
+    """The user and the password of a file with one line `USER:PASSWORD`."""
+    with open(path, encoding="utf-8") as file:
+        user, colon, password = file.readline().rstrip("\r\n").partition(":")
+    if not (user and colon):
+        raise ValueError(f"{path} has no line USER:PASSWORD")
+    return user, password
+
+
+class Etcd:
+    """Calls of etcd, for one thread."""
+
+    def __init__(self, access: Access) -> None:
+        """Raises `ValueError` for a URL that isn't one of a member, and `OSError` for files of TLS."""
+        self._members = [_address(url) for url in access.urls]
+        if not self._members:
+            raise ValueError("no URL of etcd is given")
+        self._context = _tls(access) if any(secure for secure, _, _ in self._members) else None
+        self._user = access.user
+        self._token = ""
+        self._member = 0    # the one that is asked
+        self._connection: http.client.HTTPConnection | None = None
+
+    def close(self) -> None:
+        if self._connection is not None:
+            self._connection.close()
+            self._connection = None
+
+    def call(self, path: str, body: Mapping[str, Any]) -> dict[str, Any]:
+        """What a member answers. Each is tried once, that which answered last first."""
+        data = json.dumps(body, separators=(",", ":")).encode()
+        causes = []
+        for _ in self._members:
+            try:
+                return self._asked(path, data)
+            except (OSError, http.client.HTTPException, EtcdError, ValueError) as error:
+                _, host, port = self._members[self._member]
+                causes.append(f"{host}:{port}: {str(error) or type(error).__name__}")
+                self.close()
+                self._member = (self._member + 1) % len(self._members)
+        raise EtcdError("; ".join(causes))
+
+    def _asked(self, path: str, data: bytes) -> dict[str, Any]:
+        if self._user is not None and not self._token:
+            self._authenticate()
+        try:
+            return self._post(path, data)
+        except _Unauthenticated:
+            if self._user is None:
+                raise
+        self._authenticate()
+        return self._post(path, data)
+
+    def _authenticate(self) -> None:
+        assert self._user is not None
+        name, password = self._user
+        self._token = ""
+        said = self._post("/v3/auth/authenticate", json.dumps({"name": name, "password": password}).encode())
+        self._token = str(said.get("token", ""))
+
+    def _post(self, path: str, data: bytes) -> dict[str, Any]:
+        headers = {"Content-Type": "application/json"}
+        if self._token:
+            headers["Authorization"] = self._token
+        if self._connection is None:
+            self._connection = self._connect()
+        self._connection.request("POST", path, data, headers)
+        response = self._connection.getresponse()
+        answer = json.loads(response.read())
+        if not isinstance(answer, dict):
+            raise EtcdError("an answer that is no object")
+        if response.status != 200 or "error" in answer:
+            said = str(answer.get("message") or answer.get("error") or response.status)
+            invalid = answer.get("code") == _UNAUTHENTICATED or "invalid auth token" in said
+            raise (_Unauthenticated if invalid else EtcdError)(said)
+        return answer
+
+    def _connect(self) -> http.client.HTTPConnection:
+        secure, host, port = self._members[self._member]
+        if secure:
+            return http.client.HTTPSConnection(host, port, timeout=ATTEMPT, context=self._context)
+        return http.client.HTTPConnection(host, port, timeout=ATTEMPT)
+
+
+class _Unauthenticated(EtcdError):
+    pass
+
+
+def _address(url: str) -> tuple[bool, str, int]:
+    parts = urlsplit(url)
+    if parts.scheme not in ("http", "https") or not parts.hostname or parts.path not in ("", "/"):
+        raise ValueError(f"{url} is no URL of a member, such as http://127.0.0.1:2379")
+    return parts.scheme == "https", parts.hostname, parts.port or 2379
+
+
+def _tls(access: Access) -> ssl.SSLContext:
+    context = ssl.create_default_context(cafile=access.authority)
+    if access.certificate is not None:
+        context.load_cert_chain(access.certificate, access.key)
+    return context
+
+
+def _coded(data: bytes) -> str:
+    return base64.b64encode(data).decode()
+
+
+class Entries:
+    """Numbered entries under a prefix. Each is put where it is absent, and never changed."""
+
+    def __init__(self, etcd: Etcd, prefix: str) -> None:
+        self._etcd = etcd
+        self._prefix = prefix.rstrip("/").encode() + b"/"
+        self._end = _coded(self._prefix + _BEHIND_DIGITS)
+
+    def close(self) -> None:
+        self._etcd.close()
+
+    def append(self, number: int, value: bytes) -> list[bytes]:
+        """Puts an entry where it is absent, behind the one before it. Returns the entries that are there
+        from this number on: this one alone, or those of others. Raises `EntriesGone` where neither this
+        entry nor the one before it is there."""
+        compare = [self._compare(number, "EQUAL")]
+        if number:
+            compare.append(self._compare(number - 1, "GREATER"))
+        answer = self._etcd.call("/v3/kv/txn", {
+            "compare": compare,
+            "success": [{"request_put": {"key": self._key(number), "value": _coded(value)}}],
+            "failure": [{"request_range": self._range(number)}]})
+        if answer.get("succeeded"):
+            return [value]
+        found = self._found(number, answer["responses"][0]["response_range"])
+        if not found:
+            raise EntriesGone(f"entry {number - 1} is gone from etcd")
+        return found
+
+    def fetch(self, number: int, most: int = PAGE) -> list[bytes]:
+        """The first entries from this number on. Raises `EntriesGone` where there are later ones alone."""
+        return self._found(number, self._etcd.call("/v3/kv/range", self._range(number, most)))
+
+    def drop(self, first: int, end: int) -> int:
+        """Drops the entries from `first` on that are below `end`, and tells how many these were."""
+        answer = self._etcd.call("/v3/kv/deleterange", {"key": self._key(first), "range_end": self._key(end)})
+        return int(answer.get("deleted", 0))
+
+    def _compare(self, number: int, result: str) -> dict[str, str]:
+        return {"key": self._key(number), "target": "CREATE", "result": result, "create_revision": "0"}
+
+    def _key(self, number: int) -> str:
+        return _coded(self._prefix + b"%0*d" % (_DIGITS, number))
+
+    def _range(self, number: int, most: int = PAGE) -> dict[str, str]:
+        return {"key": self._key(number), "range_end": self._end, "limit": str(most)}
+
+    def _found(self, number: int, answer: Mapping[str, Any]) -> list[bytes]:
+        found: Iterable[Mapping[str, str]] = answer.get("kvs", ())
+        values = []
+        for place, pair in enumerate(found, number):
+            key = base64.b64decode(pair["key"])
+            if key != self._prefix + b"%0*d" % (_DIGITS, place):
+                raise EntriesGone(f"entry {place} isn't in etcd, but {key.decode(errors='replace')} is")
+            values.append(base64.b64decode(pair.get("value", "")))
+        return values
