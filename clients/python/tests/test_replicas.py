@@ -180,6 +180,17 @@ class ReplicaTest(WithEtcd):
         self.assertEqual({client.answer()["reads"] for _ in range(9000)}, {"log", "replica"})
         self.assertEqual(client.ask(insert(1))["replies"], ["inserted"])
 
+    def test_many_entries_at_the_start(self) -> None:
+        entries = self.cluster.entries()
+        self.addCleanup(entries.close)
+        lines = [json.dumps(line).encode() for line in (OPENING, *map(insert, range(1500)))]
+        for number, line in enumerate(lines):
+            entries.append(number, encoded(b"another", [(number, line)]))
+        client = self.client(self.replica())
+        self.assertEqual(client.opened["time"], 1500)
+        self.assertEqual(client.ask(insert(1500))["slot"], 1501)
+        self.assertEqual(len(self.cluster.lines()), 1503)    # the status that joined, and that insert
+
     def test_a_client_of_the_package(self) -> None:
         replica = self.replica()
         tables = [Table("acct", [Column("id", "int"), Column("bal", "int")])]

@@ -64,19 +64,25 @@ class Etcd:
         self._token = ""
         self._member = 0    # the one that is asked
         self._connection: http.client.HTTPConnection | None = None
+        self._sent: tuple[str, bytes] | None = None    # a call that was sent ahead, on this connection
 
     def close(self) -> None:
+        self._sent = None
         if self._connection is not None:
             self._connection.close()
             self._connection = None
 
-    def call(self, path: str, body: Mapping[str, Any]) -> dict[str, Any]:
-        """What a member answers. Each is tried once, that which answered last first."""
-        data = json.dumps(body, separators=(",", ":")).encode()
+    def call(self, path: str, body: Mapping[str, Any],
+             following: Mapping[str, Any] | None = None) -> dict[str, Any]:
+        """What a member answers. Each is tried once, that which answered last first. With `following`
+        this call, which has to be harmless, is sent as soon as the answer has come: it is probably the
+        next one, and takes that answer."""
+        data = _body(body)
+        ahead = None if following is None else _body(following)
         causes = []
         for _ in self._members:
             try:
-                return self._asked(path, data)
+                return self._asked(path, data, ahead)
             except (OSError, http.client.HTTPException, EtcdError, ValueError) as error:
                 _, host, port = self._members[self._member]
                 causes.append(f"{host}:{port}: {str(error) or type(error).__name__}")
@@ -84,40 +90,52 @@ class Etcd:
                 self._member = (self._member + 1) % len(self._members)
         raise EtcdError("; ".join(causes))
 
-    def _asked(self, path: str, data: bytes) -> dict[str, Any]:
+    def _asked(self, path: str, data: bytes, ahead: bytes | None) -> dict[str, Any]:
         if self._user is not None and not self._token:
             self._authenticate()
         try:
-            return self._post(path, data)
+            return self._post(path, data, ahead)
         except _Unauthenticated:
             if self._user is None:
                 raise
         self._authenticate()
-        return self._post(path, data)
+        return self._post(path, data, ahead)
 
     def _authenticate(self) -> None:
         assert self._user is not None
         name, password = self._user
         self._token = ""
-        said = self._post("/v3/auth/authenticate", json.dumps({"name": name, "password": password}).encode())
+        said = self._post("/v3/auth/authenticate", _body({"name": name, "password": password}))
         self._token = str(said.get("token", ""))
 
-    def _post(self, path: str, data: bytes) -> dict[str, Any]:
+    def _post(self, path: str, data: bytes, ahead: bytes | None = None) -> dict[str, Any]:
+        if self._sent != (path, data):
+            self._send(path, data)
+        assert self._connection is not None
+        self._sent = None
+        response = self._connection.getresponse()
+        said = response.read()
+        if ahead is not None:
+            self._send(path, ahead)
+            self._sent = path, ahead
+        answer = json.loads(said)
+        if not isinstance(answer, dict):
+            raise EtcdError("an answer that is no object")
+        if response.status != 200 or "error" in answer:
+            cause = str(answer.get("message") or answer.get("error") or response.status)
+            invalid = answer.get("code") == _UNAUTHENTICATED or "invalid auth token" in cause
+            raise (_Unauthenticated if invalid else EtcdError)(cause)
+        return answer
+
+    def _send(self, path: str, data: bytes) -> None:
+        if self._sent is not None:    # nobody wants its answer
+            self.close()
         headers = {"Content-Type": "application/json"}
         if self._token:
             headers["Authorization"] = self._token
         if self._connection is None:
             self._connection = self._connect()
         self._connection.request("POST", path, data, headers)
-        response = self._connection.getresponse()
-        answer = json.loads(response.read())
-        if not isinstance(answer, dict):
-            raise EtcdError("an answer that is no object")
-        if response.status != 200 or "error" in answer:
-            said = str(answer.get("message") or answer.get("error") or response.status)
-            invalid = answer.get("code") == _UNAUTHENTICATED or "invalid auth token" in said
-            raise (_Unauthenticated if invalid else EtcdError)(said)
-        return answer
 
     def _connect(self) -> http.client.HTTPConnection:
         secure, host, port = self._members[self._member]
@@ -142,6 +160,10 @@ def _tls(access: Access) -> ssl.SSLContext:
     if access.certificate is not None:
         context.load_cert_chain(access.certificate, access.key)
     return context
+
+
+def _body(members: Mapping[str, Any]) -> bytes:
+    return json.dumps(members, separators=(",", ":")).encode()
 
 
 def _coded(data: bytes) -> str:
@@ -177,9 +199,11 @@ class Entries:
             raise EntriesGone(f"entry {number - 1} is gone from etcd")
         return found
 
-    def fetch(self, number: int, most: int = PAGE) -> list[bytes]:
-        """The first entries from this number on. Raises `EntriesGone` where there are later ones alone."""
-        return self._found(number, self._etcd.call("/v3/kv/range", self._range(number, most)))
+    def fetch(self, number: int, most: int = PAGE, goes_on: bool = False) -> list[bytes]:
+        """The first entries from this number on. With `goes_on` as many behind them are asked for
+        meanwhile. Raises `EntriesGone` where there are later ones alone."""
+        following = self._range(number + most, most) if goes_on else None
+        return self._found(number, self._etcd.call("/v3/kv/range", self._range(number, most), following))
 
     def drop(self, first: int, end: int) -> int:
         """Drops the entries from `first` on that are below `end`, and tells how many these were."""

@@ -37,12 +37,9 @@ class Found:
     """An entry that is there. `own` is the number of its first request where it is of this replica."""
     run: int
     number: int
-    lines: Sequence[bytes]
+    lines: bytes
+    requests: int    # how many lines these are
     own: int | None
-
-    @property
-    def size(self) -> int:
-        return sum(map(len, self.lines))
 
 
 @dataclass(frozen=True)
@@ -63,6 +60,16 @@ def decoded(value: bytes) -> list[tuple[bytes, bytes]]:
     if rest or not cut or not all(space for _, space, _ in cut):
         raise EntriesGone(f"what is in etcd is no entry: {value[:100]!r}")
     return [(identity, line) for identity, _, line in cut]
+
+
+def _without_ids(value: bytes) -> tuple[bytes, int]:
+    """The lines of an entry, and how many they are. Raises `EntriesGone` for what is no entry."""
+    *requests, rest = value.split(b"\n")
+    lines = [request.partition(b" ")[2] for request in requests]
+    if rest or not lines or not all(lines):
+        raise EntriesGone(f"what is in etcd is no entry: {value[:100]!r}")
+    lines.append(b"")
+    return b"\n".join(lines), len(requests)
 
 
 def _next_page(page: int, values: Sequence[bytes]) -> int:
@@ -142,7 +149,7 @@ class Follower:
                 return None
             found = self._found.popleft()
             if isinstance(found, Found):
-                self._found_size -= found.size
+                self._found_size -= len(found.lines)
                 self._changed.notify()
             return found
 
@@ -203,7 +210,8 @@ class Follower:
 
     def _look(self, run: int, number: int) -> None:
         time.sleep(self._yields)
-        values = self._entries.fetch(number, self._page)
+        is_far_behind = self._page == _LARGEST_PAGE
+        values = self._entries.fetch(number, self._page, is_far_behind)
         self._deliver(run, number, values, len(values) < self._page)
         self._page = _next_page(self._page, values)
         self._yields = 0.0
@@ -242,9 +250,9 @@ class Follower:
                 return
             for entry in found:
                 if entry.own is not None:
-                    self._forget(entry.own + len(entry.lines))
+                    self._forget(entry.own + entry.requests)
                 self._found.append(entry)
-                self._found_size += entry.size
+                self._found_size += len(entry.lines)
             self._next = number + len(found)
             self._look_at = monotonic() + _POLL
             changed = bool(found) or at_end != self.at_end
@@ -253,10 +261,10 @@ class Follower:
             self._wake()
 
     def _read(self, run: int, number: int, value: bytes) -> Found:
-        requests = decoded(value)
-        name, _, first = requests[0][0].partition(b"-")
-        own = int(first) if name == self.name and number > 0 else None
-        return Found(run, number, [line for _, line in requests], own)
+        lines, requests = _without_ids(value)
+        name, _, rest = value.partition(b"-")
+        own = int(rest[:rest.index(b" ")]) if name == self.name and number > 0 else None
+        return Found(run, number, lines, requests, own)
 
     def _forget(self, below: int) -> None:
         while self._pending and self._pending[0][0] < below:

@@ -361,12 +361,12 @@ class Replica(Server):
 
     def _feed_entry(self, entry: Found) -> None:
         assert self._program is not None
-        lines = b"".join(line + b"\n" for line in entry.lines)
+        lines = entry.lines
         self._fed_next = max(entry.number + 1, self._first_behind_log)
-        self._fed.append(Fed(len(entry.lines), len(lines), self._fed_next, entry.own))
+        self._fed.append(Fed(entry.requests, len(lines), self._fed_next, entry.own))
         self._fed_size += len(lines)
         if entry.number == 0:
-            self._first_entry = entry.lines[0]
+            self._first_entry = lines.partition(b"\n")[0]
         self._program.take(lines)
 
     def _reached_end(self) -> None:
@@ -385,39 +385,46 @@ class Replica(Server):
         """Takes whole answers of the session."""
         if self._ignoring:
             return
-        lines = answers.splitlines(keepends=True)    # no other ends of lines are in them
+        number, at = answers.count(b"\n"), 0
         suspicious = _MEMORY in answers
-        at = 0
-        while at < len(lines):
+        lines: list[bytes] = []    # they aren't needed while all are of entries of others
+        while at < number:
             fed = self._fed[0]
+            if suspicious or self._is_asked(fed):
+                lines = lines or answers.splitlines(keepends=True)    # no other ends of lines are in them
             if isinstance(fed, LocalRead):
                 self._fed.popleft()
                 fed.then(lines[at][:-1])
                 at += 1
                 continue
-            some = lines[at:at + fed.number]
-            at += len(some)
-            if suspicious and any(line.endswith(_MEMORY + b"\n") for line in some):
+            some = min(fed.number, number - at)
+            if suspicious and any(line.endswith(_MEMORY + b"\n") for line in lines[at:at + some]):
                 self._end_session_without_memory()
                 return
-            self._entry_answered(fed, some)
+            self._entry_answered(fed, some, lines[at:at + some])
+            at += some
         self._feed()
         if self._noting and not self._fed_size:
             self._note()
 
-    def _entry_answered(self, fed: Fed, some: list[bytes]) -> None:
+    def _is_asked(self, fed: Fed | LocalRead) -> bool:
+        """Whether somebody here waits for what the session answers to this."""
+        return isinstance(fed, LocalRead) or fed.own is not None or not self._is_open
+
+    def _entry_answered(self, fed: Fed, some: int, lines: list[bytes]) -> None:
+        """The session has answered this many lines of an entry: by `lines`, where they were asked for."""
         own = fed.own
-        if len(some) == fed.number:
+        if some == fed.number:
             self._fed.popleft()
             self._fed_size -= fed.size
             self._answered_next = fed.next
         else:
-            fed.number -= len(some)
-            fed.own = None if own is None else own + len(some)
+            fed.number -= some
+            fed.own = None if own is None else own + some
         if not self._is_open:
-            self._opening_answered(some[0])
+            self._opening_answered(lines[0])
         elif own is not None:
-            self._own_answered(own, some)
+            self._own_answered(own, lines)
 
     def _own_answered(self, first: int, answers: list[bytes]) -> None:
         """Gives out the answers of this replica's requests from `first` on, but for those that have one."""

@@ -5,6 +5,8 @@ What is written to the program never blocks either, so no connection stops anoth
 
 from __future__ import annotations
 
+import contextlib
+import fcntl
 import gc
 import json
 import os
@@ -23,6 +25,7 @@ from .joining import RECORDS, Judge, Opening, flag, is_status, refusal, strictly
 from .lines import Notifier, SocketError, handed_over, listen
 from .metrics import command_log, log_bytes, memory, metric, of_requests, of_status, one
 
+_PIPE_SIZE = 1 << 20    # bytes, so that the program has to wait less often
 _LAST_PATIENCE = 5.0    # the patience while the server stops
 STOPPING = 30.0    # seconds that connections have, once the session has ended, to read their answers
 MEASURING = 2.0    # seconds that the session has to tell its status to whoever asks for metrics
@@ -51,6 +54,8 @@ class Program:
         self._begun: list[bytes] = []    # the beginning of an answer
         for pipe in (self._stdin, self._stdout):
             os.set_blocking(pipe.fileno(), False)
+            with contextlib.suppress(OSError):    # the user's pipes have all the room they may have
+                fcntl.fcntl(pipe.fileno(), fcntl.F_SETPIPE_SZ, _PIPE_SIZE)
         front.watch(self._stdout.fileno(), IN, lambda _: front.after.append(self._read))
 
     @property
