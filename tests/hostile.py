@@ -47,7 +47,8 @@ RUN = ['examples/first', 'examples/transfer', 'examples/two_workers', 'examples/
 
 # Sessions that are held with too little memory.
 HELD = ['tests/sessions/incident_in_short', 'tests/sessions/repairs', 'tests/sessions/slots',
-        'tests/sessions/closed_generations', 'tests/sessions/texts_and_numbers']
+        'tests/sessions/closed_generations', 'tests/sessions/texts_and_numbers',
+        'tests/sessions/forgetting', 'tests/sessions/forgetting_many_rows']
 
 # The status of a scenario that grows where it shouldn't, and of one that keeps a block.
 GREW, KEPT = 90, 91

@@ -18,7 +18,8 @@ DEEPEST = 127
 BLANK = re.compile(rb'[\t\r ]*\Z')
 WRITES = ['insert', 'update', 'delete']
 KINDS = ['insert', 'update', 'delete', 'select', 'preview', 'do', 'begin', 'step', 'finish',
-         'abort', 'status', 'slots', 'changes', 'tables']
+         'abort', 'status', 'slots', 'changes', 'tables', 'forget']
+MOST_WRITES = 16  # of an action
 
 
 class Fault(Exception):
@@ -324,7 +325,7 @@ class Grammar:
             members.end()
             self.whole(path, table, write)
             return write
-        return items(path, value, one, most=16)
+        return items(path, value, one, most=MOST_WRITES)
 
     def action_of(self, members, kind):
         if kind == 'do':
@@ -393,6 +394,8 @@ class Grammar:
             asked['changes'] = members.take('changes', a_text)
             if asked['changes'] not in ('now', 'next'):
                 raise out_of_range('$.changes')
+        elif kind == 'forget':
+            asked['forget'] = members.take('forget', a_count)
         else:
             members.take(kind, true)
         members.end()
@@ -421,6 +424,15 @@ class Generation:
         found = [row for (name, _), row in sorted(self.contents[time].items())
                  if name == table['name'] and is_match(table, where, row)]
         return found
+
+
+def ground_of(tables, content):
+    """The actions that insert the rows of a content, in the order of the tables and of the keys."""
+    inserts = []
+    for table in tables:
+        keys = sorted(key for name, key in content if name == table['name'])
+        inserts += [{'insert': table['name'], 'row': content[table['name'], key]} for key in keys]
+    return [inserts[at:at + MOST_WRITES] for at in range(0, len(inserts), MOST_WRITES)]
 
 
 def is_match(table, where, row):
@@ -487,9 +499,6 @@ class Repair:
     def left(self):
         return len(self.current.slots) - self.done()
 
-    def standing(self):
-        return {'done': self.done(), 'left': self.left(), 'rerun': self.rerun}
-
     def step(self):
         at, tables = self.done(), self.current.tables
         old, action = self.current.slots[at], self.current.slots[at]
@@ -547,9 +556,12 @@ def is_passed_over(line):
 
 
 class Session:
+    """A session tells slots, times and generations that only grow. Its lists begin with `ground`
+    slots that insert what was there at the time `horizon`, and with the generation `before`."""
+
     def __init__(self):
         self.grammar = None
-        self.calls = 0
+        self.calls = self.horizon = self.ground = self.before = 0
 
     def answer(self, line):
         """The answer to a line, or None where it is passed over."""
@@ -594,16 +606,34 @@ class Session:
     def current(self):
         return self.generations[-1]
 
+    def told(self, place):
+        """A slot or a time of the lists, as it is told."""
+        return place - self.ground + self.horizon
+
+    def place(self, told):
+        return told - self.horizon + self.ground
+
+    def last(self, generation):
+        """The last time of a generation."""
+        return self.told(len(generation.slots))
+
     def now(self):
-        return len(self.current().slots)
+        return self.last(self.current())
+
+    def newest(self):
+        return self.before + len(self.generations) - 1
 
     def oldest(self):
-        return max(0, len(self.generations) - 1 - self.keep)
+        return max(self.before, self.newest() - self.keep)
+
+    def standing(self):
+        repair = self.repair
+        return {'done': self.last(repair.next), 'left': repair.left(), 'rerun': repair.rerun}
 
     def status(self):
-        return {'time': self.now(), 'generation': len(self.generations) - 1,
-                'oldest': self.oldest(), 'entries': self.entries,
-                'repair': self.repair.standing() if self.repair else None}
+        return {'time': self.now(), 'generation': self.newest(), 'oldest': self.oldest(),
+                'entries': self.entries, 'repair': self.standing() if self.repair else None,
+                **({'horizon': self.horizon} if self.horizon else {})}
 
     def repairing(self):
         if self.repair is None:
@@ -632,39 +662,41 @@ class Session:
         return {'rows': rows[:asked['most']], 'more': len(rows) > asked['most']}
 
     def do_select(self, asked):
-        newest = len(self.generations) - 1
+        newest = self.newest()
         number = newest if asked['in'] is None else asked['in']
         if not self.oldest() <= number <= newest:
             raise Refusal('no generation', oldest=self.oldest(), newest=newest)
-        generation = self.generations[number]
-        last = len(generation.slots)
+        generation = self.generations[number - self.before]
+        last = self.last(generation)
         time = last if asked['at'] is None else asked['at']
         if time > last:
             raise Refusal('later', now=last)
-        rows = generation.rows(asked['table'], asked['where'], time)
+        self.not_forgotten(time)
+        rows = generation.rows(asked['table'], asked['where'], self.place(time))
         if asked['in'] is None and asked['after'] is None and asked['most'] is None:
             self.record(time=time, before=rows, table=asked['table'], where=asked['where'])
         return {'time': time, **self.page(asked, rows)}
 
     def do_preview(self, asked):
         repair = self.repairing()
-        done = repair.done()
-        rows = repair.next.rows(asked['table'], asked['where'], done)
-        return {'done': done, **self.page(asked, rows)}
+        rows = repair.next.rows(asked['table'], asked['where'], repair.done())
+        return {'done': self.last(repair.next), **self.page(asked, rows)}
 
     def do_begin(self, asked):
         if self.repair is not None:
             raise Refusal('repairing')
         slots = [slot for slot, _ in asked['edits']]
         for slot in slots:
-            if not 1 <= slot <= self.now():
+            if not self.horizon < slot <= self.now():
                 raise Refusal('no slot', slot=slot)
         for at, slot in enumerate(slots):
             if slot in slots[:at]:
                 raise Refusal('edited twice', slot=slot)
-        self.repair = Repair(self.current(), asked['edits'])
+        edits = [(self.place(slot), action) for slot, action in asked['edits']]
+        self.repair = Repair(self.current(), edits)
         self.entries += 1
-        return self.repair.standing()
+        self.steps(self.ground)
+        return self.standing()
 
     def steps(self, count):
         for _ in range(min(count, self.repair.left())):
@@ -674,7 +706,7 @@ class Session:
     def do_step(self, asked):
         self.repairing()
         self.steps(asked['step'])
-        return self.repair.standing()
+        return self.standing()
 
     def do_finish(self, asked):
         repair = self.repairing()
@@ -682,7 +714,7 @@ class Session:
         self.entries += 1
         self.generations.append(repair.next)
         self.repair = None
-        return {'generation': len(self.generations) - 1, 'slots': self.now(), 'rerun': repair.rerun}
+        return {'generation': self.newest(), 'slots': self.now(), 'rerun': repair.rerun}
 
     def do_abort(self, asked):
         self.repairing()
@@ -693,24 +725,45 @@ class Session:
     def do_status(self, asked):
         return self.status()
 
+    def not_forgotten(self, time):
+        if time < self.horizon:
+            raise Refusal('forgotten', horizon=self.horizon)
+
+    def do_forget(self, asked):
+        time = asked['forget']
+        if self.repair is not None:
+            raise Refusal('repairing')
+        if time > self.now():
+            raise Refusal('later', now=self.now())
+        self.not_forgotten(time)
+        at, current, newest = self.place(time), self.current(), self.newest()
+        ground = ground_of(self.tables, current.contents[at])
+        self.asked = ground + [action or [] for action in current.slots[at:]]
+        self.workers = [0] * len(ground) + self.workers[at:]
+        self.generations, self.entries = [Generation(self.tables, self.asked)], len(self.asked)
+        self.horizon, self.ground, self.before = time, len(ground), newest
+        self.records = [record for record in self.records
+                        if record.get('slot', time + 1) > time and record.get('time', time) >= time]
+        return self.status()
+
     def do_tables(self, asked):
         return {'version': 2, 'tables': self.tables, 'keep': self.keep, 'records': self.most_records}
 
     def do_slots(self, asked):
         current, found = self.current(), []
         first, last = asked['slots']
-        for slot in range(max(first, 1), min(last, self.now()) + 1):
-            before, after = current.contents[slot - 1], current.contents[slot]
-            row = asked['row']
-            if asked['of'] not in (None, self.workers[slot - 1]):
+        for slot in range(max(first, self.horizon + 1), min(last, self.now()) + 1):
+            at, row = self.place(slot) - 1, asked['row']
+            before, after = current.contents[at], current.contents[at + 1]
+            if asked['of'] not in (None, self.workers[at]):
                 continue
             if row is not None and before.get(row) == after.get(row):
                 continue
-            action = current.slots[slot - 1]
-            entry = {'slot': slot, 'worker': self.workers[slot - 1], 'do': action,
-                     'replies': current.replies[slot - 1]}
-            if action != self.asked[slot - 1]:
-                entry['asked'] = self.asked[slot - 1]
+            action = current.slots[at]
+            entry = {'slot': slot, 'worker': self.workers[at], 'do': action,
+                     'replies': current.replies[at]}
+            if action != self.asked[at]:
+                entry['asked'] = self.asked[at]
             found.append(entry)
         return {'time': self.now(), 'slots': found}
 
@@ -720,13 +773,14 @@ class Session:
             generation = self.repairing().next
         for record in self.records:
             place = 'slot' if 'slot' in record else 'time'
-            if record[place] > len(generation.slots):
+            at = self.place(record[place])
+            if at > len(generation.slots):
                 continue
             if place == 'slot':
-                after = generation.replies[record['slot'] - 1]
+                after = generation.replies[at - 1]
                 after = 'cancelled' if after is None else after
             else:
-                after = generation.rows(record['table'], record['where'], record['time'])
+                after = generation.rows(record['table'], record['where'], at)
             if after != record['before']:
                 changes.append({'call': record['call'], place: record[place],
                                 'before': record['before'], 'after': after})
@@ -737,15 +791,22 @@ class Session:
 # Random sessions
 
 class Random:
-    def __init__(self, seed):
+    """The lines of a session, which forgets as often as is said, or as the seed says."""
+
+    def __init__(self, seed, forgets=None):
         self.random = random.Random(seed)
-        self.time = 0
+        self.time = self.horizon = 0  # the horizon is perhaps less
+        self.forgets = self.one_of(0, 1, 1, 3) if forgets is None else forgets
+        self.has_many_rows = self.one_of(False, False, True)
+
+    def most(self, few, many):
+        return many if self.has_many_rows else few
 
     def one_of(self, *values):
         return self.random.choice(values)
 
     def key(self):
-        return self.random.randint(1, 6)
+        return self.random.randint(1, self.most(6, 99))
 
     def owner(self):
         return self.one_of('ann', 'bob', 'eve', 'a"b\n')
@@ -753,10 +814,10 @@ class Random:
     def where(self):
         conditions = [['id', self.key()], ['owner', self.owner()], ['bal', self.one_of(0, 5)],
                       ['kind', self.one_of(1, 2)]]
-        return self.random.sample(conditions, self.one_of(0, 0, 1, 1, 1, 2))
+        return self.random.sample(conditions, self.one_of(*[self.most(0, 1)] * 2, 1, 1, 1, 2))
 
     def write(self):
-        kind = self.one_of('insert', 'insert', 'update', 'update', 'update', 'delete')
+        kind = self.one_of(*['insert'] * self.most(2, 9), 'update', 'update', 'update', 'delete')
         table = self.one_of('acct', 'acct', 'acct', 'note')
         if table == 'note':
             where = self.one_of([], [['n', self.key()]])
@@ -776,12 +837,24 @@ class Random:
     def action(self):
         if self.one_of(True, True, False):
             return self.write()
-        return {'do': [self.write() for _ in range(self.one_of(0, 1, 2, 3))]}
+        return {'do': [self.write() for _ in range(self.one_of(0, 1, 2, self.most(3, 16)))]}
 
     def edit(self):
-        slot = self.random.randint(0 if self.one_of(*[False] * 9, True) else 1,
-                                   self.time + self.one_of(0, 0, 0, 1) or 1)
+        least = self.one_of(*[self.horizon + 1] * 8, 1, 0)
+        slot = self.random.randint(least, max(least, self.time + self.one_of(0, 0, 0, 1)))
         return self.one_of({'cancel': slot}, {'replace': slot, 'by': self.action()})
+
+    def some_time(self):
+        return self.random.randint(self.one_of(0, self.horizon, self.horizon), self.time + 1)
+
+    def forget(self):
+        """Mostly up to a time that is there and isn't forgotten."""
+        time = self.random.randint(self.horizon, self.time)
+        time = self.one_of(time, time, time, self.time, max(0, self.time - 10), self.horizon, 0,
+                           max(0, self.horizon - 1), self.time + 1)
+        if time <= self.time:
+            self.horizon = max(self.horizon, time)
+        return {'forget': time}
 
     def page(self):
         return {**self.one_of({}, {}, {'after': self.key() - 1}),
@@ -789,19 +862,21 @@ class Random:
 
     def request(self):
         kind = self.one_of(*['write'] * 6, 'select', 'select', 'preview', 'begin', 'begin',
-                           *['step'] * 3, 'finish', 'abort', 'status', 'slots', 'slots',
-                           'changes', 'changes', 'tables', 'fault')
+                           *['step'] * 3, 'finish', 'finish', 'abort', 'status', 'slots', 'slots',
+                           'changes', 'changes', 'tables', 'fault', *['forget'] * self.forgets)
         table, where = 'acct', self.where()
         if self.one_of(*[False] * 5, True):
             table, where = 'note', self.one_of([], [['n', self.key()]])
-        first = self.random.randint(0, self.time + 1)
+        first = self.some_time()
         if kind == 'write':
             self.time += 1
             return self.action()
+        if kind == 'forget':
+            return self.forget()
         if kind == 'select':
             return {'select': table, 'where': where,
-                    **self.one_of({}, {}, {'at': self.random.randint(0, self.time + 1)}),
-                    **self.one_of({}, {}, {'in': self.one_of(0, 1, 2, 3)}), **self.page()}
+                    **self.one_of({}, {}, {'at': self.some_time()}),
+                    **self.one_of({}, {}, {'in': self.random.randint(0, 6)}), **self.page()}
         return {
             'preview': {'preview': table, 'where': where, **self.page()},
             'begin': {'begin': [self.edit() for _ in range(self.one_of(0, 1, 1, 2))]},
@@ -814,7 +889,8 @@ class Random:
                       **self.one_of({}, {'row': ['acct', self.key()]})},
             'changes': {'changes': self.one_of('now', 'next')},
             'tables': {'tables': True},
-            'fault': self.one_of({'step': 0}, {'insert': 'acct', 'row': [1]}, {}, [], {'x': 1}),
+            'fault': self.one_of({'step': 0}, {'insert': 'acct', 'row': [1]}, {}, [], {'x': 1},
+                                 {'forget': -1}),
         }[kind]
 
     def lines(self, count):
@@ -826,10 +902,13 @@ class Random:
                                         {'name': 'note', 'columns': [{'name': 'n', 'kind': 'int'}]}],
                'keep': self.one_of(0, 1, 4), 'records': self.one_of(0, 3, 100_000)}
         for _ in range(count):
+            time = self.time
             request = self.request()
             if isinstance(request, dict):
                 request.update(self.one_of({}, {}, {'worker': 2}))
-                request.update(self.one_of(*[{}] * 8, {'if': self.time}))
+                request.update(self.one_of(*[{}] * 16, {'if': time}, {'if': time + 1}))
+                if request.get('if', time) != time:
+                    self.time = time
             yield request
 
 

@@ -15,10 +15,10 @@ from pathlib import Path
 from typing import Any
 
 from timetravel import (
-    AnotherOpening, ChangedSelect, ChangedWrite, Changes, Closed, EditedTwice, Error, Fault, Full, Later,
-    Lost, Moved, NoAnswer, NoGeneration, NoSlot, NotRepairing, NotStarted, OutOfMemory, Previewed, Progress,
-    Refused, Repairing, Reply, Selected, Session, Slot, Slots, Status, Stepped, Switched, Tables, Written,
-    cancel, delete, do, insert, preview, replace, select, update)
+    AnotherOpening, ChangedSelect, ChangedWrite, Changes, Closed, EditedTwice, Error, Fault, Forgotten, Full,
+    Later, Lost, Moved, NoAnswer, NoGeneration, NoSlot, NotRepairing, NotStarted, OutOfMemory, Previewed,
+    Progress, Refused, Repairing, Reply, Selected, Session, Slot, Slots, Status, Stepped, Switched, Tables,
+    Written, cancel, delete, do, insert, preview, replace, select, update)
 
 from stand_in import ACCT, ACCT_LINE, INSERTED, OPENING, PROGRAM, Case, StandInCase, told
 
@@ -113,7 +113,7 @@ CONVERSATION: list[tuple[Any, str, str, Any]] = [
     (lambda s: s.send({"x": 1}).result(),
      '{"x":1}',
      '{"call":24,"fault":{"path":"$","cause":"missing one of insert, update, delete, select, preview, do, '
-     'begin, step, finish, abort, status, slots, changes, tables"}}',
+     'begin, step, finish, abort, status, slots, changes, tables, forget"}}',
      (Fault, {"path": "$", "call": 24})),
     # A second repair, with replaced slots, and the members that the requests above leave out.
     (lambda s: s.do([insert("acct", [2, "bøb", -5]), insert("acct", [2, "eve", 0])], worker=3, if_time=4),
@@ -166,6 +166,28 @@ CONVERSATION: list[tuple[Any, str, str, Any]] = [
      '{"call":37,"refused":"not repairing"}', (NotRepairing, {"call": 37})),
     (lambda s: s.tables(worker=9, if_time=5),
      '{"worker":9,"if":5,"tables":true}', '{"call":38,"refused":"moved","now":6}', (Moved, {"now": 6})),
+    # What lies before a time is forgotten.
+    (lambda s: s.forget(9),
+     '{"forget":9}', '{"call":39,"refused":"later","now":6}', (Later, {"now": 6})),
+    (lambda s: s.forget(2, worker=9, if_time=6),
+     '{"worker":9,"if":6,"forget":2}',
+     '{"call":40,"time":6,"generation":1,"oldest":1,"entries":5,"repair":null,"horizon":2}',
+     Status(40, 6, 1, 1, 5, None, 2)),
+    (lambda s: s.send({"forget": 1}).result(),
+     '{"forget":1}', '{"call":41,"refused":"forgotten","horizon":2}',
+     (Forgotten, {"cause": "forgotten", "horizon": 2, "call": 41})),
+    (lambda s: s.select("acct", at=1),
+     '{"select":"acct","where":[],"at":1}', '{"call":42,"refused":"forgotten","horizon":2}',
+     (Forgotten, {"horizon": 2})),
+    (lambda s: s.slots(1, 3),
+     '{"slots":[1,3]}',
+     '{"call":43,"time":6,"slots":[{"slot":3,"worker":1,"do":[{"update":"acct","change":[["add","bal",1]],'
+     '"where":[["id",1]]}],"replies":[{"updated":1}]}]}',
+     Slots(43, 6, [Slot(3, 1, [update("acct", [("add", "bal", 1)], {"id": 1})], [Reply("updated", 1)])])),
+    (lambda s: s.status(),
+     '{"status":true}',
+     '{"call":44,"time":6,"generation":1,"oldest":1,"entries":5,"repair":null,"horizon":2}',
+     Status(44, 6, 1, 1, 5, None, 2)),
 ]
 
 

@@ -821,6 +821,11 @@ class Serving(unittest.TestCase):
         self.assertEqual(done.stdout.splitlines(), [
             b"time: 1 of 1000000", b"entries: 1 of 4000000", b"generation: 0", b"oldest generation: 0",
             b"repair: none"])
+        told = ['{"forget":1}', '{"delete":"acct","where":[]}']
+        self.assertEqual(command("call", server.path, *told).returncode, 0)
+        self.assertEqual(command("status", server.path).stdout.splitlines()[:3], [
+            b"time: 2", b"horizon: 1, with 1 slots behind it, of 1000000", b"entries: 2 of 4000000"])
+        self.assertEqual(command("call", server.path, '{"forget":0}').returncode, 1)
         done = command("call", "--opening", json.dumps(OPENING, indent=1), server.path)
         self.assertEqual((done.returncode, done.stdout, done.stderr), (0, b"", b""))
         done = command("call", "--opening", " \n", server.path, "{}")
@@ -837,7 +842,8 @@ class Serving(unittest.TestCase):
         client.send(*(insert(key) for key in range(10)))
         client.send({"if": 3, "status": True}, {"abort": True}, b"{", {"do": []}, {"worker": 2, "do": []})
         client.send({"row": [1, '"refused":"x"', 1], "insert": "acct"}, {**ALL, "most": 100})
-        for _ in range(17):
+        client.send({"worker": 2, "forget": 14})
+        for _ in range(18):
             client.answer()
         told = command("metrics", server.path, "--rows")
         self.assertEqual(told.returncode, 0)
@@ -845,14 +851,16 @@ class Serving(unittest.TestCase):
         for name, value in {
                 "timetravel_open": 1, "timetravel_slots": 13, "timetravel_entries": 13,
                 "timetravel_slots_limit": 1_000_000, "timetravel_entries_limit": 4_000_000,
-                "timetravel_generation": 0, "timetravel_repairing": 0,
+                "timetravel_generation": 0, "timetravel_repairing": 0, "timetravel_horizon": 0,
                 'timetravel_request_seconds_count{kind="insert"}': 11,
                 'timetravel_request_seconds_bucket{kind="insert",le="+Inf"}': 11,
                 'timetravel_request_seconds_count{kind="do"}': 2,
+                'timetravel_request_seconds_count{kind="forget"}': 1,
                 'timetravel_request_seconds_count{kind="status"}': 1,
                 'timetravel_request_seconds_count{kind="abort"}': 1,
                 'timetravel_request_seconds_count{kind="other"}': 1,
                 'timetravel_refusals_total{cause="moved"}': 1,
+                'timetravel_refusals_total{cause="later"}': 1,
                 'timetravel_refusals_total{cause="not repairing"}': 1,
                 "timetravel_faults_total": 1, "timetravel_lost_total": 0,
                 "timetravel_session_starts_total": 1,
@@ -866,6 +874,20 @@ class Serving(unittest.TestCase):
                      'timetravel_memory_peak_bytes{process="server"}',
                      'timetravel_request_recent_seconds{kind="insert",quantile="0.99"}'):
             self.assertGreater(found[name], 0)
+
+    def test_a_session_that_forgets(self) -> None:
+        server = self.serving()
+        keeper, other = server.client(), server.client()
+        keeper.send(*(insert(key) for key in range(10)), {"forget": 7})
+        self.assertEqual([keeper.answer()["slot"] for _ in range(10)], list(range(1, 11)))
+        status = {"time": 10, "generation": 0, "oldest": 0, "entries": 4, "repair": None, "horizon": 7}
+        self.assertEqual({**keeper.answer(), "call": 0}, {"call": 0, **status})
+        self.assertEqual(server.client().opened, status)
+        self.assertEqual({**other.ask({**ALL, "at": 6}), "call": 0},
+                         {"call": 0, "refused": "forgotten", "horizon": 7})
+        self.assertEqual(len(other.ask({**ALL, "at": 7})["rows"]), 7)
+        found = samples(metrics(server.path))
+        self.assertEqual((found["timetravel_slots"], found["timetravel_horizon"]), (10, 7))
 
     # Stalls
 

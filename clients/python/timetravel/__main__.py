@@ -7,6 +7,7 @@ import json
 import sys
 import threading
 from collections.abc import Sequence
+from typing import Any
 
 from .etcd import Access, EtcdError, read_user
 from .front import PATIENCE
@@ -134,7 +135,7 @@ def _compact(options: argparse.Namespace) -> int:
     return 0
 
 
-def _opened(conversation: Conversation, opening: bytes = _JOIN) -> dict[str, object] | None:
+def _opened(conversation: Conversation, opening: bytes = _JOIN) -> dict[str, Any] | None:
     """The status of the session, or `None` and what it said on standard error."""
     answer = conversation.ask(opening)
     status = json.loads(answer)
@@ -187,7 +188,12 @@ def _status(options: argparse.Namespace) -> int:
         status = _opened(conversation)
     if status is None:
         return 1
-    print(f"time: {status['time']} of {SLOTS}")
+    horizon = status.get("horizon", 0)
+    if horizon:
+        print(f"time: {status['time']}")
+        print(f"horizon: {horizon}, with {status['time'] - horizon} slots behind it, of {SLOTS}")
+    else:
+        print(f"time: {status['time']} of {SLOTS}")
     print(f"entries: {status['entries']} of {ENTRIES}")
     print(f"generation: {status['generation']}")
     print(f"oldest generation: {status['oldest']}")

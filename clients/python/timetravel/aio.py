@@ -25,10 +25,11 @@ from .answers import (
 from .errors import (
     Closed, Disconnected, Ended, Error, Forked, Lost, NoAnswer, NotConnected, NotRepairing, Refused)
 from .forks import close_in_children
+from .keeping import Keeping
 from .opening import Opening
 from .requests import Change, Edit, NewRow, Where, Write
 from .tables import Table, Value
-from .waiting import Cutter, Farewell, Waiters, WaitersByCall, WaitersInOrder
+from .waiting import Cutter, Farewell, Waiters, WaitersByCall, WaitersInOrder, Waiting
 
 __all__ = ["Session"]
 
@@ -91,6 +92,11 @@ class _Channel(asyncio.Protocol, ABC):
 
     # What is the same
 
+    @property
+    def takes_lines(self) -> bool:
+        """Whether a line can be sent without waiting for room."""
+        return self._room is None and not self.has_ended and not self.is_closing
+
     async def put(self, line: bytes, decode: Decode[AnswerType]) -> asyncio.Future[AnswerType]:
         """Sends a line, as soon as there is room."""
         while self._room is not None:
@@ -100,9 +106,13 @@ class _Channel(asyncio.Protocol, ABC):
         if self.is_closing:
             raise Closed
         future: asyncio.Future[AnswerType] = self._loop.create_future()
-        self.waiters.add(decode, _Wait(future))
-        self._writer.write(line)
+        self.put_now(line, decode, _Wait(future))
         return future
+
+    def put_now(self, line: bytes, decode: Decode[Any], waiting: Waiting) -> None:
+        """Sends a line where there is room for it."""
+        self.waiters.add(decode, waiting)
+        self._writer.write(line)
 
     async def join(self, seconds: float | None) -> None:
         """Waits for the end, and brings it where it doesn't come in time."""
@@ -288,33 +298,35 @@ class Session:
 
     def __init__(self, tables: Iterable[Table | Mapping[str, Any]], *, keep: int | None = None,
                  records: int | None = None, log: str | os.PathLike[str] | None = None,
-                 reopen: bool = False, command: Sequence[str] = ("timetravel", "session"),
-                 timeout: float | None = None) -> None:
+                 reopen: bool = False, keep_slots: int | None = None,
+                 command: Sequence[str] = ("timetravel", "session"), timeout: float | None = None) -> None:
         """A session that starts the program once it is opened, with the same parameters as
         `timetravel.Session`. Raises `ValueError` or `TypeError` for what a line can't carry."""
         if reopen and log is None:
             raise ValueError("only a session with a log can be opened again")
         whole = [*command, *([] if log is None else ["--log", os.fspath(log)])]
         self._prepare(lambda: _Program(whole, log is not None), Opening(tables, keep, records), reopen,
-                      timeout)
+                      keep_slots, timeout)
 
     @classmethod
     def connect(cls, socket: str | os.PathLike[str], tables: Iterable[Table | Mapping[str, Any]], *,
                 keep: int | None = None, records: int | None = None, reopen: bool = False,
-                reads: Literal["log", "replica"] | None = None, timeout: float | None = None) -> Session:
+                reads: Literal["log", "replica"] | None = None, keep_slots: int | None = None,
+                timeout: float | None = None) -> Session:
         """A session that connects to the socket with this path once it is opened, with the same
         parameters as `timetravel.Session.connect`. Raises `ValueError` or `TypeError` for what a line
         can't carry."""
         session = cls.__new__(cls)
         session._prepare(lambda: _Connection(socket), Opening(tables, keep, records, reads), reopen,
-                         timeout)
+                         keep_slots, timeout)
         return session
 
     def _prepare(self, make: Callable[[], _Program | _Connection], opening: Opening, reopens: bool,
-                 timeout: float | None) -> None:
+                 keep_slots: int | None, timeout: float | None) -> None:
         self._make = make
         self._opening = opening
         self._reopens = reopens
+        self._keeping = None if keep_slots is None else Keeping(keep_slots)
         self._timeout = timeout
         self._process = os.getpid()
         self._closed = False
@@ -418,7 +430,7 @@ class Session:
         """The rows that match: now or at a time; of the current generation or of one that is kept;
         those with a key greater than `after`, and of these the first `most`.
 
-        Raises `Later`, `NoGeneration`, and what any request does.
+        Raises `Later`, `Forgotten`, `NoGeneration`, and what any request does.
         """
         request = requests.select(table, where, at=at, generation=generation, after=after, most=most)
         return await self._ask(request, self._opening.selected(table), worker, if_time, timeout)
@@ -428,7 +440,8 @@ class Session:
                     timeout: float | None = None) -> AsyncIterator[Selected]:
         """The rows that match, `most` at a time, all at one time of one generation, for `async for`.
 
-        What is written meanwhile doesn't show, nor does a switch, as long as the generation is kept.
+        What is written meanwhile doesn't show, nor does a switch, as long as the generation is kept and
+        the time isn't forgotten.
         A table without a matching row gives one page without rows. `timeout` is for each page.
 
         Raises what `select` does.
@@ -568,6 +581,16 @@ class Session:
         """
         return await self._ask({"tables": True}, answers.tables, worker, if_time, timeout)
 
+    async def forget(self, time: int, *, worker: int | None = None, if_time: int | None = None,
+                     timeout: float | None = None) -> Status:
+        """Forgets what lies before a time, closed generations too, so that there is room again. The rows
+        stay, and each slot behind this time can be read and repaired as before.
+
+        Raises `Repairing`, `Later`, `Forgotten` where more is forgotten already, and what any request
+        does.
+        """
+        return await self._ask({"forget": time}, answers.status, worker, if_time, timeout)
+
     # Without waiting
 
     @overload
@@ -596,8 +619,8 @@ class Session:
                    ) -> asyncio.Future[Switched]: ...
 
     @overload
-    async def send(self, request: requests.AbortRequest | requests.StatusRequest, *,
-                   worker: int | None = None, if_time: int | None = None,
+    async def send(self, request: requests.AbortRequest | requests.StatusRequest | requests.ForgetRequest,
+                   *, worker: int | None = None, if_time: int | None = None,
                    timeout: float | None = None) -> asyncio.Future[Status]: ...
 
     @overload
@@ -631,19 +654,34 @@ class Session:
         does; the future raises the rest.
         """
         line = self._opening.request(request, worker, if_time)
-        return await self._within(timeout, self._put(line, self._opening.decode(request)))
+        future = await self._within(timeout, self._put(line, self._opening.decode(request)))
+        self._forget_old()
+        return future
 
     async def _ask(self, request: Mapping[str, Any], decode: Decode[AnswerType], worker: int | None,
                    if_time: int | None, timeout: float | None) -> AnswerType:
         line = self._opening.request(request, worker, if_time)
-        return await self._within(timeout, self._exchange(line, decode))
+        answer = await self._within(timeout, self._exchange(line, decode))
+        self._forget_old()
+        return answer
 
     async def _exchange(self, line: bytes, decode: Decode[AnswerType]) -> AnswerType:
         return await (await self._put(line, decode))
 
     async def _put(self, line: bytes, decode: Decode[AnswerType]) -> asyncio.Future[AnswerType]:
         channel = await self._current(self._reopens)
+        if self._keeping is not None:
+            decode = self._keeping.noting(decode)
         return await channel.put(line, decode)
+
+    def _forget_old(self) -> None:
+        """Sends the line that forgets old slots where it is time, and there is room for it."""
+        keeping, channel = self._keeping, self._channel
+        if keeping is None or channel is None or not channel.takes_lines:
+            return
+        line = keeping.next_line()
+        if line is not None:
+            channel.put_now(line, keeping.noting(answers.status), keeping)
 
     async def _within(self, timeout: float | None, awaitable: Awaitable[Found]) -> Found:
         """What this gives within the seconds of a call, or of the session."""
@@ -677,6 +715,8 @@ class Session:
             if self._opening.reads is not None:
                 await (await channel.put(self._opening.reads, answers.reads))
             self.opened: Status = await (await channel.put(self._opening.line, answers.status))
+            if self._keeping is not None:
+                self._keeping.note(self.opened)
         except BaseException:
             channel.end_input()
             await channel.join(self._timeout)

@@ -76,13 +76,15 @@ class Switched:
 
 @dataclass(frozen=True)
 class Status:
-    """The current time and generation, the oldest generation that is kept, and the repair under way."""
+    """The current time and generation, the oldest generation that is kept, and the repair under way.
+    What lies before the time `horizon` is forgotten."""
     call: int
     time: int
     generation: int
     oldest: int
     entries: int
     repair: Progress | None
+    horizon: int = 0
 
 
 @dataclass(frozen=True)
@@ -213,7 +215,7 @@ def status(found: Members) -> Status:
     repair = found["repair"]
     progress = None if repair is None else Progress(repair["done"], repair["left"], repair["rerun"])
     return Status(found.get("call", 0), found["time"], found["generation"], found["oldest"],
-                  found["entries"], progress)
+                  found["entries"], progress, found.get("horizon", 0))
 
 
 def reads(found: Members) -> None:

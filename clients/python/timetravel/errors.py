@@ -111,8 +111,13 @@ class Moved(Refused):
 
 
 class Later(Refused):
-    """The time of a select is later than `now`, the last time of its generation."""
+    """The time of a select, or of a forgetting, is later than `now`, the last time of its generation."""
     now: int
+
+
+class Forgotten(Refused):
+    """The time of a select, or of a forgetting, lies before `horizon`, up to which all is forgotten."""
+    horizon: int
 
 
 class NoGeneration(Refused):
@@ -153,6 +158,6 @@ class OutOfMemory(Refused):
 
 
 REFUSALS: dict[str, type[Refused]] = {
-    "moved": Moved, "later": Later, "no generation": NoGeneration, "not repairing": NotRepairing,
-    "repairing": Repairing, "no slot": NoSlot, "edited twice": EditedTwice, "full": Full,
-    "another opening": AnotherOpening, "memory": OutOfMemory}
+    "moved": Moved, "later": Later, "forgotten": Forgotten, "no generation": NoGeneration,
+    "not repairing": NotRepairing, "repairing": Repairing, "no slot": NoSlot,
+    "edited twice": EditedTwice, "full": Full, "another opening": AnotherOpening, "memory": OutOfMemory}

@@ -17,8 +17,8 @@ from typing import Any
 from .lines import BLANK
 
 KINDS = ("insert", "update", "delete", "select", "preview", "do", "begin", "step", "finish", "abort",
-         "status", "slots", "changes", "tables")
-SLOTS, ENTRIES = 1_000_000, 4_000_000    # what a database takes in its life
+         "status", "slots", "changes", "tables", "forget")
+SLOTS, ENTRIES = 1_000_000, 4_000_000    # what a database has room for
 
 _BOUNDS = (0.0001, 0.00025, 0.0005, 0.001, 0.0025, 0.005, 0.01, 0.025, 0.05, 0.1, 0.25, 0.5, 1.0, 2.5, 5.0,
            10.0)    # seconds
@@ -180,10 +180,11 @@ def _histogram(kind: str, times: Times) -> Iterator[Sample]:
 
 def of_status(status: Mapping[str, Any]) -> Iterator[str]:
     """What the session's status tells."""
-    yield from one("slots", "gauge", "Slots that are taken: the time.", status["time"])
-    yield from one("slots_limit", "gauge", "Slots that a database takes in its life.", SLOTS)
+    yield from one("slots", "gauge", "Slots that were taken: the time.", status["time"])
+    yield from one("slots_limit", "gauge", "Slots that a database has room for.", SLOTS)
+    yield from one("horizon", "gauge", "The time before which all is forgotten.", status.get("horizon", 0))
     yield from one("entries", "gauge", "Entries of the history.", status["entries"])
-    yield from one("entries_limit", "gauge", "Entries that a database takes in its life.", ENTRIES)
+    yield from one("entries_limit", "gauge", "Entries that a database has room for.", ENTRIES)
     yield from one("generation", "gauge", "The current generation.", status["generation"])
     yield from one("oldest_generation", "gauge", "The oldest generation that can be read.", status["oldest"])
     repair = status["repair"]

@@ -112,4 +112,4 @@ _DECODE: dict[str, Decode[Any]] = {
     "select": _plainly_selected, "preview": _plainly_previewed, "do": answers.written,
     "begin": answers.stepped, "step": answers.stepped, "finish": answers.switched,
     "abort": answers.status, "status": answers.status, "slots": partial(answers.slots, {}),
-    "changes": answers.changes, "tables": answers.tables}
+    "changes": answers.changes, "tables": answers.tables, "forget": answers.status}

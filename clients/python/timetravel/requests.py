@@ -107,6 +107,11 @@ class TablesRequest(TypedDict):
     tables: Literal[True]
 
 
+class ForgetRequest(TypedDict):
+    """The time before which all is forgotten."""
+    forget: int
+
+
 # Making them
 
 def insert(table: str, row: NewRow) -> Write:

@@ -15,6 +15,7 @@ from .answers import (
 from .channel import Channel
 from .connection import Connection
 from .errors import Closed, Error, Forked, NoAnswer, NotRepairing, Refused
+from .keeping import Keeping
 from .opening import Opening
 from .program import Program
 from .requests import Change, Edit, NewRow, Where, Write
@@ -45,8 +46,8 @@ class Session:
 
     def __init__(self, tables: Iterable[Table | Mapping[str, Any]], *, keep: int | None = None,
                  records: int | None = None, log: str | os.PathLike[str] | None = None,
-                 reopen: bool = False, command: Sequence[str] = ("timetravel", "session"),
-                 timeout: float | None = None) -> None:
+                 reopen: bool = False, keep_slots: int | None = None,
+                 command: Sequence[str] = ("timetravel", "session"), timeout: float | None = None) -> None:
         """Starts the program and opens the database.
 
         `keep` is how many closed generations stay readable, `records` of how many answers the session
@@ -60,6 +61,12 @@ class Session:
         answer when the program ends gets `Lost` all the same: the request may be carried out or not.
         One that had `if_time` can be sent again with it.
 
+        With `keep_slots` the session forgets what is old, so that it doesn't get full: after a write at
+        least twice so many slots behind the horizon, up to the time of that write less `keep_slots`. The
+        line for it is sent beside the requests, and nobody waits for its answer. Where it is refused, as
+        during a repair, it is sent again some slots later. Of several clients of one session, one is
+        given `keep_slots`.
+
         Raises `NotStarted`, `Lost` where the program ends again, `AnotherOpening`, `Fault`,
         `OutOfMemory`, `NoAnswer`, and `ValueError` or `TypeError` for what a line can't carry.
         """
@@ -67,33 +74,35 @@ class Session:
             raise ValueError("only a session with a log can be opened again")
         whole = [*command, *([] if log is None else ["--log", os.fspath(log)])]
         self._open(lambda deadline: Program(whole, log is not None), Opening(tables, keep, records),
-                   reopen, timeout)
+                   reopen, keep_slots, timeout)
 
     @classmethod
     def connect(cls, socket: str | os.PathLike[str], tables: Iterable[Table | Mapping[str, Any]], *,
                 keep: int | None = None, records: int | None = None, reopen: bool = False,
-                reads: Literal["log", "replica"] | None = None, timeout: float | None = None) -> Session:
+                reads: Literal["log", "replica"] | None = None, keep_slots: int | None = None,
+                timeout: float | None = None) -> Session:
         """Connects to the Unix socket with this path, and opens the session there, or joins in: it has
         to be of the same tables and `keep`, and `opened` tells what is there.
 
         With `reopen` the next request connects again after the connection has ended. Whoever waits for
-        an answer then gets `Disconnected` all the same. `timeout` is as for a program. `close` ends this
-        connection alone. `reads` is for a replica alone: whether reads go through the log, as they do
-        where it isn't given, or are answered by this replica as it is.
+        an answer then gets `Disconnected` all the same. `timeout` and `keep_slots` are as for a program.
+        `close` ends this connection alone. `reads` is for a replica alone: whether reads go through the
+        log, as they do where it isn't given, or are answered by this replica as it is.
 
         Raises `NotConnected`, `Disconnected`, `AnotherOpening`, `Fault`, `OutOfMemory`, `NoAnswer`, and
         `ValueError` or `TypeError` for what a line can't carry.
         """
         session = cls.__new__(cls)
         session._open(lambda deadline: Connection(socket, deadline),
-                      Opening(tables, keep, records, reads), reopen, timeout)
+                      Opening(tables, keep, records, reads), reopen, keep_slots, timeout)
         return session
 
     def _open(self, make: Callable[[Deadline | None], Channel], opening: Opening, reopens: bool,
-              timeout: float | None) -> None:
+              keep_slots: int | None, timeout: float | None) -> None:
         self._make = make
         self._opening = opening
         self._reopens = reopens
+        self._keeping = None if keep_slots is None else Keeping(keep_slots)
         self._timeout = timeout
         self._process = os.getpid()
         self._closed = False
@@ -111,6 +120,8 @@ class Session:
             wait: Wait[Status] = Wait()
             channel.put(self._opening.line, answers.status, wait, deadline)
             self.opened: Status = wait.result(deadline)
+            if self._keeping is not None:
+                self._keeping.note(self.opened)
         except BaseException:
             end = self._deadline(None)
             channel.end_input(end)
@@ -211,7 +222,7 @@ class Session:
         """The rows that match: now or at a time; of the current generation or of one that is kept;
         those with a key greater than `after`, and of these the first `most`.
 
-        Raises `Later`, `NoGeneration`, and what any request does.
+        Raises `Later`, `Forgotten`, `NoGeneration`, and what any request does.
         """
         request = requests.select(table, where, at=at, generation=generation, after=after, most=most)
         return self._ask(request, self._opening.selected(table), worker, if_time, timeout)
@@ -221,7 +232,8 @@ class Session:
               timeout: float | None = None) -> Iterator[Selected]:
         """The rows that match, `most` at a time, all at one time of one generation.
 
-        What is written meanwhile doesn't show, nor does a switch, as long as the generation is kept.
+        What is written meanwhile doesn't show, nor does a switch, as long as the generation is kept and
+        the time isn't forgotten.
         A table without a matching row gives one page without rows. `timeout` is for each page.
 
         Raises what `select` does.
@@ -359,6 +371,16 @@ class Session:
         """
         return self._ask({"tables": True}, answers.tables, worker, if_time, timeout)
 
+    def forget(self, time: int, *, worker: int | None = None, if_time: int | None = None,
+               timeout: float | None = None) -> Status:
+        """Forgets what lies before a time, closed generations too, so that there is room again. The rows
+        stay, and each slot behind this time can be read and repaired as before.
+
+        Raises `Repairing`, `Later`, `Forgotten` where more is forgotten already, and what any request
+        does.
+        """
+        return self._ask({"forget": time}, answers.status, worker, if_time, timeout)
+
     # Without waiting
 
     @overload
@@ -382,7 +404,7 @@ class Session:
              if_time: int | None = None, timeout: float | None = None) -> Future[Switched]: ...
 
     @overload
-    def send(self, request: requests.AbortRequest | requests.StatusRequest, *,
+    def send(self, request: requests.AbortRequest | requests.StatusRequest | requests.ForgetRequest, *,
              worker: int | None = None, if_time: int | None = None,
              timeout: float | None = None) -> Future[Status]: ...
 
@@ -415,7 +437,10 @@ class Session:
         """
         line = self._opening.request(request, worker, if_time)
         future: Future[Any] = SentFuture()
-        self._put(line, self._opening.decode(request), future, self._deadline(timeout))
+        deadline = self._deadline(timeout)
+        self._put(line, self._opening.decode(request), future, deadline)
+        if self._keeping is not None:
+            self._forget_old(self._keeping, deadline)
         return future
 
     def _ask(self, request: Mapping[str, Any], decode: Decode[AnswerType], worker: int | None,
@@ -424,7 +449,23 @@ class Session:
         wait: Wait[AnswerType] = Wait()
         deadline = self._deadline(timeout)
         self._put(line, decode, wait, deadline)
-        return wait.result(deadline)
+        answer = wait.result(deadline)
+        if self._keeping is not None:
+            self._forget_old(self._keeping, deadline)
+        return answer
+
+    def _forget_old(self, keeping: Keeping, deadline: Deadline | None) -> None:
+        """Sends the line that forgets old slots where it is time. The request before it is done, so no
+        error of this one is raised."""
+        line = keeping.next_line()
+        if line is None:
+            return
+        try:
+            self._put(line, answers.status, keeping, deadline)
+        except BaseException as error:
+            keeping.set_exception(error)
+            if not isinstance(error, Error):
+                raise
 
     def _deadline(self, timeout: float | None) -> Deadline | None:
         if timeout is None:
@@ -434,6 +475,8 @@ class Session:
     def _put(self, line: bytes, decode: Decode[Any], waiting: Waiting, deadline: Deadline | None) -> None:
         if os.getpid() != self._process:
             raise Forked    # Before the lock is asked for, which nobody here would release.
+        if self._keeping is not None:
+            decode = self._keeping.noting(decode)
         if deadline is None:
             with self._sending:
                 self._put_next(line, decode, waiting, None)

@@ -1,5 +1,12 @@
 -- The pieces of an answer, one after another.
-use Rattle.std.proofs.Common.{◌≡◌, ℕ, List, [], ◌++◌, ap, sym, ◌∙◌, append_assoc, append-nil}
+use Rattle.std.specs.Prelude.{if◌then◌else◌}
+use Rattle.std.proofs.Common.{◌≡◌, ℕ, ◌==◌, Bool, false, List, [], ◌∷◌, ◌++◌, map, ap, sym, ◌∙◌, append_assoc, append-nil, codes}
+use Rattle.std.specs.List.{flat_map}
+use Rattle.std.specs.Fmt.{decimal}
+use Rattle.tt_numbers.specs.declared.told.ToldTime.{ToldTime}
+use Rattle.tt_numbers.specs.Numbers.{Numbering}
+use Rattle.tt_grammar.specs.JsonText.{Member, number_member, further_item, member_text}
+use Rattle.tt_answers.specs.AnswerText.{horizon_members}
 
 -- an object of two numbers and two values, and more members
 pub slot-pieces : (out one two label_3 three label_4 four more all name_1 number_1 name_2 number_2 name_3 value_3 name_4 value_4 last end : List ℕ)
@@ -29,6 +36,26 @@ pub declared-pieces : (out one label_2 two three all name_1 number_1 name_2 valu
 declared-pieces out one label_2 two three all name_1 number_1 name_2 value_2 name_3 number_3 name_4 number_4 p q r s t =
     t ∙ ap (λ o. o ++ (name_4 ++ number_4)) (s ∙ ap (λ o. o ++ (name_3 ++ number_3)) (r ∙ ap (λ o. o ++ value_2) (q ∙ ap (λ o. o ++ name_2) p)))
     ∙ simp (append_assoc, append-nil)
+
+-- members: four numbers and a value, and more members
+pub status-pieces : (out one two three four label_5 five all name_1 number_1 name_2 number_2 name_3 number_3 name_4 number_4 name_5 value_5 last : List ℕ)
+    → one ≡ out ++ (name_1 ++ number_1) → two ≡ one ++ (name_2 ++ number_2) → three ≡ two ++ (name_3 ++ number_3) → four ≡ three ++ (name_4 ++ number_4)
+    → label_5 ≡ four ++ name_5 → five ≡ label_5 ++ value_5 → all ≡ five ++ last
+    → all ≡ out ++ (name_1 ++ (number_1 ++ (name_2 ++ (number_2 ++ (name_3 ++ (number_3 ++ (name_4 ++ (number_4 ++ (name_5 ++ (value_5 ++ last))))))))))
+status-pieces out one two three four label_5 five all name_1 number_1 name_2 number_2 name_3 number_3 name_4 number_4 name_5 value_5 last p q r s t u v =
+    v ∙ ap (λ o. o ++ last) (u ∙ ap (λ o. o ++ value_5) (t ∙ ap (λ o. o ++ name_5) (s ∙ ap (λ o. o ++ (name_4 ++ number_4))
+    (r ∙ ap (λ o. o ++ (name_3 ++ number_3)) (q ∙ ap (λ o. o ++ (name_2 ++ number_2)) p)))))
+    ∙ simp append_assoc
+
+-- the horizon behind other members, where something was forgotten
+pub horizon-piece : (numbering : Numbering) (told : ToldTime) (out all : List ℕ) → told ≡ record { number = numbering.horizon } → (numbering.horizon == 0) ≡ false
+    → all ≡ out ++ (codes ",\"horizon\":" ++ decimal told.number) → all ≡ out ++ flat_map further_item (map member_text (horizon_members numbering))
+horizon-piece numbering told out all is forgotten p =
+    let members : Bool → List Member = λ b. if b then [] else number_member (codes "horizon") numbering.horizon ∷ [] in
+    p
+    ∙ ap (λ (t : ToldTime). out ++ (codes ",\"horizon\":" ++ decimal t.number)) is
+    ∙ ap (λ d. out ++ (codes ",\"horizon\":" ++ d)) (sym (append-nil (decimal numbering.horizon)))
+    ∙ ap (λ b. out ++ flat_map further_item (map member_text (members b))) (sym forgotten)
 
 -- members: a number, and a value
 pub number-value : (out first label all name_1 number name_2 value : List ℕ) → first ≡ out ++ (name_1 ++ number) → label ≡ first ++ name_2 → all ≡ label ++ value

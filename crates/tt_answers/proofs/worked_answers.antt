@@ -2,3 +2,4 @@ mod Writing
 mod Repairing
 mod Telling
 mod Refusing
+mod Forgetting

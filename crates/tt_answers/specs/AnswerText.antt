@@ -1,6 +1,7 @@
 -- Answers as they are printed: each is one JSON object, without white space, and a line feed.
-use Rattle.std.specs.Prelude.{ℕ, Bool, List, [], ◌∷◌, ◌++◌, map, Option, None, Some, option_map, codes}
+use Rattle.std.specs.Prelude.{ℕ, ◌==◌, Bool, if◌then◌else◌, List, [], ◌∷◌, ◌++◌, map, Option, None, Some, option_map, codes}
 use Rattle.std.specs.List.{flat_map}
+use Rattle.tt_numbers.specs.Numbers.{Numbering}
 use Rattle.tt_values.specs.declared.row.Row.{Row}
 use Rattle.tt_values.specs.declared.statement.Write.{Write}
 use Rattle.tt_values.specs.declared.reply.Reply.{Reply}
@@ -23,6 +24,7 @@ use Rattle.tt_answers.specs.declared.answer.Place.TheVariants as places
 use Rattle.tt_answers.specs.declared.answer.ChangeEntry.{ChangeEntry}
 use Rattle.tt_answers.specs.declared.answer.Answer.{Answer}
 use Rattle.tt_answers.specs.declared.answer.Answer.TheVariants as answers
+use Rattle.tt_answers.specs.ToldText.{time_member, generation_member}
 use Rattle.tt_answers.specs.RefusalText.{out_of_memory, refusal_members, fault_members}
 
 -- a reply as items of an array: rows are one item each, and any other reply is one item
@@ -42,22 +44,26 @@ abbrev pub rows_text : List Row → List ℕ
 rows_text rows = array_text (map row_text rows)
 
 -- the members that tell how far a repair is
-abbrev pub progress_members : Progress → List Member
-progress_members p = number_member (codes "done") p.done ∷ number_member (codes "left") p.left ∷ number_member (codes "rerun") p.rerun ∷ []
+abbrev pub progress_members : Numbering → Progress → List Member
+progress_members numbering p = time_member numbering (codes "done") p.done ∷ number_member (codes "left") p.left ∷ number_member (codes "rerun") p.rerun ∷ []
 
 -- how far a repair is, as an object
-abbrev pub progress_text : Progress → List ℕ
-progress_text p = object_text (progress_members p)
+abbrev pub progress_text : Numbering → Progress → List ℕ
+progress_text numbering p = object_text (progress_members numbering p)
+
+-- the time that was last forgotten up to, where something was forgotten
+abbrev pub horizon_members : Numbering → List Member
+horizon_members numbering = if numbering.horizon == 0 then [] else number_member (codes "horizon") numbering.horizon ∷ []
 
 -- how the database stands
-abbrev pub status_members : Status → List Member
-status_members status =
-    number_member (codes "time") status.time
-    ∷ number_member (codes "generation") status.generation
-    ∷ number_member (codes "oldest") status.oldest
+abbrev pub status_members : Numbering → Status → List Member
+status_members numbering status =
+    time_member numbering (codes "time") status.time
+    ∷ generation_member numbering (codes "generation") status.generation
+    ∷ generation_member numbering (codes "oldest") status.oldest
     ∷ number_member (codes "entries") status.entries
-    ∷ (codes "repair", text_or_null (option_map progress_text status.repair))
-    ∷ []
+    ∷ (codes "repair", text_or_null (option_map (progress_text numbering) status.repair))
+    ∷ horizon_members numbering
 
 -- whether more rows follow, if that is told
 abbrev pub more_members : Option Bool → List Member
@@ -74,17 +80,17 @@ asked_members tables None = []
 asked_members tables (Some action) = (codes "asked", action_text tables action) ∷ []
 
 -- a slot: its number, its worker, its action and its replies, which are null where it is cancelled, and the action that was asked for
-abbrev pub slot_members : Tables → SlotEntry → List Member
-slot_members tables entry =
-    number_member (codes "slot") entry.number
+abbrev pub slot_members : Tables → Numbering → SlotEntry → List Member
+slot_members tables numbering entry =
+    time_member numbering (codes "slot") entry.number
     ∷ number_member (codes "worker") entry.worker
     ∷ (codes "do", text_or_null (option_map (action_text tables) entry.slot.action))
     ∷ (codes "replies", text_or_null (option_map replies_text entry.slot.replies))
     ∷ asked_members tables entry.asked
 
 -- a slot, as an object
-abbrev pub slot_text : Tables → SlotEntry → List ℕ
-slot_text tables entry = object_text (slot_members tables entry)
+abbrev pub slot_text : Tables → Numbering → SlotEntry → List ℕ
+slot_text tables numbering entry = object_text (slot_members tables numbering entry)
 
 -- where a recorded call stands: a write at its slot, a select at its time. What is refused, and a preview, stands nowhere
 abbrev pub place_of : What → Option Place
@@ -95,9 +101,9 @@ place_of (whats.Later now) = None
 place_of whats.NotRepairing = None
 
 -- a slot, or a time
-abbrev pub place_member : Place → Member
-place_member (places.Slot slot) = number_member (codes "slot") slot
-place_member (places.Time time) = number_member (codes "time") time
+abbrev pub place_member : Numbering → Place → Member
+place_member numbering (places.Slot slot) = time_member numbering (codes "slot") slot
+place_member numbering (places.Time time) = time_member numbering (codes "time") time
 
 -- what stands in the place of replies
 abbrev pub after_text : After → List ℕ
@@ -105,17 +111,17 @@ after_text afters.Cancelled = quoted (codes "cancelled")
 after_text (afters.Replies replies) = replies_text replies
 
 -- a changed reply: its call, its slot or time, and the replies before and after
-abbrev pub change_members : ChangeEntry → List Member
-change_members entry =
+abbrev pub change_members : Numbering → ChangeEntry → List Member
+change_members numbering entry =
     number_member (codes "call") entry.change.call
-    ∷ place_member entry.place
+    ∷ place_member numbering entry.place
     ∷ (codes "before", replies_text entry.change.before)
     ∷ (codes "after", after_text entry.change.after)
     ∷ []
 
 -- a changed reply, as an object
-abbrev pub change_text : ChangeEntry → List ℕ
-change_text entry = object_text (change_members entry)
+abbrev pub change_text : Numbering → ChangeEntry → List ℕ
+change_text numbering entry = object_text (change_members numbering entry)
 
 -- the tables, how many closed generations are kept, and how many records
 abbrev pub declared_members : Tables → ℕ → ℕ → List Member
@@ -127,47 +133,50 @@ declared_members tables keep records =
     ∷ []
 
 -- the slot that an action took, and the replies to its writes
-abbrev pub written_members : ℕ → List Reply → List Member
-written_members slot replies = number_member (codes "slot") slot ∷ (codes "replies", replies_text replies) ∷ []
+abbrev pub written_members : Numbering → ℕ → List Reply → List Member
+written_members numbering slot replies = time_member numbering (codes "slot") slot ∷ (codes "replies", replies_text replies) ∷ []
 
 -- the generation that is now current, how many slots it has, and how many of them were re-executed
-abbrev pub finished_members : ℕ → ℕ → ℕ → List Member
-finished_members generation slots rerun =
-    number_member (codes "generation") generation ∷ number_member (codes "slots") slots ∷ number_member (codes "rerun") rerun ∷ []
+abbrev pub finished_members : Numbering → ℕ → ℕ → ℕ → List Member
+finished_members numbering generation slots rerun =
+    generation_member numbering (codes "generation") generation
+    ∷ time_member numbering (codes "slots") slots
+    ∷ number_member (codes "rerun") rerun
+    ∷ []
 
 -- the current time, and slots
-abbrev pub slots_members : Tables → ℕ → List SlotEntry → List Member
-slots_members tables time entries =
-    number_member (codes "time") time ∷ (codes "slots", array_text (map (slot_text tables) entries)) ∷ []
+abbrev pub slots_members : Tables → Numbering → ℕ → List SlotEntry → List Member
+slots_members tables numbering time entries =
+    time_member numbering (codes "time") time ∷ (codes "slots", array_text (map (slot_text tables numbering) entries)) ∷ []
 
 -- the call of the first record that is kept, and changed replies
-abbrev pub changes_members : ℕ → List ChangeEntry → List Member
-changes_members first entries =
-    number_member (codes "from") first ∷ (codes "changed", array_text (map change_text entries)) ∷ []
+abbrev pub changes_members : Numbering → ℕ → List ChangeEntry → List Member
+changes_members numbering first entries =
+    number_member (codes "from") first ∷ (codes "changed", array_text (map (change_text numbering) entries)) ∷ []
 
--- the members of an answer, without its call. The tables are those of the database
-abbrev pub answer_members : Tables → Answer → List Member
-answer_members tables (answers.Standing status) = status_members status
-answer_members tables (answers.Written slot replies) = written_members slot replies
-answer_members tables (answers.Selected time page) = number_member (codes "time") time ∷ page_members page
-answer_members tables (answers.Previewed done page) = number_member (codes "done") done ∷ page_members page
-answer_members tables (answers.Repairing progress) = progress_members progress
-answer_members tables (answers.Finished generation slots rerun) = finished_members generation slots rerun
-answer_members tables (answers.Slots time entries) = slots_members tables time entries
-answer_members tables (answers.Changes first entries) = changes_members first entries
-answer_members tables (answers.Declared keep records) = declared_members tables keep records
-answer_members tables (answers.Faulty fault) = fault_members fault
-answer_members tables (answers.Refused refusal) = refusal_members refusal
-answer_members tables answers.OutOfMemory = out_of_memory
+-- the members of an answer, without its call. The tables are those of the database, whose numbers are told by the numbering
+abbrev pub answer_members : Tables → Numbering → Answer → List Member
+answer_members tables numbering (answers.Standing status) = status_members numbering status
+answer_members tables numbering (answers.Written slot replies) = written_members numbering slot replies
+answer_members tables numbering (answers.Selected time page) = time_member numbering (codes "time") time ∷ page_members page
+answer_members tables numbering (answers.Previewed done page) = time_member numbering (codes "done") done ∷ page_members page
+answer_members tables numbering (answers.Repairing progress) = progress_members numbering progress
+answer_members tables numbering (answers.Finished generation slots rerun) = finished_members numbering generation slots rerun
+answer_members tables numbering (answers.Slots time entries) = slots_members tables numbering time entries
+answer_members tables numbering (answers.Changes first entries) = changes_members numbering first entries
+answer_members tables numbering (answers.Declared keep records) = declared_members tables keep records
+answer_members tables numbering (answers.Faulty fault) = fault_members fault
+answer_members tables numbering (answers.Refused refusal) = refusal_members numbering refusal
+answer_members tables numbering answers.OutOfMemory = out_of_memory
 
 -- an object, and a line feed
 abbrev pub line_text : List Member → List ℕ
 line_text members = object_text members ++ codes "\n"
 
 -- the line of an answer to an opening
-abbrev pub opening_text : Answer → List ℕ
-opening_text answer = line_text (answer_members [] answer)
+abbrev pub opening_text : Numbering → Answer → List ℕ
+opening_text numbering answer = line_text (answer_members [] numbering answer)
 
 -- the line of an answer to a call, by its number
-abbrev pub call_text : Tables → ℕ → Answer → List ℕ
-call_text tables call answer = line_text (number_member (codes "call") call ∷ answer_members tables answer)
+abbrev pub call_text : Tables → Numbering → ℕ → Answer → List ℕ
+call_text tables numbering call answer = line_text (number_member (codes "call") call ∷ answer_members tables numbering answer)

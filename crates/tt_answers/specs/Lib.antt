@@ -1,2 +1,3 @@
+pub mod ToldText
 pub mod RefusalText
 pub mod AnswerText

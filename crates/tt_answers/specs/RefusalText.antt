@@ -1,5 +1,7 @@
 -- Refusals and faults as they are printed.
 use Rattle.std.specs.Prelude.{ℕ, List, [], ◌∷◌, codes}
+use Rattle.tt_numbers.specs.declared.told.ToldTime.{ToldTime}
+use Rattle.tt_numbers.specs.Numbers.{Numbering, told_time}
 use Rattle.tt_db.specs.declared.errors.DbError.{DbError}
 use Rattle.tt_db.specs.declared.errors.DbError.TheVariants as errors
 use Rattle.tt_db.specs.declared.errors.ReadError.{ReadError}
@@ -12,6 +14,7 @@ use Rattle.tt_grammar.specs.Quoting.{quoted}
 use Rattle.tt_grammar.specs.JsonText.{Member, number_member, object_text}
 use Rattle.tt_answers.specs.declared.answer.Refusal.{Refusal}
 use Rattle.tt_answers.specs.declared.answer.Refusal.TheVariants as refusals
+use Rattle.tt_answers.specs.ToldText.{generation_member}
 
 -- a refusal without a number
 abbrev pub refused : List ℕ → List Member
@@ -21,43 +24,52 @@ refused cause = (codes "refused", quoted cause) ∷ []
 abbrev pub refused_at : List ℕ → List ℕ → ℕ → List Member
 refused_at cause name n = (codes "refused", quoted cause) ∷ number_member name n ∷ []
 
+-- a refusal with a slot or a time that belongs to it
+abbrev pub refused_at_time : List ℕ → List ℕ → ToldTime → List Member
+refused_at_time cause name told = refused_at cause name told.number
+
 -- there was no memory for the line
 abbrev pub out_of_memory : List Member
 out_of_memory = refused (codes "memory")
 
 -- why the database refuses an event. A session never meets the faults of a statement, slots that are left or that aren't left, or too many edits
-abbrev pub event_refused : DbError → List Member
-event_refused (errors.Statement fault) = refused (cause_of_check fault)
-event_refused errors.Repairing = refused (codes "repairing")
-event_refused errors.NotRepairing = refused (codes "not repairing")
-event_refused (errors.NotCaughtUp left) = refused_at (codes "not caught up") (codes "left") left
-event_refused errors.NothingLeft = refused (codes "nothing left")
-event_refused (errors.NoSlot slot) = refused_at (codes "no slot") (codes "slot") slot
-event_refused (errors.EditTwice slot) = refused_at (codes "edited twice") (codes "slot") slot
-event_refused errors.TooManyEdits = refused (codes "too many edits")
-event_refused (errors.Full limit) = refused_at (codes "full") (codes "limit") limit
-event_refused errors.Memory = out_of_memory
+abbrev pub event_refused : Numbering → DbError → List Member
+event_refused numbering (errors.Statement fault) = refused (cause_of_check fault)
+event_refused numbering errors.Repairing = refused (codes "repairing")
+event_refused numbering errors.NotRepairing = refused (codes "not repairing")
+event_refused numbering (errors.NotCaughtUp left) = refused_at (codes "not caught up") (codes "left") left
+event_refused numbering errors.NothingLeft = refused (codes "nothing left")
+event_refused numbering (errors.NoSlot slot) = refused_at_time (codes "no slot") (codes "slot") (told_time numbering slot)
+event_refused numbering (errors.EditTwice slot) = refused_at_time (codes "edited twice") (codes "slot") (told_time numbering slot)
+event_refused numbering errors.TooManyEdits = refused (codes "too many edits")
+event_refused numbering (errors.Full limit) = refused_at (codes "full") (codes "limit") limit
+event_refused numbering errors.Memory = out_of_memory
 
 -- a generation can't be read: only those from the oldest to the newest can
-abbrev pub no_generation : ℕ → ℕ → List Member
-no_generation oldest newest =
-    (codes "refused", quoted (codes "no generation")) ∷ number_member (codes "oldest") oldest ∷ number_member (codes "newest") newest ∷ []
+abbrev pub no_generation : Numbering → ℕ → ℕ → List Member
+no_generation numbering oldest newest =
+    (codes "refused", quoted (codes "no generation"))
+    ∷ generation_member numbering (codes "oldest") oldest
+    ∷ generation_member numbering (codes "newest") newest
+    ∷ []
 
 -- why the database refuses a read. A session never meets the faults of a statement, or a worker without a reading
-abbrev pub read_refused : ReadError → List Member
-read_refused (read_errors.Statement fault) = refused (cause_of_check fault)
-read_refused read_errors.NoReading = refused (codes "no reading")
-read_refused read_errors.NotRepairing = refused (codes "not repairing")
-read_refused (read_errors.NoGeneration oldest newest) = no_generation oldest newest
-read_refused (read_errors.Later now) = refused_at (codes "later") (codes "now") now
-read_refused read_errors.Memory = out_of_memory
+abbrev pub read_refused : Numbering → ReadError → List Member
+read_refused numbering (read_errors.Statement fault) = refused (cause_of_check fault)
+read_refused numbering read_errors.NoReading = refused (codes "no reading")
+read_refused numbering read_errors.NotRepairing = refused (codes "not repairing")
+read_refused numbering (read_errors.NoGeneration oldest newest) = no_generation numbering oldest newest
+read_refused numbering (read_errors.Later now) = refused_at_time (codes "later") (codes "now") (told_time numbering now)
+read_refused numbering read_errors.Memory = out_of_memory
 
 -- why a request is refused, in words
-abbrev pub refusal_members : Refusal → List Member
-refusal_members (refusals.Moved now) = refused_at (codes "moved") (codes "now") now
-refusal_members (refusals.Event error) = event_refused error
-refusal_members (refusals.Read error) = read_refused error
-refusal_members refusals.AnotherOpening = refused (codes "another opening")
+abbrev pub refusal_members : Numbering → Refusal → List Member
+refusal_members numbering (refusals.Moved now) = refused_at_time (codes "moved") (codes "now") (told_time numbering now)
+refusal_members numbering (refusals.Event error) = event_refused numbering error
+refusal_members numbering (refusals.Read error) = read_refused numbering error
+refusal_members numbering (refusals.NoSlot slot) = refused_at_time (codes "no slot") (codes "slot") slot
+refusal_members numbering refusals.Forgotten = refused_at (codes "forgotten") (codes "horizon") numbering.horizon
+refusal_members numbering refusals.AnotherOpening = refused (codes "another opening")
 
 -- a fault: its path and its cause
 abbrev pub fault_members_at : List ℕ → List ℕ → List Member

@@ -3,6 +3,7 @@ ghost use Rattle.std.specs.Prelude.{◌≡◌};
 
 use tt_db::{DbError, Progress, ReadError, Slot};
 use tt_grammar::DocFault;
+use tt_numbers::ToldTime;
 use tt_records::{Changed, What};
 use tt_values::{Items, Reply, Row, Write};
 
@@ -15,6 +16,10 @@ pub enum Refusal {
     Event(DbError),
     /// The database refuses its read.
     Read(ReadError),
+    /// An edit names a slot that isn't there; the number is the one that it is told by.
+    NoSlot { slot: ToldTime },
+    /// What lies before the horizon is asked for.
+    Forgotten,
     /// An opening asks for other tables than a log has, or for another number of closed generations.
     AnotherOpening,
 }
@@ -71,7 +76,8 @@ pub struct ChangeEntry {
     pub change: Changed,
 }
 
-/// An answer. What it holds is shared with the database, and not copied.
+/// An answer. What it holds is shared with the database, and not copied. Its slots, times and
+/// generations are the database's own numbers, and its text tells them by a numbering.
 #[derive(Debug, PartialEq, Drop)]
 pub enum Answer {
     /// How the database stands.

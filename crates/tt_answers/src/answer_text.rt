@@ -4,129 +4,192 @@ ghost use Rattle.std.specs.List.{flat_map};
 ghost use Rattle.std.specs.Option.{option_map};
 ghost use Rattle.std.specs.Fmt.{decimal};
 ghost use Rattle.tt_grammar.specs.JsonText.{further_item, member_text, members_text, text_or_null};
-ghost use Rattle.tt_answers.specs.AnswerText.{progress_members, progress_text, status_members, more_members, page_members, written_members, finished_members, slots_members, changes_members, declared_members, answer_members, opening_text, call_text};
+ghost use Rattle.tt_answers.specs.AnswerText.{progress_members, progress_text, horizon_members, status_members, more_members, page_members, written_members, finished_members, slots_members, changes_members, declared_members, answer_members, opening_text, call_text};
 
 use crate::answer::{Answer, ChangeEntry, RowPage, SlotEntry, Status};
 use crate::fault_text::{push_fault, push_out_of_memory};
 use crate::refusal_text::push_refusal;
 use crate::reply_text::{push_replies, push_rows};
 use crate::slot_text::{push_changes, push_slots};
+use crate::told_text::{push_told_generation, push_told_time};
 use std::alloc::{AllocError, Global};
 use tt_db::Progress;
 use tt_grammar::{push_flag, push_labelled, push_tables};
+use tt_numbers::{Numbering, ToldTime};
 use tt_values::{Catalog, Reply};
 
-/// Pushes the line of an answer to an opening. Where memory runs out, `out` may end with a prefix
-/// of it.
-pub fn push_opening(alloc: Global, out: &mut Vec<u8>, answer: &Answer) -> Result<(), AllocError>
-    ensures { OnOk result (out.new.items ≡ out.old.items ++ opening_text answer.now) }
+/// Pushes the line of an answer to an opening, its numbers told by the numbering. Where memory runs
+/// out, `out` may end with a prefix of it.
+pub fn push_opening(
+    alloc: Global,
+    out: &mut Vec<u8>,
+    numbering: Numbering,
+    answer: &Answer,
+) -> Result<(), AllocError>
+    ensures { OnOk result (out.new.items ≡ out.old.items ++ opening_text numbering answer.now) }
 {
     let catalog = Catalog::new(alloc);
     out.push(b'{')?;
-    push_answer(out, &catalog, answer)?;
+    push_answer(out, &catalog, numbering, answer)?;
     out.extend_from_slice(b"}\n")?;
     Ok(())
 }
 
-/// Pushes the line of an answer to a call, by its number. The catalog is that of the database.
-/// Where memory runs out, `out` may end with a prefix of the line.
+/// Pushes the line of an answer to a call, by its number. The catalog is that of the database,
+/// whose numbers are told by the numbering. Where memory runs out, `out` may end with a prefix of
+/// the line.
 pub fn push_call(
     out: &mut Vec<u8>,
     catalog: &Catalog,
+    numbering: Numbering,
     call: u64,
     answer: &Answer,
 ) -> Result<(), AllocError>
     ensures { OnOk result (out.new.items
-        ≡ out.old.items ++ call_text catalog.now call answer.now) }
+        ≡ out.old.items ++ call_text catalog.now numbering call answer.now) }
 {
     push_labelled(out, b"{\"call\":", call)?;
     out.push(b',')?;
-    push_answer(out, catalog, answer)?;
+    push_answer(out, catalog, numbering, answer)?;
     out.extend_from_slice(b"}\n")?;
     Ok(())
 }
 
 /// Pushes the members of an answer, without its call.
-fn push_answer(out: &mut Vec<u8>, catalog: &Catalog, answer: &Answer) -> Result<(), AllocError>
+fn push_answer(
+    out: &mut Vec<u8>,
+    catalog: &Catalog,
+    numbering: Numbering,
+    answer: &Answer,
+) -> Result<(), AllocError>
     ensures { OnOk result (out.new.items
-        ≡ out.old.items ++ members_text (answer_members catalog.now answer.now)) }
+        ≡ out.old.items ++ members_text (answer_members catalog.now numbering answer.now)) }
 {
     match answer {
-        Answer::Standing(status) => push_status(out, status),
-        Answer::Written { slot, replies } => push_written(out, *slot, replies.as_slice()),
-        Answer::Selected { time, page } => push_page(out, b"\"time\":", *time, page),
-        Answer::Previewed { done, page } => push_page(out, b"\"done\":", *done, page),
-        Answer::Repairing(progress) => push_progress(out, *progress),
+        Answer::Standing(status) => push_status(out, numbering, status),
+        Answer::Written { slot, replies } => {
+            push_written(out, numbering, *slot, replies.as_slice())
+        }
+        Answer::Selected { time, page } => {
+            push_page(out, b"\"time\":", numbering.told_time(*time), page)
+        }
+        Answer::Previewed { done, page } => {
+            push_page(out, b"\"done\":", numbering.told_time(*done), page)
+        }
+        Answer::Repairing(progress) => push_progress(out, numbering, *progress),
         Answer::Finished {
             generation,
             slots,
             rerun,
-        } => push_finished(out, *generation, *slots, *rerun),
-        Answer::Slots { time, slots } => push_slots_at(out, catalog, *time, slots.as_slice()),
-        Answer::Changes { from, changes } => push_changes_from(out, *from, changes.as_slice()),
+        } => push_finished(out, numbering, *generation, *slots, *rerun),
+        Answer::Slots { time, slots } => {
+            push_slots_at(out, catalog, numbering, *time, slots.as_slice())
+        }
+        Answer::Changes { from, changes } => {
+            push_changes_from(out, numbering, *from, changes.as_slice())
+        }
         Answer::Declared { keep, records } => push_declared(out, catalog, *keep, *records),
         Answer::Faulty(fault) => push_fault(out, fault),
-        Answer::Refused(refusal) => push_refusal(out, *refusal),
+        Answer::Refused(refusal) => push_refusal(out, numbering, *refusal),
         Answer::OutOfMemory => push_out_of_memory(out),
     }
 }
 
 /// Pushes how the database stands.
-fn push_status(out: &mut Vec<u8>, status: &Status) -> Result<(), AllocError>
+fn push_status(out: &mut Vec<u8>, numbering: Numbering, status: &Status) -> Result<(), AllocError>
     ensures { OnOk result (out.new.items
-        ≡ out.old.items ++ members_text (status_members status.now)) }
+        ≡ out.old.items ++ members_text (status_members numbering status.now)) }
 {
-    push_labelled(out, b"\"time\":", status.time)?;
-    push_labelled(out, b",\"generation\":", status.generation)?;
-    push_labelled(out, b",\"oldest\":", status.oldest)?;
+    push_told_time(out, b"\"time\":", numbering.told_time(status.time))?;
+    push_told_generation(
+        out,
+        b",\"generation\":",
+        numbering.told_generation(status.generation),
+    )?;
+    push_told_generation(
+        out,
+        b",\"oldest\":",
+        numbering.told_generation(status.oldest),
+    )?;
     push_labelled(out, b",\"entries\":", status.entries)?;
     out.extend_from_slice(b",\"repair\":")?;
-    push_repair(out, status.repair)?;
+    push_repair(out, numbering, status.repair)?;
+    push_horizon(out, numbering)?;
     Ok(())
 }
 
 /// Pushes how far a repair is as an object, or null where none is under way.
-fn push_repair(out: &mut Vec<u8>, repair: Option<Progress>) -> Result<(), AllocError>
+fn push_repair(
+    out: &mut Vec<u8>,
+    numbering: Numbering,
+    repair: Option<Progress>,
+) -> Result<(), AllocError>
     ensures { OnOk result (out.new.items
-        ≡ out.old.items ++ text_or_null (option_map progress_text repair)) }
+        ≡ out.old.items ++ text_or_null (option_map (progress_text numbering) repair)) }
 {
     let Some(progress) = repair else {
         return out.extend_from_slice(b"null");
     };
     out.push(b'{')?;
-    push_progress(out, progress)?;
+    push_progress(out, numbering, progress)?;
     out.push(b'}')?;
     Ok(())
 }
 
 /// Pushes how far a repair is.
-fn push_progress(out: &mut Vec<u8>, progress: Progress) -> Result<(), AllocError>
+fn push_progress(
+    out: &mut Vec<u8>,
+    numbering: Numbering,
+    progress: Progress,
+) -> Result<(), AllocError>
     ensures { OnOk result (out.new.items
-        ≡ out.old.items ++ members_text (progress_members progress)) }
+        ≡ out.old.items ++ members_text (progress_members numbering progress)) }
 {
-    push_labelled(out, b"\"done\":", progress.done)?;
+    push_told_time(out, b"\"done\":", numbering.told_time(progress.done))?;
     push_labelled(out, b",\"left\":", progress.left)?;
     push_labelled(out, b",\"rerun\":", progress.rerun)?;
     Ok(())
 }
 
-/// Pushes the slot of an action, and the replies to its writes.
-fn push_written(out: &mut Vec<u8>, slot: u64, replies: &[Reply]) -> Result<(), AllocError>
+/// Pushes the time that was last forgotten up to, where something was forgotten.
+fn push_horizon(out: &mut Vec<u8>, numbering: Numbering) -> Result<(), AllocError>
     ensures { OnOk result (out.new.items ≡ out.old.items
-        ++ members_text (written_members slot replies.now)) }
+        ++ flat_map further_item (map member_text (horizon_members numbering))) }
 {
-    push_labelled(out, b"\"slot\":", slot)?;
+    let horizon = numbering.horizon();
+    if horizon.number != 0 {
+        push_told_time(out, b",\"horizon\":", horizon)?;
+    }
+    Ok(())
+}
+
+/// Pushes the slot of an action, and the replies to its writes.
+fn push_written(
+    out: &mut Vec<u8>,
+    numbering: Numbering,
+    slot: u64,
+    replies: &[Reply],
+) -> Result<(), AllocError>
+    ensures { OnOk result (out.new.items ≡ out.old.items
+        ++ members_text (written_members numbering slot replies.now)) }
+{
+    push_told_time(out, b"\"slot\":", numbering.told_time(slot))?;
     out.extend_from_slice(b",\"replies\":")?;
     push_replies(out, replies)?;
     Ok(())
 }
 
-/// Pushes a labelled number, and rows that are read.
-fn push_page(out: &mut Vec<u8>, label: &[u8], number: u64, page: &RowPage) -> Result<(), AllocError>
-    ensures { OnOk result (out.new.items ≡ out.old.items ++ (label.now ++ (decimal number
+/// Pushes a labelled time, and rows that are read.
+fn push_page(
+    out: &mut Vec<u8>,
+    label: &[u8],
+    told: ToldTime,
+    page: &RowPage,
+) -> Result<(), AllocError>
+    ensures { OnOk result (out.new.items ≡ out.old.items ++ (label.now ++ (decimal told.number
         ++ flat_map further_item (map member_text (page_members page.now))))) }
 {
-    push_labelled(out, label, number)?;
+    push_told_time(out, label, told)?;
     out.extend_from_slice(b",\"rows\":")?;
     push_rows(out, page.rows.as_slice())?;
     push_more(out, page.more)?;
@@ -149,15 +212,20 @@ fn push_more(out: &mut Vec<u8>, more: Option<bool>) -> Result<(), AllocError>
 /// re-executed.
 fn push_finished(
     out: &mut Vec<u8>,
+    numbering: Numbering,
     generation: u64,
     slots: u64,
     rerun: u64,
 ) -> Result<(), AllocError>
     ensures { OnOk result (out.new.items ≡ out.old.items
-        ++ members_text (finished_members generation slots rerun)) }
+        ++ members_text (finished_members numbering generation slots rerun)) }
 {
-    push_labelled(out, b"\"generation\":", generation)?;
-    push_labelled(out, b",\"slots\":", slots)?;
+    push_told_generation(
+        out,
+        b"\"generation\":",
+        numbering.told_generation(generation),
+    )?;
+    push_told_time(out, b",\"slots\":", numbering.told_time(slots))?;
     push_labelled(out, b",\"rerun\":", rerun)?;
     Ok(())
 }
@@ -166,30 +234,32 @@ fn push_finished(
 fn push_slots_at(
     out: &mut Vec<u8>,
     catalog: &Catalog,
+    numbering: Numbering,
     time: u64,
     slots: &[SlotEntry],
 ) -> Result<(), AllocError>
     ensures { OnOk result (out.new.items ≡ out.old.items
-        ++ members_text (slots_members catalog.now time slots.now)) }
+        ++ members_text (slots_members catalog.now numbering time slots.now)) }
 {
-    push_labelled(out, b"\"time\":", time)?;
+    push_told_time(out, b"\"time\":", numbering.told_time(time))?;
     out.extend_from_slice(b",\"slots\":")?;
-    push_slots(out, catalog, slots)?;
+    push_slots(out, catalog, numbering, slots)?;
     Ok(())
 }
 
 /// Pushes the call of the first record that is kept, and changed replies.
 fn push_changes_from(
     out: &mut Vec<u8>,
+    numbering: Numbering,
     from: u64,
     changes: &[ChangeEntry],
 ) -> Result<(), AllocError>
     ensures { OnOk result (out.new.items ≡ out.old.items
-        ++ members_text (changes_members from changes.now)) }
+        ++ members_text (changes_members numbering from changes.now)) }
 {
     push_labelled(out, b"\"from\":", from)?;
     out.extend_from_slice(b",\"changed\":")?;
-    push_changes(out, changes)?;
+    push_changes(out, numbering, changes)?;
     Ok(())
 }
 

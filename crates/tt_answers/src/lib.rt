@@ -7,6 +7,7 @@ mod fault_text;
 mod refusal_text;
 mod reply_text;
 mod slot_text;
+mod told_text;
 
 pub use answer::{Answer, ChangeEntry, Place, Refusal, RowPage, SlotEntry, Status};
 pub use answer_text::{push_call, push_opening};

@@ -6,8 +6,10 @@ ghost use Rattle.tt_answers.specs.AnswerText.{asked_members, slot_text, place_me
 
 use crate::answer::{ChangeEntry, Place, SlotEntry};
 use crate::reply_text::{push_replies, push_replies_or_null};
+use crate::told_text::push_told_time;
 use std::alloc::AllocError;
 use tt_grammar::{push_action, push_action_or_null, push_labelled};
+use tt_numbers::Numbering;
 use tt_records::After;
 use tt_values::{Catalog, Items, Write};
 
@@ -15,17 +17,18 @@ use tt_values::{Catalog, Items, Write};
 pub(crate) fn push_slots(
     out: &mut Vec<u8>,
     catalog: &Catalog,
+    numbering: Numbering,
     slots: &[SlotEntry],
 ) -> Result<(), AllocError>
     ensures { OnOk result (out.new.items
-        ≡ out.old.items ++ array_text (map (slot_text catalog.now) slots.now)) }
+        ≡ out.old.items ++ array_text (map (slot_text catalog.now numbering) slots.now)) }
 {
     let [first, further @ ..] = slots else {
         return out.extend_from_slice(b"[]");
     };
     out.push(b'[')?;
-    push_slot(out, catalog, first)?;
-    push_further_slots(out, catalog, further)?;
+    push_slot(out, catalog, numbering, first)?;
+    push_further_slots(out, catalog, numbering, further)?;
     out.push(b']')?;
     Ok(())
 }
@@ -34,23 +37,30 @@ pub(crate) fn push_slots(
 fn push_further_slots(
     out: &mut Vec<u8>,
     catalog: &Catalog,
+    numbering: Numbering,
     slots: &[SlotEntry],
 ) -> Result<(), AllocError>
-    ensures { OnOk result (out.new.items
-        ≡ out.old.items ++ flat_map further_item (map (slot_text catalog.now) slots.now)) }
+    ensures { OnOk result (out.new.items ≡ out.old.items
+        ++ flat_map further_item (map (slot_text catalog.now numbering) slots.now)) }
 {
     for slot in slots {
         out.push(b',')?;
-        push_slot(out, catalog, slot)?;
+        push_slot(out, catalog, numbering, slot)?;
     }
     Ok(())
 }
 
 /// Pushes a slot.
-fn push_slot(out: &mut Vec<u8>, catalog: &Catalog, entry: &SlotEntry) -> Result<(), AllocError>
-    ensures { OnOk result (out.new.items ≡ out.old.items ++ slot_text catalog.now entry.now) }
+fn push_slot(
+    out: &mut Vec<u8>,
+    catalog: &Catalog,
+    numbering: Numbering,
+    entry: &SlotEntry,
+) -> Result<(), AllocError>
+    ensures { OnOk result (out.new.items
+        ≡ out.old.items ++ slot_text catalog.now numbering entry.now) }
 {
-    push_labelled(out, b"{\"slot\":", entry.number)?;
+    push_told_time(out, b"{\"slot\":", numbering.told_time(entry.number))?;
     push_labelled(out, b",\"worker\":", u64::from(entry.worker))?;
     out.extend_from_slice(b",\"do\":")?;
     push_action_or_null(out, catalog, &entry.slot.action)?;
@@ -78,38 +88,50 @@ fn push_asked(
 }
 
 /// Pushes changed replies as an array.
-pub(crate) fn push_changes(out: &mut Vec<u8>, changes: &[ChangeEntry]) -> Result<(), AllocError>
+pub(crate) fn push_changes(
+    out: &mut Vec<u8>,
+    numbering: Numbering,
+    changes: &[ChangeEntry],
+) -> Result<(), AllocError>
     ensures { OnOk result (out.new.items
-        ≡ out.old.items ++ array_text (map change_text changes.now)) }
+        ≡ out.old.items ++ array_text (map (change_text numbering) changes.now)) }
 {
     let [first, further @ ..] = changes else {
         return out.extend_from_slice(b"[]");
     };
     out.push(b'[')?;
-    push_change(out, first)?;
-    push_further_changes(out, further)?;
+    push_change(out, numbering, first)?;
+    push_further_changes(out, numbering, further)?;
     out.push(b']')?;
     Ok(())
 }
 
 /// Pushes further changed replies, each behind a comma.
-fn push_further_changes(out: &mut Vec<u8>, changes: &[ChangeEntry]) -> Result<(), AllocError>
-    ensures { OnOk result (out.new.items
-        ≡ out.old.items ++ flat_map further_item (map change_text changes.now)) }
+fn push_further_changes(
+    out: &mut Vec<u8>,
+    numbering: Numbering,
+    changes: &[ChangeEntry],
+) -> Result<(), AllocError>
+    ensures { OnOk result (out.new.items ≡ out.old.items
+        ++ flat_map further_item (map (change_text numbering) changes.now)) }
 {
     for change in changes {
         out.push(b',')?;
-        push_change(out, change)?;
+        push_change(out, numbering, change)?;
     }
     Ok(())
 }
 
 /// Pushes a changed reply.
-fn push_change(out: &mut Vec<u8>, entry: &ChangeEntry) -> Result<(), AllocError>
-    ensures { OnOk result (out.new.items ≡ out.old.items ++ change_text entry.now) }
+fn push_change(
+    out: &mut Vec<u8>,
+    numbering: Numbering,
+    entry: &ChangeEntry,
+) -> Result<(), AllocError>
+    ensures { OnOk result (out.new.items ≡ out.old.items ++ change_text numbering entry.now) }
 {
     push_labelled(out, b"{\"call\":", entry.change.call)?;
-    push_place(out, entry.place)?;
+    push_place(out, numbering, entry.place)?;
     out.extend_from_slice(b",\"before\":")?;
     push_replies(out, entry.change.before.as_slice())?;
     out.extend_from_slice(b",\"after\":")?;
@@ -119,13 +141,13 @@ fn push_change(out: &mut Vec<u8>, entry: &ChangeEntry) -> Result<(), AllocError>
 }
 
 /// Pushes a slot or a time, behind a comma.
-fn push_place(out: &mut Vec<u8>, place: Place) -> Result<(), AllocError>
+fn push_place(out: &mut Vec<u8>, numbering: Numbering, place: Place) -> Result<(), AllocError>
     ensures { OnOk result (out.new.items
-        ≡ out.old.items ++ further_item (member_text (place_member place))) }
+        ≡ out.old.items ++ further_item (member_text (place_member numbering place))) }
 {
     match place {
-        Place::Slot(slot) => push_labelled(out, b",\"slot\":", slot),
-        Place::Time(time) => push_labelled(out, b",\"time\":", time),
+        Place::Slot(slot) => push_told_time(out, b",\"slot\":", numbering.told_time(slot)),
+        Place::Time(time) => push_told_time(out, b",\"time\":", numbering.told_time(time)),
     }
 }
 

@@ -68,8 +68,8 @@ request, and is answered by one line on standard output before another is waited
 
 The members of a write or a select are those of a document. A write is answered with the number of
 its slot, and edits name slots: here the repair cancels slot 2, the update, and `changes` then lists
-the answers that would be others now. There are also requests of the kinds delete, do, abort, slots
-and tables: see docs/SESSION.md.
+the answers that would be others now. There are also requests of the kinds delete, do, abort, slots,
+tables and forget, which makes room again: see docs/SESSION.md.
 The database ends with the input. With --log FILE it is kept in FILE, which is made where there is
 none: a request that changes it is on the disk before it is answered, so the next session on FILE
 has all that was answered, after a crash, too. Its first line is an opening again, with the same
@@ -77,7 +77,7 @@ tables and `keep`, and is answered with what is there."#;
 
 const ABOUT_LOG: &str =
     r#"What a session with --log FILE has logged: the line that opened it, and that of each request that
-made an entry in its history, in order. FILE stays as it is, and a session may go on with it
+changed its database, in order. FILE stays as it is, and a session may go on with it
 meanwhile. How many lines there are, and how many bytes they have, goes to standard error, and
 whether something else follows them, as a crash leaves it of lines that were being written."#;
 

@@ -87,6 +87,23 @@ impl Db {
         }
     }
 
+    /// A database without rows, with the catalog and the limits of this one. Copies nothing.
+    pub fn emptied(&self) -> Result<Db, AllocError>
+        ensures { IfOk result (λ db. db ≡ record self.now { history = [] }) }
+    {
+        let generations = self.parts.generations.emptied()?;
+        Ok(Db {
+            parts: Parts {
+                alloc: self.parts.alloc,
+                limits: self.parts.limits,
+                history: History::new(self.parts.alloc),
+                generations,
+                generation: 0,
+                closed: PagedLog::new(self.parts.alloc),
+            },
+        })
+    }
+
     /// The catalog that the database was created with.
     pub fn catalog(&self) -> &Catalog
         ensures { result.now ≡ self.now.catalog }

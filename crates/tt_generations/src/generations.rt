@@ -101,6 +101,14 @@ impl Generations {
         Generations { state }
     }
 
+    /// No slots, with the catalog of these, which is shared.
+    pub fn emptied(&self) -> Result<Generations, AllocError>
+        ensures { IfOk result (λ g. g ≡ no_slots self.now.catalog) }
+    {
+        let catalog = self.state.catalog.clone()?;
+        Ok(Generations::new(self.state.alloc, catalog))
+    }
+
     /// The catalog of the tables.
     pub fn catalog(&self) -> &Catalog
         ensures { result.now ≡ self.now.catalog }

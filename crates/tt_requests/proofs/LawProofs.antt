@@ -23,10 +23,11 @@ use Rattle.tt_grammar.specs.Edits.{max_edits, replacement}
 use Rattle.tt_requests.specs.declared.request.Command.{Command}
 use Rattle.tt_requests.specs.declared.request.Command.TheVariants as commands
 use Rattle.tt_requests.specs.declared.request.Request.{Request}
+use Rattle.tt_requests.specs.Told.{told_time, told_generation}
 use Rattle.tt_requests.specs.Edits.{cancel, replace, edit, edits}
 use Rattle.tt_requests.specs.Reads.{page, read, preview}
 use Rattle.tt_requests.specs.Questions.{worker_number, span, row_named, slots, changes_named, changes_asked, changes}
-use Rattle.tt_requests.specs.Requests.{one_write, several_writes, begin, max_steps, only_true, bare, statement_kinds, repair_kinds, question_kinds, by_first_kind, command, members_of_request}
+use Rattle.tt_requests.specs.Requests.{one_write, several_writes, begin, max_steps, forget, only_true, bare, statement_kinds, repair_kinds, question_kinds, by_first_kind, command, members_of_request}
 use Rattle.tt_requests.specs.Requests as requests
 use Rattle.tt_requests.specs.Judged.{AreJudgedEdits, IsJudged, RequestsAreJudged}
 use Rattle.tt_requests.proofs.StepBackLemmas.{ok_same, step, with_path-ok, either-ok, or_refuse-ok, within_limit-ok, member-ok, each-ok}
@@ -108,8 +109,8 @@ unfolding read
 read-judged tables v asked e =
     let table = step (member (codes "select") (table_named tables) v) _ asked e in
     let equals = step (conditions tables table.value v) _ asked table.rest in
-    let time = step (optional (codes "at") count v) _ asked equals.rest in
-    let generation = step (optional (codes "in") count v) _ asked time.rest in
+    let time = step (optional (codes "at") told_time v) _ asked equals.rest in
+    let generation = step (optional (codes "in") told_generation v) _ asked time.rest in
     let wanted = step (page v) _ asked generation.rest in
     let known = step (no_members_at contexts.Request (codes "after" ∷ codes "at" ∷ codes "in" ∷ codes "most" ∷ codes "select" ∷ codes "where" ∷ []) v) _ asked wanted.rest in
     let statement : Select = record { table = table.value; equals = equals.value } in
@@ -140,6 +141,13 @@ unfolding requests.step
 step-judged tables v asked e =
     let most = step (member (codes "step") (count_within 1 max_steps) v) _ asked e in
     let known = step (no_members_at contexts.Request (codes "step" ∷ []) v) _ asked most.rest in
+    subst (IsJudged tables) (ok_same known.rest) tt
+
+forget-judged : (tables : Tables) → Judges tables forget
+unfolding forget
+forget-judged tables v asked e =
+    let time = step (member (codes "forget") told_time v) _ asked e in
+    let known = step (no_members_at contexts.Request (codes "forget" ∷ []) v) _ asked time.rest in
     subst (IsJudged tables) (ok_same known.rest) tt
 
 bare-judged : (tables : Tables) (name : List ℕ) (only : Command) → IsJudged tables only → Judges tables (bare name only)
@@ -199,7 +207,7 @@ repair_kinds-judged tables =
 
 question_kinds-judged : (tables : Tables) → AllByRecursion (JudgesKind tables) (question_kinds tables)
 question_kinds-judged tables =
-    (bare-judged tables (codes "status") commands.Status tt, (slots-judged tables, (changes-judged tables, (bare-judged tables (codes "tables") commands.Tables tt, tt))))
+    (bare-judged tables (codes "status") commands.Status tt, (slots-judged tables, (changes-judged tables, (bare-judged tables (codes "tables") commands.Tables tt, (forget-judged tables, tt)))))
 
 all-append : {X : Type 0} (P : X → Type 0) (xs ys : List X) → AllByRecursion P xs → AllByRecursion P ys → AllByRecursion P (xs ++ ys)
 all-append P [] ys first second = second
@@ -216,7 +224,7 @@ unfolding members_of_request
 members-judged tables v request e =
     let is_object = step (object v) _ request e in
     let worker = step (optional (codes "worker") worker_number v) _ request is_object.rest in
-    let expected = step (optional (codes "if") count v) _ request worker.rest in
+    let expected = step (optional (codes "if") told_time v) _ request worker.rest in
     let asked = step (command tables v) _ request expected.rest in
     subst (λ (r : Request). IsJudged tables r.command) (ok_same asked.rest) (command-judged tables v asked.value asked.is)
 

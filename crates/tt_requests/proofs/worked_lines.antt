@@ -1,11 +1,20 @@
--- Lines of an input, and the JSON of a few of them, computed.
-use Rattle.std.specs.Prelude.{◌≡◌, true, false, [], ◌∷◌, None, Some, codes, refl}
+-- Lines of an input, the JSON of a few of them, and what a few of them ask for, computed.
+use Rattle.std.specs.Prelude.{◌≡◌, true, false, [], ◌∷◌, None, Some, Ok, Err, codes, refl}
+use Rattle.std.specs.Char.{encode_utf8}
+use Rattle.std.specs.Str.{is_utf8, chars}
+use Rattle.std.specs.Float.Numeral.{scan_numeral}
 use Rattle.json.specs.Json as json
 use Rattle.json.specs.Lex.{lex, punctuate}
 use Rattle.json.specs.Text.{content, short_escape}
 use Rattle.json.specs.Word.{word, after_number}
+use Rattle.serde_json.specs.Read.{number_of}
 use Rattle.tt_json.specs.Text.{json_of_text}
+use Rattle.tt_grammar.specs.declared.fault.DocFault.TheVariants.{At}
+use Rattle.tt_grammar.specs.TextValue.{value_of_json}
+use Rattle.tt_requests.specs.declared.request.Command.TheVariants as commands
 use Rattle.tt_requests.specs.Lines.{lines_of, whole_lines_of, is_passed_over}
+use Rattle.tt_requests.specs.LineValue.{value_of_line}
+use Rattle.tt_requests.specs.Requests.{forget, only_true, bare, members_of_request, request_of}
 
 -- an empty line is a line, and what stands after the last line feed is one, too
 splits : lines_of (codes "a\n\nbc") ≡ codes "a" ∷ [] ∷ codes "bc" ∷ []
@@ -34,3 +43,18 @@ escaped_name = refl
 no_json : (json_of_text (codes "1 2") ≡ None) × (json_of_text (codes "{\"step\":") ≡ None)
 unfolding lex content short_escape punctuate word after_number json.value json.items json.members
 no_json = (refl, refl)
+
+-- {"forget":1}, with its time as it is told
+forget_read : request_of [] (value_of_line (codes "{\"forget\":1}")) ≡ Ok (record { worker = 1; expected = None; command = commands.Forget (record { number = 1 }) })
+unfolding is_utf8 chars encode_utf8 lex content short_escape punctuate word after_number json.value json.items json.members scan_numeral number_of value_of_json value_of_line forget members_of_request
+forget_read = refl
+
+-- a time below zero
+forget_below_zero : request_of [] (value_of_line (codes "{\"forget\":-1}")) ≡ Err (At (codes "$.forget") (codes "wrong type"))
+unfolding is_utf8 chars encode_utf8 lex content short_escape punctuate word after_number json.value json.items json.members scan_numeral number_of value_of_json value_of_line forget members_of_request
+forget_below_zero = refl
+
+-- a status, in which forget is an unknown member
+status_and_forget : request_of [] (value_of_line (codes "{\"status\":true,\"forget\":1}")) ≡ Err (At (codes "$") (codes "unknown member \"forget\""))
+unfolding is_utf8 chars encode_utf8 lex content short_escape punctuate word after_number json.value json.items json.members scan_numeral number_of value_of_json value_of_line bare only_true members_of_request
+status_and_forget = refl

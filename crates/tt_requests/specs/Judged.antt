@@ -22,7 +22,7 @@ abbrev pub IsJudged : Tables → Command → Type 0
 IsJudged tables (commands.Write action) = action_fault tables action ≡ None
 IsJudged tables (commands.Read select at generation page) = select_fault tables select ≡ None
 IsJudged tables (commands.Preview select page) = select_fault tables select ≡ None
-IsJudged tables (commands.Begin edits) = AreJudgedEdits tables edits
+IsJudged tables (commands.Begin told) = AreJudgedEdits tables told.edits
 IsJudged tables command = Unit {0}
 
 -- what a request asks for has been judged, whatever the JSON value that it is read from

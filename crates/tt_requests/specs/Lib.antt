@@ -1,6 +1,7 @@
 pub mod Lines
 pub mod LineValue
 pub mod Opening
+pub mod Told
 pub mod Edits
 pub mod Reads
 pub mod Questions

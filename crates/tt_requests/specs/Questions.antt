@@ -2,16 +2,18 @@
 use Rattle.std.specs.Prelude.{ℕ, ◌+◌, nat_lt, List, [], ◌∷◌, Option, None, Some, if◌then◌else◌, Result, Ok, codes}
 use Rattle.std.specs.Str.{bytes_eq}
 use Rattle.serde_json.specs.Data.{Data}
+use Rattle.tt_numbers.specs.declared.told.ToldTime.{ToldTime}
 use Rattle.tt_values.specs.declared.row_id.RowId.{RowId}
 use Rattle.tt_values.specs.Tables.{Tables}
 use Rattle.tt_grammar.specs.declared.fault.DocFault.{DocFault}
 use Rattle.tt_grammar.specs.declared.statements.Context.TheVariants as contexts
 use Rattle.tt_grammar.specs.Fault.{◌>>=◌, refuse, or_refuse, with_path, item_path}
-use Rattle.tt_grammar.specs.Decoder.{text, int, count, count_within, member, optional}
+use Rattle.tt_grammar.specs.Decoder.{text, int, count_within, member, optional}
 use Rattle.tt_grammar.specs.Conditions.{pair, table_named}
 use Rattle.tt_grammar.specs.Statements.{no_members_at}
 use Rattle.tt_requests.specs.declared.request.Command.{Command}
 use Rattle.tt_requests.specs.declared.request.Command.TheVariants as commands
+use Rattle.tt_requests.specs.Told.{told_time}
 
 -- the largest number of a worker
 abbrev pub max_worker : ℕ
@@ -26,15 +28,15 @@ abbrev pub max_span : ℕ
 max_span = 9999
 
 -- the first and the last slot of a question, which may have none between them
-abbrev pub within_span : ℕ → ℕ → Result (ℕ × ℕ) DocFault
-within_span from to = if nat_lt (from + max_span) to then refuse (codes "out of range") else Ok (from, to)
+abbrev pub within_span : ToldTime → ToldTime → Result (ToldTime × ToldTime) DocFault
+within_span from to = if nat_lt (from.number + max_span) to.number then refuse (codes "out of range") else Ok (from, to)
 
 -- the slots from one to another, both by their numbers
-unfoldable pub span : Data → Result (ℕ × ℕ) DocFault
+unfoldable pub span : Data → Result (ToldTime × ToldTime) DocFault
 span v = do
   items ← pair v
-  from ← with_path (item_path 0) (count items.0)
-  to ← with_path (item_path 1) (count items.1)
+  from ← with_path (item_path 0) (told_time items.0)
+  to ← with_path (item_path 1) (told_time items.1)
   within_span from to
 
 -- a row, by the name of its table and its key

@@ -7,12 +7,13 @@ use Rattle.tt_values.specs.Check.{select_fault}
 use Rattle.tt_grammar.specs.declared.fault.DocFault.{DocFault}
 use Rattle.tt_grammar.specs.declared.statements.Context.TheVariants as contexts
 use Rattle.tt_grammar.specs.Fault.{◌>>=◌}
-use Rattle.tt_grammar.specs.Decoder.{int, count, count_within, member, optional}
+use Rattle.tt_grammar.specs.Decoder.{int, count_within, member, optional}
 use Rattle.tt_grammar.specs.Conditions.{table_named}
 use Rattle.tt_grammar.specs.Statements.{checked_statement, conditions, no_members_at}
 use Rattle.tt_requests.specs.declared.request.Command.{Command}
 use Rattle.tt_requests.specs.declared.request.Command.TheVariants as commands
 use Rattle.tt_requests.specs.declared.request.Page.{Page}
+use Rattle.tt_requests.specs.Told.{told_time, told_generation}
 
 -- the largest number of rows that a page may ask for
 abbrev pub max_page : ℕ
@@ -30,8 +31,8 @@ unfoldable pub read : Tables → Data → Result Command DocFault
 read tables v = do
   table ← member (codes "select") (table_named tables) v
   equals ← conditions tables table v
-  at ← optional (codes "at") count v
-  generation ← optional (codes "in") count v
+  at ← optional (codes "at") told_time v
+  generation ← optional (codes "in") told_generation v
   page ← page v
   _ ← no_members_at contexts.Request (codes "after" ∷ codes "at" ∷ codes "in" ∷ codes "most" ∷ codes "select" ∷ codes "where" ∷ []) v
   let statement : Select = record { table = table; equals = equals }

@@ -8,12 +8,13 @@ use Rattle.tt_values.specs.Tables.{Tables}
 use Rattle.tt_grammar.specs.declared.fault.DocFault.{DocFault}
 use Rattle.tt_grammar.specs.declared.statements.Context.TheVariants as contexts
 use Rattle.tt_grammar.specs.Fault.{◌>>=◌, refuse, with_path, document_path}
-use Rattle.tt_grammar.specs.Decoder.{object, flag, count, count_within, has, member, optional}
+use Rattle.tt_grammar.specs.Decoder.{object, flag, count_within, has, member, optional}
 use Rattle.tt_grammar.specs.Statements.{no_members_at, insert, update, delete}
 use Rattle.tt_grammar.specs.Actions.{action}
 use Rattle.tt_requests.specs.declared.request.Command.{Command}
 use Rattle.tt_requests.specs.declared.request.Command.TheVariants as commands
 use Rattle.tt_requests.specs.declared.request.Request.{Request}
+use Rattle.tt_requests.specs.Told.{told_time}
 use Rattle.tt_requests.specs.Edits.{edits}
 use Rattle.tt_requests.specs.Reads.{read, preview}
 use Rattle.tt_requests.specs.Questions.{worker_number, slots, changes}
@@ -35,7 +36,7 @@ unfoldable pub begin : Tables → Data → Result Command DocFault
 begin tables v = do
   edits ← member (codes "begin") (edits tables) v
   _ ← no_members_at contexts.Request (codes "begin" ∷ []) v
-  Ok (commands.Begin edits)
+  Ok (commands.Begin (record { edits = edits }))
 
 -- the largest number of steps that are asked for at once
 abbrev pub max_steps : ℕ
@@ -47,6 +48,13 @@ step v = do
   most ← member (codes "step") (count_within 1 max_steps) v
   _ ← no_members_at contexts.Request (codes "step" ∷ []) v
   Ok (commands.Step most)
+
+-- what lies before a time is forgotten: the time
+unfoldable pub forget : Data → Result Command DocFault
+forget v = do
+  time ← member (codes "forget") told_time v
+  _ ← no_members_at contexts.Request (codes "forget" ∷ []) v
+  Ok (commands.Forget time)
 
 -- the value true; false is out of range
 unfoldable pub only_true : Data → Result ⊤ DocFault
@@ -81,18 +89,19 @@ repair_kinds tables =
     ∷ (codes "abort", bare (codes "abort") commands.Abort)
     ∷ []
 
--- the questions about the database and its past
+-- the questions about the database and its past, and the forgetting of what lies before a time
 abbrev pub question_kinds : Tables → List (List ℕ × (Data → Result Command DocFault))
 question_kinds tables =
     (codes "status", bare (codes "status") commands.Status)
     ∷ (codes "slots", slots tables)
     ∷ (codes "changes", changes)
     ∷ (codes "tables", bare (codes "tables") commands.Tables)
+    ∷ (codes "forget", forget)
     ∷ []
 
 -- why a request is refused that has none of the kinds
 abbrev pub no_kind : List ℕ
-no_kind = codes "missing one of insert, update, delete, select, preview, do, begin, step, finish, abort, status, slots, changes, tables"
+no_kind = codes "missing one of insert, update, delete, select, preview, do, begin, step, finish, abort, status, slots, changes, tables, forget"
 
 -- the command of an object, by the first of these kinds that it has
 abbrev pub by_first_kind : List (List ℕ × (Data → Result Command DocFault)) → Data → Result Command DocFault
@@ -112,7 +121,7 @@ unfoldable pub members_of_request : Tables → Data → Result Request DocFault
 members_of_request tables v = do
   _ ← object v
   worker ← optional (codes "worker") worker_number v
-  expected ← optional (codes "if") count v
+  expected ← optional (codes "if") told_time v
   command ← command tables v
   Ok (record { worker = unwrap_or worker usual_worker; expected = expected; command = command })
 

@@ -1,13 +1,14 @@
 //! Reading of commands, each by the first of its kinds that's there.
 ghost use Rattle.std.specs.Prelude.{◌∷◌, ◌++◌, Ok};
 ghost use Rattle.tt_grammar.specs.Fault.{Gives};
-ghost use Rattle.tt_requests.specs.Requests.{one_write, several_writes, begin, step, only_true, bare, repair_kinds, question_kinds, by_first_kind, command};
+ghost use Rattle.tt_requests.specs.Requests.{one_write, several_writes, begin, step, forget, only_true, bare, repair_kinds, question_kinds, by_first_kind, command};
 
 use crate::MAX_STEPS;
 use crate::edits::EditsDecoder;
 use crate::questions::{changes, slots};
 use crate::reads::{preview, read};
-use crate::request::Command;
+use crate::request::{Command, ToldEdits};
+use crate::told::ToldTimeDecoder;
 use std::alloc::Global;
 use tt_grammar::DocFault;
 use tt_grammar::decoding::{
@@ -18,7 +19,7 @@ use tt_json::JsonValue;
 use tt_values::{Catalog, Items, Write};
 
 const NO_KIND: &str =
-    "missing one of insert, update, delete, select, preview, do, begin, step, finish, abort, status, slots, changes, tables";
+    "missing one of insert, update, delete, select, preview, do, begin, step, finish, abort, status, slots, changes, tables, forget";
 
 const STEPS: CountDecoder = CountDecoder {
     min: 1,
@@ -82,6 +83,7 @@ fn repair_or_question<V: JsonValue>(
     question(alloc, catalog, value)
 }
 
+/// The question of an object, or its command to forget.
 fn question<V: JsonValue>(alloc: Global, catalog: &Catalog, value: &V) -> Result<Command, DocFault>
     ensures { Gives result (by_first_kind (question_kinds catalog.now) (V.json value.now)) }
 {
@@ -96,6 +98,9 @@ fn question<V: JsonValue>(alloc: Global, catalog: &Catalog, value: &V) -> Result
     }
     if has(value, "tables") {
         return bare(alloc, "tables", Command::Tables, value);
+    }
+    if has(value, "forget") {
+        return forget(alloc, value);
     }
     Err(DocFault::here(alloc, NO_KIND))
 }
@@ -127,7 +132,7 @@ fn begin<V: JsonValue>(alloc: Global, catalog: &Catalog, value: &V) -> Result<Co
 {
     let edits = member(alloc, value, "begin", &EditsDecoder { catalog })?;
     no_members_but(alloc, value, &["if", "worker", "begin"])?;
-    Ok(Command::Begin(edits))
+    Ok(Command::Begin(ToldEdits { edits }))
 }
 
 #[tactic(auto, unfolding(crate::specs::Requests::step))]
@@ -137,6 +142,15 @@ fn step<V: JsonValue>(alloc: Global, value: &V) -> Result<Command, DocFault>
     let most = member(alloc, value, "step", &STEPS)?;
     no_members_but(alloc, value, &["if", "worker", "step"])?;
     Ok(Command::Step(most))
+}
+
+#[tactic(auto, unfolding(crate::specs::Requests::forget))]
+fn forget<V: JsonValue>(alloc: Global, value: &V) -> Result<Command, DocFault>
+    ensures { Gives result (forget (V.json value.now)) }
+{
+    let time = member(alloc, value, "forget", &ToldTimeDecoder)?;
+    no_members_but(alloc, value, &["if", "worker", "forget"])?;
+    Ok(Command::Forget(time))
 }
 
 /// A command with nothing but its name.

@@ -11,10 +11,11 @@ mod opening;
 mod questions;
 mod reads;
 mod request;
+mod told;
 
 pub use lines::{is_blank, is_passed_over};
 pub use opening::Opening;
-pub use request::{Command, Page, Request};
+pub use request::{Command, Page, Request, ToldEdits};
 
 /// The largest length of a line, in bytes, without its line feed.
 pub const MAX_LINE_BYTES: usize = 16_777_216;

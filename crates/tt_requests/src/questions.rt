@@ -5,13 +5,15 @@ ghost use Rattle.tt_requests.specs.Questions.{within_span, span, row_named, slot
 
 use crate::MAX_SPAN;
 use crate::request::Command;
+use crate::told::ToldTimeDecoder;
 use std::alloc::Global;
 use tt_grammar::DocFault;
 use tt_grammar::decoding::{
-    AnyCountDecoder, CountDecoder, Decoder, IntDecoder, OUT_OF_RANGE, TableNameDecoder, item,
-    member, no_members_but, optional, pair, text,
+    CountDecoder, Decoder, IntDecoder, OUT_OF_RANGE, TableNameDecoder, item, member,
+    no_members_but, optional, pair, text,
 };
 use tt_json::JsonValue;
+use tt_numbers::ToldTime;
 use tt_values::{Catalog, RowId};
 
 /// The number of a worker.
@@ -46,23 +48,31 @@ pub(crate) fn slots<V: JsonValue>(
 struct SpanDecoder;
 
 impl Decoder for SpanDecoder {
-    type Output = (u64, u64);
+    type Output = (ToldTime, ToldTime);
 
     ghost meaning = { λ _. span };
 
     #[tactic(auto, unfolding(crate::specs::Questions::span))]
-    fn decode<V: JsonValue>(&self, alloc: Global, value: &V) -> Result<(u64, u64), DocFault> {
+    fn decode<V: JsonValue>(
+        &self,
+        alloc: Global,
+        value: &V,
+    ) -> Result<(ToldTime, ToldTime), DocFault> {
         let (first, second) = pair(alloc, value)?;
-        let from = item(alloc, 0, &first, &AnyCountDecoder)?;
-        let to = item(alloc, 1, &second, &AnyCountDecoder)?;
+        let from = item(alloc, 0, &first, &ToldTimeDecoder)?;
+        let to = item(alloc, 1, &second, &ToldTimeDecoder)?;
         within_span(alloc, from, to)
     }
 }
 
-fn within_span(alloc: Global, from: u64, to: u64) -> Result<(u64, u64), DocFault>
+fn within_span(
+    alloc: Global,
+    from: ToldTime,
+    to: ToldTime,
+) -> Result<(ToldTime, ToldTime), DocFault>
     ensures { Gives result (within_span from to) }
 {
-    if to.saturating_sub(from) > MAX_SPAN {
+    if to.number.saturating_sub(from.number) > MAX_SPAN {
         return Err(DocFault::here(alloc, OUT_OF_RANGE));
     }
     Ok((from, to))

@@ -4,11 +4,12 @@ ghost use Rattle.tt_requests.specs.Reads.{page, read, preview};
 
 use crate::MAX_PAGE;
 use crate::request::{Command, Page};
+use crate::told::{ToldGenerationDecoder, ToldTimeDecoder};
 use std::alloc::Global;
 use tt_grammar::DocFault;
 use tt_grammar::decoding::{
-    AnyCountDecoder, CountDecoder, IntDecoder, TableNameDecoder, checked_select, conditions,
-    member, no_members_but, optional,
+    CountDecoder, IntDecoder, TableNameDecoder, checked_select, conditions, member, no_members_but,
+    optional,
 };
 use tt_json::JsonValue;
 use tt_values::{Catalog, Select};
@@ -29,8 +30,8 @@ pub(crate) fn read<V: JsonValue>(
 {
     let table = member(alloc, value, "select", &TableNameDecoder { catalog })?;
     let equals = conditions(alloc, catalog, table, value)?;
-    let at = optional(alloc, value, "at", &AnyCountDecoder)?;
-    let generation = optional(alloc, value, "in", &AnyCountDecoder)?;
+    let at = optional(alloc, value, "at", &ToldTimeDecoder)?;
+    let generation = optional(alloc, value, "in", &ToldGenerationDecoder)?;
     let page = page(alloc, value)?;
     no_members_but(
         alloc,

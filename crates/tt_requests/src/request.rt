@@ -6,10 +6,12 @@ ghost use Rattle.tt_requests.specs.Requests.{members_of_request, request_of};
 use crate::commands::command;
 use crate::line_value::parse_line;
 use crate::questions::WORKER;
+use crate::told::ToldTimeDecoder;
 use std::alloc::Global;
 use tt_grammar::DocFault;
-use tt_grammar::decoding::{AnyCountDecoder, object, optional};
+use tt_grammar::decoding::{object, optional};
 use tt_json::{JsonValue, Scratch, root};
+use tt_numbers::{ToldGeneration, ToldTime};
 use tt_repair_laws::Edit;
 use tt_values::{Catalog, Items, RowId, Select, Write};
 
@@ -21,7 +23,7 @@ pub struct Request {
     /// The number of the worker that asks, from 1.
     pub worker: u32,
     /// The current time for which the request is meant, if it is meant for one alone.
-    pub expected: Option<u64>,
+    pub expected: Option<ToldTime>,
     pub command: Command,
 }
 
@@ -35,9 +37,9 @@ pub enum Command {
     Read {
         select: Select,
         /// The time, or the last one of the generation where none is given.
-        at: Option<u64>,
+        at: Option<ToldTime>,
         /// The number of the generation, or the current one where none is given.
-        generation: Option<u64>,
+        generation: Option<ToldGeneration>,
         page: Page,
     },
     /// Rows of a table in the next generation, at the last slot that the repair has done.
@@ -46,7 +48,7 @@ pub enum Command {
         page: Page,
     },
     /// A repair begins, with at most [`MAX_EDITS`](tt_grammar::MAX_EDITS) edits.
-    Begin(Items<Edit>),
+    Begin(ToldEdits),
     /// The repair does slots: at most this many, from 1 to [`MAX_STEPS`](crate::MAX_STEPS).
     Step(u32),
     /// The repair does all slots that are left, and the next generation becomes the current one.
@@ -57,8 +59,8 @@ pub enum Command {
     Status,
     /// The slots from one number to another, at most [`MAX_SPAN`](crate::MAX_SPAN) behind it.
     Slots {
-        from: u64,
-        to: u64,
+        from: ToldTime,
+        to: ToldTime,
         /// Those of one worker, where it is given.
         worker: Option<u32>,
         /// Those that changed a row, where it is given.
@@ -70,6 +72,14 @@ pub enum Command {
     NextChanges,
     /// The tables, and how much is kept.
     Tables,
+    /// What lies before a time is forgotten.
+    Forget(ToldTime),
+}
+
+/// Edits whose slots are numbered as they are told.
+#[derive(Debug, Drop)]
+pub struct ToldEdits {
+    pub edits: Items<Edit>,
 }
 
 /// Which of the rows of a select or a preview are asked for.
@@ -131,7 +141,7 @@ fn from_members<V: JsonValue>(
 {
     object(alloc, value)?;
     let worker = optional(alloc, value, "worker", &WORKER)?;
-    let expected = optional(alloc, value, "if", &AnyCountDecoder)?;
+    let expected = optional(alloc, value, "if", &ToldTimeDecoder)?;
     let command = command(alloc, catalog, value)?;
     Ok(Request {
         worker: worker.unwrap_or(USUAL_WORKER),

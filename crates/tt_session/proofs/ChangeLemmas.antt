@@ -17,6 +17,7 @@ use Rattle.tt_answers.specs.declared.answer.ChangeEntry.{ChangeEntry}
 use Rattle.tt_session.specs.ChangeEntries.{first_call, entry_of_change, entries_of_changes, changes_answer}
 use Rattle.tt_answers.specs.declared.answer.Answer.TheVariants as answers
 use Rattle.tt_session.specs.declared.response.Response.{Response}
+use Rattle.tt_session.specs.declared.session_change.SessionChange.TheVariants as changes
 use Rattle.tt_session.specs.Session.{OpenSession, state_in}
 use Rattle.tt_session.specs.Repairing.{entry_by, with_event}
 use Rattle.tt_session.specs.declared.change_entries.Moment.TheVariants.{Now, Next}
@@ -48,7 +49,7 @@ entries-append change_in (r ∷ older) newer = by (entry_of_change r.what (chang
 
 -- what is told of the changes of all records
 pub changes_told : (session : OpenSession) (response : Response) (first : ℕ) (list : List ChangeEntry) (change_in : Record → Option Changed)
-    → response ≡ record { answer = answers.Changes first list; latest = None } → first ≡ first_call session.records session.calls
+    → response ≡ record { answer = answers.Changes first list; change = changes.Latest None } → first ≡ first_call session.records session.calls
     → list ≡ entries_of_changes change_in session.records → answered_by session response ≡ changes_answer session change_in
 changes_told session response first list change_in is first_is list_is =
     ap (answered_by session) is ∙ (λ i. record { answer = answers.Changes (first_is i) (list_is i); session = session })

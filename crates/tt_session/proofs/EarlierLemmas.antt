@@ -1,5 +1,6 @@
 -- A session that goes ahead of another one has no records but its own: its answers are those of the session with the earlier records, too.
-use Rattle.std.proofs.Common.{◌≡◌, ℕ, ◌+◌, Bool, true, false, List, [], ◌∷◌, ◌++◌, append-nil, append_assoc, length, ◌≤◌, ◌-◌, drop, Option, None, Some, Result, Ok, Err, refl, sym, ap, ◌∙◌, arith}
+use Rattle.std.proofs.Common.{◌≡◌, ℕ, ◌+◌, Bool, true, false, cond, map, List, [], ◌∷◌, ◌++◌, append-nil, append_assoc, length, ◌≤◌, ◌-◌, drop, Option, None, Some, Result, Ok, Err, refl, sym, ap, ◌∙◌, arith}
+use Rattle.std.specs.Option.{option_map, unwrap_or}
 use Rattle.tt_values.specs.declared.reply.Reply.{Reply}
 use Rattle.tt_values.specs.declared.statement.Select.{Select}
 use Rattle.tt_values.specs.declared.statement.Write.{Write}
@@ -15,6 +16,9 @@ use Rattle.tt_records.specs.declared.record.What.TheVariants as whats
 use Rattle.tt_requests.specs.declared.request.Command.{Command}
 use Rattle.tt_requests.specs.declared.request.Command.TheVariants as commands
 use Rattle.tt_requests.specs.declared.request.Page.{Page}
+use Rattle.tt_numbers.specs.declared.told.ToldTime.{ToldTime}
+use Rattle.tt_numbers.specs.declared.told.ToldGeneration.{ToldGeneration}
+use Rattle.tt_numbers.specs.Numbers.{own_time, own_generation}
 use Rattle.tt_requests.specs.declared.request.Request.{Request}
 use Rattle.tt_answers.specs.declared.answer.Answer.TheVariants as answers
 use Rattle.tt_answers.specs.declared.answer.Refusal.{Refusal}
@@ -22,8 +26,9 @@ use Rattle.tt_session.specs.declared.session.Session.{Session}
 use Rattle.tt_session.specs.declared.session.Session.TheVariants.{NotOpen, Restored, Open}
 use Rattle.tt_session.specs.Answers.{Answered}
 use Rattle.tt_session.specs.Commands.{asks_for_records, reads_records, carried_out, moved_to, unless_moved, write, written}
+use Rattle.tt_session.specs.ToldRequests.{forgotten_in, asks_for_forgotten, read_at, read_in, read_as_told, missing_if_idle, unless_missing, own_edit}
 use Rattle.tt_session.specs.Pages.{page_of_reply}
-use Rattle.tt_session.specs.Reading.{asks_for_all, latest_if, previewed_by, selected_by}
+use Rattle.tt_session.specs.Reading.{read, asks_for_all, latest_if, previewed_by, selected_by}
 use Rattle.tt_session.specs.Repairing.{unless_refused, with_event}
 use Rattle.tt_session.specs.Room.{refusal_in_session}
 use Rattle.tt_session.specs.Run.{Turn, turn_by_outcome, turn_by_request}
@@ -90,12 +95,39 @@ previewed-earlier : (earlier : List Record) (session : OpenSession) (page : Page
 previewed-earlier earlier session page (Err error) = refl
 previewed-earlier earlier session page (Ok reply) = refl
 
+missing-earlier : (earlier : List Record) (missing : Option ToldTime) (a b : Result Answered Refusal) → a ≡ earlier_outcome earlier b → unless_missing missing a ≡ earlier_outcome earlier (unless_missing missing b)
+missing-earlier earlier None a b is = is
+missing-earlier earlier (Some slot) a b is = refl
+
+read-at-earlier : (earlier : List Record) (session : OpenSession) (worker : ℕ) (q : Select) (generation : Option ℕ) (at : Option ToldTime) (page : Page)
+    → read_at (with_earlier_records earlier session) worker q generation at page ≡ earlier_outcome earlier (read_at session worker q generation at page)
+read-at-earlier earlier session worker q generation at page = go (asks_for_forgotten session.numbering at)
+  where
+    chosen : OpenSession → Bool → Result Answered Refusal
+    chosen s forgotten =
+        cond forgotten (Err (forgotten_in s (unwrap_or generation (state_in s).generation))) (read s worker q generation (option_map (own_time s.numbering) at) page)
+
+    go : (forgotten : Bool) → chosen (with_earlier_records earlier session) forgotten ≡ earlier_outcome earlier (chosen session forgotten)
+    go true = refl
+    go false = selected-earlier earlier session worker q generation page _ _
+
+read-in-earlier : (earlier : List Record) (session : OpenSession) (worker : ℕ) (q : Select) (number : Option ℕ) (at : Option ToldTime) (page : Page)
+    → read_in (with_earlier_records earlier session) worker q number at page ≡ earlier_outcome earlier (read_in session worker q number at page)
+read-in-earlier earlier session worker q None at page = refl
+read-in-earlier earlier session worker q (Some number) at page = read-at-earlier earlier session worker q (Some number) at page
+
+read-as-told-earlier : (earlier : List Record) (session : OpenSession) (worker : ℕ) (q : Select) (generation : Option ToldGeneration) (at : Option ToldTime) (page : Page)
+    → read_as_told (with_earlier_records earlier session) worker q generation at page ≡ earlier_outcome earlier (read_as_told session worker q generation at page)
+read-as-told-earlier earlier session worker q None at page = read-at-earlier earlier session worker q None at page
+read-as-told-earlier earlier session worker q (Some generation) at page = read-in-earlier earlier session worker q (own_generation session.numbering generation) at page
+
 carried_out-earlier : (earlier : List Record) (session : OpenSession) (worker : ℕ) (command : Command) → reads_records command ≡ false
     → carried_out (with_earlier_records earlier session) worker command ≡ earlier_outcome earlier (carried_out session worker command)
 carried_out-earlier earlier session worker (commands.Write action) other = write-earlier earlier session worker action
-carried_out-earlier earlier session worker (commands.Read q at generation page) other = selected-earlier earlier session worker q generation page _ _
+carried_out-earlier earlier session worker (commands.Read q at generation page) other = read-as-told-earlier earlier session worker q generation at page
 carried_out-earlier earlier session worker (commands.Preview q page) other = previewed-earlier earlier session page (right_preview_of session.database q)
-carried_out-earlier earlier session worker (commands.Begin edits) other = refused-earlier earlier (refusal_in_session session.database (events.Begin edits)) _ _ refl
+carried_out-earlier earlier session worker (commands.Begin told) other =
+    missing-earlier earlier (missing_if_idle session told.edits) _ _ (refused-earlier earlier (refusal_in_session session.database (events.Begin (map (own_edit session.numbering) told.edits))) _ _ refl)
 carried_out-earlier earlier session worker (commands.Step most) other = refused-earlier earlier (unless_repairing (state_in session).phase) _ _ refl
 carried_out-earlier earlier session worker commands.Finish other = refused-earlier earlier (unless_repairing (state_in session).phase) _ _ refl
 carried_out-earlier earlier session worker commands.Abort other = refused-earlier earlier (unless_repairing (state_in session).phase) _ _ refl
@@ -104,6 +136,7 @@ carried_out-earlier earlier session worker (commands.Slots from to by row) other
 carried_out-earlier earlier session worker commands.Changes other = cc
 carried_out-earlier earlier session worker commands.NextChanges other = cc
 carried_out-earlier earlier session worker commands.Tables other = refl
+carried_out-earlier earlier session worker (commands.Forget time) other = cc
 
 moved-earlier : (earlier : List Record) (now : Option ℕ) (a b : Result Answered Refusal) → a ≡ earlier_outcome earlier b → unless_moved now a ≡ earlier_outcome earlier (unless_moved now b)
 moved-earlier earlier None a b is = is
@@ -128,7 +161,7 @@ request-earlier : (earlier : List Record) (session : OpenSession) (asked : Resul
     → turn_by_request (with_earlier_records earlier session) asked ≡ earlier_turn earlier (turn_by_request session asked)
 request-earlier earlier session (Err fault) other = refl
 request-earlier earlier session (Ok request) other =
-    let now = moved_to (now_in session.database) request.expected in
+    let now = moved_to session.numbering (now_in session.database) request.expected in
     ap (turn_by_outcome (with_earlier_records earlier session))
     (moved-earlier earlier now _ _ (carried_out-earlier earlier session request.worker request.command other))
     ∙ outcome-earlier earlier session (unless_moved now (carried_out session request.worker request.command))

@@ -1,6 +1,6 @@
 -- An open session goes on as one, whatever it is asked.
-use Rattle.std.proofs.Common.{◌≡◌, ℕ, ◌+◌, ◌-◌, ◌≤◌, min, Bool, true, false, List, [], ◌∷◌, ◌++◌, length, Option, None, Some, Result, Ok, Err, OnOk, IfErr, ◌≢◌, refl, sym, ap, subst, ◌∙◌, arith, length-drop}
-use Rattle.std.specs.Option.{option_or}
+use Rattle.std.proofs.Common.{◌≡◌, ℕ, ◌+◌, ◌-◌, ◌≤◌, min, Bool, true, false, cond, map, List, [], ◌∷◌, ◌++◌, length, Option, None, Some, Result, Ok, Err, OnOk, IfErr, ◌≢◌, refl, sym, ap, subst, ◌∙◌, arith, length-drop}
+use Rattle.std.specs.Option.{option_or, option_map, unwrap_or}
 use Rattle.tt_values.specs.declared.statement.Write.{Write}
 use Rattle.tt_values.specs.declared.statement.Select.{Select}
 use Rattle.tt_values.specs.declared.reply.Reply.{Reply}
@@ -16,7 +16,7 @@ use Rattle.tt_db.specs.declared.errors.DbError.TheVariants as errors
 use Rattle.tt_db.specs.Limits.{Fits}
 use Rattle.tt_db.specs.declared.errors.ReadError.{ReadError}
 use Rattle.tt_db.specs.declared.outcome.Outcome.{Outcome}
-use Rattle.tt_db.specs.State.{next_state, slots_left, refused_if, unless_repairing, last_items}
+use Rattle.tt_db.specs.State.{State, next_state, slots_left, refused_if, unless_repairing, last_items}
 use Rattle.tt_db.specs.Database.{Database, state_of, refusal_of, now_in, current_of_db, right_preview_of}
 use Rattle.tt_records.specs.declared.record.Record.{Record}
 use Rattle.tt_records.specs.declared.record.What.{What}
@@ -25,8 +25,13 @@ use Rattle.tt_records.specs.Changes.{next_change_of}
 use Rattle.tt_requests.specs.declared.request.Command.{Command}
 use Rattle.tt_requests.specs.declared.request.Command.TheVariants as commands
 use Rattle.tt_requests.specs.declared.request.Request.{Request}
+use Rattle.tt_requests.specs.declared.request.ToldEdits.{ToldEdits}
 use Rattle.tt_requests.specs.declared.request.Page.{Page}
+use Rattle.tt_numbers.specs.declared.told.ToldTime.{ToldTime}
+use Rattle.tt_numbers.specs.declared.told.ToldGeneration.{ToldGeneration}
+use Rattle.tt_numbers.specs.Numbers.{Numbering, own_time, own_generation}
 use Rattle.tt_answers.specs.declared.answer.Answer.{Answer}
+use Rattle.tt_answers.specs.declared.answer.Answer.TheVariants as answers
 use Rattle.tt_answers.specs.declared.answer.Refusal.{Refusal}
 use Rattle.tt_db.proofs.EntryLemmas.{after-push}
 use Rattle.tt_session.specs.Session.{OpenSession, state_in, with_database, with_latest_if}
@@ -35,11 +40,15 @@ use Rattle.tt_session.specs.Room.{has_no_room_to_end, full_by_repair, refusal_in
 use Rattle.tt_session.specs.Invariants.{IsOpenSession, IsSession, OpenSessionsStaySound}
 use Rattle.tt_session.specs.Run.{turn_by_outcome}
 use Rattle.tt_session.specs.Sound.{IsSound}
-use Rattle.tt_session.specs.Repairing.{entry_by, with_event, with_steps, with_all_steps, unless_refused, progress_answer, status_answer, after_switch, begin, step, finish, abort}
-use Rattle.tt_session.specs.Reading.{selected_by, previewed_by, latest_if, asks_for_all}
+use Rattle.tt_session.specs.Repairing.{status_of, entry_by, with_event, with_steps, with_all_steps, unless_refused, progress_answer, status_answer, after_switch, begin, step, finish, abort}
+use Rattle.tt_session.specs.Reading.{read, selected_by, previewed_by, latest_if, asks_for_all}
 use Rattle.tt_session.specs.ChangeEntries.{changes_answer, next_changes}
+use Rattle.tt_session.specs.ToldRequests.{forgotten_in, asks_for_forgotten, read_at, read_in, read_as_told, missing_if_idle, unless_missing, own_edit, begin_as_told}
+use Rattle.tt_session.specs.Changes.{forgotten_by}
+use Rattle.tt_session.specs.Forgetting.{forgetting_of, forget_refusal, forgets_nothing, forgotten_answer, forget}
 use Rattle.tt_session.specs.Commands.{write, written, carried_out, moved_to, unless_moved, outcome_of_request}
 use Rattle.tt_session.proofs.StepLemmas.{accepted_in_session, can_end, room-can_end, switch_is_accepted, abort_is_accepted}
+use Rattle.tt_session.proofs.ForgettingLemmas.{from_forget, forgotten-sound}
 use Rattle.tt_session.proofs.LawLemmas.{HasLegalHistory, legal-push, is_stepped}
 
 -- a session goes on as another, with the same tables and limits
@@ -109,57 +118,59 @@ given_up db worker legal is = record {
 
 -- ---- a session whose database is another one
 
-same-database : (db next : Database) (records : List Record) (most : ℕ) → IsSound db records most → next ≡ db → IsSound next records most
-same-database db next records most sound is = subst (λ (d : Database). IsSound d records most) (sym is) sound
+same-database : (db next : Database) (n : Numbering) (records : List Record) (most : ℕ) → IsSound db n records most → next ≡ db → IsSound next n records most
+same-database db next n records most sound is = subst (λ (d : Database). IsSound d n records most) (sym is) sound
 
-pub sound-accepted : (db next : Database) (records : List Record) (most worker : ℕ) (event : Event) → IsSound db records most → refusal_in_session db event ≡ None
-    → next ≡ with_event db worker event → IsSound next records most
-sound-accepted db next records most worker event sound none is =
+pub sound-accepted : (db next : Database) (n : Numbering) (records : List Record) (most worker : ℕ) (event : Event) → IsSound db n records most → refusal_in_session db event ≡ None
+    → next ≡ with_event db worker event → IsSound next n records most
+sound-accepted db next n records most worker event sound none is =
     let new = accepted db worker event sound.legal none in
-    subst (λ (d : Database). IsSound d records most) (sym is) (record {
+    subst (λ (d : Database). IsSound d n records most) (sym is) (record {
       catalog = sound.catalog;
       fits = sound.fits;
       edits = sound.edits;
       legal = new.legal;
       room = new.room;
+      numbered = sound.numbered;
       few_records = sound.few_records;
       few_kept = sound.few_kept;
     })
 
 -- without a history
-pub sound-empty : (db next : Database) (records : List Record) (most : ℕ) → IsSound db records most → next.catalog ≡ db.catalog → next.limits ≡ db.limits → next.history ≡ []
-    → IsSound next records most
-sound-empty db next records most sound catalog limits none =
+pub sound-empty : (db next : Database) (n : Numbering) (records : List Record) (most : ℕ) → IsSound db n records most → next.catalog ≡ db.catalog → next.limits ≡ db.limits → next.history ≡ []
+    → IsSound next n records most
+sound-empty db next n records most sound catalog limits none =
     let empty : Database = record db { history = [] } in
     let is : next ≡ empty = λ i. record { catalog = catalog i; limits = limits i; history = none i } in
-    subst (λ (d : Database). IsSound d records most) (sym is) (record {
+    subst (λ (d : Database). IsSound d n records most) (sym is) (record {
       catalog = sound.catalog;
       fits = sound.fits;
       edits = sound.edits;
       legal = tt;
       room = refl;
+      numbered = sound.numbered;
       few_records = sound.few_records;
       few_kept = sound.few_kept;
     })
 
-pub sound-advanced : (r : Result Outcome DbError) (db next : Database) (records : List Record) (most worker : ℕ) (event : Event) → IsSound db records most
+pub sound-advanced : (r : Result Outcome DbError) (db next : Database) (n : Numbering) (records : List Record) (most worker : ℕ) (event : Event) → IsSound db n records most
     → has_no_room_to_end db.limits (next_state db.limits (state_of db) event) ≡ false
     → OnOk r (next ≡ with_event db worker event) → OnOk r (refusal_of db event ≡ None)
     → IfErr r (λ e. e ≢ errors.Memory → next ≡ db) → IfErr r (λ e. e ≡ errors.Memory → next.history ≡ []) → next.catalog ≡ db.catalog → next.limits ≡ db.limits
-    → IsSound next records most
-sound-advanced (Ok outcome) db next records most worker event sound room state none stays empty catalog limits =
-    sound-accepted db next records most worker event sound (accepted_in_session db event none room) state
-sound-advanced (Err errors.Memory) db next records most worker event sound room state none stays empty catalog limits =
-    sound-empty db next records most sound catalog limits (empty refl)
-sound-advanced (Err (errors.Statement fault)) db next records most worker event sound room state none stays empty catalog limits = same-database db next records most sound (stays (λ is. cc))
-sound-advanced (Err errors.Repairing) db next records most worker event sound room state none stays empty catalog limits = same-database db next records most sound (stays (λ is. cc))
-sound-advanced (Err errors.NotRepairing) db next records most worker event sound room state none stays empty catalog limits = same-database db next records most sound (stays (λ is. cc))
-sound-advanced (Err (errors.NotCaughtUp left)) db next records most worker event sound room state none stays empty catalog limits = same-database db next records most sound (stays (λ is. cc))
-sound-advanced (Err errors.NothingLeft) db next records most worker event sound room state none stays empty catalog limits = same-database db next records most sound (stays (λ is. cc))
-sound-advanced (Err (errors.NoSlot t)) db next records most worker event sound room state none stays empty catalog limits = same-database db next records most sound (stays (λ is. cc))
-sound-advanced (Err (errors.EditTwice t)) db next records most worker event sound room state none stays empty catalog limits = same-database db next records most sound (stays (λ is. cc))
-sound-advanced (Err errors.TooManyEdits) db next records most worker event sound room state none stays empty catalog limits = same-database db next records most sound (stays (λ is. cc))
-sound-advanced (Err (errors.Full limit)) db next records most worker event sound room state none stays empty catalog limits = same-database db next records most sound (stays (λ is. cc))
+    → IsSound next n records most
+sound-advanced (Ok outcome) db next n records most worker event sound room state none stays empty catalog limits =
+    sound-accepted db next n records most worker event sound (accepted_in_session db event none room) state
+sound-advanced (Err errors.Memory) db next n records most worker event sound room state none stays empty catalog limits =
+    sound-empty db next n records most sound catalog limits (empty refl)
+sound-advanced (Err (errors.Statement fault)) db next n records most worker event sound room state none stays empty catalog limits = same-database db next n records most sound (stays (λ is. cc))
+sound-advanced (Err errors.Repairing) db next n records most worker event sound room state none stays empty catalog limits = same-database db next n records most sound (stays (λ is. cc))
+sound-advanced (Err errors.NotRepairing) db next n records most worker event sound room state none stays empty catalog limits = same-database db next n records most sound (stays (λ is. cc))
+sound-advanced (Err (errors.NotCaughtUp left)) db next n records most worker event sound room state none stays empty catalog limits = same-database db next n records most sound (stays (λ is. cc))
+sound-advanced (Err errors.NothingLeft) db next n records most worker event sound room state none stays empty catalog limits = same-database db next n records most sound (stays (λ is. cc))
+sound-advanced (Err (errors.NoSlot t)) db next n records most worker event sound room state none stays empty catalog limits = same-database db next n records most sound (stays (λ is. cc))
+sound-advanced (Err (errors.EditTwice t)) db next n records most worker event sound room state none stays empty catalog limits = same-database db next n records most sound (stays (λ is. cc))
+sound-advanced (Err errors.TooManyEdits) db next n records most worker event sound room state none stays empty catalog limits = same-database db next n records most sound (stays (λ is. cc))
+sound-advanced (Err (errors.Full limit)) db next n records most worker event sound room state none stays empty catalog limits = same-database db next n records most sound (stays (λ is. cc))
 
 -- ---- the next session
 
@@ -179,6 +190,7 @@ with_latest-sound session latest sound = record {
     edits = sound.edits;
     legal = sound.legal;
     room = sound.room;
+    numbered = sound.numbered;
     few_records = few_last session.most_records (session.records ++ latest ∷ []);
     few_kept = sound.few_kept;
   };
@@ -196,6 +208,7 @@ next-sound session next sound is catalog limits = record {
     edits = ap (λ (l : Limits). l.edits) limits ∙ sound.edits;
     legal = is.legal;
     room = is.room;
+    numbered = sound.numbered;
     few_records = sound.few_records;
     few_kept = sound.few_kept;
   };
@@ -234,9 +247,14 @@ write-on session worker action sound b is =
 begin-on : (session : OpenSession) (worker : ℕ) (edits : List Edit) → IsOpenSession session → AnswersOn session (begin session worker edits)
 begin-on session worker edits sound b is =
     let db = session.database in
-    let next = with_event db worker (events.Begin edits) in
+    let first = with_event db worker (events.Begin edits) in
+    let count = min session.numbering.ground_slots (slots_left (state_of first)) in
+    let next = with_steps first worker count in
     let parts = from_unless (refusal_in_session db (events.Begin edits)) (progress_answer session next) b is in
-    to session (progress_answer session next) b parts.1 (next-sound session next sound (accepted db worker (events.Begin edits) sound.legal parts.0) refl refl)
+    let begun = accepted db worker (events.Begin edits) sound.legal parts.0 in
+    let repairing : is_repairing (state_of first).phase ≡ true = ap (λ (S : State). is_repairing S.phase) (after-push db.limits db.history (entry_by worker (events.Begin edits))) in
+    to session (progress_answer session next) b parts.1
+    (next-sound session next sound (stepped first worker count begun.legal (can_end first repairing begun.room) (omega arith)) refl refl)
 
 under_way : (session : OpenSession) → IsOpenSession session → unless_repairing (state_in session).phase ≡ None → CanEnd session.database
 under_way session sound none = can_end session.database (under_way-none (state_in session).phase none) sound.room
@@ -286,11 +304,52 @@ next_changes-on session sound b is =
     let parts = from_unless (unless_repairing S.phase) told b is in
     to session told b parts.1 (same session sound)
 
+-- ---- requests by the numbers that are told
+
+missing-none : (missing : Option ToldTime) (outcome : Result Answered Refusal) (b : Answered) → unless_missing missing outcome ≡ Ok b → outcome ≡ Ok b
+missing-none None outcome b is = is
+missing-none (Some slot) outcome b is = cc
+
+begin-as-told-on : (session : OpenSession) (worker : ℕ) (told : ToldEdits) → IsOpenSession session → AnswersOn session (begin_as_told session worker told)
+begin-as-told-on session worker told sound b is =
+    let edits = map (own_edit session.numbering) told.edits in
+    begin-on session worker edits sound b (missing-none (missing_if_idle session told.edits) (begin session worker edits) b is)
+
+read-at-on : (session : OpenSession) (worker : ℕ) (q : Select) (generation : Option ℕ) (at : Option ToldTime) (page : Page) → IsOpenSession session
+    → AnswersOn session (read_at session worker q generation at page)
+read-at-on session worker q generation at page sound = go (asks_for_forgotten session.numbering at)
+  where
+    go : (forgotten : Bool) → AnswersOn session (cond forgotten (Err (forgotten_in session (unwrap_or generation (state_in session).generation))) (read session worker q generation (option_map (own_time session.numbering) at) page))
+    go true = λ b is. cc
+    go false = selected-on session worker q generation page _ _ sound
+
+read-in-on : (session : OpenSession) (worker : ℕ) (q : Select) (number : Option ℕ) (at : Option ToldTime) (page : Page) → IsOpenSession session
+    → AnswersOn session (read_in session worker q number at page)
+read-in-on session worker q None at page sound = λ b is. cc
+read-in-on session worker q (Some number) at page sound = read-at-on session worker q (Some number) at page sound
+
+read-as-told-on : (session : OpenSession) (worker : ℕ) (q : Select) (generation : Option ToldGeneration) (at : Option ToldTime) (page : Page) → IsOpenSession session
+    → AnswersOn session (read_as_told session worker q generation at page)
+read-as-told-on session worker q None at page sound = read-at-on session worker q None at page sound
+read-as-told-on session worker q (Some generation) at page sound = read-in-on session worker q (own_generation session.numbering generation) at page sound
+
+forget-on : (session : OpenSession) (time : ToldTime) → IsOpenSession session → AnswersOn session (forget session time)
+forget-on session time sound b is =
+    let f = forgetting_of session time in
+    let parts = from_forget (forget_refusal session time) (forgotten_answer session f) b is in
+    to session (forgotten_answer session f) b parts.1 (go (forgets_nothing session f) (forgotten-sound session time sound parts.0))
+  where
+    go : (nothing : Bool) → IsOpenSession (forgotten_by session (forgetting_of session time))
+        → GoesOn session (cond {A = Answered} nothing (record { answer = answers.Standing (status_of session.database); session = session })
+        (record { answer = answers.Standing (status_of (forgetting_of session time).db); session = forgotten_by session (forgetting_of session time) })).session
+    go true behind = same session sound
+    go false behind = record { catalog = refl; limits = refl; sound = behind }
+
 carried_out-on : (session : OpenSession) (worker : ℕ) (command : Command) → IsOpenSession session → AnswersOn session (carried_out session worker command)
 carried_out-on session worker (commands.Write action) sound = write-on session worker action sound
-carried_out-on session worker (commands.Read q at generation page) sound = selected-on session worker q generation page _ _ sound
+carried_out-on session worker (commands.Read q at generation page) sound = read-as-told-on session worker q generation at page sound
 carried_out-on session worker (commands.Preview q page) sound = previewed-on session page (right_preview_of session.database q) sound
-carried_out-on session worker (commands.Begin edits) sound = begin-on session worker edits sound
+carried_out-on session worker (commands.Begin told) sound = begin-as-told-on session worker told sound
 carried_out-on session worker (commands.Step most) sound = step-on session worker most sound
 carried_out-on session worker commands.Finish sound = finish-on session worker sound
 carried_out-on session worker commands.Abort sound = abort-on session worker sound
@@ -299,11 +358,12 @@ carried_out-on session worker (commands.Slots from to by row) sound = told sessi
 carried_out-on session worker commands.Changes sound = told session _ sound
 carried_out-on session worker commands.NextChanges sound = next_changes-on session sound
 carried_out-on session worker commands.Tables sound = told session _ sound
+carried_out-on session worker (commands.Forget time) sound = forget-on session time sound
 
 -- whatever a session is asked, it goes on as one
 goes_on : (session : OpenSession) (request : Request) → IsOpenSession session → (b : Answered) → outcome_of_request session request ≡ Ok b → GoesOn session b.session
 goes_on session request sound b is =
-    carried_out-on session request.worker request.command sound b (moved-none (moved_to (now_in session.database) request.expected) _ b is)
+    carried_out-on session request.worker request.command sound b (moved-none (moved_to session.numbering (now_in session.database) request.expected) _ b is)
 
 -- and it is one afterwards
 pub open_sessions_stay_sound : OpenSessionsStaySound

@@ -1,4 +1,5 @@
 pub mod ChangeLemmas
+pub mod ForgettingLemmas
 pub mod GoingOnLemmas
 pub mod SoundLemmas
 pub mod RefusalLemmas

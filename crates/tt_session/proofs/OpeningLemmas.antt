@@ -23,6 +23,7 @@ use Rattle.tt_db.specs.Database.{Database}
 use Rattle.tt_answers.specs.declared.answer.Status.{Status}
 use Rattle.tt_answers.specs.declared.answer.Answer.TheVariants as answers
 use Rattle.tt_answers.specs.AnswerText.{opening_text}
+use Rattle.tt_numbers.specs.Numbers.{Numbering}
 use Rattle.tt_session.specs.Session.{OpenSession, opened}
 use Rattle.tt_session.specs.Repairing.{status_of}
 use Rattle.tt_session.specs.Run.{turn_by_opening}
@@ -109,8 +110,9 @@ is_opening value opening e =
     members-are read.value opening read.rest
 
 -- what is told of a session that is opened
-pub opened-text : (value : Result Opening DocFault) (opening : Opening) (session : OpenSession) (db : Database) (status : Status)
-    → value ≡ Ok opening → session ≡ opened opening → db ≡ session.database → status ≡ status_of db → opening_text (answers.Standing status) ≡ (turn_by_opening value).text
-opened-text value opening session db status is session_is db_is status_is =
-    ap (λ s. opening_text (answers.Standing s)) (status_is ∙ ap status_of (db_is ∙ ap (λ (s : OpenSession). s.database) session_is))
+pub opened-text : (value : Result Opening DocFault) (opening : Opening) (session : OpenSession) (db : Database) (numbering : Numbering) (status : Status)
+    → value ≡ Ok opening → session ≡ opened opening → db ≡ session.database → numbering ≡ session.numbering → status ≡ status_of db
+    → opening_text numbering (answers.Standing status) ≡ (turn_by_opening value).text
+opened-text value opening session db numbering status is session_is db_is numbering_is status_is =
+    (λ i. opening_text ((numbering_is ∙ ap (λ (s : OpenSession). s.numbering) session_is) i) (answers.Standing ((status_is ∙ ap status_of (db_is ∙ ap (λ (s : OpenSession). s.database) session_is)) i)))
     ∙ sym (ap (λ (v : Result Opening DocFault). (turn_by_opening v).text) is)

@@ -80,7 +80,7 @@ abbrev line_members : ℕ → List ℕ → List Member
 line_members slot text = (codes "begin", array_text (replacing_text slot text ∷ [])) ∷ []
 
 abbrev the_request : ℕ → List Write → Request
-the_request slot ws = record { worker = usual_worker; expected = None; command = commands.Begin (Replace slot ws ∷ []) }
+the_request slot ws = record { worker = usual_worker; expected = None; command = commands.Begin (record { edits = Replace slot ws ∷ [] }) }
 
 line-back : (tables : Tables) (slot nested : ℕ) (by : json.Json) (text : List ℕ) (d : Data) (ws : List Write)
     → IsReadBack nested (json.object (edit_tree slot by)) (replacing_text slot text) (edit_data slot d) (edit tables) (Replace slot ws)

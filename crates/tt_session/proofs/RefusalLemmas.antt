@@ -1,8 +1,9 @@
 -- The errors of the database that answer no line of a session.
-use Rattle.std.proofs.Common.{◌≡◌, ℕ, Bool, true, false, nat_lt, List, [], ◌∷◌, length, Option, None, Some, Result, Ok, Err, refl, sym, ap, subst, ◌∙◌}
+use Rattle.std.proofs.Common.{◌≡◌, ℕ, Bool, true, false, cond, nat_lt, List, [], ◌∷◌, map, length, is_none, Option, None, Some, Result, Ok, Err, refl, sym, ap, subst, ◌∙◌, arith}
 use Rattle.std.specs.List.{All}
-use Rattle.std.specs.Option.{option_map, option_or}
-use Rattle.std.proofs.lemmas.List.Elements.{All-head, All-tail}
+use Rattle.std.specs.Option.{option_map, option_or, unwrap_or}
+use Rattle.std.proofs.lemmas.List.{length-map}
+use Rattle.std.proofs.lemmas.List.Elements.{All-nil, All-cons, All-head, All-tail}
 use Rattle.tt_values.specs.declared.statement.Select.{Select}
 use Rattle.tt_values.specs.declared.reply.Reply.{Reply}
 use Rattle.tt_values.specs.declared.checking.CheckError.{CheckError}
@@ -11,16 +12,20 @@ use Rattle.tt_values.specs.Check.{action_fault}
 use Rattle.tt_repair_laws.specs.declared.edit.Edit.{Edit}
 use Rattle.tt_repair_laws.specs.Edits.{HasNoFault}
 use Rattle.tt_repair_laws.specs.declared.edit.Edit.TheVariants.{Cancel, Replace}
-use Rattle.tt_generations.specs.TwoGenerations.{Phase, Idle, Repairing}
+use Rattle.tt_generations.specs.TwoGenerations.{Phase, Idle, Repairing, is_repairing}
 use Rattle.tt_db.specs.declared.event.Event.TheVariants as events
 use Rattle.tt_db.specs.declared.errors.DbError.{DbError}
 use Rattle.tt_db.specs.declared.errors.DbError.TheVariants as errors
 use Rattle.tt_db.specs.declared.errors.ReadError.{ReadError}
-use Rattle.tt_db.specs.State.{edits_fault, first_refusal, refused_if, unless_repairing}
+use Rattle.tt_db.specs.declared.errors.ReadError.TheVariants as read_errors
+use Rattle.tt_db.specs.State.{slots_in, edits_fault, first_refusal, refused_if, unless_repairing}
 use Rattle.tt_db.specs.Database.{now_in, right_preview_of}
 use Rattle.tt_requests.specs.declared.request.Command.{Command}
 use Rattle.tt_requests.specs.declared.request.Command.TheVariants as commands
 use Rattle.tt_requests.specs.declared.request.Page.{Page}
+use Rattle.tt_numbers.specs.declared.told.ToldTime.{ToldTime}
+use Rattle.tt_numbers.specs.declared.told.ToldGeneration.{ToldGeneration}
+use Rattle.tt_numbers.specs.Numbers.{Numbering, number_limit, own_time, own_generation}
 use Rattle.tt_requests.specs.Judged.{IsJudged}
 use Rattle.tt_requests.proofs.LawProofs.{requests_are_judged}
 use Rattle.tt_answers.specs.declared.answer.Refusal.{Refusal}
@@ -28,8 +33,10 @@ use Rattle.tt_answers.specs.declared.answer.Refusal.TheVariants as refusals
 use Rattle.tt_session.specs.Session.{OpenSession, state_in}
 use Rattle.tt_session.specs.Answers.{Answered}
 use Rattle.tt_session.specs.Room.{refusal_in_session}
-use Rattle.tt_session.specs.Repairing.{with_event, unless_refused, progress_answer}
-use Rattle.tt_session.specs.Reading.{selected_by, previewed_by}
+use Rattle.tt_session.specs.Repairing.{unless_refused}
+use Rattle.tt_session.specs.Reading.{read, selected_by, previewed_by}
+use Rattle.tt_session.specs.ToldRequests.{no_generation, forgotten_in, asks_for_forgotten, read_at, read_in, read_as_told, missing_if_idle, unless_missing, own_edit}
+use Rattle.tt_session.specs.Forgetting.{unless_forget_refused}
 use Rattle.tt_session.specs.Commands.{written, carried_out, moved_to, unless_moved}
 use Rattle.tt_session.specs.Invariants.{IsOpenSession}
 use Rattle.tt_session.specs.Laws.{answers_lines, OtherErrorsAnswerNoLine}
@@ -46,6 +53,9 @@ answers-if e error can is = subst (λ d. answers_lines d ≡ true) (same_error e
 refusal-is : (refusal : Option DbError) (a : Answered) (error : DbError) → unless_refused refusal a ≡ Err (refusals.Event error) → refusal ≡ Some error
 refusal-is None a error is = cc
 refusal-is (Some e) a error is = cc
+
+same-refusal : (e : DbError) (a : Answered) (error : DbError) → unless_forget_refused (Some (refusals.Event e)) a ≡ Err (refusals.Event error) → ◌≡◌ {A = Option DbError} (Some e) (Some error)
+same-refusal e a error is = cc
 
 moved-is : (now : Option ℕ) (outcome : Result Answered Refusal) (error : DbError) → unless_moved now outcome ≡ Err (refusals.Event error) → outcome ≡ Err (refusals.Event error)
 moved-is None outcome error is = is
@@ -96,17 +106,68 @@ no_edits_fault tables (Replace slot action ∷ edits) judged =
     ap (λ f. option_or f (edits_fault tables edits)) (All-head (HasNoFault tables) (Replace slot action) edits judged)
     ∙ no_edits_fault tables edits (All-tail (HasNoFault tables) (Replace slot action) edits judged)
 
+missing-is : (missing : Option ToldTime) (outcome : Result Answered Refusal) (error : DbError) → unless_missing missing outcome ≡ Err (refusals.Event error) → outcome ≡ Err (refusals.Event error)
+missing-is None outcome error is = is
+missing-is (Some slot) outcome error is = cc
+
+read-at-error : (session : OpenSession) (worker : ℕ) (q : Select) (generation : Option ℕ) (at : Option ToldTime) (page : Page) (error : DbError)
+    → read_at session worker q generation at page ≡ Err (refusals.Event error) → answers_lines error ≡ true
+read-at-error session worker q generation at page error = go (asks_for_forgotten session.numbering at)
+  where
+    none : (gone : Bool) → ◌≡◌ {A = Result Answered Refusal} (Err (cond gone (no_generation session) refusals.Forgotten)) (Err (refusals.Event error)) → answers_lines error ≡ true
+    none true is = cc
+    none false is = cc
+
+    go : (forgotten : Bool)
+        → cond forgotten (Err (forgotten_in session (unwrap_or generation (state_in session).generation))) (read session worker q generation (option_map (own_time session.numbering) at) page) ≡ Err (refusals.Event error)
+        → answers_lines error ≡ true
+    go true = none (is_none (slots_in (state_in session) (unwrap_or generation (state_in session).generation)))
+    go false = select-error session worker q generation page _ _ error
+
+read-in-error : (session : OpenSession) (worker : ℕ) (q : Select) (number : Option ℕ) (at : Option ToldTime) (page : Page) (error : DbError)
+    → read_in session worker q number at page ≡ Err (refusals.Event error) → answers_lines error ≡ true
+read-in-error session worker q None at page error is = cc
+read-in-error session worker q (Some number) at page error is = read-at-error session worker q (Some number) at page error is
+
+read-as-told-error : (session : OpenSession) (worker : ℕ) (q : Select) (generation : Option ToldGeneration) (at : Option ToldTime) (page : Page) (error : DbError)
+    → read_as_told session worker q generation at page ≡ Err (refusals.Event error) → answers_lines error ≡ true
+read-as-told-error session worker q None at page error is = read-at-error session worker q None at page error is
+read-as-told-error session worker q (Some generation) at page error is = read-in-error session worker q (own_generation session.numbering generation) at page error is
+
+forget-error : (repairing later forgotten full : Bool) (now : ℕ) (a : Answered) (error : DbError)
+    → unless_forget_refused (cond repairing (Some (refusals.Event errors.Repairing)) (cond later (Some (refusals.Read (read_errors.Later now))) (cond forgotten (Some refusals.Forgotten)
+    (cond full (Some (refusals.Event (errors.Full number_limit))) None)))) a ≡ Err (refusals.Event error)
+    → answers_lines error ≡ true
+forget-error true later forgotten full now a error is = answers-if errors.Repairing error refl (same-refusal errors.Repairing a error is)
+forget-error false true forgotten full now a error is = cc
+forget-error false false true full now a error is = cc
+forget-error false false false true now a error is = answers-if (errors.Full number_limit) error refl (same-refusal (errors.Full number_limit) a error is)
+forget-error false false false false now a error is = cc
+
+-- edits of slots of the database have no fault where those that are told have none
+own-judged : (tables : Tables) (numbering : Numbering) (edits : List Edit) → All (HasNoFault tables) edits → All (HasNoFault tables) (map (own_edit numbering) edits)
+own-judged tables numbering [] judged = All-nil (HasNoFault tables)
+own-judged tables numbering (e ∷ edits) judged =
+    All-cons (HasNoFault tables) (own_edit numbering e) (map (own_edit numbering) edits) (own-one tables numbering e (All-head (HasNoFault tables) e edits judged))
+    (own-judged tables numbering edits (All-tail (HasNoFault tables) e edits judged))
+  where
+    own-one : (tables : Tables) (numbering : Numbering) (e : Edit) → HasNoFault tables e → HasNoFault tables (own_edit numbering e)
+    own-one tables numbering (Cancel slot) judged = tt
+    own-one tables numbering (Replace slot action) judged = judged
+
 error-of : (session : OpenSession) (worker : ℕ) (command : Command) (error : DbError) → IsOpenSession session → IsJudged session.database.catalog command
     → carried_out session worker command ≡ Err (refusals.Event error) → answers_lines error ≡ true
 error-of session worker (commands.Write action) error sound judged is =
     let db = session.database in
     write-error (action_fault db.catalog action) _ _ _ _ _ _ error judged (refusal-is (refusal_in_session db (events.Write action)) (written session worker action) error is)
-error-of session worker (commands.Begin edits) error sound judged is =
+error-of session worker (commands.Begin told) error sound judged is =
     let db = session.database in
-    let few : nat_lt db.limits.edits (length edits) ≡ false = subst (λ n. nat_lt n (length edits) ≡ false) (sym sound.edits) (room-test _ (length edits) judged.few) in
-    begin-error (edits_fault db.catalog edits) _ _ _ (nat_lt db.limits.edits (length edits)) _ _ _ _ error (no_edits_fault db.catalog edits judged.accepted) few
-    (refusal-is (refusal_in_session db (events.Begin edits)) (progress_answer session (with_event db worker (events.Begin edits))) error is)
-error-of session worker (commands.Read q at generation page) error sound judged is = select-error session worker q generation page _ _ error is
+    let edits = map (own_edit session.numbering) told.edits in
+    let as_many : length edits ≡ length told.edits = length-map told.edits (own_edit session.numbering) in
+    let few : nat_lt db.limits.edits (length edits) ≡ false = subst (λ n. nat_lt n (length edits) ≡ false) (sym sound.edits) (room-test _ (length edits) (omega (arith, as_many, judged.few))) in
+    begin-error (edits_fault db.catalog edits) _ _ _ (nat_lt db.limits.edits (length edits)) _ _ _ _ error (no_edits_fault db.catalog edits (own-judged db.catalog session.numbering told.edits judged.accepted)) few
+    (refusal-is (refusal_in_session db (events.Begin edits)) _ error (missing-is (missing_if_idle session told.edits) _ error is))
+error-of session worker (commands.Read q at generation page) error sound judged is = read-as-told-error session worker q generation at page error is
 error-of session worker (commands.Preview q page) error sound judged is = preview-error session page (right_preview_of session.database q) error is
 error-of session worker (commands.Step most) error sound judged is = idle-error (state_in session).phase _ error is
 error-of session worker commands.Finish error sound judged is = idle-error (state_in session).phase _ error is
@@ -116,8 +177,9 @@ error-of session worker commands.Status error sound judged is = cc
 error-of session worker (commands.Slots from to by row) error sound judged is = cc
 error-of session worker commands.Changes error sound judged is = cc
 error-of session worker commands.Tables error sound judged is = cc
+error-of session worker (commands.Forget time) error sound judged is = forget-error (is_repairing (state_in session).phase) _ _ _ _ _ error is
 
 pub other_errors_answer_no_line : OtherErrorsAnswerNoLine
 other_errors_answer_no_line session value request error sound read is =
     error-of session request.worker request.command error sound (requests_are_judged session.database.catalog value request read)
-    (moved-is (moved_to (now_in session.database) request.expected) (carried_out session request.worker request.command) error is)
+    (moved-is (moved_to session.numbering (now_in session.database) request.expected) (carried_out session request.worker request.command) error is)

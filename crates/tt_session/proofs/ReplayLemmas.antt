@@ -1,5 +1,6 @@
 -- What a session logs is read back: a line makes the same entries again, whatever was only read between, since what becomes of the database depends on the database alone.
-use Rattle.std.proofs.Common.{◌≡◌, ◌⊎◌, ℕ, zero, suc, ◌+◌, ◌<◌, ◌≤◌, ◌==◌, ◌&&◌, Bool, true, false, not, cond, List, [], ◌∷◌, ◌++◌, length, map, take, replicate, append-nil, append_assoc, length-append, Option, None, Some, Result, Ok, Err, inl, inr, refl, sym, ap, ◌∙◌, subst, arith, eq-eqb, ne_eqb}
+use Rattle.std.proofs.Common.{◌≡◌, ◌⊎◌, ℕ, zero, suc, ◌+◌, ◌<◌, ◌≤◌, ◌==◌, ◌&&◌, Bool, true, false, not, cond, List, [], ◌∷◌, ◌++◌, length, map, take, replicate, append-nil, append_assoc, length-append, Option, None, Some, Result, Ok, Err, inl, inr, refl, sym, ap, ◌∙◌, subst, arith, ne_eqb}
+use Rattle.std.specs.Option.{option_map, unwrap_or}
 use Rattle.std.proofs.lemmas.List.{length-replicate}
 use Rattle.serde_json.specs.Data.{Data}
 use Rattle.tt_values.specs.declared.reply.Reply.{Reply}
@@ -16,6 +17,9 @@ use Rattle.tt_requests.specs.declared.opening.Opening.{Opening}
 use Rattle.tt_requests.specs.declared.request.Command.{Command}
 use Rattle.tt_requests.specs.declared.request.Command.TheVariants as commands
 use Rattle.tt_requests.specs.declared.request.Page.{Page}
+use Rattle.tt_numbers.specs.declared.told.ToldTime.{ToldTime}
+use Rattle.tt_numbers.specs.declared.told.ToldGeneration.{ToldGeneration}
+use Rattle.tt_numbers.specs.Numbers.{Numbering, own_time, own_generation}
 use Rattle.tt_requests.specs.declared.request.Request.{Request}
 use Rattle.tt_requests.specs.Lines.{is_passed_over, is_too_long}
 use Rattle.tt_requests.specs.LineValue.{value_of_line}
@@ -29,168 +33,315 @@ use Rattle.tt_session.specs.declared.session.Session.{Session}
 use Rattle.tt_session.specs.declared.session.Session.TheVariants.{NotOpen, Restored, Open}
 use Rattle.tt_session.specs.Answers.{Answered}
 use Rattle.tt_session.specs.Answering.{LineRead, turn_of_read, turns_of}
-use Rattle.tt_session.specs.Commands.{carried_out, moved_to, outcome_of_request, unless_moved}
-use Rattle.tt_session.specs.Logged.{entries_of, makes_entry, with_line_if, logged_of}
-use Rattle.tt_session.specs.Reading.{previewed_by, selected_by}
+use Rattle.tt_session.specs.Commands.{asks_read_only, is_read_only, carried_out, moved_to, outcome_of_request, unless_moved}
+use Rattle.tt_session.specs.Logged.{entries_of, horizon_of, changes_database, with_line_if, logged_of}
+use Rattle.tt_session.specs.Reading.{read, previewed_by, selected_by}
+use Rattle.tt_session.specs.ToldRequests.{forgotten_in, asks_for_forgotten, read_at, read_in, read_as_told, missing_if_idle, unless_missing, own_edit}
+use Rattle.tt_session.specs.Changes.{forgotten_by}
+use Rattle.tt_session.specs.Forgetting.{forgetting_of, forget_refusal, forgets_nothing, forgotten_answer, unless_forget_refused, forget}
 use Rattle.tt_session.specs.Reopening.{asks_for, with_most_records}
 use Rattle.tt_session.specs.Repairing.{entry_by, status_of, unless_refused, with_event, with_steps, with_all_steps}
-use Rattle.tt_session.specs.Restoring.{after_lines, AreLogged, restored, database_of, LogsAreReadBack}
+use Rattle.tt_session.specs.Restoring.{after_lines, AreLogged, restored, database_of, numbering_of, LogsAreReadBack}
 use Rattle.tt_session.specs.Room.{refusal_in_session}
 use Rattle.tt_session.specs.Run.{Turn, turn_by_opening, turn_by_outcome, turn_by_reopening, turn_by_request, turn_by_value, turn_without_memory}
-use Rattle.tt_session.specs.Session.{OpenSession, state_in, counted, opened}
+use Rattle.tt_session.specs.Session.{OpenSession, Forgetting, state_in, counted, opened}
 use Rattle.tt_session.specs.Together.{kept_line}
+use Rattle.tt_session.proofs.LoggedLemmas.{same-entries, same-next}
 use Rattle.tt_session.proofs.RestoringLemmas.{after-append, logged-append, read-value}
 
--- ---- what becomes of the database
+-- ---- what becomes of the database, and of how its numbers are told
 
-abbrev outcome_db : Database → Result Answered Refusal → Database
-outcome_db db (Ok answered) = answered.session.database
-outcome_db db (Err refusal) = db
+-- what the answers to requests depend on, apart from records and the number of the call
+record Base : Type 0 where
+  pub database : Database
+  pub numbering : Numbering
 
--- it stays, or its history is longer
-abbrev Goes : Database → Database → Type 0
-Goes db new = (new ≡ db) ⊎ (length db.history < length new.history)
+abbrev base_of : OpenSession → Base
+base_of session = record { database = session.database; numbering = session.numbering }
 
-refused-goes : (db : Database) (refusal : Option DbError) (a : Answered) → Goes db a.session.database → Goes db (outcome_db db (unless_refused refusal a))
-refused-goes db None a goes = goes
-refused-goes db (Some error) a goes = inl refl
+abbrev outcome_base : Base → Result Answered Refusal → Base
+outcome_base base (Ok answered) = base_of answered.session
+outcome_base base (Err refusal) = base
 
-event-goes : (db : Database) (worker : ℕ) (event : Event) → Goes db (with_event db worker event)
-event-goes db worker event = inr (omega (arith, length-append db.history (entry_by worker event ∷ [])))
+-- whether a session is as far as another: as many entries, and the same horizon
+abbrev is_as_far : Base → Base → Bool
+is_as_far new base = (length new.database.history + 1 == length base.database.history + 1) && (new.numbering.horizon == base.numbering.horizon)
 
-steps-go : (db : Database) (worker count : ℕ) → Goes db (with_steps db worker count)
-steps-go db worker zero = inl (λ i. record db { history = append-nil db.history i })
-steps-go db worker (suc n) =
-    inr (omega (arith, length-append db.history (replicate (suc n) (entry_by worker events.Step)), length-replicate (suc n) (entry_by worker events.Step)))
+-- it stays, or it is at another point
+abbrev Goes : Base → Base → Type 0
+Goes base new = (new ≡ base) ⊎ (is_as_far new base ≡ false)
 
-switch-goes : (db : Database) (worker : ℕ) → Goes db (with_event (with_all_steps db worker) worker events.Switch)
-switch-goes db worker =
-    let all = with_all_steps db worker in
-    inr (omega (arith, length-append all.history (entry_by worker events.Switch ∷ []), longer))
-  where
-    longer : length db.history ≤ length (with_all_steps db worker).history
-    longer = omega (arith, length-append db.history (replicate (slots_left (state_of db)) (entry_by worker events.Step)))
+abbrev with_db : Base → Database → Base
+with_db base db = record { database = db; numbering = base.numbering }
+
+longer-goes : (base : Base) (db : Database) → length base.database.history < length db.history → Goes base (with_db base db)
+longer-goes base db more =
+    inr (ap (λ b. b && (base.numbering.horizon == base.numbering.horizon)) (ne_eqb (length db.history + 1) (length base.database.history + 1) (λ e. omega (arith, e, more))))
+
+refused-goes : (base : Base) (refusal : Option DbError) (a : Answered) → Goes base (base_of a.session) → Goes base (outcome_base base (unless_refused refusal a))
+refused-goes base None a goes = goes
+refused-goes base (Some error) a goes = inl refl
+
+event-longer : (db : Database) (worker : ℕ) (event : Event) → length db.history < length (with_event db worker event).history
+event-longer db worker event = omega (arith, length-append db.history (entry_by worker event ∷ []))
+
+steps-longer : (db : Database) (worker count : ℕ) → length db.history ≤ length (with_steps db worker count).history
+steps-longer db worker count = omega (arith, length-append db.history (replicate count (entry_by worker events.Step)))
+
+event-goes : (base : Base) (worker : ℕ) (event : Event) → Goes base (with_db base (with_event base.database worker event))
+event-goes base worker event = longer-goes base (with_event base.database worker event) (event-longer base.database worker event)
+
+begin-goes : (base : Base) (worker count : ℕ) (event : Event) → Goes base (with_db base (with_steps (with_event base.database worker event) worker count))
+begin-goes base worker count event =
+    let first = with_event base.database worker event in
+    longer-goes base (with_steps first worker count) (omega (arith, event-longer base.database worker event, steps-longer first worker count))
+
+steps-go : (base : Base) (worker count : ℕ) → Goes base (with_db base (with_steps base.database worker count))
+steps-go base worker zero = inl (λ i. with_db base (record base.database { history = append-nil base.database.history i }))
+steps-go base worker (suc n) =
+    longer-goes base (with_steps base.database worker (suc n))
+    (omega (arith, length-append base.database.history (replicate (suc n) (entry_by worker events.Step)), length-replicate (suc n) (entry_by worker events.Step)))
+
+switch-goes : (base : Base) (worker : ℕ) → Goes base (with_db base (with_event (with_all_steps base.database worker) worker events.Switch))
+switch-goes base worker =
+    let all = with_all_steps base.database worker in
+    longer-goes base (with_event all worker events.Switch)
+    (omega (arith, event-longer all worker events.Switch, steps-longer base.database worker (slots_left (state_of base.database))))
 
 selected-stays : (session : OpenSession) (worker : ℕ) (q : Select) (generation : Option ℕ) (page : Page) (time : ℕ) (right : Result Reply ReadError)
-    → outcome_db session.database (selected_by session worker q generation page time right) ≡ session.database
+    → outcome_base (base_of session) (selected_by session worker q generation page time right) ≡ base_of session
 selected-stays session worker q generation page time (Err error) = refl
 selected-stays session worker q generation page time (Ok reply) = refl
 
-previewed-stays : (session : OpenSession) (page : Page) (right : Result Reply ReadError) → outcome_db session.database (previewed_by session page right) ≡ session.database
+read-at-stays : (session : OpenSession) (worker : ℕ) (q : Select) (generation : Option ℕ) (at : Option ToldTime) (page : Page)
+    → outcome_base (base_of session) (read_at session worker q generation at page) ≡ base_of session
+read-at-stays session worker q generation at page = go (asks_for_forgotten session.numbering at)
+  where
+    go : (forgotten : Bool) → outcome_base (base_of session) (cond forgotten (Err (forgotten_in session (unwrap_or generation (state_in session).generation)))
+        (read session worker q generation (option_map (own_time session.numbering) at) page)) ≡ base_of session
+    go true = refl
+    go false = selected-stays session worker q generation page _ _
+
+read-in-stays : (session : OpenSession) (worker : ℕ) (q : Select) (number : Option ℕ) (at : Option ToldTime) (page : Page)
+    → outcome_base (base_of session) (read_in session worker q number at page) ≡ base_of session
+read-in-stays session worker q None at page = refl
+read-in-stays session worker q (Some number) at page = read-at-stays session worker q (Some number) at page
+
+read-stays : (session : OpenSession) (worker : ℕ) (q : Select) (generation : Option ToldGeneration) (at : Option ToldTime) (page : Page)
+    → outcome_base (base_of session) (read_as_told session worker q generation at page) ≡ base_of session
+read-stays session worker q None at page = read-at-stays session worker q None at page
+read-stays session worker q (Some generation) at page = read-in-stays session worker q (own_generation session.numbering generation) at page
+
+previewed-stays : (session : OpenSession) (page : Page) (right : Result Reply ReadError) → outcome_base (base_of session) (previewed_by session page right) ≡ base_of session
 previewed-stays session page (Err error) = refl
 previewed-stays session page (Ok reply) = refl
 
-carried-goes : (session : OpenSession) (worker : ℕ) (command : Command) → Goes session.database (outcome_db session.database (carried_out session worker command))
-carried-goes session worker (commands.Write action) = refused-goes session.database (refusal_in_session session.database (events.Write action)) _ (event-goes session.database worker (events.Write action))
-carried-goes session worker (commands.Read q at generation page) = inl (selected-stays session worker q generation page _ _)
+missing-goes : (base : Base) (missing : Option ToldTime) (outcome : Result Answered Refusal) → Goes base (outcome_base base outcome) → Goes base (outcome_base base (unless_missing missing outcome))
+missing-goes base None outcome goes = goes
+missing-goes base (Some slot) outcome goes = inl refl
+
+forget-goes : (session : OpenSession) (time : ToldTime) → Goes (base_of session) (outcome_base (base_of session) (forget session time))
+forget-goes session time = refused (forget_refusal session time)
+  where
+    f : Forgetting
+    f = forgetting_of session time
+
+    go : (nothing : Bool) → forgets_nothing session f ≡ nothing
+        → Goes (base_of session) (base_of (cond {A = Answered} nothing (record { answer = answers.Standing (status_of session.database); session = session })
+        (record { answer = answers.Standing (status_of f.db); session = forgotten_by session f })).session)
+    go true is = inl refl
+    go false is =
+        inr (ap (λ b. b && (f.numbering.horizon == session.numbering.horizon)) (same-next (length f.db.history) (length session.database.history)) ∙ is)
+
+    refused : (refusal : Option Refusal) → Goes (base_of session) (outcome_base (base_of session) (unless_forget_refused refusal (forgotten_answer session f)))
+    refused None = go (forgets_nothing session f) refl
+    refused (Some refusal) = inl refl
+
+carried-goes : (session : OpenSession) (worker : ℕ) (command : Command) → Goes (base_of session) (outcome_base (base_of session) (carried_out session worker command))
+carried-goes session worker (commands.Write action) = refused-goes (base_of session) (refusal_in_session session.database (events.Write action)) _ (event-goes (base_of session) worker (events.Write action))
+carried-goes session worker (commands.Read q at generation page) = inl (read-stays session worker q generation at page)
 carried-goes session worker (commands.Preview q page) = inl (previewed-stays session page (right_preview_of session.database q))
-carried-goes session worker (commands.Begin edits) = refused-goes session.database (refusal_in_session session.database (events.Begin edits)) _ (event-goes session.database worker (events.Begin edits))
-carried-goes session worker (commands.Step most) = refused-goes session.database (unless_repairing (state_in session).phase) _ (steps-go session.database worker _)
-carried-goes session worker commands.Finish = refused-goes session.database (unless_repairing (state_in session).phase) _ (switch-goes session.database worker)
-carried-goes session worker commands.Abort = refused-goes session.database (unless_repairing (state_in session).phase) _ (event-goes session.database worker events.Abort)
+carried-goes session worker (commands.Begin told) =
+    let event = events.Begin (map (own_edit session.numbering) told.edits) in
+    missing-goes (base_of session) (missing_if_idle session told.edits) _ (refused-goes (base_of session) (refusal_in_session session.database event) _ (begin-goes (base_of session) worker _ event))
+carried-goes session worker (commands.Step most) = refused-goes (base_of session) (unless_repairing (state_in session).phase) _ (steps-go (base_of session) worker _)
+carried-goes session worker commands.Finish = refused-goes (base_of session) (unless_repairing (state_in session).phase) _ (switch-goes (base_of session) worker)
+carried-goes session worker commands.Abort = refused-goes (base_of session) (unless_repairing (state_in session).phase) _ (event-goes (base_of session) worker events.Abort)
 carried-goes session worker commands.Status = inl refl
 carried-goes session worker (commands.Slots from to by row) = inl refl
 carried-goes session worker commands.Changes = inl refl
-carried-goes session worker commands.NextChanges = refused-goes session.database (unless_repairing (state_in session).phase) _ (inl refl)
+carried-goes session worker commands.NextChanges = refused-goes (base_of session) (unless_repairing (state_in session).phase) _ (inl refl)
 carried-goes session worker commands.Tables = inl refl
+carried-goes session worker (commands.Forget time) = forget-goes session time
 
-moved-goes : (db : Database) (now : Option ℕ) (outcome : Result Answered Refusal) → Goes db (outcome_db db outcome) → Goes db (outcome_db db (unless_moved now outcome))
-moved-goes db None outcome goes = goes
-moved-goes db (Some now) outcome goes = inl refl
+moved-goes : (base : Base) (now : Option ℕ) (outcome : Result Answered Refusal) → Goes base (outcome_base base outcome) → Goes base (outcome_base base (unless_moved now outcome))
+moved-goes base None outcome goes = goes
+moved-goes base (Some now) outcome goes = inl refl
 
 -- it is the same whatever the records and the number of the call
-abbrev session_of : Database → List Record → ℕ → ℕ → OpenSession
-session_of db records most calls = record { database = db; records = records; most_records = most; calls = calls }
+abbrev session_of : Base → List Record → ℕ → ℕ → OpenSession
+session_of base records most calls = record { database = base.database; numbering = base.numbering; records = records; most_records = most; calls = calls }
 
-refused-same : (db : Database) (refusal : Option DbError) (a b : Answered) → a.session.database ≡ b.session.database → outcome_db db (unless_refused refusal a) ≡ outcome_db db (unless_refused refusal b)
-refused-same db None a b same = same
-refused-same db (Some error) a b same = refl
+refused-same : (base : Base) (refusal : Option DbError) (a b : Answered) → base_of a.session ≡ base_of b.session → outcome_base base (unless_refused refusal a) ≡ outcome_base base (unless_refused refusal b)
+refused-same base None a b same = same
+refused-same base (Some error) a b same = refl
 
-module _ (db : Database) (r q : List Record) (m l n k : ℕ) where
+missing-same : (base : Base) (missing : Option ToldTime) (a b : Result Answered Refusal) → outcome_base base a ≡ outcome_base base b → outcome_base base (unless_missing missing a) ≡ outcome_base base (unless_missing missing b)
+missing-same base None a b same = same
+missing-same base (Some slot) a b same = refl
+
+forget-same : (base : Base) (refusal : Option Refusal) (a b : Answered) → base_of a.session ≡ base_of b.session → outcome_base base (unless_forget_refused refusal a) ≡ outcome_base base (unless_forget_refused refusal b)
+forget-same base None a b same = same
+forget-same base (Some refusal) a b same = refl
+
+module _ (base : Base) (r q : List Record) (m l n k : ℕ) where
   abbrev one : OpenSession
-  one = session_of db r m n
+  one = session_of base r m n
 
   abbrev other : OpenSession
-  other = session_of db q l k
+  other = session_of base q l k
 
-  carried-same : (worker : ℕ) (command : Command) → outcome_db db (carried_out one worker command) ≡ outcome_db db (carried_out other worker command)
-  carried-same worker (commands.Write action) = refused-same db (refusal_in_session db (events.Write action)) _ _ refl
-  carried-same worker (commands.Read q at generation page) = selected-stays one worker q generation page _ _ ∙ sym (selected-stays other worker q generation page _ _)
-  carried-same worker (commands.Preview q page) = previewed-stays one page (right_preview_of db q) ∙ sym (previewed-stays other page (right_preview_of db q))
-  carried-same worker (commands.Begin edits) = refused-same db (refusal_in_session db (events.Begin edits)) _ _ refl
-  carried-same worker (commands.Step most) = refused-same db (unless_repairing (state_in one).phase) _ _ refl
-  carried-same worker commands.Finish = refused-same db (unless_repairing (state_in one).phase) _ _ refl
-  carried-same worker commands.Abort = refused-same db (unless_repairing (state_in one).phase) _ _ refl
+  forgotten-same : (f : Forgetting) → base_of (forgotten_answer one f).session ≡ base_of (forgotten_answer other f).session
+  forgotten-same f = go (forgets_nothing one f)
+    where
+      after : OpenSession → Bool → Base
+      after s nothing =
+          base_of (cond {A = Answered} nothing (record { answer = answers.Standing (status_of s.database); session = s }) (record { answer = answers.Standing (status_of f.db); session = forgotten_by s f })).session
+
+      go : (nothing : Bool) → after one nothing ≡ after other nothing
+      go true = refl
+      go false = refl
+
+  carried-same : (worker : ℕ) (command : Command) → outcome_base base (carried_out one worker command) ≡ outcome_base base (carried_out other worker command)
+  carried-same worker (commands.Write action) = refused-same base (refusal_in_session base.database (events.Write action)) _ _ refl
+  carried-same worker (commands.Read q at generation page) = read-stays one worker q generation at page ∙ sym (read-stays other worker q generation at page)
+  carried-same worker (commands.Preview q page) = previewed-stays one page (right_preview_of base.database q) ∙ sym (previewed-stays other page (right_preview_of base.database q))
+  carried-same worker (commands.Begin told) =
+      missing-same base (missing_if_idle one told.edits) _ _ (refused-same base (refusal_in_session base.database (events.Begin (map (own_edit base.numbering) told.edits))) _ _ refl)
+  carried-same worker (commands.Step most) = refused-same base (unless_repairing (state_in one).phase) _ _ refl
+  carried-same worker commands.Finish = refused-same base (unless_repairing (state_in one).phase) _ _ refl
+  carried-same worker commands.Abort = refused-same base (unless_repairing (state_in one).phase) _ _ refl
   carried-same worker commands.Status = refl
   carried-same worker (commands.Slots from to by row) = refl
   carried-same worker commands.Changes = refl
-  carried-same worker commands.NextChanges = refused-same db (unless_repairing (state_in one).phase) _ _ refl
+  carried-same worker commands.NextChanges = refused-same base (unless_repairing (state_in one).phase) _ _ refl
   carried-same worker commands.Tables = refl
+  carried-same worker (commands.Forget time) = forget-same base (forget_refusal one time) _ _ (forgotten-same (forgetting_of one time))
 
-  moved-same : (now : Option ℕ) (a b : Result Answered Refusal) → outcome_db db a ≡ outcome_db db b → outcome_db db (unless_moved now a) ≡ outcome_db db (unless_moved now b)
+  moved-same : (now : Option ℕ) (a b : Result Answered Refusal) → outcome_base base a ≡ outcome_base base b → outcome_base base (unless_moved now a) ≡ outcome_base base (unless_moved now b)
   moved-same None a b same = same
   moved-same (Some now) a b same = refl
 
-abbrev request_db : OpenSession → Result Request DocFault → Database
-request_db session (Err fault) = session.database
-request_db session (Ok request) = outcome_db session.database (outcome_of_request session request)
+abbrev request_base : OpenSession → Result Request DocFault → Base
+request_base session (Err fault) = base_of session
+request_base session (Ok request) = outcome_base (base_of session) (outcome_of_request session request)
 
-request-goes : (session : OpenSession) (asked : Result Request DocFault) → Goes session.database (request_db session asked)
+request-goes : (session : OpenSession) (asked : Result Request DocFault) → Goes (base_of session) (request_base session asked)
 request-goes session (Err fault) = inl refl
-request-goes session (Ok request) = moved-goes session.database (moved_to (now_in session.database) request.expected) _ (carried-goes session request.worker request.command)
+request-goes session (Ok request) = moved-goes (base_of session) (moved_to session.numbering (now_in session.database) request.expected) _ (carried-goes session request.worker request.command)
 
-request-same : (db : Database) (r q : List Record) (m l n k : ℕ) (asked : Result Request DocFault) → request_db (session_of db r m n) asked ≡ request_db (session_of db q l k) asked
-request-same db r q m l n k (Err fault) = refl
-request-same db r q m l n k (Ok request) =
-    moved-same db r q m l n k (moved_to (now_in db) request.expected) _ _ (carried-same db r q m l n k request.worker request.command)
+request-same : (base : Base) (r q : List Record) (m l n k : ℕ) (asked : Result Request DocFault) → request_base (session_of base r m n) asked ≡ request_base (session_of base q l k) asked
+request-same base r q m l n k (Err fault) = refl
+request-same base r q m l n k (Ok request) =
+    moved-same base r q m l n k (moved_to base.numbering (now_in base.database) request.expected) _ _ (carried-same base r q m l n k request.worker request.command)
 
--- the session after a request is open, and has that database
+-- the session after a request is open, and this is what becomes of its database
 record Next (session : OpenSession) (asked : Result Request DocFault) : Type 0 where
   pub next : OpenSession
   pub is : (turn_by_request session asked).session ≡ Open next
-  pub database : next.database ≡ request_db session asked
+  pub base : base_of next ≡ request_base session asked
 
-outcome-next : (session : OpenSession) (outcome : Result Answered Refusal) → (next : OpenSession) × ((turn_by_outcome session outcome).session ≡ Open next) × (next.database ≡ outcome_db session.database outcome)
+outcome-next : (session : OpenSession) (outcome : Result Answered Refusal) → (next : OpenSession) × ((turn_by_outcome session outcome).session ≡ Open next) × (base_of next ≡ outcome_base (base_of session) outcome)
 outcome-next session (Ok answered) = (answered.session, refl, refl)
 outcome-next session (Err refusal) = (session, refl, refl)
 
 request-next : (session : OpenSession) (asked : Result Request DocFault) → Next session asked
-request-next session (Err fault) = record { next = session; is = refl; database = refl }
+request-next session (Err fault) = record { next = session; is = refl; base = refl }
 request-next session (Ok request) =
     let n = outcome-next session (outcome_of_request session request) in
-    record { next = n.0; is = n.1; database = n.2 }
+    record { next = n.0; is = n.1; base = n.2 }
 
-two-requests : (s t : OpenSession) (value : Result Data DocFault) → t.database ≡ s.database
-    → request_db (counted t) (request_of t.database.catalog value) ≡ request_db (counted s) (request_of s.database.catalog value)
+-- ---- what only reads leaves the database as it is
+
+refused-stays : (base : Base) (refusal : Option DbError) (a : Answered) → base_of a.session ≡ base → outcome_base base (unless_refused refusal a) ≡ base
+refused-stays base None a same = same
+refused-stays base (Some error) a same = refl
+
+moved-stays : (base : Base) (now : Option ℕ) (outcome : Result Answered Refusal) → outcome_base base outcome ≡ base → outcome_base base (unless_moved now outcome) ≡ base
+moved-stays base None outcome same = same
+moved-stays base (Some now) outcome same = refl
+
+carried-stays : (session : OpenSession) (worker : ℕ) (command : Command) → is_read_only command ≡ true → outcome_base (base_of session) (carried_out session worker command) ≡ base_of session
+carried-stays session worker (commands.Write action) reads = cc
+carried-stays session worker (commands.Read q at generation page) reads = read-stays session worker q generation at page
+carried-stays session worker (commands.Preview q page) reads = previewed-stays session page (right_preview_of session.database q)
+carried-stays session worker (commands.Begin told) reads = cc
+carried-stays session worker (commands.Step most) reads = cc
+carried-stays session worker commands.Finish reads = cc
+carried-stays session worker commands.Abort reads = cc
+carried-stays session worker commands.Status reads = refl
+carried-stays session worker (commands.Slots from to by row) reads = refl
+carried-stays session worker commands.Changes reads = refl
+carried-stays session worker commands.NextChanges reads = refused-stays (base_of session) (unless_repairing (state_in session).phase) _ refl
+carried-stays session worker commands.Tables reads = refl
+carried-stays session worker (commands.Forget time) reads = cc
+
+request-stays : (session : OpenSession) (asked : Result Request DocFault) → asks_read_only asked ≡ true → request_base session asked ≡ base_of session
+request-stays session (Err fault) reads = refl
+request-stays session (Ok request) reads = moved-stays (base_of session) (moved_to session.numbering (now_in session.database) request.expected) _ (carried-stays session request.worker request.command reads)
+
+open-same : (a b : OpenSession) → Open a ≡ Open b → a ≡ b
+open-same a b is = cc
+
+reads-base : (session next : OpenSession) (asked : Result Request DocFault) → Open next ≡ (turn_by_request session asked).session → asks_read_only asked ≡ true → base_of next ≡ base_of session
+reads-base session next asked is reads =
+    let n = request-next session asked in
+    ap base_of (open-same next n.next (is ∙ n.is)) ∙ n.base ∙ request-stays session asked reads
+
+pub reads-stay : (session next : OpenSession) (asked : Result Request DocFault) → Open next ≡ (turn_by_request session asked).session → asks_read_only asked ≡ true → next.database ≡ session.database
+reads-stay session next asked is reads = ap (λ (b : Base). b.database) (reads-base session next asked is reads)
+
+pub reads-tell : (session next : OpenSession) (asked : Result Request DocFault) → Open next ≡ (turn_by_request session asked).session → asks_read_only asked ≡ true → next.numbering ≡ session.numbering
+reads-tell session next asked is reads = ap (λ (b : Base). b.numbering) (reads-base session next asked is reads)
+
+two-requests : (s t : OpenSession) (value : Result Data DocFault) → base_of t ≡ base_of s
+    → request_base (counted t) (request_of t.database.catalog value) ≡ request_base (counted s) (request_of s.database.catalog value)
 two-requests s t value same =
-    request-same t.database t.records s.records t.most_records s.most_records (t.calls + 1) (s.calls + 1) (request_of t.database.catalog value)
-    ∙ ap (λ (db : Database). request_db (session_of db s.records s.most_records (s.calls + 1)) (request_of db.catalog value)) same
+    request-same (base_of t) t.records s.records t.most_records s.most_records (t.calls + 1) (s.calls + 1) (request_of t.database.catalog value)
+    ∙ ap (λ (base : Base). request_base (session_of base s.records s.most_records (s.calls + 1)) (request_of base.database.catalog value)) same
 
 -- ---- a session that was read back beside one that goes on
 
--- a session from the lines of a log alone has the database of one that goes on
+-- a session from the lines of a log alone has the database of one that goes on, and tells its numbers as that does
 abbrev Matches : Session → Session → Type 0
 Matches replayed NotOpen = replayed ≡ NotOpen
-Matches replayed (Restored session) = (t : OpenSession) × (replayed ≡ Open t) × (t.database ≡ session.database)
-Matches replayed (Open session) = (t : OpenSession) × (replayed ≡ Open t) × (t.database ≡ session.database)
+Matches replayed (Restored session) = (t : OpenSession) × (replayed ≡ Open t) × (base_of t ≡ base_of session)
+Matches replayed (Open session) = (t : OpenSession) × (replayed ≡ Open t) × (base_of t ≡ base_of session)
 
 matches-db : (replayed session : Session) → Matches replayed session → database_of replayed ≡ database_of session
 matches-db replayed NotOpen m = ap database_of m
-matches-db replayed (Restored session) m = ap database_of m.1 ∙ ap Some m.2
-matches-db replayed (Open session) m = ap database_of m.1 ∙ ap Some m.2
+matches-db replayed (Restored session) m = ap database_of m.1 ∙ ap (λ (base : Base). Some base.database) m.2
+matches-db replayed (Open session) m = ap database_of m.1 ∙ ap (λ (base : Base). Some base.database) m.2
+
+matches-numbering : (replayed session : Session) → Matches replayed session → numbering_of replayed ≡ numbering_of session
+matches-numbering replayed NotOpen m = ap numbering_of m
+matches-numbering replayed (Restored session) m = ap numbering_of m.1 ∙ ap (λ (base : Base). Some base.numbering) m.2
+matches-numbering replayed (Open session) m = ap numbering_of m.1 ∙ ap (λ (base : Base). Some base.numbering) m.2
 
 matches-entries : (replayed session : Session) → Matches replayed session → entries_of replayed ≡ entries_of session
 matches-entries replayed NotOpen m = ap entries_of m
-matches-entries replayed (Restored session) m = ap entries_of m.1 ∙ ap (λ (db : Database). length db.history + 1) m.2
-matches-entries replayed (Open session) m = ap entries_of m.1 ∙ ap (λ (db : Database). length db.history + 1) m.2
+matches-entries replayed (Restored session) m = ap entries_of m.1 ∙ ap (λ (base : Base). length base.database.history + 1) m.2
+matches-entries replayed (Open session) m = ap entries_of m.1 ∙ ap (λ (base : Base). length base.database.history + 1) m.2
 
-same-entries : (old new : Session) → entries_of new ≡ entries_of old → makes_entry old new ≡ false
-same-entries old new same = ap not (eq-eqb (entries_of new) (entries_of old) same)
+matches-horizon : (replayed session : Session) → Matches replayed session → horizon_of replayed ≡ horizon_of session
+matches-horizon replayed NotOpen m = ap horizon_of m
+matches-horizon replayed (Restored session) m = ap horizon_of m.1 ∙ ap (λ (base : Base). base.numbering.horizon) m.2
+matches-horizon replayed (Open session) m = ap horizon_of m.1 ∙ ap (λ (base : Base). base.numbering.horizon) m.2
 
--- after a line: it makes no entry, and the two still match; or it makes one, and they match once it is replayed
+-- after a line: it changes nothing, and the two still match; or it makes one, and they match once it is replayed
 abbrev Follows : Session → Session → Session → Session → Type 0
 Follows replayed session again next =
-    (Matches replayed next × (makes_entry session next ≡ false)) ⊎ (Matches again next × (makes_entry session next ≡ true))
+    (Matches replayed next × (changes_database session next ≡ false)) ⊎ (Matches again next × (changes_database session next ≡ true))
 
 opening-follows : (asked : Result Opening DocFault) → Follows NotOpen NotOpen (turn_by_opening asked).session (turn_by_opening asked).session
 opening-follows (Err fault) = inl (refl, refl)
@@ -198,35 +349,35 @@ opening-follows (Ok opening) = inr ((opened opening, refl, refl), refl)
 
 abbrev reopened : OpenSession → Opening → Bool → Turn
 reopened session opening asks =
-    cond asks (record { text = opening_text (answers.Standing (status_of session.database)); session = Open (with_most_records session opening.records) })
-    (record { text = opening_text (answers.Refused refusals.AnotherOpening); session = Restored session })
+    cond asks (record { text = opening_text session.numbering (answers.Standing (status_of session.database)); session = Open (with_most_records session opening.records) })
+    (record { text = opening_text session.numbering (answers.Refused refusals.AnotherOpening); session = Restored session })
 
 reopening-follows : (replayed : Session) (session : OpenSession) (again : Session) (asked : Result Opening DocFault) → Matches replayed (Restored session)
     → Follows replayed (Restored session) again (turn_by_reopening session asked).session
-reopening-follows replayed session again (Err fault) m = inl (m, same-entries (Restored session) (Restored session) refl)
+reopening-follows replayed session again (Err fault) m = inl (m, same-entries (Restored session) (Restored session) refl refl)
 reopening-follows replayed session again (Ok opening) m = go (asks_for opening session.database)
   where
     go : (asks : Bool) → Follows replayed (Restored session) again (reopened session opening asks).session
-    go true = inl (m, same-entries (Restored session) (Open (with_most_records session opening.records)) refl)
-    go false = inl (m, same-entries (Restored session) (Restored session) refl)
+    go true = inl (m, same-entries (Restored session) (Open (with_most_records session opening.records)) refl refl)
+    go false = inl (m, same-entries (Restored session) (Restored session) refl refl)
 
--- two open sessions with the same database
-request-follows : (replayed : Session) (s t : OpenSession) (value : Result Data DocFault) → replayed ≡ Open t → t.database ≡ s.database
+-- two open sessions with the same database, whose numbers are told alike
+request-follows : (replayed : Session) (s t : OpenSession) (value : Result Data DocFault) → replayed ≡ Open t → base_of t ≡ base_of s
     → Follows replayed (Open s) (turn_by_value replayed value).session (turn_by_value (Open s) value).session
 request-follows replayed s t value is same =
     let mine = request-next (counted s) (request_of s.database.catalog value) in
     let theirs = request-next (counted t) (request_of t.database.catalog value) in
-    let dbs : theirs.next.database ≡ mine.next.database = theirs.database ∙ two-requests s t value same ∙ sym mine.database in
+    let bases : base_of theirs.next ≡ base_of mine.next = theirs.base ∙ two-requests s t value same ∙ sym mine.base in
     let again : (turn_by_value replayed value).session ≡ Open theirs.next = ap (λ x. (turn_by_value x value).session) is ∙ theirs.is in
     subst (λ next. Follows replayed (Open s) (turn_by_value replayed value).session next) (sym mine.is)
-    (go mine.next theirs.next again dbs (subst (Goes s.database) (sym mine.database) (request-goes (counted s) (request_of s.database.catalog value))))
+    (go mine.next theirs.next again bases (subst (Goes (base_of s)) (sym mine.base) (request-goes (counted s) (request_of s.database.catalog value))))
   where
-    go : (next theirs : OpenSession) → (turn_by_value replayed value).session ≡ Open theirs → theirs.database ≡ next.database → Goes s.database next.database
+    go : (next theirs : OpenSession) → (turn_by_value replayed value).session ≡ Open theirs → base_of theirs ≡ base_of next → Goes (base_of s) (base_of next)
         → Follows replayed (Open s) (turn_by_value replayed value).session (Open next)
-    go next theirs again dbs (inl stays) =
-        inl ((t, is, same ∙ sym stays), same-entries (Open s) (Open next) (ap (λ (db : Database). length db.history + 1) stays))
-    go next theirs again dbs (inr more) =
-        inr ((theirs, again, dbs), ap not (ne_eqb (length next.database.history + 1) (length s.database.history + 1) (λ e. omega (arith, e, more))))
+    go next theirs again bases (inl stays) =
+        inl ((t, is, same ∙ sym stays), same-entries (Open s) (Open next) (ap (λ (base : Base). length base.database.history + 1) stays) (ap (λ (base : Base). base.numbering.horizon) stays))
+    go next theirs again bases (inr other) =
+        inr ((theirs, again, bases), ap not other)
 
 value-follows : (replayed session : Session) (value : Result Data DocFault) → Matches replayed session
     → Follows replayed session (turn_by_value replayed value).session (turn_by_value session value).session
@@ -238,8 +389,8 @@ value-follows replayed (Open session) value m = request-follows replayed session
 -- a line that is lost changes no database
 lost-follows : (replayed session again : Session) → Matches replayed session → Follows replayed session again (turn_without_memory session).session
 lost-follows replayed NotOpen again m = inl (m, refl)
-lost-follows replayed (Restored session) again m = inl (m, same-entries (Restored session) (Restored session) refl)
-lost-follows replayed (Open session) again m = inl (m, same-entries (Open session) (Open (counted session)) refl)
+lost-follows replayed (Restored session) again m = inl (m, same-entries (Restored session) (Restored session) refl refl)
+lost-follows replayed (Open session) again m = inl (m, same-entries (Open session) (Open (counted session)) refl refl)
 
 read-follows : (replayed session : Session) (read : LineRead) → Matches replayed session
     → Follows replayed session (turn_of_read replayed (kept_line read.line)).session (turn_of_read session read).session
@@ -255,7 +406,7 @@ read-follows replayed session read m = passed (is_passed_over read.line) refl
     passed : (b : Bool) → is_passed_over read.line ≡ b
         → Follows replayed session (turn_of_read replayed (kept_line read.line)).session
         (cond b (record { text = []; session = session }) (cond (not (is_too_long read.line) && read.is_lost) (turn_without_memory session) (turn_by_value session (value_of_line read.line)))).session
-    passed true told = inl (m, same-entries session session refl)
+    passed true told = inl (m, same-entries session session refl refl)
     passed false told = lost (not (is_too_long read.line) && read.is_lost) told
 
 -- ---- all lines
@@ -265,11 +416,11 @@ again-append lines more line = append_assoc lines (line ∷ []) more
 
 -- what is told of lines that are read back
 abbrev Told : List (List ℕ) → Session → Type 0
-Told lines session = AreLogged lines × (database_of (after_lines lines) ≡ database_of session)
+Told lines session = AreLogged lines × (database_of (after_lines lines) ≡ database_of session) × (numbering_of (after_lines lines) ≡ numbering_of session)
 
 read-back : (reads : List LineRead) (lines : List (List ℕ)) (session : Session) → AreLogged lines → Matches (after_lines lines) session
     → Told (lines ++ logged_of session reads) (turns_of session reads).session
-read-back [] lines session are m = subst (λ ls. Told ls session) (sym (append-nil lines)) (are, matches-db (after_lines lines) session m)
+read-back [] lines session are m = subst (λ ls. Told ls session) (sym (append-nil lines)) (are, matches-db (after_lines lines) session m, matches-numbering (after_lines lines) session m)
 read-back (read ∷ reads) lines session are m =
     go (λ more told matches. read-back reads more (turn_of_read session read).session told matches) (read-follows (after_lines lines) session read m)
   where
@@ -283,13 +434,13 @@ read-back (read ∷ reads) lines session are m =
     rest = logged_of next reads
 
     go : ((more : List (List ℕ)) → AreLogged more → Matches (after_lines more) next → Told (more ++ logged_of next reads) (turns_of next reads).session)
-        → Follows (after_lines lines) session again next → Told (lines ++ with_line_if (makes_entry session next) read.line rest) (turns_of next reads).session
+        → Follows (after_lines lines) session again next → Told (lines ++ with_line_if (changes_database session next) read.line rest) (turns_of next reads).session
     go further (inl (matches, none)) =
         subst (λ b. Told (lines ++ with_line_if b read.line rest) (turns_of next reads).session) (sym none) (further lines are matches)
     go further (inr (matches, made)) =
         let more = lines ++ read.line ∷ [] in
-        let anew : makes_entry (after_lines lines) again ≡ true =
-        (λ i. not (matches-entries again next matches i == matches-entries (after_lines lines) session m i)) ∙ made in
+        let anew : changes_database (after_lines lines) again ≡ true =
+        (λ i. not ((matches-entries again next matches i == matches-entries (after_lines lines) session m i) && (matches-horizon again next matches i == matches-horizon (after_lines lines) session m i))) ∙ made in
         let before = subst (λ x. Matches x next) (sym (after-append lines read.line)) matches in
         subst (λ b. Told (lines ++ with_line_if b read.line rest) (turns_of next reads).session) (sym made)
         (subst (λ ls. Told ls (turns_of next reads).session) (again-append lines rest read.line)
@@ -306,16 +457,16 @@ front-of : (session : Session) (reads : List LineRead) (count : ℕ) → count �
 front-of session reads zero few = record { front = []; others = reads; reads_are = refl; first = refl }
 front-of session [] (suc n) few = absurd (omega arith)
 front-of session (read ∷ reads) (suc n) few =
-    go (λ k le. front-of (turn_of_read session read).session reads k le) (makes_entry session (turn_of_read session read).session) refl few
+    go (λ k le. front-of (turn_of_read session read).session reads k le) (changes_database session (turn_of_read session read).session) refl few
   where
     next : Session
     next = (turn_of_read session read).session
 
-    front-more : (k : ℕ) (f : Front next reads k) → take (suc n) (with_line_if (makes_entry session next) read.line (logged_of next reads)) ≡ with_line_if (makes_entry session next) read.line (logged_of next f.front)
+    front-more : (k : ℕ) (f : Front next reads k) → take (suc n) (with_line_if (changes_database session next) read.line (logged_of next reads)) ≡ with_line_if (changes_database session next) read.line (logged_of next f.front)
         → Front session (read ∷ reads) (suc n)
     front-more k f first = record { front = read ∷ f.front; others = f.others; reads_are = ap (λ rs. read ∷ rs) f.reads_are; first = first }
 
-    go : ((k : ℕ) → k ≤ length (logged_of next reads) → Front next reads k) → (b : Bool) → makes_entry session next ≡ b → suc n ≤ length (with_line_if b read.line (logged_of next reads))
+    go : ((k : ℕ) → k ≤ length (logged_of next reads) → Front next reads k) → (b : Bool) → changes_database session next ≡ b → suc n ≤ length (with_line_if b read.line (logged_of next reads))
         → Front session (read ∷ reads) (suc n)
     go further true made few =
         let f = further n (omega (arith, few)) in
@@ -363,4 +514,4 @@ logs_are_read_back lines start reads count r few =
     let f = front-of start reads count few in
     let matches = subst (Matches (after_lines lines)) (sym r.session_is) (restored-matches (after_lines lines) (lines-afresh lines NotOpen tt)) in
     let told = read-back f.front lines start r.are_logged matches in
-    record { front = f.front; others = f.others; reads_are = f.reads_are; first = f.first; are_logged = told.0; database = told.1 }
+    record { front = f.front; others = f.others; reads_are = f.reads_are; first = f.first; are_logged = told.0; database = told.1; numbering = told.2 }

@@ -15,14 +15,14 @@ use Rattle.tt_session.specs.declared.restoring.RestoreFault.TheVariants as fault
 use Rattle.tt_session.specs.Lines.{HasBytes, HasFirstFeed, has_no_feed, joined}
 use Rattle.tt_session.specs.Run.{Turn, begun, calls_of, turn_by_value}
 use Rattle.tt_session.specs.Answering.{turn_of_read, turns_of}
-use Rattle.tt_session.specs.Logged.{makes_entry, with_line_if, logged_by, logged_of}
+use Rattle.tt_session.specs.Logged.{changes_database, with_line_if, logged_by, logged_of}
 use Rattle.tt_session.specs.Together.{kept_line}
 use Rattle.tt_session.specs.Restoring.{after_lines, AreLogged, restored, Restores, IsNoLine}
 use Rattle.tt_session.specs.RestoringRun.{IsRestoring, FailsAtLine, FailsIn}
 use Rattle.tt_session.proofs.AnsweringLemmas.{read-long, read-kept, whole_lines_of-joined, whole_lines_of-line}
 use Rattle.tt_session.proofs.LineLemmas.{first_line, rest_of}
 use Rattle.tt_session.proofs.LoggedLemmas.{logged_of-append, none-logged, same-logged}
-use Rattle.tt_session.proofs.RunningLemmas.{turns-session, cuts-more, cuts-line, long-entries}
+use Rattle.tt_session.proofs.RunningLemmas.{turns-session, cuts-more, cuts-line, long-as-far}
 
 -- ---- lines of a log
 
@@ -32,7 +32,7 @@ kept-append lines line = map-append kept_line lines (line ∷ [])
 pub after-append : (lines : List (List ℕ)) (line : List ℕ) → after_lines (lines ++ line ∷ []) ≡ (turn_of_read (after_lines lines) (kept_line line)).session
 after-append lines line = ap (λ rs. (turns_of NotOpen rs).session) (kept-append lines line) ∙ turns-session NotOpen (map kept_line lines) (kept_line line ∷ [])
 
-pub logged-append : (lines : List (List ℕ)) (line : List ℕ) → AreLogged lines → makes_entry (after_lines lines) (turn_of_read (after_lines lines) (kept_line line)).session ≡ true → AreLogged (lines ++ line ∷ [])
+pub logged-append : (lines : List (List ℕ)) (line : List ℕ) → AreLogged lines → changes_database (after_lines lines) (turn_of_read (after_lines lines) (kept_line line)).session ≡ true → AreLogged (lines ++ line ∷ [])
 logged-append lines line are made =
     ap (logged_of NotOpen) (kept-append lines line) ∙ logged_of-append NotOpen (map kept_line lines) (kept_line line ∷ [])
     ∙ (λ i. are i ++ with_line_if (made i) line [])
@@ -56,7 +56,7 @@ restoring-more given bytes old new p none line session count = record {
 }
 
 pub restoring-line : (given : List ℕ) (old new : Restoring) (p : IsRestoring given old) → is_passed_over p.left ≡ false → begun new.session ≡ (turn_by_value (begun old.session) (value_of_line p.left)).session
-    → makes_entry (begun old.session) (begun new.session) ≡ true → HasBytes new.line [] → new.count ≡ old.count + 1 → IsRestoring (given ++ 10 ∷ []) new
+    → changes_database (begun old.session) (begun new.session) ≡ true → HasBytes new.line [] → new.count ≡ old.count + 1 → IsRestoring (given ++ 10 ∷ []) new
 restoring-line given old new p told session made line count =
     let next : begun new.session ≡ (turn_of_read (after_lines p.lines) (kept_line p.left)).session =
     session ∙ ap (λ (t : Turn). t.session) (sym (read-value (begun old.session) p.left told)) ∙ ap (λ s. (turn_of_read s (kept_line p.left)).session) p.session_is in
@@ -65,12 +65,12 @@ restoring-line given old new p told session made line count =
       left = [];
       cuts = cuts-line given p.lines p.left p.cuts;
       line = line;
-      are_logged = logged-append p.lines p.left p.are_logged ((λ i. makes_entry (sym p.session_is i) (sym next i)) ∙ made);
+      are_logged = logged-append p.lines p.left p.are_logged ((λ i. changes_database (sym p.session_is i) (sym next i)) ∙ made);
       session_is = next ∙ sym (after-append p.lines p.left);
       count_is = omega (arith, count, p.count_is, length-append p.lines (p.left ∷ []));
     }
 
--- ---- a line that makes no entry
+-- ---- a line that changes nothing
 
 fails-at : (given : List ℕ) (old : Restoring) (p : IsRestoring given old) (number : ℕ) → number ≡ old.count + 1
     → logged_by (after_lines p.lines) (turn_of_read (after_lines p.lines) (kept_line p.left)).session p.left ≡ [] → FailsAtLine (given ++ 10 ∷ []) number
@@ -95,10 +95,10 @@ fails-passed given old p number number_is told =
 pub fails-long : (given : List ℕ) (old : Restoring) (p : IsRestoring given old) (number : ℕ) → number ≡ old.count + 1 → is_too_long p.left ≡ true → FailsAtLine (given ++ 10 ∷ []) number
 fails-long given old p number number_is long =
     let after = after_lines p.lines in
-    fails-at given old p number number_is (ap (λ (t : Turn). logged_by after t.session p.left) (read-long after p.left long) ∙ none-logged after _ p.left (long-entries after))
+    fails-at given old p number number_is (ap (λ (t : Turn). logged_by after t.session p.left) (read-long after p.left long) ∙ none-logged after _ p.left (long-as-far after))
 
 pub fails-unmade : (given : List ℕ) (old : Restoring) (new : Session) (p : IsRestoring given old) (number : ℕ) → number ≡ old.count + 1 → is_passed_over p.left ≡ false
-    → new ≡ (turn_by_value (begun old.session) (value_of_line p.left)).session → makes_entry (begun old.session) new ≡ false → FailsAtLine (given ++ 10 ∷ []) number
+    → new ≡ (turn_by_value (begun old.session) (value_of_line p.left)).session → changes_database (begun old.session) new ≡ false → FailsAtLine (given ++ 10 ∷ []) number
 fails-unmade given old new p number number_is told session made =
     let next : new ≡ (turn_of_read (after_lines p.lines) (kept_line p.left)).session =
     session ∙ ap (λ (t : Turn). t.session) (sym (read-value (begun old.session) p.left told)) ∙ ap (λ s. (turn_of_read s (kept_line p.left)).session) p.session_is in

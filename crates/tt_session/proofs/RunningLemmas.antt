@@ -12,13 +12,13 @@ use Rattle.tt_session.specs.declared.run.Run.{Run}
 use Rattle.tt_session.specs.Lines.{HasBytes, has_no_feed, joined}
 use Rattle.tt_session.specs.Run.{Turn, turn_with_memory, turn_without_memory, turn_of_long_line}
 use Rattle.tt_session.specs.Answering.{LineRead, turn_of_read, turns_of, lines_read}
-use Rattle.tt_session.specs.Logged.{entries_of, logged_by, logged_of, with_lines}
+use Rattle.tt_session.specs.Logged.{logged_by, logged_of, with_lines}
 use Rattle.tt_session.specs.PendingLines.{no_lines}
 use Rattle.tt_session.specs.Together.{kept_line, AnswersFront}
 use Rattle.tt_session.specs.Running.{Handing, Stands, Cuts, Serves, Rests, Halts, Takes, StopsIn, AnswersOne, StopsAt, HandsOver, StopsBetween, StandsOn, IsShort, HandsOverShort, StopsInShort}
 use Rattle.tt_session.proofs.AnsweringLemmas.{turns_of-append, joined-append, read-kept}
 use Rattle.tt_session.proofs.LineLemmas.{feed-more, rest_of}
-use Rattle.tt_session.proofs.LoggedLemmas.{with-nil, logged_of-append, none-logged, same-logged}
+use Rattle.tt_session.proofs.LoggedLemmas.{IsAsFar, with-nil, logged_of-append, none-logged, same-logged}
 
 -- ---- lines that are read
 
@@ -117,46 +117,46 @@ one-kept handed has_log outlet old new told first start reads bytes has p sessio
     )
 
 -- a short answer
-pub long-entries : (session : Session) → entries_of (turn_of_long_line session).session ≡ entries_of session
-long-entries NotOpen = refl
-long-entries (Restored session) = refl
-long-entries (Open session) = refl
+pub long-as-far : (session : Session) → IsAsFar session (turn_of_long_line session).session
+long-as-far NotOpen = (refl, refl)
+long-as-far (Restored session) = (refl, refl)
+long-as-far (Open session) = (refl, refl)
 
-pub lost-entries : (session : Session) → entries_of (turn_without_memory session).session ≡ entries_of session
-lost-entries NotOpen = refl
-lost-entries (Restored session) = refl
-lost-entries (Open session) = refl
+pub lost-as-far : (session : Session) → IsAsFar session (turn_without_memory session).session
+lost-as-far NotOpen = (refl, refl)
+lost-as-far (Restored session) = (refl, refl)
+lost-as-far (Open session) = (refl, refl)
 
 pub is-short : (start session : Session) (reads : List LineRead) (read : LineRead) (turn : Turn) (text : List ℕ) → session ≡ (turns_of start reads).session → turn_of_read session read ≡ turn
-    → entries_of turn.session ≡ entries_of session → text ≡ turn.text → IsShort start reads read text
-is-short start session reads read turn text session_is turn_is entries text_is = record {
+    → IsAsFar session turn.session → text ≡ turn.text → IsShort start reads read text
+is-short start session reads read turn text session_is turn_is far text_is = record {
   text_is = text_is ∙ ap (λ (t : Turn). t.text) (sym turn_is) ∙ sym (one-text session read) ∙ ap (λ s. (turns_of s (read ∷ [])).text) session_is;
   not_logged =
       ap (λ s. logged_of s (read ∷ [])) (sym session_is)
-      ∙ none-logged session (turn_of_read session read).session read.line (ap (λ (t : Turn). entries_of t.session) turn_is ∙ entries);
+      ∙ none-logged session (turn_of_read session read).session read.line (subst (λ (t : Turn). IsAsFar session t.session) (sym turn_is) far);
 }
 
 -- a line whose short answer is handed over. The run is the old one but for its session, whose call is counted
 pub one-short : {O : Type 0} (handed : Handing O) (has_log : Type 0) (before after : O) (old mid new : Run) (is_lost : Bool) (turn : Turn) (text : List ℕ)
-    → ((bytes : List ℕ) → HasBytes old.line bytes → turn_of_read old.session (record { is_lost = is_lost; line = bytes }) ≡ turn) → entries_of turn.session ≡ entries_of old.session → text ≡ turn.text
+    → ((bytes : List ℕ) → HasBytes old.line bytes → turn_of_read old.session (record { is_lost = is_lost; line = bytes }) ≡ turn) → IsAsFar old.session turn.session → text ≡ turn.text
     → mid.out.items ≡ old.out.items → mid.workspace.lines ≡ old.workspace.lines → new.session ≡ turn.session → new.out.items ≡ [] → new.workspace.lines ≡ no_lines mid.workspace.lines
     → HandsOverShort handed has_log before after mid text → AnswersOne handed has_log before after old new
-one-short handed has_log before after old mid new is_lost turn text told entries text_is out_is lines_are session_is none cleared over first start reads bytes has p start_is =
+one-short handed has_log before after old mid new is_lost turn text told far text_is out_is lines_are session_is none cleared over first start reads bytes has p start_is =
     let read : LineRead = record { is_lost = is_lost; line = bytes } in
     let stands = stands-same handed has_log first before start reads old.out.items mid.out.items old.workspace.lines mid.workspace.lines p out_is lines_are in
-    let short = is-short start old.session reads read turn text start_is (told bytes has) entries text_is in (
+    let short = is-short start old.session reads read turn text start_is (told bytes has) far text_is in (
       is_lost,
       stands-handed handed has_log first before after start reads mid.out.items new.out.items mid.workspace.lines new.workspace.lines stands (reads ++ read ∷ []) (over first start reads read stands short) none cleared,
       session-push start old.session new.session reads read start_is (session_is ∙ ap (λ (t : Turn). t.session) (sym (told bytes has))),
     )
 
 pub stops-short : {O : Type 0} (handed stopped : Handing O) (has_log : Type 0) (before after : O) (old mid : Run) (is_lost : Bool) (turn : Turn) (text : List ℕ)
-    → ((bytes : List ℕ) → HasBytes old.line bytes → turn_of_read old.session (record { is_lost = is_lost; line = bytes }) ≡ turn) → entries_of turn.session ≡ entries_of old.session → text ≡ turn.text
+    → ((bytes : List ℕ) → HasBytes old.line bytes → turn_of_read old.session (record { is_lost = is_lost; line = bytes }) ≡ turn) → IsAsFar old.session turn.session → text ≡ turn.text
     → mid.out.items ≡ old.out.items → mid.workspace.lines ≡ old.workspace.lines → StopsInShort handed stopped has_log before after mid text → StopsAt handed stopped has_log before after old
-stops-short handed stopped has_log before after old mid is_lost turn text told entries text_is out_is lines_are stops first start reads bytes has p start_is =
+stops-short handed stopped has_log before after old mid is_lost turn text told far text_is out_is lines_are stops first start reads bytes has p start_is =
     let read : LineRead = record { is_lost = is_lost; line = bytes } in
     let stands = stands-same handed has_log first before start reads old.out.items mid.out.items old.workspace.lines mid.workspace.lines p out_is lines_are in
-    let short = is-short start old.session reads read turn text start_is (told bytes has) entries text_is in
+    let short = is-short start old.session reads read turn text start_is (told bytes has) far text_is in
     (is_lost, λ more. stops first start reads read more stands short)
 
 -- ---- whole lines, and the bytes of the next one

@@ -27,6 +27,7 @@ opened-sound opening is = record {
   edits = refl;
   legal = tt;
   room = refl;
+  numbered = record { within = omega arith; time = omega arith; generation = omega arith };
   few_records = omega arith;
   few_kept = is.records;
 }
@@ -45,6 +46,7 @@ fewer-sound session most sound few = record {
   edits = sound.edits;
   legal = sound.legal;
   room = sound.room;
+  numbered = sound.numbered;
   few_records = few_last most session.records;
   few_kept = few;
 }
@@ -53,8 +55,8 @@ reopening-sound : (session : OpenSession) (value : Result Data DocFault) → IsO
 reopening-sound session value sound = by (opening_of value) refl
   where
     chosen : (opening : Opening) → opening.records ≤ max_records → (asked : Bool) → IsSession (cond {A = Turn} asked
-        (record { text = opening_text (answers.Standing (status_of session.database)); session = sessions.Open (with_most_records session opening.records) })
-        (record { text = opening_text (answers.Refused refusals.AnotherOpening); session = sessions.Restored session })).session
+        (record { text = opening_text session.numbering (answers.Standing (status_of session.database)); session = sessions.Open (with_most_records session opening.records) })
+        (record { text = opening_text session.numbering (answers.Refused refusals.AnotherOpening); session = sessions.Restored session })).session
     chosen opening few true = fewer-sound session opening.records sound few
     chosen opening few false = sound
 

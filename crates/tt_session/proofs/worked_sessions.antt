@@ -1,5 +1,6 @@
 mod Asking
 mod Transcript
+mod Forgetting
 mod Faults
 mod Repairs
 mod Room

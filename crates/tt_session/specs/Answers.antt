@@ -4,7 +4,8 @@ use Rattle.tt_answers.specs.declared.answer.Answer.{Answer}
 use Rattle.tt_answers.specs.declared.answer.Refusal.{Refusal}
 use Rattle.tt_session.specs.declared.response.Response.{Response}
 use Rattle.tt_session.specs.declared.failure.Failure.{Failure}
-use Rattle.tt_session.specs.Session.{OpenSession, with_latest_if}
+use Rattle.tt_session.specs.Session.{OpenSession}
+use Rattle.tt_session.specs.Changes.{with_change}
 use Rattle.tt_session.specs.Failures.{FailsWith}
 
 -- an answer, and the session after it
@@ -12,9 +13,9 @@ pub record Answered : Type 0 where
   pub answer : Answer
   pub session : OpenSession
 
--- the answer of a request that is carried out, and the session after it, which keeps its record, if there is one
+-- the answer of a request that is carried out, and the session after it
 abbrev pub answered_by : OpenSession → Response → Answered
-answered_by session response = record { answer = response.answer; session = with_latest_if session response.latest }
+answered_by session response = record { answer = response.answer; session = with_change session response.change }
 
 -- a request becomes this: it is carried out and leaves this session, or refused. Without memory nothing is said of it
 abbrev pub Becomes : OpenSession → Result Response Failure → Result Answered Refusal → Type 0

@@ -10,6 +10,8 @@ use Rattle.tt_grammar.specs.declared.fault.DocFault.{DocFault}
 use Rattle.tt_requests.specs.declared.request.Command.{Command}
 use Rattle.tt_requests.specs.declared.request.Command.TheVariants as commands
 use Rattle.tt_requests.specs.declared.request.Request.{Request}
+use Rattle.tt_numbers.specs.declared.told.ToldTime.{ToldTime}
+use Rattle.tt_numbers.specs.Numbers.{Numbering, told_time}
 use Rattle.tt_session.specs.Session.{OpenSession, with_database, with_record}
 use Rattle.tt_answers.specs.declared.answer.Refusal.{Refusal}
 use Rattle.tt_answers.specs.declared.answer.Refusal.TheVariants as refusals
@@ -17,8 +19,10 @@ use Rattle.tt_answers.specs.declared.answer.Answer.{Answer}
 use Rattle.tt_answers.specs.declared.answer.Answer.TheVariants as answers
 use Rattle.tt_session.specs.Answers.{Answered}
 use Rattle.tt_session.specs.Room.{refusal_in_session}
-use Rattle.tt_session.specs.Repairing.{with_event, status_of, unless_refused, begin, step, finish, abort}
-use Rattle.tt_session.specs.Reading.{read, preview}
+use Rattle.tt_session.specs.Repairing.{with_event, status_of, unless_refused, step, finish, abort}
+use Rattle.tt_session.specs.Reading.{preview}
+use Rattle.tt_session.specs.ToldRequests.{read_as_told, begin_as_told, first_slot, last_slot}
+use Rattle.tt_session.specs.Forgetting.{forget}
 use Rattle.tt_session.specs.SlotEntries.{slot_entries}
 use Rattle.tt_session.specs.ChangeEntries.{changes, next_changes}
 
@@ -45,10 +49,14 @@ unchanged session answer = Ok (record { answer = answer; session = session })
 abbrev pub status : OpenSession → Result Answered Refusal
 status session = unchanged session (answers.Standing (status_of session.database))
 
--- what is told of slots, and the current time
-abbrev pub slots : OpenSession → ℕ → ℕ → Option ℕ → Option RowId → Result Answered Refusal
-slots session from to worker row =
+-- what is told of the slots from one to another, by the numbers of the database, and the current time
+abbrev pub slots_between : OpenSession → ℕ → ℕ → Option ℕ → Option RowId → Result Answered Refusal
+slots_between session from to worker row =
     unchanged session (answers.Slots (now_in session.database) (slot_entries session.database from to worker row))
+
+-- what is told of the slots from one to another behind the horizon
+abbrev pub slots : OpenSession → ToldTime → ToldTime → Option ℕ → Option RowId → Result Answered Refusal
+slots session from to worker row = slots_between session (first_slot session.numbering from) (last_slot session.numbering to) worker row
 
 -- the tables, and how much is kept
 abbrev pub declared_tables : OpenSession → Result Answered Refusal
@@ -62,12 +70,14 @@ is_read_only (commands.Begin edits) = false
 is_read_only (commands.Step most) = false
 is_read_only commands.Finish = false
 is_read_only commands.Abort = false
+is_read_only (commands.Forget time) = false
 is_read_only command = true
 
--- whether a command asks for the records of earlier calls
+-- whether a command asks for the records of earlier calls, as forgetting does, by which some of them go
 abbrev pub reads_records : Command → Bool
 reads_records commands.Changes = true
 reads_records commands.NextChanges = true
+reads_records (commands.Forget time) = true
 reads_records command = false
 
 -- whether what a line asks leaves the database as it is, as a fault does
@@ -83,9 +93,9 @@ asks_for_records (Err fault) = false
 -- a command of a worker is carried out
 abbrev pub carried_out : OpenSession → ℕ → Command → Result Answered Refusal
 carried_out session worker (commands.Write action) = write session worker action
-carried_out session worker (commands.Read select at generation page) = read session worker select generation at page
+carried_out session worker (commands.Read select at generation page) = read_as_told session worker select generation at page
 carried_out session worker (commands.Preview select page) = preview session select page
-carried_out session worker (commands.Begin edits) = begin session worker edits
+carried_out session worker (commands.Begin edits) = begin_as_told session worker edits
 carried_out session worker (commands.Step most) = step session worker most
 carried_out session worker commands.Finish = finish session worker
 carried_out session worker commands.Abort = abort session worker
@@ -94,11 +104,12 @@ carried_out session worker (commands.Slots from to by row) = slots session from 
 carried_out session worker commands.Changes = changes session
 carried_out session worker commands.NextChanges = next_changes session
 carried_out session worker commands.Tables = declared_tables session
+carried_out session worker (commands.Forget time) = forget session time
 
 -- the current time, if a request expects another one
-abbrev pub moved_to : ℕ → Option ℕ → Option ℕ
-moved_to now None = None
-moved_to now (Some expected) = if expected == now then None else Some now
+abbrev pub moved_to : Numbering → ℕ → Option ToldTime → Option ℕ
+moved_to numbering now None = None
+moved_to numbering now (Some expected) = if expected.number == (told_time numbering now).number then None else Some now
 
 -- a request is carried out, unless the time isn't the one that it expects
 abbrev pub unless_moved : Option ℕ → Result Answered Refusal → Result Answered Refusal
@@ -108,4 +119,4 @@ unless_moved (Some now) outcome = Err (refusals.Moved now)
 -- what becomes of a request: it is carried out, unless it is refused
 abbrev pub outcome_of_request : OpenSession → Request → Result Answered Refusal
 outcome_of_request session request =
-    unless_moved (moved_to (now_in session.database) request.expected) (carried_out session request.worker request.command)
+    unless_moved (moved_to session.numbering (now_in session.database) request.expected) (carried_out session request.worker request.command)

@@ -14,9 +14,9 @@ use Rattle.tt_session.specs.Repairing.{with_event, with_all_steps}
 use Rattle.tt_session.specs.Run.{turn_by_request, session_after}
 use Rattle.tt_session.specs.Sound.{IsSound}
 
--- an open session: its tables are a catalog, its limits fit, its history is legal, there is room for the end of a repair that is under way, and no more records are kept than may be
+-- an open session: its tables are a catalog, its limits fit, its history is legal, there is room for the end of a repair that is under way, what is told is within its bounds, and no more records are kept than may be
 abbrev pub IsOpenSession : OpenSession → Type 0
-IsOpenSession session = IsSound session.database session.records session.most_records
+IsOpenSession session = IsSound session.database session.numbering session.records session.most_records
 
 -- the same of a session, of which nothing holds while it is not open
 abbrev pub IsSession : Session → Type 0

@@ -7,6 +7,9 @@ pub mod Pages
 pub mod Reading
 pub mod Readings
 pub mod Repairing
+pub mod Changes
+pub mod Forgetting
+pub mod ToldRequests
 pub mod SlotEntries
 pub mod Moments
 pub mod ChangeEntries
@@ -17,6 +20,7 @@ pub mod Lines
 pub mod ShortAnswers
 pub mod Answering
 pub mod Logged
+pub mod Extents
 pub mod PendingLines
 pub mod Together
 pub mod OnLog

@@ -34,7 +34,7 @@ abbrev pub telling : {D : Type 0} → (D → Type 0) → (D → List ℕ) → (D
 telling tells seen shown moment left_since failures =
     record { tells = tells; seen = seen; shown = shown; moment = moment; left_since = left_since; failures = failures }
 
--- since a device was like this, the answers to lines that a session read were handed over, and the lines that make an entry were logged before
+-- since a device was like this, the answers to lines that a session read were handed over, and the lines that change the database were logged before
 pub record HandedOnLog {D : Type 0} (of : Telling D) (before after : D) (start : Session) (reads : List LineRead) : Type 0 where
   pub tells : of.tells after
   pub lines_are : logged (of.seen after) ≡ logged (of.seen before) ++ logged_of start reads
@@ -56,7 +56,7 @@ pub record StoppedInLog {D : Type 0} (of : Telling D) (before after : D) (start 
   pub any_moment : LeavesOnly of.moment of.left_since before after (LeavesAnswered start (logged (of.seen before)) (answered ++ pending) (of.shown before))
   pub why : (of.failures before < of.failures after) ⊎ IsFull (logged (of.seen before) ++ logged_of start (answered ++ pending))
 
--- The output has failed while it was handed the answers to the first lines read: of these lines those are logged that make an entry, and no others are.
+-- The output has failed while it was handed the answers to the first lines read: of these lines those are logged that change the database, and no others are.
 pub record StoppedInOutput {D : Type 0} (of : Telling D) (before after : D) (start : Session) (reads : List LineRead) : Type 0 where
   pub answered : List LineRead
   pub others : List LineRead

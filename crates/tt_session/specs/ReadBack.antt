@@ -25,7 +25,7 @@ replacing_line slot text = object_text ((codes "begin", array_text (replacing_te
 -- a text, put under `by`, replaces the action of any slot by this action
 abbrev pub Replaces : Tables → List ℕ → List Write → Type 0
 Replaces tables text action = (slot : ℕ) → slot < 2 ^ 64 →
-    request_of tables (value_of_line (replacing_line slot text)) ≡ Ok (record { worker = usual_worker; expected = None; command = commands.Begin (Replace slot action ∷ []) })
+    request_of tables (value_of_line (replacing_line slot text)) ≡ Ok (record { worker = usual_worker; expected = None; command = commands.Begin (record { edits = Replace slot action ∷ [] }) })
 
 -- a write that can be carried out, as it is printed, replaces an action by this write
 abbrev pub PrintedWritesReplace : Type 0

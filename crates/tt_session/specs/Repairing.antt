@@ -54,11 +54,15 @@ progress_answer session db = record { answer = answers.Repairing (progress_now d
 abbrev pub status_answer : OpenSession → Database → Answered
 status_answer session db = record { answer = answers.Standing (status_of db); session = with_database session db }
 
--- a repair begins
+-- the database of which the repair has done the slots of a ground of this size, none of which is due
+abbrev pub with_ground_steps : Database → ℕ → ℕ → Database
+with_ground_steps db worker size = with_steps db worker (min size (slots_left (state_of db)))
+
+-- a repair begins, and does the slots of the ground
 abbrev pub begin : OpenSession → ℕ → List Edit → Result Answered Refusal
 begin session worker edits =
     let event = events.Begin edits in
-    unless_refused (refusal_in_session session.database event) (progress_answer session (with_event session.database worker event))
+    unless_refused (refusal_in_session session.database event) (progress_answer session (with_ground_steps (with_event session.database worker event) worker session.numbering.ground_slots))
 
 -- the repair does slots: at most this many, and no more than are left
 abbrev pub step : OpenSession → ℕ → ℕ → Result Answered Refusal

@@ -1,6 +1,7 @@
--- How a session is read back from the lines of a log: each is answered, and each of them makes an entry.
+-- How a session is read back from the lines of a log: each is answered, and each of them changes the database.
 use Rattle.std.specs.Prelude.{◌≡◌, ℕ, ◌+◌, ◌≤◌, List, [], ◌∷◌, ◌++◌, map, length, take, Option, None, Some}
 use Rattle.tt_db.specs.Database.{Database}
+use Rattle.tt_numbers.specs.Numbers.{Numbering}
 use Rattle.tt_session.specs.declared.session.Session.{Session}
 use Rattle.tt_session.specs.declared.session.Session.TheVariants as sessions
 use Rattle.tt_session.specs.Answering.{LineRead, turn_of_read, turns_of}
@@ -41,7 +42,13 @@ database_of sessions.NotOpen = None
 database_of (sessions.Restored session) = Some session.database
 database_of (sessions.Open session) = Some session.database
 
--- the first so many of the lines that a session logs, behind those that it was read back from, are the lines of a log again: this has the database that the session had after the first lines read
+-- how a session tells its numbers, if it has a database
+abbrev pub numbering_of : Session → Option Numbering
+numbering_of sessions.NotOpen = None
+numbering_of (sessions.Restored session) = Some session.numbering
+numbering_of (sessions.Open session) = Some session.numbering
+
+-- the first so many of the lines that a session logs, behind those that it was read back from, are the lines of a log again: this has the database that the session had after the first lines read, and tells its numbers as that did
 pub record ReadsBack (lines : List (List ℕ)) (start : Session) (reads : List LineRead) (count : ℕ) : Type 0 where
   pub front : List LineRead
   pub others : List LineRead
@@ -49,6 +56,7 @@ pub record ReadsBack (lines : List (List ℕ)) (start : Session) (reads : List L
   pub first : take count (logged_of start reads) ≡ logged_of start front
   pub are_logged : AreLogged (lines ++ logged_of start front)
   pub database : database_of (after_lines (lines ++ logged_of start front)) ≡ database_of (turns_of start front).session
+  pub numbering : numbering_of (after_lines (lines ++ logged_of start front)) ≡ numbering_of (turns_of start front).session
 
 -- whatever a crash leaves of a session, the next start reads back
 abbrev pub LogsAreReadBack : Type 0

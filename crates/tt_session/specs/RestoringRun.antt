@@ -12,7 +12,7 @@ use Rattle.tt_session.specs.Together.{kept_line}
 use Rattle.tt_session.specs.Running.{Cuts}
 use Rattle.tt_session.specs.Restoring.{after_lines, AreLogged}
 
--- a session that is being read back was given these bytes: it has repeated the lines that end in them, each of which makes an entry
+-- a session that is being read back was given these bytes: it has repeated the lines that end in them, each of which changes the database
 pub record IsRestoring (given : List ℕ) (run : Restoring) : Type 0 where
   pub lines : List (List ℕ)
   pub left : List ℕ
@@ -22,7 +22,7 @@ pub record IsRestoring (given : List ℕ) (run : Restoring) : Type 0 where
   pub session_is : begun run.session ≡ after_lines lines
   pub count_is : run.count ≡ length lines
 
--- among these bytes the line of this number is the first one that makes no entry
+-- among these bytes the line of this number is the first one that changes nothing
 pub record FailsAtLine (given : List ℕ) (number : ℕ) : Type 0 where
   pub front : List (List ℕ)
   pub line : List ℕ

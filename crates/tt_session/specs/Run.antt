@@ -12,6 +12,7 @@ use Rattle.tt_requests.specs.Requests.{request_of}
 use Rattle.tt_session.specs.declared.session.Session.{Session}
 use Rattle.tt_session.specs.declared.session.Session.TheVariants as sessions
 use Rattle.tt_session.specs.Session.{OpenSession, opened, counted}
+use Rattle.tt_numbers.specs.Numbers.{nothing_forgotten}
 use Rattle.tt_answers.specs.declared.answer.Refusal.{Refusal}
 use Rattle.tt_answers.specs.declared.answer.Refusal.TheVariants as refusals
 use Rattle.tt_answers.specs.declared.answer.Answer.{Answer}
@@ -35,22 +36,22 @@ begun (Some session) = sessions.Open session
 
 -- an opening begins a session; after a fault the session is still not open
 abbrev pub turn_by_opening : Result Opening DocFault → Turn
-turn_by_opening (Err fault) = record { text = opening_text (answers.Faulty fault); session = sessions.NotOpen }
+turn_by_opening (Err fault) = record { text = opening_text nothing_forgotten (answers.Faulty fault); session = sessions.NotOpen }
 turn_by_opening (Ok opening) =
     let session = opened opening in
-    record { text = opening_text (answers.Standing (status_of session.database)); session = sessions.Open session }
+    record { text = opening_text session.numbering (answers.Standing (status_of session.database)); session = sessions.Open session }
 
 -- an opening begins a session that was read back if it asks for what that has, and gets no answer of a call; else another one is to begin it
 abbrev pub turn_by_reopening : OpenSession → Result Opening DocFault → Turn
-turn_by_reopening session (Err fault) = record { text = opening_text (answers.Faulty fault); session = sessions.Restored session }
+turn_by_reopening session (Err fault) = record { text = opening_text session.numbering (answers.Faulty fault); session = sessions.Restored session }
 turn_by_reopening session (Ok opening) =
     if asks_for opening session.database
-    then record { text = opening_text (answers.Standing (status_of session.database)); session = sessions.Open (with_most_records session opening.records) }
-    else record { text = opening_text (answers.Refused refusals.AnotherOpening); session = sessions.Restored session }
+    then record { text = opening_text session.numbering (answers.Standing (status_of session.database)); session = sessions.Open (with_most_records session opening.records) }
+    else record { text = opening_text session.numbering (answers.Refused refusals.AnotherOpening); session = sessions.Restored session }
 
 -- the last call is answered
 abbrev pub turn_of_answer : OpenSession → Answer → Turn
-turn_of_answer session answer = record { text = call_text session.database.catalog session.calls answer; session = sessions.Open session }
+turn_of_answer session answer = record { text = call_text session.database.catalog session.numbering session.calls answer; session = sessions.Open session }
 
 -- what has become of a request is told; a refused one leaves the session as it was
 abbrev pub turn_by_outcome : OpenSession → Result Answered Refusal → Turn
@@ -70,14 +71,14 @@ turn_by_value (sessions.Open session) value = turn_by_request (counted session) 
 
 -- a line for which there was no memory is an opening or a call all the same
 abbrev pub turn_without_memory : Session → Turn
-turn_without_memory sessions.NotOpen = record { text = opening_text answers.OutOfMemory; session = sessions.NotOpen }
-turn_without_memory (sessions.Restored session) = record { text = opening_text answers.OutOfMemory; session = sessions.Restored session }
+turn_without_memory sessions.NotOpen = record { text = opening_text nothing_forgotten answers.OutOfMemory; session = sessions.NotOpen }
+turn_without_memory (sessions.Restored session) = record { text = opening_text session.numbering answers.OutOfMemory; session = sessions.Restored session }
 turn_without_memory (sessions.Open session) = turn_of_answer (counted session) answers.OutOfMemory
 
 -- a line that is longer than lines may be is an opening or a call all the same
 abbrev pub turn_of_long_line : Session → Turn
-turn_of_long_line sessions.NotOpen = record { text = opening_text (answers.Faulty too_long); session = sessions.NotOpen }
-turn_of_long_line (sessions.Restored session) = record { text = opening_text (answers.Faulty too_long); session = sessions.Restored session }
+turn_of_long_line sessions.NotOpen = record { text = opening_text nothing_forgotten (answers.Faulty too_long); session = sessions.NotOpen }
+turn_of_long_line (sessions.Restored session) = record { text = opening_text session.numbering (answers.Faulty too_long); session = sessions.Restored session }
 turn_of_long_line (sessions.Open session) = turn_of_answer (counted session) (answers.Faulty too_long)
 
 -- a line is passed over or answered, where there is memory for it

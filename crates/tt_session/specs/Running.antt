@@ -97,7 +97,7 @@ abbrev pub StandsOn : {O : Type 0} → Handing O → Type 0 → O → O → Run 
 StandsOn {O} handed has_log before after old new = (first : O) (start : Session) (reads : List LineRead) →
     Stands handed has_log first before start reads old.out.items old.workspace.lines → Stands handed has_log first after start reads new.out.items new.workspace.lines
 
--- what a short answer needs: it answers a line behind those that are read, and this makes no entry
+-- what a short answer needs: it answers a line behind those that are read, and this changes nothing
 pub record IsShort (start : Session) (reads : List LineRead) (read : LineRead) (text : List ℕ) : Type 0 where
   pub text_is : text ≡ (turns_of (turns_of start reads).session (read ∷ [])).text
   pub not_logged : logged_of (turns_of start reads).session (read ∷ []) ≡ []

@@ -6,13 +6,22 @@ use Rattle.tt_db.specs.Database.{Database, state_of}
 use Rattle.tt_records.specs.declared.record.Record.{Record}
 use Rattle.tt_records.specs.declared.record.What.{What}
 use Rattle.tt_requests.specs.declared.opening.Opening.{Opening}
+use Rattle.tt_numbers.specs.Numbers.{Numbering, nothing_forgotten}
 
--- an open session: its database, the records of the last calls, how many records are kept at most, and how many calls there were
+-- an open session: its database, how its numbers are told, the records of the last calls, how many records are kept at most, and how many calls there were
 pub record OpenSession : Type 0 where
   pub database : Database
+  pub numbering : Numbering
   pub records : List Record
   pub most_records : ℕ
   pub calls : ℕ
+
+-- a database that has forgotten what lies before a time, how many of its slots are the ground, and how its numbers are told. The time is by the numbers of the database that hadn't
+pub record Forgetting : Type 0 where
+  pub db : Database
+  pub time : ℕ
+  pub ground_slots : ℕ
+  pub numbering : Numbering
 
 -- the state of its database
 abbrev pub state_in : OpenSession → State
@@ -24,7 +33,7 @@ empty_database opening = record { catalog = opening.catalog; limits = record usu
 
 -- the session that an opening asks for, before its first call
 abbrev pub opened : Opening → OpenSession
-opened opening = record { database = empty_database opening; records = []; most_records = opening.records; calls = 0 }
+opened opening = record { database = empty_database opening; numbering = nothing_forgotten; records = []; most_records = opening.records; calls = 0 }
 
 -- one more call
 abbrev pub counted : OpenSession → OpenSession

@@ -21,7 +21,7 @@ use Rattle.tt_session.specs.Session.{OpenSession, counted}
 abbrev pub kept_line : List ℕ → LineRead
 kept_line line = record { is_lost = false; line = line }
 
--- the first of some bytes are whole lines, and these are answered, each with memory, and those that make an entry are to be logged
+-- the first of some bytes are whole lines, and these are answered, each with memory, and those that change the database are to be logged
 pub record AnswersFront (bytes : List ℕ) (count : ℕ) (old new : Session) (before after : List ℕ) (kept left : Option (List (List ℕ))) : Type 0 where
   pub lines : List (List ℕ)
   pub within : count ≤ length bytes

@@ -6,14 +6,16 @@ ghost use Rattle.tt_session.specs.Commands.{status, declared_tables, carried_out
 
 use crate::change_entries::{changes, next_changes};
 use crate::failure::Failure;
+use crate::forgetting::forget;
 use crate::open_session::OpenSession;
-use crate::reading::{preview, read};
-use crate::repairing::{abort, begin, finish, status_of, step};
+use crate::reading::preview;
+use crate::repairing::{abort, finish, status_of, step};
 use crate::response::Response;
-use crate::slot_entries::slots;
+use crate::told_requests::{begin_as_told, read_as_told, slots};
 use crate::writing::write;
 use tt_answers::{Answer, Refusal};
 use tt_grammar::DocFault;
+use tt_numbers::{Numbering, ToldTime};
 use tt_requests::{Command, Request};
 
 /// How the database stands.
@@ -44,6 +46,7 @@ fn is_read_only(command: &Command) -> bool
         Command::Step(_) => false,
         Command::Finish => false,
         Command::Abort => false,
+        Command::Forget(_) => false,
         Command::Read { .. } => true,
         Command::Preview { .. } => true,
         Command::Status => true,
@@ -54,13 +57,15 @@ fn is_read_only(command: &Command) -> bool
     }
 }
 
-/// Whether a command asks for the records of earlier calls.
+/// Whether a command asks for the records of earlier calls, as forgetting does, by which some of
+/// them go.
 fn reads_records(command: &Command) -> bool
     ensures { result ≡ reads_records command.now }
 {
     match command {
         Command::Changes => true,
         Command::NextChanges => true,
+        Command::Forget(_) => true,
         _ => false,
     }
 }
@@ -104,9 +109,9 @@ fn carried_out(
             at,
             generation,
             page,
-        } => read(session, worker, select, generation, at, page),
+        } => read_as_told(session, worker, select, generation, at, page),
         Command::Preview { select, page } => preview(session, &select, page),
-        Command::Begin(edits) => begin(session, worker, edits),
+        Command::Begin(edits) => begin_as_told(session, worker, &edits),
         Command::Step(most) => step(session, worker, most),
         Command::Finish => finish(session, worker),
         Command::Abort => abort(session, worker),
@@ -120,15 +125,16 @@ fn carried_out(
         Command::Changes => changes(session),
         Command::NextChanges => next_changes(session),
         Command::Tables => declared_tables(session),
+        Command::Forget(time) => forget(session, time),
     }
 }
 
 /// The current time, if a request expects another one.
-fn moved_to(now: u64, expected: Option<u64>) -> Option<u64>
-    ensures { result ≡ moved_to now expected }
+fn moved_to(numbering: Numbering, now: u64, expected: Option<ToldTime>) -> Option<u64>
+    ensures { result ≡ moved_to numbering now expected }
 {
     match expected {
-        Some(expected) if expected != now => Some(now),
+        Some(expected) if expected.number != numbering.told_time(now).number => Some(now),
         _ => None,
     }
 }
@@ -144,7 +150,7 @@ pub(crate) fn outcome_of_request(
     ensures rest { session.new ≡ with_database session.old session.new.database }
     ensures reads { is_read_only request.command ≡ true → session.new ≡ session.old }
 {
-    match moved_to(session.db().now(), request.expected) {
+    match moved_to(session.numbering(), session.db().now(), request.expected) {
         Some(now) => Err(Failure::Refused(Refusal::Moved { now })),
         None => carried_out(session, request.worker, request.command),
     }

@@ -36,8 +36,8 @@ pub fn other_errors_answer_no_line()
 {}
 
 /// What a session has logged, and the first lines of that, however many a crash has left, are the
-/// lines of a log from which the next session begins: each makes an entry again, and they make the
-/// database that the session had behind these lines.
+/// lines of a log from which the next session begins: each changes the database again, and they
+/// make the database that the session had behind these lines, with its numbers told alike.
 pub fn logs_are_read_back()
     ensures { LogsAreReadBack }
 {}

@@ -5,6 +5,7 @@ mod change_entries;
 mod commands;
 mod failure;
 mod first_line;
+mod forgetting;
 pub mod laws;
 mod line;
 mod log_outlet;
@@ -21,8 +22,10 @@ mod restoring;
 mod room;
 mod run;
 mod session;
+mod session_change;
 mod short_answer;
 mod slot_entries;
+mod told_requests;
 mod workspace;
 mod writing;
 

@@ -38,7 +38,7 @@ pub enum LoggedFault {
 
 /// A session on a log: reads back what the log has, and then answers the lines of a reader, one
 /// after another, until its end. Before an answer is handed over, each line up to the one that it
-/// answers is on the disk, if it opens the session or makes an entry in the history; so after a
+/// answers is on the disk, if it opens the session or changes its database; so after a
 /// crash at any moment the next session on the log has all that was answered. Where the log has
 /// lines, the first line of the reader opens the session again.
 ///

@@ -2,6 +2,7 @@
 ghost use Rattle.std.specs.Prelude.{◌≡◌, ◌+◌, ◌<◌, ◌≤◌, ◌-◌, ◌^◌, OnOk, OnErr, IfOk};
 ghost use Rattle.tt_requests.specs.Opening.{max_keep, max_records};
 ghost use Rattle.tt_session.specs.Session.{counted, opened, with_latest_if, with_earlier_records, without_records};
+ghost use Rattle.tt_session.specs.Changes.{forgotten_by, with_change};
 ghost use Rattle.tt_session.specs.Invariants.{IsOpenSession};
 ghost use Rattle.tt_session.specs.Reopening.{with_most_records};
 
@@ -12,17 +13,21 @@ mod reopening;
 mod together;
 
 use crate::records::Records;
+use crate::session_change::{Forgetting, SessionChange};
 use std::alloc::{AllocError, Global};
 use std::marker::Model;
 pub(crate) use together::Extent;
 use tt_db::{Db, Limits};
+use tt_numbers::Numbering;
 use tt_records::Record;
 use tt_requests::Opening;
 
-/// A session that is open: its database, and the records of its last calls.
+/// A session that is open: its database, how its numbers are told, and the records of its last
+/// calls.
 pub struct OpenSession {
     alloc: Global,
     db: Db,
+    numbering: Numbering,
     records: Records,
     /// How many records are kept at most.
     most_records: u32,
@@ -38,12 +43,13 @@ impl Model for OpenSession {
 
     ghost view = { λ s. record {
       database = s.db;
+      numbering = s.numbering;
       records = s.records;
       most_records = s.most_records;
       calls = s.calls;
     } };
 
-    ghost invariant = { λ s. IsSound s.db s.records s.most_records };
+    ghost invariant = { λ s. IsSound s.db s.numbering s.records s.most_records };
 }
 
 // Written out, so that each place that lets a session go calls one function.
@@ -52,6 +58,7 @@ impl Drop for OpenSession {
         let OpenSession {
             alloc: _,
             db: _,
+            numbering: _,
             records: _,
             most_records: _,
             calls: _,
@@ -81,6 +88,7 @@ impl OpenSession {
         OpenSession {
             alloc,
             db,
+            numbering: Numbering::new(),
             records: Records::new(alloc),
             most_records: records,
             calls: 0,
@@ -99,6 +107,13 @@ impl OpenSession {
         ensures sound { IsOpenSession self.now }
     {
         &self.db
+    }
+
+    /// How the slots, times and generations of the database are told.
+    pub fn numbering(&self) -> Numbering
+        ensures { result ≡ self.now.numbering }
+    {
+        self.numbering
     }
 
     /// The records of the last calls.
@@ -141,6 +156,21 @@ impl OpenSession {
         self.calls
     }
 
+    /// Carries out what becomes of the session with an answer. Where memory runs out, the session
+    /// is as before.
+    fn change(&mut self, change: SessionChange) -> Result<(), AllocError>
+        ensures session { OnOk result (self.new ≡ with_change self.old change) }
+        ensures stays { OnErr result (self.new ≡ self.old) }
+    {
+        match change {
+            SessionChange::Latest(latest) => self.keep(latest),
+            SessionChange::Forgetting(forgetting) => {
+                self.go_on_behind(forgetting);
+                Ok(())
+            }
+        }
+    }
+
     /// Keeps the record of the last call, if there is one. Where memory runs out, the session is as
     /// before.
     fn keep(&mut self, latest: Option<Record>) -> Result<(), AllocError>
@@ -153,6 +183,21 @@ impl OpenSession {
         }
     }
 
+    /// Goes on with a database that has forgotten what lies before a time.
+    fn go_on_behind(&mut self, forgetting: Forgetting)
+        ensures { self.new ≡ forgotten_by self.old forgetting }
+    {
+        let Forgetting {
+            db,
+            time,
+            ground_slots,
+            numbering,
+        } = forgetting;
+        self.records.forget_before(time, ground_slots);
+        self.db = db;
+        self.numbering = numbering;
+    }
+
     /// A session to go ahead of this one, which stays as it is: its database shares all pages with
     /// the database of this one, and it has no records yet.
     fn fork(&self) -> Result<OpenSession, AllocError>
@@ -162,6 +207,7 @@ impl OpenSession {
         Ok(OpenSession {
             alloc: self.alloc,
             db,
+            numbering: self.numbering,
             records: Records::new(self.alloc),
             most_records: self.most_records,
             calls: self.calls,
@@ -178,6 +224,7 @@ impl OpenSession {
         let OpenSession {
             alloc: _,
             db,
+            numbering,
             records,
             most_records,
             calls,
@@ -185,6 +232,7 @@ impl OpenSession {
         self.records.append(records)?;
         self.records.keep_last(most_records as usize);
         self.db = db;
+        self.numbering = numbering;
         self.most_records = most_records;
         self.calls = calls;
         Ok(())

@@ -12,7 +12,7 @@ use tt_streams::{MAX_RETRIES, write_text};
 #[derive(Clone, Copy, Debug)]
 pub(crate) struct OutletError;
 
-/// Where the answers of a session go. An outlet with a log keeps the lines that make an entry
+/// Where the answers of a session go. An outlet with a log keeps the lines that change the database
 /// before it hands the answers over.
 pub(crate) trait Outlet {
     /// That it has a log.

@@ -67,7 +67,7 @@ impl PendingLines {
         }
         match self.lines.push(line) {
             Ok(()) => Ok(()),
-            // No line has a byte 0 or a line feed that makes an entry.
+            // No line has a byte 0 or a line feed that changes the database.
             Err(_) => Err(AllocError),
         }
     }

@@ -10,6 +10,7 @@ use crate::failure::Failure;
 use crate::open_session::OpenSession;
 use crate::pages::{first_page, page_after};
 use crate::response::Response;
+use crate::session_change::SessionChange;
 use std::alloc::AllocError;
 use tt_answers::Answer;
 use tt_db::Db;
@@ -41,7 +42,7 @@ fn last_time_in(db: &Db, number: u64) -> u64
 }
 
 /// The generation that is asked for: the current one, if none is.
-fn number_of(db: &Db, generation: Option<u64>) -> u64
+pub(crate) fn number_of(db: &Db, generation: Option<u64>) -> u64
     ensures { result ≡ unwrap_or generation (state_of db.now).generation }
 {
     match generation {
@@ -69,9 +70,9 @@ fn selected(
 ) -> Result<Response, AllocError>
     ensures answer { IfOk result (λ response. response.answer
         ≡ Answer.Selected reading.time (page_of_reply (page_after after) reply)) }
-    ensures latest { IfOk result (λ response. response.latest
-        ≡ latest_if (asks_for_all reading.generation (page_after after))
-        session.now reading.worker (What.Read reading.select reading.time reply)) }
+    ensures change { IfOk result (λ response. response.change
+        ≡ SessionChange.Latest (latest_if (asks_for_all reading.generation (page_after after))
+        session.now reading.worker (What.Read reading.select reading.time reply))) }
 {
     let Reading {
         worker,
@@ -96,7 +97,7 @@ fn selected(
     };
     Ok(Response {
         answer,
-        latest: Some(latest),
+        change: SessionChange::Latest(Some(latest)),
     })
 }
 

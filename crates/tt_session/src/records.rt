@@ -1,12 +1,13 @@
 //! The records of the last calls.
-ghost use Rattle.std.specs.Prelude.{◌≡◌, ◌++◌, ◌∷◌, [], OnOk, OnErr};
+ghost use Rattle.std.specs.Prelude.{◌≡◌, ◌≤◌, ◌++◌, ◌∷◌, [], Some, None, if◌then◌else◌, OnOk, OnErr};
 ghost use Rattle.tt_db.specs.State.{last_items};
+ghost use Rattle.tt_session.specs.Changes.{moved_what, moved_record, records_behind};
 ghost use Rattle.tt_session.specs.ChangeEntries.{first_call};
 
 use std::alloc::{AllocError, Global};
 use std::collections::VecDeque;
 use std::marker::Model;
-use tt_records::Record;
+use tt_records::{Record, What};
 
 /// Records of calls, the oldest first.
 #[derive(Drop)]
@@ -72,6 +73,22 @@ impl Records {
         }
     }
 
+    /// Keeps the records that are still there behind a time, where the slots up to it have become a
+    /// ground of this size. Takes no memory.
+    pub(crate) fn forget_before(&mut self, time: u64, ground_slots: u64)
+        requires { ground_slots ≤ time }
+        ensures { self.new ≡ records_behind time ground_slots self.old }
+    {
+        for _ in 0..self.queue.len() {
+            let Some(mut oldest) = self.queue.pop_front() else {
+                unreachable!()
+            };
+            if move_record(&mut oldest, time, ground_slots) {
+                self.queue.push_back_reserved(oldest);
+            }
+        }
+    }
+
     /// The records as two lists, one after the other.
     pub(crate) fn parts(&self) -> (&[Record], &[Record])
         ensures { result.0.now ++ result.1.now ≡ self.now }
@@ -87,5 +104,39 @@ impl Records {
             Some(first) => first.call,
             None => call,
         }
+    }
+}
+
+/// Moves a record behind a time. Returns whether it is still there.
+fn move_record(kept: &mut Record, time: u64, ground_slots: u64) -> bool
+    requires { ground_slots ≤ time }
+    ensures { (if result then Some kept.new else None)
+        ≡ moved_record time ground_slots kept.old }
+{
+    move_what(&mut kept.what, time, ground_slots)
+}
+
+/// Moves what a record tells behind a time, where the slots up to it have become a ground of this
+/// size. Returns whether it is still there.
+fn move_what(what: &mut What, time: u64, ground_slots: u64) -> bool
+    requires { ground_slots ≤ time }
+    ensures { (if result then Some what.new else None) ≡ moved_what time ground_slots what.old }
+{
+    match what {
+        What::Write { slot, .. } => {
+            if *slot <= time {
+                return false;
+            }
+            *slot = *slot - time + ground_slots;
+            true
+        }
+        What::Read { time: at, .. } => {
+            if *at < time {
+                return false;
+            }
+            *at = *at - time + ground_slots;
+            true
+        }
+        What::Preview { .. } | What::Later { .. } | What::NotRepairing => true,
     }
 }

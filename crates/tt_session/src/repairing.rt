@@ -11,6 +11,7 @@ ghost use Rattle.tt_session.specs.Repairing.{with_steps, progress_now, status_of
 use crate::failure::Failure;
 use crate::open_session::OpenSession;
 use crate::response::Response;
+use crate::session_change::SessionChange;
 use std::alloc::AllocError;
 use tt_answers::{Answer, Status};
 use tt_db::{Db, DbError, Edit, Event, Outcome, Progress};
@@ -57,13 +58,14 @@ pub(crate) fn status_of(db: &Db) -> Status
 fn progress_response(session: &OpenSession) -> Response
     ensures { result ≡ record {
       answer = Answer.Repairing (progress_now session.now.database);
-      latest = None;
+      change = SessionChange.Latest None;
     } }
 {
     Response::unrecorded(Answer::Repairing(progress_now(session.db())))
 }
 
-/// A repair begins.
+/// A repair begins, and does the slots of the ground. Without memory nothing is promised of the
+/// database.
 pub(crate) fn begin(
     session: &mut OpenSession,
     worker: u32,
@@ -73,7 +75,10 @@ pub(crate) fn begin(
     ensures stays { IfErr result (λ f. f ≢ Failure.Memory → session.new ≡ session.old) }
     ensures rest { session.new ≡ with_database session.old session.new.database }
 {
+    let ground_slots = session.numbering().ground_slots();
     session.advance(worker, Event::Begin(edits))?;
+    let count = ground_slots.min(session.db().slots_left());
+    make_steps(session, worker, count)?;
     Ok(progress_response(session))
 }
 

@@ -1,12 +1,11 @@
+use crate::session_change::SessionChange;
 use tt_answers::Answer;
-use tt_records::Record;
 
-/// What a request that is carried out gets: its answer, and the record that is kept of it.
+/// What a request that is carried out gets: its answer, and what becomes of the session then.
 #[derive(Drop)]
 pub(crate) struct Response {
     pub(crate) answer: Answer,
-    /// None where no record is kept of such a request.
-    pub(crate) latest: Option<Record>,
+    pub(crate) change: SessionChange,
 }
 
 impl Response {
@@ -14,11 +13,11 @@ impl Response {
 
     /// An answer of which no record is kept.
     pub(crate) fn unrecorded(answer: Answer) -> Response
-        ensures { result ≡ record { answer = answer; latest = None } }
+        ensures { result ≡ record { answer = answer; change = SessionChange.Latest None } }
     {
         Response {
             answer,
-            latest: None,
+            change: SessionChange::Latest(None),
         }
     }
 }

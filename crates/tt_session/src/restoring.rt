@@ -3,7 +3,7 @@ ghost use Rattle.std.specs.Prelude.{◌≡◌, ◌+◌, ◌-◌, ◌<◌, ◌≤
 ghost use Rattle.tt_log.specs.Lines.{text, logged};
 ghost use Rattle.tt_log.specs.Reading.{unread, IsReading};
 ghost use Rattle.tt_requests.specs.LineValue.{value_of_line};
-ghost use Rattle.tt_session.specs.Logged.{makes_entry};
+ghost use Rattle.tt_session.specs.Logged.{changes_database};
 ghost use Rattle.tt_session.specs.Run.{begun, calls_of, turn_by_value};
 ghost use Rattle.tt_session.specs.Restoring.{restored, Restores, IsNoLine};
 ghost use Rattle.tt_session.specs.RestoringRun.{IsRestoring, FailsIn};
@@ -175,8 +175,8 @@ impl Restoring {
         };
         self.text.clear();
         let (session, text) = (&mut self.session, &mut self.text);
-        let makes_entry = repeat(self.alloc, session, line, text, &mut self.scratch)?;
-        if !makes_entry {
+        let changes_database = repeat(self.alloc, session, line, text, &mut self.scratch)?;
+        if !changes_database {
             return Err(RestoreFault::Line(self.count));
         }
         self.line.clear();
@@ -184,7 +184,7 @@ impl Restoring {
     }
 }
 
-/// Answers a line, which isn't passed over, in place. Returns whether it makes an entry. Where
+/// Answers a line, which isn't passed over, in place. Returns whether it changes the database. Where
 /// memory runs out, nothing is promised of the session.
 fn repeat(
     alloc: Global,
@@ -197,15 +197,15 @@ fn repeat(
     ensures session { OnOk result (begun session.new
         ≡ (turn_by_value (begun session.old) (value_of_line line.now)).session) }
     ensures made { IfOk result (λ made.
-        made ≡ makes_entry (begun session.old) (begun session.new)) }
+        made ≡ changes_database (begun session.old) (begun session.new)) }
     ensures calls { OnOk result (calls_of (begun session.new) ≤ calls_of (begun session.old) + 1) }
 {
     match session {
         Some(open) => {
             let asked = read_request(alloc, open.db().catalog(), line, scratch)?;
-            let entries = open.db().events();
+            let extent = open.extent();
             open.answer_in_place(text, asked)?;
-            Ok(open.db().events() != entries)
+            Ok(!open.is_as_at(extent))
         }
         None => {
             let opened = open_or_stay(alloc, text, line)?;

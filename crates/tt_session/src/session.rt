@@ -13,6 +13,7 @@ use std::alloc::{AllocError, Global};
 use std::mem;
 use tt_answers::{Answer, push_opening};
 use tt_grammar::DocFault;
+use tt_numbers::Numbering;
 use tt_requests::{Opening, is_passed_over};
 
 /// A session: a database that is opened by a line, and answers each further line.
@@ -216,12 +217,12 @@ pub(crate) fn open_or_stay(
         Ok(opening) => {
             let session = OpenSession::new(alloc, opening);
             let status = status_of(session.db());
-            push_opening_answer(alloc, out, &Answer::Standing(status))?;
+            push_opening_answer(alloc, out, session.numbering(), &Answer::Standing(status))?;
             Ok(Some(session))
         }
         Err(DocFault::Memory) => Err(AllocError),
         Err(fault) => {
-            push_opening_answer(alloc, out, &Answer::Faulty(fault))?;
+            push_opening_answer(alloc, out, Numbering::new(), &Answer::Faulty(fault))?;
             Ok(None)
         }
     }
@@ -231,12 +232,14 @@ pub(crate) fn open_or_stay(
 pub(crate) fn push_opening_answer(
     alloc: Global,
     out: &mut Vec<u8>,
+    numbering: Numbering,
     answer: &Answer,
 ) -> Result<(), AllocError>
-    ensures text { OnOk result (out.new.items ≡ out.old.items ++ opening_text answer.now) }
+    ensures text { OnOk result
+        (out.new.items ≡ out.old.items ++ opening_text numbering answer.now) }
     ensures text_stays { OnErr result (out.new.items ≡ out.old.items) }
 {
     let mut text = Vec::new(alloc);
-    push_opening(alloc, &mut text, answer)?;
+    push_opening(alloc, &mut text, numbering, answer)?;
     append(out, &mut text)
 }

@@ -2,7 +2,7 @@
 ghost use Rattle.std.specs.Prelude.{◌≡◌, IfOk};
 ghost use Rattle.std.specs.Option.{option_copied};
 ghost use Rattle.tt_session.specs.Answers.{Becomes};
-ghost use Rattle.tt_session.specs.Commands.{slots};
+ghost use Rattle.tt_session.specs.Commands.{slots_between};
 ghost use Rattle.tt_session.specs.SlotEntries.{action_of, if_replaced, entry_of_slot, is_asked_for, is_unchanged, changes_row, asked_entry, slot_entries};
 
 use crate::failure::Failure;
@@ -143,15 +143,16 @@ fn slot_entries(
     Items::new(alloc, entries)
 }
 
-/// What is told of slots, and the current time.
-pub(crate) fn slots(
+/// What is told of the slots from one to another, by the numbers of the database, and the current
+/// time.
+pub(crate) fn slots_between(
     session: &OpenSession,
     from: u64,
     to: u64,
     worker: Option<u32>,
     row: Option<RowId>,
 ) -> Result<Response, Failure>
-    ensures { Becomes session.now result (slots session.now from to worker row) }
+    ensures { Becomes session.now result (slots_between session.now from to worker row) }
 {
     let db = session.db();
     let time = db.now();

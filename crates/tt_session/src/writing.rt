@@ -7,6 +7,7 @@ ghost use Rattle.tt_session.specs.Commands.{write};
 use crate::failure::Failure;
 use crate::open_session::OpenSession;
 use crate::response::Response;
+use crate::session_change::SessionChange;
 use std::alloc::AllocError;
 use tt_answers::Answer;
 use tt_db::{Event, Outcome};
@@ -17,7 +18,8 @@ use tt_values::{Items, Reply, Write};
 fn written(call: u64, worker: u32, slot: u64, replies: Items<Reply>) -> Result<Response, AllocError>
     ensures { IfOk result (λ response. response ≡ record {
       answer = Answer.Written slot replies;
-      latest = Some (record { call = call; worker = worker; what = What.Write slot replies });
+      change = SessionChange.Latest
+          (Some (record { call = call; worker = worker; what = What.Write slot replies }));
     }) }
 {
     let latest = Record {
@@ -30,7 +32,7 @@ fn written(call: u64, worker: u32, slot: u64, replies: Items<Reply>) -> Result<R
     };
     Ok(Response {
         answer: Answer::Written { slot, replies },
-        latest: Some(latest),
+        change: SessionChange::Latest(Some(latest)),
     })
 }
 

@@ -1,6 +1,7 @@
 -- What is told of slots and of the database.
 use Rattle.std.specs.Prelude.{◌≡◌, pos, [], ◌∷◌, ◌++◌, None, Some, codes, refl}
 use Rattle.std.specs.Fmt.{digits}
+use Rattle.tt_numbers.specs.Numbers.{nothing_forgotten}
 use Rattle.tt_values.specs.declared.value.Value.TheVariants as values
 use Rattle.tt_values.specs.declared.statement.Change.TheVariants as changes
 use Rattle.tt_values.specs.declared.statement.Write.TheVariants as writes
@@ -9,7 +10,7 @@ use Rattle.tt_grammar.proofs.worked_texts.Accounts.{accounts, account}
 use Rattle.tt_answers.specs.declared.answer.Answer.TheVariants as answers
 use Rattle.tt_answers.specs.AnswerText.{call_text}
 
-slots : call_text accounts 18 (answers.Slots 4 (
+slots : call_text accounts nothing_forgotten 18 (answers.Slots 4 (
     record {
       number = 1;
       worker = 1;
@@ -32,7 +33,7 @@ unfolding digits
 slots = refl
 
 -- a slot that a repair cancelled: nothing is done, and its own action is what was asked for
-cancelled : call_text accounts 19 (answers.Slots 4 (
+cancelled : call_text accounts nothing_forgotten 19 (answers.Slots 4 (
     record {
       number = 2;
       worker = 2;
@@ -46,7 +47,7 @@ unfolding digits
 cancelled = refl
 
 -- a slot that a repair replaced by two writes
-replaced : call_text accounts 25 (answers.Slots 4 (
+replaced : call_text accounts nothing_forgotten 25 (answers.Slots 4 (
     record {
       number = 2;
       worker = 2;
@@ -65,13 +66,13 @@ replaced : call_text accounts 25 (answers.Slots 4 (
 unfolding digits
 replaced = refl
 
-tables : call_text accounts 21 (answers.Declared 4 100000)
+tables : call_text accounts nothing_forgotten 21 (answers.Declared 4 100000)
     ≡ (codes "{\"call\":21,\"version\":2,\"tables\":[{\"name\":\"acct\",\"columns\":[{\"name\":\"id\",\"kind\":\"int\",\"partition\":false},{\"name\":\"owner\","
     ++ codes "\"kind\":\"text\",\"partition\":true},{\"name\":\"bal\",\"kind\":\"int\",\"partition\":false}]}],\"keep\":4,\"records\":100000}\n")
 unfolding digits
 tables = refl
 
-status : call_text accounts 22 (answers.Standing (record { time = 4; generation = 1; oldest = 0; entries = 9; repair = None }))
+status : call_text accounts nothing_forgotten 22 (answers.Standing (record { time = 4; generation = 1; oldest = 0; entries = 9; repair = None }))
     ≡ codes "{\"call\":22,\"time\":4,\"generation\":1,\"oldest\":0,\"entries\":9,\"repair\":null}\n"
 unfolding digits
 status = refl

@@ -21,6 +21,7 @@ use Rattle.tt_requests.specs.Edits.{cancel, edit}
 use Rattle.tt_requests.specs.Requests.{one_write, begin, bare, only_true, members_of_request}
 use Rattle.tt_session.specs.declared.session.Session.{Session}
 use Rattle.tt_session.specs.declared.session.Session.TheVariants as sessions
+use Rattle.tt_numbers.specs.Numbers.{nothing_forgotten}
 use Rattle.tt_session.specs.Run.{turn_of_lines}
 use Rattle.tt_session.proofs.worked_sessions.Asking.{answers}
 
@@ -28,6 +29,7 @@ use Rattle.tt_session.proofs.worked_sessions.Asking.{answers}
 abbrev limited : ℕ → Session
 limited entries = sessions.Open (record {
   database = record { catalog = tables; limits = record usual_limits { events = entries }; history = [] };
+  numbering = nothing_forgotten;
   records = [];
   most_records = 0;
   calls = 0;

@@ -1,10 +1,11 @@
-//! Lines that an open session answers, and keeps for the log if they make an entry.
-ghost use Rattle.std.specs.Prelude.{◌≡◌, ◌+◌, ◌<◌, ◌-◌, ◌^◌, ◌++◌, [], None, length, not, IfOk, IfSome, OnOk, OnErr};
+//! Lines that an open session answers, and keeps for the log if they change the database.
+ghost use Rattle.std.specs.Prelude.{◌≡◌, ◌+◌, ◌<◌, ◌-◌, ◌^◌, ◌++◌, [], None, not, IfOk, IfSome, OnOk, OnErr};
 ghost use Rattle.tt_session.specs.declared.session.Session.TheVariants.{Open};
 ghost use Rattle.tt_session.specs.Session.{counted};
 ghost use Rattle.tt_session.specs.Run.{turn_by_request};
 ghost use Rattle.tt_session.specs.Commands.{asks_read_only};
 ghost use Rattle.tt_session.specs.Logged.{logged_by, with_line_if, with_lines};
+ghost use Rattle.tt_session.specs.Extents.{extent_of, is_same_extent};
 ghost use Rattle.tt_session.specs.PendingLines.{bytes_of};
 
 use super::OpenSession;
@@ -35,9 +36,9 @@ impl OpenSession {
             (logged_by (Open self.old) (Open self.new) line.now)) }
         ensures lines_stay { OnErr result (workspace.new.lines ≡ workspace.old.lines) }
     {
-        let events = self.db.events();
+        let extent = self.extent();
         self.answer_in_place(&mut workspace.text, asked)?;
-        if self.db.events() == events {
+        if self.is_as_at(extent) {
             return Ok(());
         }
         workspace.lines.push(line)
@@ -67,15 +68,32 @@ impl OpenSession {
     {
         let mark = self.keep_line(&asked, line, &mut workspace.lines)?;
         let result = self.answer_alone(out, &mut workspace.text, asked);
-        if let Some(Mark { events, byte_len }) = mark {
-            if result.is_err() || self.db.events() == events {
+        if let Some(Mark { extent, byte_len }) = mark {
+            if result.is_err() || self.is_as_at(extent) {
                 workspace.lines.truncate(byte_len);
             }
         }
         result
     }
 
-    /// Keeps a line for the log, unless what it asks makes no entry. Returns where the history and
+    /// How far the session is.
+    pub(crate) fn extent(&self) -> SessionExtent
+        ensures { result ≡ extent_of self.now }
+    {
+        SessionExtent {
+            events: self.db.events(),
+            horizon: self.numbering.horizon().number,
+        }
+    }
+
+    /// Whether the session is as far as it was then: its database is the same.
+    pub(crate) fn is_as_at(&self, extent: SessionExtent) -> bool
+        ensures { result ≡ is_same_extent (extent_of self.now) extent }
+    {
+        self.db.events() == extent.events && self.numbering.horizon().number == extent.horizon
+    }
+
+    /// Keeps a line for the log, unless what it asks changes nothing. Returns where the history and
     /// the lines ended before, if there is a log.
     fn keep_line(
         &self,
@@ -85,7 +103,7 @@ impl OpenSession {
     ) -> Result<Option<Mark>, AllocError>
         ensures none { IfOk result (λ mark. mark ≡ None → lines.old ≡ None) }
         ensures mark { IfOk result (λ mark. IfSome mark (λ mark.
-            (mark.events ≡ length self.now.database.history)
+            (mark.extent ≡ extent_of self.now)
             × (mark.byte_len ≡ bytes_of lines.old))) }
         ensures kept { OnOk result (lines.new ≡ with_lines lines.old
             (with_line_if (not (asks_read_only asked.now)) line.now [])) }
@@ -99,17 +117,25 @@ impl OpenSession {
             lines.push(line)?;
         }
         Ok(Some(Mark {
-            events: self.db.events(),
+            extent: self.extent(),
             byte_len,
         }))
     }
 }
 
-/// Where a history and the lines to log end.
+/// How far a session is.
+#[derive(Clone, Copy)]
+pub(crate) struct SessionExtent {
+    /// How many entries the history has.
+    pub(crate) events: u64,
+    /// The time that was last forgotten up to, as it is told.
+    pub(crate) horizon: u64,
+}
+
+/// How far a session is, and where the lines to log end.
 #[derive(Clone, Copy)]
 struct Mark {
-    /// How many entries the history has.
-    events: u64,
+    extent: SessionExtent,
     /// How many bytes the lines have.
     byte_len: usize,
 }

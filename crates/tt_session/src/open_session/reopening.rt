@@ -37,7 +37,7 @@ impl OpenSession {
             Ok(opening) => self.take_opening(out, &opening),
             Err(DocFault::Memory) => Err(AllocError),
             Err(fault) => {
-                push_opening_answer(self.alloc, out, &Answer::Faulty(fault))?;
+                push_opening_answer(self.alloc, out, self.numbering, &Answer::Faulty(fault))?;
                 Ok(false)
             }
         }
@@ -58,11 +58,11 @@ impl OpenSession {
     {
         if !asks_for(opening, &self.db) {
             let refusal = Answer::Refused(Refusal::AnotherOpening);
-            push_opening_answer(self.alloc, out, &refusal)?;
+            push_opening_answer(self.alloc, out, self.numbering, &refusal)?;
             return Ok(false);
         }
         let status = status_of(&self.db);
-        push_opening_answer(self.alloc, out, &Answer::Standing(status))?;
+        push_opening_answer(self.alloc, out, self.numbering, &Answer::Standing(status))?;
         self.keep_at_most(opening.records);
         Ok(true)
     }

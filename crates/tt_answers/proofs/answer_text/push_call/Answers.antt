@@ -10,8 +10,8 @@ use Rattle.tt_answers.proofs.answer_text.push_call.Goals as goal
 
 pub returns : goal.returns
 returns c =
-    let members = answer_members c.args.catalog.now c.args.answer.now in
+    let members = answer_members c.args.catalog.now c.args.numbering c.args.answer.now in
     call-pieces c.args.out.now.items c.push_labelled.new.out.items c.push.new.self.items c.push_answer.new.out.items c.extend_from_slice.new.self.items
     (codes "{\"call\":") (decimal c.args.call) (codes ",") (members_text members) (flat_map further_item (map member_text members)) (codes "}") (codes "\n")
-    (further-members c.args.catalog.now c.args.answer.now)
+    (further-members c.args.catalog.now c.args.numbering c.args.answer.now)
     c.in_ok-push_labelled.ensures c.in_ok-push.ensures.items c.in_ok-push_answer.ensures c.in_ok-extend_from_slice.ensures.items

@@ -9,5 +9,5 @@ use Rattle.tt_answers.proofs.answer_text.push_changes_from.Goals as goal
 pub returns : goal.returns
 returns c =
     number-value c.args.out.now.items c.push_labelled.new.out.items c.extend_from_slice.new.self.items c.push_changes.new.out.items
-    (codes "\"from\":") (decimal c.args.from) (codes ",\"changed\":") (array_text (map change_text c.args.changes.now))
+    (codes "\"from\":") (decimal c.args.from) (codes ",\"changed\":") (array_text (map (change_text c.args.numbering) c.args.changes.now))
     c.in_ok-push_labelled.ensures c.in_ok-extend_from_slice.ensures.items c.in_ok-push_changes.ensures

@@ -6,4 +6,6 @@ use Rattle.tt_answers.specs.AnswerText.{change_text}
 use Rattle.tt_answers.proofs.slot_text.push_further_changes.Given as goal
 
 abbrev pub invariant-loop-change : goal.invariant-loop-change
-invariant-loop-change l = l.out.items ++ flat_map further_item (map change_text (drop l.change-index l.changes)) ≡ l.fn.out.items ++ flat_map further_item (map change_text l.changes)
+invariant-loop-change l =
+    l.out.items ++ flat_map further_item (map (change_text l.numbering) (drop l.change-index l.changes))
+    ≡ l.fn.out.items ++ flat_map further_item (map (change_text l.numbering) l.changes)

@@ -6,4 +6,6 @@ use Rattle.tt_answers.specs.AnswerText.{slot_text}
 use Rattle.tt_answers.proofs.slot_text.push_further_slots.Given as goal
 
 abbrev pub invariant-loop-slot : goal.invariant-loop-slot
-invariant-loop-slot l = l.out.items ++ flat_map further_item (map (slot_text l.catalog) (drop l.slot-index l.slots)) ≡ l.fn.out.items ++ flat_map further_item (map (slot_text l.catalog) l.slots)
+invariant-loop-slot l =
+    l.out.items ++ flat_map further_item (map (slot_text l.catalog l.numbering) (drop l.slot-index l.slots))
+    ≡ l.fn.out.items ++ flat_map further_item (map (slot_text l.catalog l.numbering) l.slots)

@@ -10,7 +10,7 @@ use Rattle.tt_answers.proofs.slot_text.push_slots.Goals as goal
 pub returns : goal.returns
 returns c =
     subst (λ t. c.push-2.new.self.items ≡ c.args.out.now.items ++ t)
-    (array_text-first (slot_text c.args.catalog.now) c.args.slots.now c.first-item.result c.in-len1-up.len_at_least c.first-item.is)
+    (array_text-first (slot_text c.args.catalog.now c.args.numbering) c.args.slots.now c.first-item.result c.in-len1-up.len_at_least c.first-item.is)
     (four-pieces c.args.out.now.items c.push.new.self.items c.push_slot.new.out.items c.push_further_slots.new.out.items c.push-2.new.self.items
-    (codes "[") (slot_text c.args.catalog.now c.first-item.result) (flat_map further_item (map (slot_text c.args.catalog.now) (take (length c.args.slots.now - 1) (drop 1 c.args.slots.now)))) (codes "]")
+    (codes "[") (slot_text c.args.catalog.now c.args.numbering c.first-item.result) (flat_map further_item (map (slot_text c.args.catalog.now c.args.numbering) (take (length c.args.slots.now - 1) (drop 1 c.args.slots.now)))) (codes "]")
     c.in_ok-push.ensures.items c.in_ok-push_slot.ensures c.in_ok-push_further_slots.ensures c.in_ok-push-2.ensures.items)

@@ -14,5 +14,5 @@ new-session-requires-clause-records c = (is_opening (value_of_line c.args.line.n
 pub returns-in_ok-push_opening_answer-in-Ok-clause-text : goal.returns-in_ok-push_opening_answer-in-Ok-clause-text
 returns-in_ok-push_opening_answer-in-Ok-clause-text c =
     c.in_ok-push_opening_answer-in-Ok.ensures.text
-    ∙ ap (λ t. c.args.out.now.items ++ t) (opened-text (opening_of (value_of_line c.args.line.now)) c.in-Ok.opening c.new-session.result c.db.result.now c.status_of-status.result
-    c.in-Ok.ensures c.new-session.ensures c.db.ensures.value c.status_of-status.ensures)
+    ∙ ap (λ t. c.args.out.now.items ++ t) (opened-text (opening_of (value_of_line c.args.line.now)) c.in-Ok.opening c.new-session.result c.db.result.now c.numbering.result c.status_of-status.result
+    c.in-Ok.ensures c.new-session.ensures c.db.ensures.value c.numbering.ensures c.status_of-status.ensures)

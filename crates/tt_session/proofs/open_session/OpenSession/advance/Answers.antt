@@ -7,5 +7,5 @@ pub invariant_of-self : goal.invariant_of-self
 invariant_of-self c =
     let s = c.self.inside in
     let done = c.advance.ensures in
-    sound-advanced c.advance.result s.db c.advance.new.self s.records s.most_records c.args.worker c.args.event c.self.invariant
+    sound-advanced c.advance.result s.db c.advance.new.self s.numbering s.records s.most_records c.args.worker c.args.event c.self.invariant
     (sym c.leaves_no_room.ensures ∙ c.if-leaves_no_room.false) done.state done.accepted done.unchanged done.memory done.catalog done.limits

@@ -1,0 +1,10 @@
+mod AcceptedLemmas
+mod RowLemmas
+mod GroundLemmas
+mod HistoryLemmas
+mod WorkerLemmas
+mod ForgettingLemmas
+mod LayingLemmas
+mod BehindLemmas
+pub mod LawProofs
+mod worked_rows

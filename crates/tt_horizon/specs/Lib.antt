@@ -1,0 +1,3 @@
+pub mod Forgetting
+pub mod Laying
+pub mod Laws

@@ -1,0 +1,53 @@
+-- The contents after slots, each made from the one before it.
+use Rattle.std.proofs.Common.{◌≡◌, ℕ, suc, List, [], ◌∷◌, length, map, fold, flat_map, Option, None, Some, refl, sym, ap, ◌∙◌}
+use Rattle.tt_values.specs.declared.statement.Write.{Write}
+use Rattle.tt_values.specs.Content.{Content, with_row_write, empty_content}
+use Rattle.tt_values.specs.Action.{content_after_action}
+use Rattle.tt_values.specs.ActionLaws.{IsByRisingKey}
+use Rattle.tt_values.specs.RowWrites.{Slots, slot_after, slot_writes, row_writes}
+use Rattle.tt_values.proofs.LawProofs.{rows_rise, next_content, action_leaves_its_last_content, actions_follow}
+use Rattle.tt_repair_laws.specs.Due.{content_after}
+
+-- the content after a slot. A cancelled slot leaves it as it is
+abbrev pub content_after_slot : Option (List Write) → Content → Content
+content_after_slot None X = X
+content_after_slot (Some action) X = content_after_action action X
+
+-- the rows of each table rise after any number of slots
+pub content_rises : (W : Slots) (n : ℕ) → IsByRisingKey (content_after W n)
+content_rises W n table = rows_rise (row_writes W n) n table
+
+-- the row writes of a slot leave the content after it, whatever their time is
+slot_leaves : (time : ℕ) (s : Option (List Write)) (X : Content) → IsByRisingKey X → fold with_row_write X (slot_writes time s X) ≡ content_after_slot s X
+slot_leaves time None X rising = refl
+slot_leaves time (Some action) X rising = action_leaves_its_last_content time action X rising
+
+-- each content is made from the one before it by the slot between them
+pub next_by_slot : (W : Slots) (n : ℕ) → content_after W (suc n) ≡ content_after_slot (slot_after W n) (content_after W n)
+next_by_slot W n = next_content W n ∙ slot_leaves (suc n) (slot_after W n) (content_after W n) (content_rises W n)
+
+-- before the first slot there are no rows
+pub first_content : (W : Slots) → content_after W 0 ≡ empty_content
+unfolding row_writes
+first_content W = refl
+
+-- the content after slots in turn, from a content on
+abbrev pub after_slots : Slots → Content → Content
+after_slots [] X = X
+after_slots (s ∷ W) X = after_slots W (content_after_slot s X)
+
+-- contents that are made from one another by slots end with the one after all these slots
+contents_in_turn : (W : Slots) (at : ℕ → Content) → ((i : ℕ) → at (suc i) ≡ content_after_slot (slot_after W i) (at i)) → at (length W) ≡ after_slots W (at 0)
+contents_in_turn [] at h = refl
+contents_in_turn (s ∷ W) at h = contents_in_turn W (λ i. at (suc i)) (λ i. h (suc i)) ∙ ap (after_slots W) (h 0)
+
+-- the content after all slots of a list is the one after them in turn
+pub content_after_all : (W : Slots) → content_after W (length W) ≡ after_slots W empty_content
+content_after_all W = contents_in_turn W (content_after W) (next_by_slot W) ∙ ap (after_slots W) (first_content W)
+
+-- actions, each in a slot of its own, leave the content of one action of all their writes
+pub after_slots-actions : (G : List (List Write)) (X : Content) → after_slots (map Some G) X ≡ content_after_action (flat_map (λ action. action) G) X
+after_slots-actions [] X = refl
+after_slots-actions (action ∷ G) X =
+    let rest = flat_map (λ (next : List Write). next) G in
+    after_slots-actions G (content_after_action action X) ∙ sym (actions_follow action rest X).0

@@ -1,0 +1,2 @@
+mod Grounds
+mod Repairs

@@ -1,0 +1,44 @@
+//! What becomes of a session with an answer, apart from its database.
+use std::marker::Model;
+use tt_db::Db;
+use tt_numbers::Numbering;
+use tt_records::Record;
+
+/// What becomes of a session once the answer to a request is made.
+#[derive(Drop)]
+pub(crate) enum SessionChange {
+    /// The record of the call is kept, if there is one.
+    Latest(Option<Record>),
+    /// The session goes on with a database that has forgotten what lies before a time.
+    Forgetting(Forgetting),
+}
+
+/// A database that has forgotten what lies before a time, and how a session goes on with it.
+#[derive(Drop)]
+pub(crate) struct Forgetting {
+    pub(crate) db: Db,
+    /// The time, by the numbers of the database that hadn't forgotten.
+    pub(crate) time: u64,
+    /// How many slots of the database are the ground.
+    pub(crate) ground_slots: u64,
+    /// How the numbers of the database are told.
+    pub(crate) numbering: Numbering,
+}
+
+impl Model for Forgetting {
+    ghost use Rattle.std.specs.Prelude.{◌≤◌, []};
+    ghost use Rattle.tt_session.specs.Session.{Forgetting};
+    ghost use Rattle.tt_session.specs.Sound.{IsSound};
+
+    ghost Value = { Forgetting };
+
+    ghost view = { λ f. record {
+      db = f.db;
+      time = f.time;
+      ground_slots = f.ground_slots;
+      numbering = f.numbering;
+    } };
+
+    ghost invariant = { λ f.
+        IsSound f.db f.numbering [] 0 × (f.ground_slots ≤ f.time) };
+}
