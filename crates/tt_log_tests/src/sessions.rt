@@ -10,7 +10,7 @@ const OPENING: &str =
     r#"{"version":2,"tables":[{"name":"acct","columns":[{"name":"id","kind":"int"},{"name":"owner","kind":"text","partition":true}]}]}
 "#;
 
-/// Lines that make an entry, the opening first.
+/// Lines that change the database, the opening first.
 const LOGGED: [&str; 7] = [
     OPENING,
     "{\"do\":[{\"insert\":\"acct\",\"row\":[1,\"ann\"]},{\"insert\":\"acct\",\"row\":[2,\"bob\"]}]}\n",
@@ -136,7 +136,7 @@ fn all_lines(rt: &impl Abort, alloc: Global) -> String {
     lines
 }
 
-/// The lines that make an entry are logged, and no others; the answers are those without a log.
+/// The lines that change the database are logged, and no others; the answers are those without a log.
 #[test]
 fn lines_that_make_an_entry_are_logged(rt: HostRuntime) {
     let alloc = rt.alloc();

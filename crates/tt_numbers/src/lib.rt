@@ -2,6 +2,7 @@
 //! begins anew because it forgets.
 #![tactic(auto)]
 
+pub mod laws;
 mod numbering;
 mod told;
 
