@@ -12,11 +12,11 @@ use Rattle.tt_repair_laws.specs.declared.edit.Edit.TheVariants.{Cancel, Replace}
 abbrev pub inserts_of : ℕ → RowsByKey → List Write
 inserts_of table rows = map (λ e. Insert table e.1) rows
 
--- the inserts of the rows of so many tables: by table, then by key
+-- the inserts of the rows of all tables below this number: by table, then by key
 abbrev pub inserts_of_tables : ℕ → Content → List Write
 inserts_of_tables tables X = flat_map (λ table. inserts_of table (X table)) (range_with_len 0 tables)
 
--- at most so many lists of n items each; the last may have fewer, and none is empty
+-- the first items, in lists of n, and no more lists than this; the last may have fewer items, and none is empty
 abbrev pub some_pieces : {X : Type 0} → ℕ → ℕ → List X → List (List X)
 some_pieces zero n items = []
 some_pieces (suc most) n [] = []
@@ -30,7 +30,7 @@ in_pieces n items = some_pieces (length items) n items
 abbrev pub ground_writes : ℕ
 ground_writes = 16
 
--- the actions that insert the rows of so many tables
+-- the actions that insert the rows of all tables below this number
 abbrev pub ground_of_content : ℕ → Content → List (List Write)
 ground_of_content tables X = in_pieces ground_writes (inserts_of_tables tables X)
 
@@ -43,7 +43,7 @@ kept_slot (Some action) = Some action
 abbrev pub on_ground : List (List Write) → Slots → ℕ → Slots
 on_ground G W time = map Some G ++ map kept_slot (drop time W)
 
--- where a time from the horizon on, or a slot behind it, comes to stand on so many slots of a ground
+-- where a time from the horizon on, or a slot behind it, comes to stand on a ground of this size
 abbrev pub moved : ℕ → ℕ → ℕ → ℕ
 moved horizon size t = (t - horizon) + size
 

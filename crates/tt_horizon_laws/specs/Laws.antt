@@ -13,7 +13,7 @@ use Rattle.tt_repair_laws.specs.Edits.{slot_number, edited_slots}
 use Rattle.tt_repair_laws.specs.Due.{content_after, is_due, dirty_after, reexecuted_count}
 use Rattle.tt_horizon_laws.specs.Ground.{ground_of_content, ground_writes, on_ground, moved, moved_edit}
 
--- actions that leave a content, on nothing
+-- actions that leave a content where they are carried out on empty tables
 abbrev pub Leaves : List (List Write) → Content → Type 0
 Leaves G X = content_of (map Some G) (length G) ≡ X
 
@@ -40,14 +40,14 @@ pub record IsSameBehind (tables : Tables) (W V : Slots) (E F : List Edit) (n m :
   pub replies : replies_or_none (slot_after V m) (content_after V m) ≡ replies_or_none (slot_after W n) (content_after W n)
   pub edited_replies : replies_or_none (slot_after (edited_slots V F) m) (content_after (edited_slots V F) m) ≡ replies_or_none (slot_after (edited_slots W E) n) (content_after (edited_slots W E) n)
 
--- This holds after forgetting, with whatever slots follow, of each repair that edits only slots behind the time.
+-- After forgetting, with whatever slots follow, this holds of each repair that edits only slots behind the time.
 abbrev pub ForgettingKeepsRepairs : Type 0
 ForgettingKeepsRepairs = (tables : Tables) (W : Slots) (G : List (List Write)) (time : ℕ) (X : Slots) (E : List Edit) (n : ℕ) →
     Leaves G (content_of W time) → time ≤ length W → All (IsBehind time) E → time ≤ n → n ≤ length (W ++ X) →
     let k = length G in
     IsSameBehind tables (W ++ X) (on_ground G W time ++ X) E (map (moved_edit time k) E) n (moved time k n)
 
--- No slot of the ground is due in such a repair.
+-- No slot of the ground is due in a repair that edits only slots behind the time.
 abbrev pub GroundIsNeverDue : Type 0
 GroundIsNeverDue = (tables : Tables) (W : Slots) (G : List (List Write)) (time : ℕ) (X : Slots) (E : List Edit) (i : ℕ) →
     All (IsBehind time) E → i < length G → is_due tables (on_ground G W time ++ X) (map (moved_edit time (length G)) E) i ≡ false
@@ -57,16 +57,16 @@ pub record AreKeyed (rows : RowsByKey) : Type 0 where
   pub rising : sorted.is_sorted int_cmp rows ≡ true
   pub own : All (λ e. key_of e.1 ≡ e.0) rows
 
--- all rows of a content lie in the first so many tables, and are keyed
+-- a content has rows only in the tables below this number, and each table is keyed
 pub record IsWithinTables (tables : ℕ) (X : Content) : Type 0 where
   pub keyed : (table : ℕ) → AreKeyed (X table)
   pub none : (table : ℕ) → tables ≤ table → X table ≡ []
 
--- the ground of such a content leaves it, on nothing
+-- the ground of a content within its tables leaves this content
 abbrev pub GroundLeavesContent : Type 0
 GroundLeavesContent = (tables : ℕ) (X : Content) → IsWithinTables tables X → Leaves (ground_of_content tables X) X
 
--- a slot has at most so many writes
+-- a slot has no more writes than this
 abbrev pub HasFewWrites : ℕ → Option (List Write) → Type 0
 HasFewWrites most slot = length (unwrap_or slot []) ≤ most
 

@@ -12,7 +12,7 @@ pub fn forgetting_keeps_repairs()
     ensures { ForgettingKeepsRepairs }
 {}
 
-/// No slot of the ground is due in such a repair.
+/// No slot of the ground is due in a repair that edits only slots behind the time of forgetting.
 pub fn ground_is_never_due()
     ensures { GroundIsNeverDue }
 {}

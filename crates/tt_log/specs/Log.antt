@@ -32,7 +32,7 @@ pub record KeepsFirst (lines new : List (List ℕ)) (shown : List ℕ) (left : L
   pub lines_are : logged left.file ≡ lines ++ take count new
   pub shown_is : left.shown ≡ shown
 
--- the same; or all lines are there, and of the answers the first so many bytes have been handed over
+-- the same; or all lines are there, and a prefix of the answers has been handed over
 abbrev pub KeepsAnswered : List (List ℕ) → List (List ℕ) → List ℕ → List ℕ → Left → Type 0
 KeepsAnswered lines new shown answers left =
     KeepsFirst lines new shown left ⊎ ((logged left.file ≡ lines ++ new) × ((n : ℕ) × (left.shown ≡ shown ++ take n answers)))

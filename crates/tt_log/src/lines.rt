@@ -97,7 +97,7 @@ impl Lines {
         Ok(())
     }
 
-    /// Keeps the first lines, which have so many bytes with a line feed behind each.
+    /// Keeps the first lines, those that take this many bytes with a line feed behind each.
     pub fn truncate(&mut self, byte_len: usize)
         requires { (kept : List (List ℕ)) × (more : List (List ℕ))
             × (self.old ≡ kept ++ more) × (byte_len ≡ length (joined kept)) }

@@ -132,8 +132,8 @@ impl<D: Device> Log<D> {
         Ok(())
     }
 
-    /// Makes the file longer where it has no room for so many further bytes. Returns where they are
-    /// to end.
+    /// Makes the file longer where it has no room for this many further bytes. Returns where they
+    /// are to end.
     fn make_room(&mut self, count: u64) -> Result<u64, LogError>
         requires { D.tells self.old.device → IsSettled D.seen D.may_leave self.old }
         ensures end { IfOk result (λ end. end ≡ self.new.end + count) }

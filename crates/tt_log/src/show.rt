@@ -77,8 +77,8 @@ fn end_of_lines<D: Device>(device: &D, len: u64, buffer: &mut [u8]) -> Result<u6
     Ok(end)
 }
 
-/// Where the last line ends behind a piece of a file that begins here and whose last line has ended
-/// after so many bytes, or none of whose lines has.
+/// Where the last line ends once a piece of a file is read that begins at `at`: behind the first
+/// `bytes` bytes of the piece, or where it ended before if these are none.
 fn end_after(earlier: u64, at: u64, bytes: usize) -> u64
     requires { at + bytes < 2 ^ 64 }
     ensures none { bytes ≡ 0 → result ≡ earlier }

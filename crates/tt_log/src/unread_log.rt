@@ -32,17 +32,20 @@ impl<D: Device> UnreadLog<D> {
     /// told; either gives the device back.
     pub fn open(device: D) -> Result<UnreadLog<D>, (LogError, D)>
         ensures tells { IfOk result (λ log. D.tells device ↔ D.tells log.device) }
-        ensures reading { IfOk result (λ log. D.tells device → IsReading D.seen D.may_leave log) }
+        ensures reading { IfOk result (λ log. D.tells device
+            → IsReading D.seen D.may_leave log) }
         ensures unread { IfOk result (λ log. D.tells device
             → unread D.seen log ≡ text (D.seen device)) }
-        ensures seen { IfOk result (λ log. D.tells device → D.seen log.device ≡ D.seen device) }
-        ensures shown { IfOk result (λ log. D.tells device → D.shown log.device ≡ D.shown device) }
+        ensures seen { IfOk result (λ log. D.tells device
+            → D.seen log.device ≡ D.seen device) }
+        ensures shown { IfOk result (λ log. D.tells device
+            → D.shown log.device ≡ D.shown device) }
 
         // A crash at any moment leaves what it might have left before or, once the file is synced,
         // the lines that are to be read.
-        ensures any_moment { IfOk result (λ log. D.tells device → LeavesOnly D.moment D.left_since
-            device log.device (KeepsOnceSynced (D.may_leave device)
-            (logged (D.seen device)) (D.shown device))) }
+        ensures any_moment { IfOk result (λ log. D.tells device
+            → LeavesOnly D.moment D.left_since device log.device (KeepsOnceSynced
+            (D.may_leave device) (logged (D.seen device)) (D.shown device))) }
         ensures any_moment_err { IfErr result (λ e. D.tells device
             → LeavesOnly D.moment D.left_since device e.1 (KeepsOnceSynced (D.may_leave device)
             (logged (D.seen device)) (D.shown device))) }
@@ -96,8 +99,8 @@ impl<D: Device> UnreadLog<D> {
         ensures within { IfOk result (λ n. n ≤ length buffer.new) }
         ensures bytes { D.tells self.old.device → IfOk result (λ n.
             take n buffer.new ++ unread D.seen self.new ≡ unread D.seen self.old) }
-        ensures end { D.tells self.old.device → IfOk result (λ n. n ≡ 0 → 0 < length buffer.new
-            → unread D.seen self.new ≡ []) }
+        ensures end { D.tells self.old.device → IfOk result (λ n. n ≡ 0
+            → 0 < length buffer.new → unread D.seen self.new ≡ []) }
     {
         let count = self.next_count(buffer.len());
         if count == 0 {

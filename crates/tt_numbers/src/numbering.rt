@@ -59,7 +59,7 @@ impl Numbering {
     }
 
     /// The numbering after what lies before a time was forgotten in a generation, both as they are
-    /// told, where so many slots of the database are the ground.
+    /// told. The first `ground_slots` slots of the database are the ground.
     pub fn behind(time: ToldTime, ground_slots: u64, generation: ToldGeneration) -> Numbering
         requires within { ground_slots ≤ time.number }
         requires time { time.number < number_limit }

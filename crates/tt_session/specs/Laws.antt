@@ -26,7 +26,7 @@ answers_lines (errors.NotCaughtUp left) = false
 answers_lines errors.TooManyEdits = false
 answers_lines error = true
 
--- a request that was read from a line is refused with such an error only
+-- a request that was read from a line is refused with no other error of the database
 abbrev pub OtherErrorsAnswerNoLine : Type 0
 OtherErrorsAnswerNoLine = (session : OpenSession) (value : Result Data DocFault) (request : Request) (error : DbError) → IsOpenSession session →
     request_of session.database.catalog value ≡ Ok request → outcome_of_request session request ≡ Err (refusals.Event error) → answers_lines error ≡ true

@@ -42,7 +42,7 @@ pub record HandedOnLog {D : Type 0} (of : Telling D) (before after : D) (start :
   pub any_moment : LeavesOnly of.moment of.left_since before after (LeavesAnswered start (logged (of.seen before)) reads (of.shown before))
   pub failures : of.failures before ≤ of.failures after
 
--- so many lines don't fit into a log
+-- these lines don't fit into a log
 abbrev pub IsFull : List (List ℕ) → Type 0
 IsFull lines = 2 ^ 60 ≤ length (joined lines)
 

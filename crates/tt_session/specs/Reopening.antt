@@ -27,6 +27,6 @@ is_same_table t u = bytes_eq t.0 u.0 && are_same_by is_same_column t.1.columns u
 abbrev pub asks_for : Opening → Database → Bool
 asks_for opening db = are_same_by is_same_table opening.catalog db.catalog && (opening.keep == db.limits.keep)
 
--- the session with at most so many records
+-- the session with no more records than this
 abbrev pub with_most_records : OpenSession → ℕ → OpenSession
 with_most_records session most = record session { records = last_items most session.records; most_records = most }

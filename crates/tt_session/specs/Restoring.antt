@@ -48,7 +48,7 @@ numbering_of sessions.NotOpen = None
 numbering_of (sessions.Restored session) = Some session.numbering
 numbering_of (sessions.Open session) = Some session.numbering
 
--- the first so many of the lines that a session logs, behind those that it was read back from, are the lines of a log again: this has the database that the session had after the first lines read, and tells its numbers as that did
+-- the first lines that a session logs, this many, are the lines of a log again, behind those that it was read back from: this has the database that the session had after the first lines read, and tells its numbers as that did
 pub record ReadsBack (lines : List (List ℕ)) (start : Session) (reads : List LineRead) (count : ℕ) : Type 0 where
   pub front : List LineRead
   pub others : List LineRead

@@ -7,7 +7,7 @@ use crate::failure::Failure;
 use crate::open_session::OpenSession;
 use crate::repairing::status_of;
 use crate::response::Response;
-use crate::session_change::{Forgetting, SessionChange};
+use crate::session_change::{BoxedForgetting, Forgetting, SessionChange};
 use std::alloc::AllocError;
 use tt_answers::{Answer, Refusal};
 use tt_db::{DbError, ReadError};
@@ -80,8 +80,10 @@ pub(crate) fn forget(session: &OpenSession, time: ToldTime) -> Result<Response, 
         let status = status_of(session.db());
         return Ok(Response::unrecorded(Answer::Standing(status)));
     }
+    let answer = Answer::Standing(status_of(&forgetting.db));
+    let forgetting = BoxedForgetting::new(session.alloc(), forgetting)?;
     Ok(Response {
-        answer: Answer::Standing(status_of(&forgetting.db)),
+        answer,
         change: SessionChange::Forgetting(forgetting),
     })
 }

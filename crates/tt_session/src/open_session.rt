@@ -165,7 +165,7 @@ impl OpenSession {
         match change {
             SessionChange::Latest(latest) => self.keep(latest),
             SessionChange::Forgetting(forgetting) => {
-                self.go_on_behind(forgetting);
+                self.go_on_behind(forgetting.into_inner());
                 Ok(())
             }
         }

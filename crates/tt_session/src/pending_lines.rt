@@ -72,7 +72,7 @@ impl PendingLines {
         }
     }
 
-    /// Keeps the first lines, which have so many bytes in a log.
+    /// Keeps the first lines, those that take this many bytes in a log.
     pub(crate) fn truncate(&mut self, byte_len: usize)
         requires { (kept : Option (List (List ℕ))) × (more : List (List ℕ))
             × (self.old ≡ with_lines kept more) × (byte_len ≡ bytes_of kept) }

@@ -198,7 +198,8 @@ fn repeat(
         ≡ (turn_by_value (begun session.old) (value_of_line line.now)).session) }
     ensures made { IfOk result (λ made.
         made ≡ changes_database (begun session.old) (begun session.new)) }
-    ensures calls { OnOk result (calls_of (begun session.new) ≤ calls_of (begun session.old) + 1) }
+    ensures calls { OnOk result
+        (calls_of (begun session.new) ≤ calls_of (begun session.old) + 1) }
 {
     match session {
         Some(open) => {

@@ -108,7 +108,8 @@ impl Session {
 
     /// Opens a session that was read back.
     fn go_on(&mut self)
-        ensures { (session : OpenSession) → self.old ≡ Restored session → self.new ≡ Open session }
+        ensures { (session : OpenSession)
+            → self.old ≡ Restored session → self.new ≡ Open session }
     {
         *self = match mem::replace(self, Session::NotOpen) {
             Session::Restored(session) => Session::Open(session),

@@ -1,5 +1,7 @@
 //! What becomes of a session with an answer, apart from its database.
+use std::alloc::{AllocError, Global};
 use std::marker::Model;
+use std::ops::Deref;
 use tt_db::Db;
 use tt_numbers::Numbering;
 use tt_records::Record;
@@ -10,7 +12,7 @@ pub(crate) enum SessionChange {
     /// The record of the call is kept, if there is one.
     Latest(Option<Record>),
     /// The session goes on with a database that has forgotten what lies before a time.
-    Forgetting(Forgetting),
+    Forgetting(BoxedForgetting),
 }
 
 /// A database that has forgotten what lies before a time, and how a session goes on with it.
@@ -41,4 +43,49 @@ impl Model for Forgetting {
 
     ghost invariant = { λ f.
         IsSound f.db f.numbering [] 0 × (f.ground_slots ≤ f.time) };
+}
+
+/// A forgetting in a block of its own: without one, what becomes of a session is small to move.
+/// Contracts see the forgetting.
+#[derive(Drop)]
+pub(crate) struct BoxedForgetting {
+    forgetting: Box<Forgetting>,
+}
+
+impl Model for BoxedForgetting {
+    ghost use Rattle.tt_session.specs.Session.{Forgetting};
+
+    ghost Value = { Forgetting };
+
+    ghost view = { λ b. b.forgetting.value };
+}
+
+impl BoxedForgetting {
+    ghost use Rattle.std.specs.Prelude.{◌≡◌, IfOk};
+
+    pub(crate) fn new(alloc: Global, forgetting: Forgetting) -> Result<BoxedForgetting, AllocError>
+        ensures { IfOk result (λ b. b ≡ forgetting) }
+    {
+        let forgetting = Box::new(alloc, forgetting)?;
+        Ok(BoxedForgetting { forgetting })
+    }
+
+    pub(crate) fn into_inner(self) -> Forgetting
+        ensures { result ≡ self }
+    {
+        let BoxedForgetting { forgetting } = self;
+        Box::into_inner(forgetting)
+    }
+}
+
+impl Deref for BoxedForgetting {
+    type Target = Forgetting;
+
+    ghost deref_gives = { λ b forgetting. forgetting ≡ b };
+
+    fn deref(&self) -> &Forgetting
+        ensures { result.now ≡ self.now }
+    {
+        &self.forgetting
+    }
 }

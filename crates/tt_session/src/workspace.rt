@@ -10,7 +10,7 @@ use tt_json::Scratch;
 /// answered.
 pub(crate) const MANY_BYTES: usize = 1_048_576;
 
-/// Whether so many bytes of answers and of lines to log are kept that they are handed over.
+/// Whether enough bytes of answers and of lines to log are kept to hand them over.
 pub(crate) fn is_much(answers: usize, lines: &PendingLines) -> bool {
     answers.saturating_add(lines.byte_len()) >= MANY_BYTES
 }

@@ -200,8 +200,8 @@ impl OpenSession {
     }
 
     /// Answers the lines that some bytes begin with in place, up to one that isn't whole or asks
-    /// for the records of earlier calls, or until much is kept, with so many bytes of answers that
-    /// were kept before. Returns how many bytes were taken, and the line that asks for records.
+    /// for the records of earlier calls, or until much is kept, with the bytes of answers that were
+    /// kept before. Returns how many bytes were taken, and the line that asks for records.
     /// Where memory runs out, nothing is promised of the session and of the text in the workspace,
     /// and there may be further lines to log.
     fn answer_further(
