@@ -115,7 +115,7 @@ forgetting_is_sound db time catalog fits legal idle within =
 -- ---- how it is made
 
 -- the ground has one slot for each of its actions
-now-ground : (db : Database) (time : ℕ) → now_in (database_of_ground db time) ≡ length (ground_of db time)
+pub now-ground : (db : Database) (time : ℕ) → now_in (database_of_ground db time) ≡ length (ground_of db time)
 now-ground db time =
     let G = ground_of db time in
     ap (λ (S : State). now_of S) (after-actions db.limits start (map (entry_of ground_worker) G) G (AreActions-ground ground_worker G)) ∙ length-map G (λ (a : List Write). Some a)

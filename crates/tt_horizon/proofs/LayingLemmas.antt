@@ -1,5 +1,6 @@
 -- The ground as it is laid, one write after another.
-use Rattle.std.proofs.Common.{◌≡◌, ℕ, zero, suc, ◌+◌, ◌<◌, ◌≤◌, Bool, true, false, nat_lt, List, [], ◌∷◌, ◌++◌, map, length, take, drop, flat_map, Option, None, Some, Ok, Err, if◌then◌else◌, refl, sym, ap, subst, ◌∙◌, arith, append-nil, length-append, length-drop}
+use Rattle.std.proofs.Common.{◌≡◌, ℕ, zero, suc, ◌+◌, ◌<◌, ◌≤◌, Bool, true, false, nat_lt, List, [], ◌∷◌, ◌++◌, map, length, take, drop, flat_map, Option, None, Some, Ok, Err, if◌then◌else◌, refl, sym, ap, subst, ◌∙◌, arith, append-nil, append_assoc, length-append, length-drop}
+use Rattle.std.proofs.Math.Seq.{take-append_seam}
 use Rattle.std.proofs.lemmas.List.{take_all, drop_all, take-append-le, drop-append-le, length_push}
 use Rattle.std.proofs.lemmas.List.Concat.{flat_map-append}
 use Rattle.std.specs.List.{range_with_len}
@@ -19,7 +20,8 @@ use Rattle.tt_db.specs.RightAnswers.{unless_fault}
 use Rattle.tt_horizon_laws.specs.Ground.{inserts_of, inserts_of_tables, some_pieces, in_pieces, ground_writes, ground_of_content}
 use Rattle.tt_horizon.specs.declared.ground.Ground.{Ground}
 use Rattle.tt_horizon.specs.Forgetting.{entry_of, ground_worker}
-use Rattle.tt_horizon.specs.Laying.{AreLaid, AddsWrites, with_last}
+use Rattle.tt_horizon.specs.Grounds.{is_of_ground, IsOfGround, AreGround, emptied, HasGround, IsGround}
+use Rattle.tt_horizon.specs.Laying.{AreLaid, AddsWrites, with_last, with_entries}
 
 -- one more write waits
 pub AreLaid-wait : (n : ℕ) (ws : List Write) (entries : List Entry) (waiting : List Write) (w : Write) → AreLaid n ws entries waiting → length waiting + 1 < n
@@ -89,6 +91,27 @@ pub in_pieces-laid : (n : ℕ) (ws : List Write) (entries : List Entry) (waiting
     → with_last_entry entries waiting ≡ map (entry_of ground_worker) (in_pieces n ws)
 in_pieces-laid n ws entries waiting some h = some_pieces-laid (length ws) n ws entries waiting (omega arith) some h
 
+-- ---- the entries are a ground
+
+with_entry-push : (db : Database) (e : Entry) (entries : List Entry) → with_entries (with_entry db e) entries ≡ with_entries db (e ∷ entries)
+with_entry-push db e entries = ap (λ h. record db { history = h }) (append_assoc db.history (e ∷ []) entries)
+
+AreGround-push : (db : Database) (entries : List Entry) (e : Entry) → AreGround db entries → IsOfGround (with_entries db entries) e → AreGround db (entries ++ e ∷ [])
+AreGround-push db [] e ground last = (subst (λ h. IsOfGround (record db { history = h }) e) (append-nil db.history) last, tt)
+AreGround-push db (first ∷ entries) e ground last =
+    (ground.0, AreGround-push (with_entry db first) entries e ground.1 (subst (λ d. IsOfGround d e) (sym (with_entry-push db first entries)) last))
+
+pub IsGround-push : (db : Database) (ws : List Write) → IsGround db → is_of_ground db ws ≡ true → IsGround (with_entry db (entry_of ground_worker ws))
+IsGround-push db ws ground inserts = AreGround-push (emptied db) db.history (entry_of ground_worker ws) ground (ws, refl, inserts)
+
+-- and stay one with further entries behind them
+AreGround-front : (db : Database) (n : ℕ) (entries others : List Entry) → AreGround db entries → n ≡ length entries → AreGround db (take n (entries ++ others))
+AreGround-front db n entries others ground all =
+    subst (AreGround db) (sym (ap (λ k. take k (entries ++ others)) all ∙ take-append_seam entries others)) ground
+
+pub HasGround-behind : (db : Database) (size : ℕ) (others : List Entry) → IsGround db → size ≡ length db.history → HasGround (with_entries db others) size
+HasGround-behind db size others ground all = AreGround-front (emptied db) size db.history others ground all
+
 -- ---- writes added behind others
 
 few_waiting : (n : ℕ) (ws : List Write) (entries : List Entry) (waiting : List Write) → AreLaid n ws entries waiting → length waiting < n
@@ -106,12 +129,13 @@ AddsWrites-wait a b w pushed same not_full = record {
       (subst (λ ws. AreLaid 16 (earlier ++ w ∷ []) a.db.history ws) (sym pushed) (AreLaid-wait 16 earlier a.db.history a.waiting.items w h room));
   catalog = ap (λ (d : Database). d.catalog) same;
   limits = ap (λ (d : Database). d.limits) same;
+  ground = subst IsGround (sym same);
 }
 
 -- with a write that is the last of its action, all that wait become an entry
-pub AddsWrites-full : (a b : Ground) (w : Write) (ws : List Write) → ws ≡ a.waiting.items ++ w ∷ [] → length ws ≡ 16 → b.db ≡ with_entry a.db (entry_of ground_worker ws) → b.waiting.items ≡ []
-    → AddsWrites a b (w ∷ [])
-AddsWrites-full a b w ws pushed full entered none = record {
+pub AddsWrites-full : (a b : Ground) (w : Write) (ws : List Write) → ws ≡ a.waiting.items ++ w ∷ [] → length ws ≡ 16 → b.db ≡ with_entry a.db (entry_of ground_worker ws) → is_of_ground a.db ws ≡ true
+    → b.waiting.items ≡ [] → AddsWrites a b (w ∷ [])
+AddsWrites-full a b w ws pushed full entered inserts none = record {
   added = λ earlier h.
       let count : length a.waiting.items + 1 ≡ 16 = sym (length_push a.waiting.items w) ∙ ap (λ (vs : List Write). length vs) (sym pushed) ∙ full in
       let history : b.db.history ≡ a.db.history ++ entry_of ground_worker (a.waiting.items ++ w ∷ []) ∷ [] =
@@ -121,6 +145,7 @@ AddsWrites-full a b w ws pushed full entered none = record {
       (AreLaid-full 16 earlier a.db.history a.waiting.items w h count));
   catalog = ap (λ (d : Database). d.catalog) entered;
   limits = ap (λ (d : Database). d.limits) entered;
+  ground = λ ground. subst IsGround (sym entered) (IsGround-push a.db ws ground inserts);
 }
 
 -- ---- the rows of a table, and of one table more

@@ -6,6 +6,7 @@ use Rattle.tt_db.specs.Database.{Database, with_entry, slot_of}
 use Rattle.tt_horizon_laws.specs.Ground.{ground_writes}
 use Rattle.tt_horizon.specs.declared.ground.Ground.{Ground}
 use Rattle.tt_horizon.specs.Forgetting.{ground_of, entry_of, ground_worker}
+use Rattle.tt_horizon.specs.Grounds.{IsGround}
 
 -- writes are cut into the actions of these entries, n each, and the last ones, fewer than n, wait for the next action
 abbrev pub AreLaid : ℕ → List Write → List Entry → List Write → Type 0
@@ -21,6 +22,7 @@ pub record AddsWrites (before after : Ground) (ws : List Write) : Type 0 where
   pub added : (earlier : List Write) → HasWrites before earlier → HasWrites after (earlier ++ ws)
   pub catalog : after.db.catalog ≡ before.db.catalog
   pub limits : after.db.limits ≡ before.db.limits
+  pub ground : IsGround before.db → IsGround after.db
 
 -- a database with the writes that wait, if there are any, as its last action
 abbrev pub with_last : Database → List Write → Database

@@ -1,3 +1,4 @@
 pub mod Forgetting
+pub mod Grounds
 pub mod Laying
 pub mod Laws

@@ -3,6 +3,7 @@ ghost use Rattle.std.specs.Prelude.{◌≡◌, ◌≤◌, false, None, IfOk, IfE
 ghost use Rattle.tt_generations.specs.TwoGenerations.{is_repairing};
 ghost use Rattle.tt_db.specs.Database.{state_of, now_in};
 ghost use Rattle.tt_horizon.specs.Forgetting.{forget_refusal, refusal_of_error};
+ghost use Rattle.tt_horizon.specs.Grounds.{HasGround};
 ghost use Rattle.tt_horizon.specs.Laws.{Forgets};
 
 use crate::forgotten_database::Forgotten;
@@ -38,6 +39,7 @@ pub fn forgotten(alloc: Global, db: &Db, time: u64) -> Result<Forgotten, ForgetE
     ensures refused { IfErr result (λ e. forget_refusal db.now time ≡ refusal_of_error e) }
     ensures accepted { OnOk result (forget_refusal db.now time ≡ None) }
     ensures forgets { IfOk result (λ f. Forgets db.now f.db time f.ground_slots) }
+    ensures ground { IfOk result (λ f. HasGround f.db f.ground_slots) }
 {
     if db.is_repairing() {
         return Err(ForgetError::Repairing);
@@ -56,7 +58,8 @@ pub fn forgotten(alloc: Global, db: &Db, time: u64) -> Result<Forgotten, ForgetE
 fn forgotten_at(alloc: Global, db: &Db, time: u64) -> Result<Forgotten, AllocError>
     requires idle { is_repairing (state_of db.now).phase ≡ false }
     requires within { time ≤ now_in db.now }
-    ensures { IfOk result (λ f. Forgets db.now f.db time f.ground_slots) }
+    ensures forgets { IfOk result (λ f. Forgets db.now f.db time f.ground_slots) }
+    ensures ground { IfOk result (λ f. HasGround f.db f.ground_slots) }
 {
     // For the proof: the history is legal, the limits fit and the catalog is sound.
     let _ = db.events();

@@ -1,11 +1,12 @@
 //! The ground of a database: its rows at a time, inserted into a database that had none.
-ghost use Rattle.std.specs.Prelude.{◌≡◌, [], ◌∷◌, map, IfOk, OnOk};
+ghost use Rattle.std.specs.Prelude.{◌≡◌, [], ◌∷◌, true, map, IfOk, OnOk};
 ghost use Rattle.tt_db.specs.Database.{with_entry, current_of_db};
 ghost use Rattle.tt_horizon_laws.specs.Ground.{inserts_of};
 ghost use Rattle.tt_horizon.specs.Forgetting.{ground_worker, entry_of};
+ghost use Rattle.tt_horizon.specs.Grounds.{is_of_ground, IsGround};
 ghost use Rattle.tt_horizon.specs.Laying.{database_of_ground, AddsWrites, with_last};
 
-use crate::actions::carry_out;
+use crate::laying::lay;
 use std::alloc::{AllocError, Global};
 use std::mem;
 use tt_db::Db;
@@ -13,9 +14,6 @@ use tt_values::{Items, Reply, Row, Select, Write};
 
 /// How many writes an action of the ground has, but for the last one.
 const GROUND_WRITES: usize = 16;
-
-/// The worker whose actions the ground is.
-const GROUND_WORKER: u32 = 0;
 
 /// A database that is being laid, and the inserts that wait for its next action.
 #[derive(Drop)]
@@ -28,7 +26,8 @@ struct Ground {
 /// A database of the rows that another one has at a time, with its catalog and its limits. The two
 /// share the values of the rows.
 pub(crate) fn database_of_rows(alloc: Global, db: &Db, time: u64) -> Result<Db, AllocError>
-    ensures { IfOk result (λ next. next ≡ database_of_ground db.now time) }
+    ensures rows { IfOk result (λ next. next ≡ database_of_ground db.now time) }
+    ensures ground { IfOk result (λ next. IsGround next) }
 {
     let emptied = db.emptied()?;
     let waiting = Vec::with_capacity(alloc, GROUND_WRITES)?;
@@ -74,23 +73,27 @@ impl Ground {
     fn carry_out_waiting(&mut self) -> Result<(), AllocError>
         ensures db { OnOk result (self.new.db
             ≡ with_entry self.old.db (entry_of ground_worker self.old.waiting.items)) }
+        ensures ground { OnOk result
+            (is_of_ground self.old.db self.old.waiting.items ≡ true) }
         ensures waiting { OnOk result (self.new.waiting.items ≡ []) }
     {
         let none = Vec::with_capacity(self.alloc, GROUND_WRITES)?;
         let waiting = mem::replace(&mut self.waiting, none);
         let action = Items::new(self.alloc, waiting)?;
-        carry_out(&mut self.db, GROUND_WORKER, action)?;
+        lay(&mut self.db, action)?;
         Ok(())
     }
 
     /// The database, with the writes that still wait as its last action.
     fn finished(self) -> Result<Db, AllocError>
-        ensures { IfOk result (λ db. db ≡ with_last self.db self.waiting.items) }
+        ensures last { IfOk result (λ db. db ≡ with_last self.db self.waiting.items) }
+        ensures ground { IfOk result (λ db. IsGround self.db → IsGround db) }
     {
         let mut ground = self;
-        if !ground.waiting.is_empty() {
-            ground.carry_out_waiting()?;
+        if ground.waiting.is_empty() {
+            return Ok(ground.db);
         }
+        ground.carry_out_waiting()?;
         Ok(ground.db)
     }
 }

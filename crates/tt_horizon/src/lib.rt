@@ -7,7 +7,9 @@ mod forgetting;
 mod forgotten_database;
 mod ground;
 pub mod laws;
+mod laying;
 mod slots_behind;
 
 pub use forgetting::{ForgetError, forgotten};
 pub use forgotten_database::Forgotten;
+pub use laying::{GROUND_WORKER, has_inserted, inserts_alone};

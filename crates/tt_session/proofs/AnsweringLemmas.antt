@@ -6,7 +6,8 @@ use Rattle.tt_requests.specs.Lines.{is_too_long, is_passed_over, lines_of, whole
 use Rattle.tt_session.specs.declared.session.Session.{Session}
 use Rattle.tt_session.specs.Lines.{has_no_feed, joined}
 use Rattle.tt_session.specs.Run.{Turn, turn_with_memory, turn_without_memory, turn_of_long_line}
-use Rattle.tt_session.specs.Answering.{LineRead, turn_of_read, turns_of}
+use Rattle.tt_session.specs.Answering.{LineRead, forgets_by, turn_without_log, turn_of_read, turns_of}
+use Rattle.tt_session.specs.Together.{kept_line, lost_line, unlogged_line}
 use Rattle.tt_session.proofs.TurnLemmas.{turn-long}
 
 -- ---- lines that are answered one after another
@@ -81,13 +82,17 @@ lines_of-last b (c ∷ line) e =
 -- ---- one line
 
 -- a line that is too long
-pub read-long : (session : Session) (bytes : List ℕ) → is_too_long bytes ≡ true → turn_of_read session (record { is_lost = false; line = bytes }) ≡ turn_of_long_line session
+pub read-long : (session : Session) (bytes : List ℕ) → is_too_long bytes ≡ true → turn_of_read session (kept_line bytes) ≡ turn_of_long_line session
 read-long session bytes long = rw long (turn-long session bytes long)
 
 -- a line for which there was memory
-pub read-kept : (session : Session) (bytes : List ℕ) → turn_of_read session (record { is_lost = false; line = bytes }) ≡ turn_with_memory session bytes
+pub read-kept : (session : Session) (bytes : List ℕ) → turn_of_read session (kept_line bytes) ≡ turn_with_memory session bytes
 read-kept session bytes = rw (and_right (not (is_too_long bytes)) false refl) refl
 
 -- a line for which there was no memory
-pub read-lost : (session : Session) (bytes : List ℕ) → is_passed_over bytes ≡ false → is_too_long bytes ≡ false → turn_of_read session (record { is_lost = true; line = bytes }) ≡ turn_without_memory session
+pub read-lost : (session : Session) (bytes : List ℕ) → is_passed_over bytes ≡ false → is_too_long bytes ≡ false → turn_of_read session (lost_line bytes) ≡ turn_without_memory session
 read-lost session bytes told short = rw (told, short) refl
+
+-- a line for which the log couldn't be made anew
+pub read-unlogged : (session : Session) (bytes : List ℕ) → is_passed_over bytes ≡ false → forgets_by session bytes ≡ true → turn_of_read session (unlogged_line bytes) ≡ turn_without_log session
+read-unlogged session bytes told forgets = rw (told, and_right (not (is_too_long bytes)) false refl, forgets) refl

@@ -13,11 +13,15 @@ use Rattle.tt_session.specs.declared.run.SessionFault.{SessionFault}
 use Rattle.tt_session.specs.declared.run.SessionFault.TheVariants as faults
 use Rattle.tt_session.specs.Lines.{HasBytes, has_no_feed, joined}
 use Rattle.tt_session.specs.Run.{Turn, turn_of_line, turn_of_lines, session_text}
-use Rattle.tt_session.specs.Answering.{LineRead, turn_of_read, turns_of, lines_read}
+use Rattle.tt_session.specs.Answering.{LineRead, turn_of_read, turns_of, AllLogged, lines_read}
+use Rattle.tt_session.specs.Writes.{Writes, WritesPrefix}
+use Rattle.tt_session.specs.Together.{kept_line}
 use Rattle.tt_session.specs.Running.{Handing, Cuts, Rests, Halts, AnswersOne, StopsAt, HandsOver, StopsBetween}
-use Rattle.tt_session.specs.Ends.{AnswersAll, EndsEarly, HandsOverAll, FailsReading, FailsHanding, Fails, Ends, StopsLast}
+use Rattle.tt_session.specs.Ends.{AnswersAll, AnswersPrefix, EndsEarly, HandsOverAll, FailsReading, FailsHanding, Fails, Ends, StopsLast}
 use Rattle.tt_session.proofs.AnsweringLemmas.{lines_of-joined, whole_lines_of-joined, lines_of-last}
-use Rattle.tt_session.proofs.RunningLemmas.{stands-rests}
+use Rattle.tt_streams.proofs.WritingLemmas.{prefix-longer}
+use Rattle.tt_session.proofs.LoggedLemmas.{logged-all}
+use Rattle.tt_session.proofs.RunningLemmas.{stands-rests, read-last, turns-text}
 
 -- ---- the numbers of the lines for which there was no memory
 
@@ -30,16 +34,19 @@ abbrev Tells : List ℕ → ℕ → List LineRead → Type 0
 Tells numbers number [] = Unit {0}
 Tells numbers number (read ∷ reads) = (list_any (λ n. n == number) numbers ≡ read.is_lost) × Tells numbers (number + 1) reads
 
-turn-told : (numbers : List ℕ) (number : ℕ) (session : Session) (read : LineRead) → list_any (λ n. n == number) numbers ≡ read.is_lost → turn_of_line numbers number session read.line ≡ turn_of_read session read
-turn-told numbers number session read e = ap (λ lost. turn_of_read session (record { is_lost = lost; line = read.line })) e
+turn-told : (numbers : List ℕ) (number : ℕ) (session : Session) (read : LineRead) → list_any (λ n. n == number) numbers ≡ read.is_lost → read.is_unlogged ≡ false
+    → turn_of_line numbers number session read.line ≡ turn_of_read session read
+turn-told numbers number session read e logged =
+    ap (λ lost. turn_of_read session (record { is_lost = lost; is_unlogged = false; line = read.line })) e
+    ∙ ap (λ unlogged. turn_of_read session (record { is_lost = read.is_lost; is_unlogged = unlogged; line = read.line })) (sym logged)
 
-turns-told : (numbers : List ℕ) (number : ℕ) (session : Session) (reads : List LineRead) → Tells numbers number reads
+turns-told : (numbers : List ℕ) (number : ℕ) (session : Session) (reads : List LineRead) → Tells numbers number reads → AllLogged reads
     → turn_of_lines numbers number session (map (λ (r : LineRead). r.line) reads) ≡ turns_of session reads
-turns-told numbers number session [] told = refl
-turns-told numbers number session (read ∷ reads) told =
+turns-told numbers number session [] told logged = refl
+turns-told numbers number session (read ∷ reads) told logged =
     let turn = turn_of_read session read in
-    let first = turn-told numbers number session read told.0 in
-    let others = turns-told numbers (number + 1) turn.session reads told.1 in
+    let first = turn-told numbers number session read told.0 logged.0 in
+    let others = turns-told numbers (number + 1) turn.session reads told.1 logged.1 in
     ap (λ (t : Turn). record {
       text = t.text ++ (turn_of_lines numbers (number + 1) t.session (map (λ (r : LineRead). r.line) reads)).text;
       session = (turn_of_lines numbers (number + 1) t.session (map (λ (r : LineRead). r.line) reads)).session;
@@ -69,14 +76,18 @@ numbers_tell number (read ∷ reads) = by (numbers_tell (number + 1) reads) read
     by others false e = (none_below number (number + 1) reads (omega arith) ∙ sym e, others)
 
 -- what lines are answered is what a session prints for them
-pub printed : (reads : List LineRead) → (numbers : List ℕ) × (session_text (lines_read reads) numbers ≡ (turns_of NotOpen reads).text)
-printed reads = (numbers_from 1 reads, ap (λ (t : Turn). t.text) (turns-told (numbers_from 1 reads) 1 NotOpen reads (numbers_tell 1 reads)))
+pub printed : (reads : List LineRead) → AllLogged reads → (numbers : List ℕ) × (session_text (lines_read reads) numbers ≡ (turns_of NotOpen reads).text)
+printed reads logged = (numbers_from 1 reads, ap (λ (t : Turn). t.text) (turns-told (numbers_from 1 reads) 1 NotOpen reads (numbers_tell 1 reads) logged))
 
 -- ---- further lines
 
 abbrev with_memory : List (List ℕ) → List LineRead
 with_memory [] = []
-with_memory (line ∷ lines) = record { is_lost = false; line = line } ∷ with_memory lines
+with_memory (line ∷ lines) = kept_line line ∷ with_memory lines
+
+with_memory-logged : (lines : List (List ℕ)) → AllLogged (with_memory lines)
+with_memory-logged [] = tt
+with_memory-logged (line ∷ lines) = (refl, with_memory-logged lines)
 
 with_memory-lines : (lines : List (List ℕ)) → map (λ (r : LineRead). r.line) (with_memory lines) ≡ lines
 with_memory-lines [] = refl
@@ -143,10 +154,10 @@ last-line : (left : List ℕ) → 0 < length left → has_no_feed left ≡ true 
 last-line [] some none = absurd (omega (arith, some))
 last-line (b ∷ left) some none = lines_of-last b left none
 
-lines-with-last : (given : List ℕ) (reads : List LineRead) (left : List ℕ) (is_lost : Bool) → Cuts given (lines_read reads) left → 0 < length left
-    → lines_read (reads ++ record { is_lost = is_lost; line = left } ∷ []) ≡ lines_of given
-lines-with-last given reads left is_lost p some =
-    map-append (λ (r : LineRead). r.line) reads (record { is_lost = is_lost; line = left } ∷ [])
+lines-with-last : (given : List ℕ) (reads : List LineRead) (left : List ℕ) (read : LineRead) → read.line ≡ left → Cuts given (lines_read reads) left → 0 < length left
+    → lines_read (reads ++ read ∷ []) ≡ lines_of given
+lines-with-last given reads left read is p some =
+    sym (read-last reads read left is)
     ∙ sym (lines-so-far given (lines_read reads) left p ∙ ap (λ ls. lines_read reads ++ ls) (last-line left some p.last))
 
 pub ends-none : {O : Type 0} (handed : Handing O) (has_log : Type 0) (before after : O) (run : Run) → ((left : List ℕ) → HasBytes run.line left → left ≡ [])
@@ -172,53 +183,58 @@ pub ends-one : {O : Type 0} (handed : Handing O) (has_log : Type 0) (a b c : O) 
 ends-one handed has_log a b c old mid some one over first start given p =
     let stands = stands-rests handed has_log first a start given old p in
     let done = one first start p.reads p.left p.line stands p.session in
-    let reads = p.reads ++ record { is_lost = done.0; line = p.left } ∷ [] in
-    (reads, lines-with-last given p.reads p.left done.0 p.cuts (some p.left p.line), over first start reads done.1)
+    let reads = p.reads ++ done.0 ∷ [] in
+    (reads, lines-with-last given p.reads p.left done.0 done.1 p.cuts (some p.left p.line), over first start reads done.2)
 
 pub stops-at-last : {O : Type 0} (handed stopped : Handing O) (has_log : Type 0) (a b : O) (old : Run) → ((left : List ℕ) → HasBytes old.line left → 0 < length left)
     → StopsAt handed stopped has_log a b old → StopsLast handed stopped has_log a b old
 stops-at-last handed stopped has_log a b old some stops first start given p =
     let stands = stands-rests handed has_log first a start given old p in
     let at = stops first start p.reads p.left p.line stands p.session in
-    let reads = p.reads ++ record { is_lost = at.0; line = p.left } ∷ [] in
-    (reads, lines-with-last given p.reads p.left at.0 p.cuts (some p.left p.line), subst (λ rs. stopped first b start rs) (append-nil reads) (at.1 []))
+    let reads = p.reads ++ at.0 ∷ [] in
+    (reads, lines-with-last given p.reads p.left at.0 at.1 p.cuts (some p.left p.line), subst (λ rs. stopped first b start rs) (append-nil reads) (at.2 []))
 
 pub stops-after-last : {O : Type 0} (handed stopped : Handing O) (has_log : Type 0) (a b c : O) (old mid : Run) → ((left : List ℕ) → HasBytes old.line left → 0 < length left)
     → AnswersOne handed has_log a b old mid → StopsBetween handed stopped has_log b c mid → StopsLast handed stopped has_log a c old
 stops-after-last handed stopped has_log a b c old mid some one stops first start given p =
     let stands = stands-rests handed has_log first a start given old p in
     let done = one first start p.reads p.left p.line stands p.session in
-    let reads = p.reads ++ record { is_lost = done.0; line = p.left } ∷ [] in
-    (reads, lines-with-last given p.reads p.left done.0 p.cuts (some p.left p.line), subst (λ rs. stopped first c start rs) (append-nil reads) (stops first start reads [] done.1))
+    let reads = p.reads ++ done.0 ∷ [] in
+    (reads, lines-with-last given p.reads p.left done.0 done.1 p.cuts (some p.left p.line), subst (λ rs. stopped first c start rs) (append-nil reads) (stops first start reads [] done.2))
 
 -- ---- a session that has no log
 
-pub answers-all : (a b unread left : Option (List ℕ)) → HandsOverAll unread left (λ reads. Appends a b (turns_of NotOpen reads).text) → AnswersAll unread left a b
+pub answers-all : (a b unread left : Option (List ℕ)) → HandsOverAll unread left (Writes a b NotOpen) → AnswersAll unread left a b
 answers-all a b unread left p =
-    let told = printed p.reads in
+    let told = printed p.reads p.is_handed.all_logged in
     record {
       bytes = p.bytes;
       consumed = p.consumed;
       at_end = p.at_end;
-      answers = record { without_memory = told.0; written = subst (Appends a b) (sym told.1 ∙ ap (λ ls. session_text ls told.0) p.lines_are) p.is_handed };
+      answers = record { without_memory = told.0; written = subst (Appends a b) (sym told.1 ∙ ap (λ ls. session_text ls told.0) p.lines_are) p.is_handed.written };
     }
 
-pub ends-early : (fault : SessionFault) (a b unread left : Option (List ℕ)) → Fails fault unread left (λ reads. Appends a b (turns_of NotOpen reads).text) (λ reads. AppendsPrefix a b (turns_of NotOpen reads).text)
-    → EndsEarly fault unread left a b
+-- a prefix of the answers to the first of some lines is one of those to all of them, if each further one has memory
+answers-prefix : (a b : Option (List ℕ)) (reads : List LineRead) (bytes : List ℕ) → lines_read reads ≡ lines_of bytes → WritesPrefix a b NotOpen reads → AnswersPrefix bytes a b
+answers-prefix a b reads bytes lines_are p =
+    let more : List LineRead = with_memory (lines_read p.others) in
+    let all : List LineRead = p.front ++ more in
+    let told = printed all (logged-all p.front more p.all_logged (with_memory-logged (lines_read p.others))) in
+    let same : lines_read all ≡ lines_read reads =
+    map-append (λ (r : LineRead). r.line) p.front more ∙ ap (λ ls. lines_read p.front ++ ls) (with_memory-lines (lines_read p.others))
+    ∙ sym (ap lines_read p.reads_are ∙ map-append (λ (r : LineRead). r.line) p.front p.others) in
+    let longer = subst (AppendsPrefix a b) (sym (turns-text NotOpen p.front more)) (prefix-longer a b (turns_of NotOpen p.front).text (turns_of (turns_of NotOpen p.front).session more).text p.written) in
+    record { without_memory = told.0; written = subst (AppendsPrefix a b) (sym told.1 ∙ ap (λ ls. session_text ls told.0) (same ∙ lines_are)) longer }
+
+pub ends-early : (fault : SessionFault) (a b unread left : Option (List ℕ)) → Fails fault unread left (Writes a b NotOpen) (WritesPrefix a b NotOpen) → EndsEarly fault unread left a b
 ends-early faults.Read a b unread left p =
-    let told = printed p.reads in
+    let told = printed p.reads p.is_handed.all_logged in
     record {
       bytes = p.bytes;
       consumed = p.consumed;
-      answers = record { without_memory = told.0; written = subst (Appends a b) (sym told.1 ∙ ap (λ ls. session_text ls told.0) p.lines_are) p.is_handed };
+      answers = record { without_memory = told.0; written = subst (Appends a b) (sym told.1 ∙ ap (λ ls. session_text ls told.0) p.lines_are) p.is_handed.written };
     }
-ends-early faults.Write a b unread left p =
-    let told = printed p.reads in
-    record {
-      bytes = p.bytes;
-      input = p.input;
-      answers = record { without_memory = told.0; written = subst (AppendsPrefix a b) (sym told.1 ∙ ap (λ ls. session_text ls told.0) p.lines_are) p.is_stopped };
-    }
+ends-early faults.Write a b unread left p = record { bytes = p.bytes; input = p.input; answers = answers-prefix a b p.reads p.bytes p.lines_are p.is_stopped }
 ends-early faults.Memory a b unread left p = absurd p
 
 pub rests-first : {O : Type 0} (handed : Handing O) (has_log : Type 0) (outlet : O) (session : Session) (run : Run) → HasBytes run.line [] → handed outlet outlet session []

@@ -32,22 +32,24 @@ use Rattle.tt_answers.specs.AnswerText.{opening_text}
 use Rattle.tt_session.specs.declared.session.Session.{Session}
 use Rattle.tt_session.specs.declared.session.Session.TheVariants.{NotOpen, Restored, Open}
 use Rattle.tt_session.specs.Answers.{Answered}
-use Rattle.tt_session.specs.Answering.{LineRead, turn_of_read, turns_of}
+use Rattle.tt_session.specs.Answering.{LineRead, forgets_by, turn_without_log, turn_of_read, turns_of}
 use Rattle.tt_session.specs.Commands.{asks_read_only, is_read_only, carried_out, moved_to, outcome_of_request, unless_moved}
-use Rattle.tt_session.specs.Logged.{entries_of, horizon_of, changes_database, with_line_if, logged_of}
+use Rattle.tt_session.specs.Changing.{entries_of, horizon_of, changes_database}
+use Rattle.tt_session.specs.LogLines.{lines_of_log}
+use Rattle.tt_session.specs.Logged.{with_line_if, logged_by, makes_log_anew, log_next, log_after}
 use Rattle.tt_session.specs.Reading.{read, previewed_by, selected_by}
 use Rattle.tt_session.specs.ToldRequests.{forgotten_in, asks_for_forgotten, read_at, read_in, read_as_told, missing_if_idle, unless_missing, own_edit}
 use Rattle.tt_session.specs.Changes.{forgotten_by}
 use Rattle.tt_session.specs.Forgetting.{forgetting_of, forget_refusal, forgets_nothing, forgotten_answer, unless_forget_refused, forget}
 use Rattle.tt_session.specs.Reopening.{asks_for, with_most_records}
 use Rattle.tt_session.specs.Repairing.{entry_by, status_of, unless_refused, with_event, with_steps, with_all_steps}
-use Rattle.tt_session.specs.Restoring.{after_lines, AreLogged, restored, database_of, numbering_of, LogsAreReadBack}
+use Rattle.tt_session.specs.Restoring.{BeginsLog, ReadsLog, restored, IsAlike, IsLike, IsLogOf, NewLogsAreRead, LogsAreReadBack}
 use Rattle.tt_session.specs.Room.{refusal_in_session}
 use Rattle.tt_session.specs.Run.{Turn, turn_by_opening, turn_by_outcome, turn_by_reopening, turn_by_request, turn_by_value, turn_without_memory}
 use Rattle.tt_session.specs.Session.{OpenSession, Forgetting, state_in, counted, opened}
 use Rattle.tt_session.specs.Together.{kept_line}
 use Rattle.tt_session.proofs.LoggedLemmas.{same-entries, same-next}
-use Rattle.tt_session.proofs.RestoringLemmas.{after-append, logged-append, read-value}
+use Rattle.tt_session.proofs.RestoringLemmas.{reads-push, read-value}
 
 -- ---- what becomes of the database, and of how its numbers are told
 
@@ -312,47 +314,37 @@ two-requests s t value same =
 
 -- ---- a session that was read back beside one that goes on
 
--- a session from the lines of a log alone has the database of one that goes on, and tells its numbers as that does
-abbrev Matches : Session → Session → Type 0
-Matches replayed NotOpen = replayed ≡ NotOpen
-Matches replayed (Restored session) = (t : OpenSession) × (replayed ≡ Open t) × (base_of t ≡ base_of session)
-Matches replayed (Open session) = (t : OpenSession) × (replayed ≡ Open t) × (base_of t ≡ base_of session)
+base-alike : (s t : OpenSession) → base_of t ≡ base_of s → IsAlike t s
+base-alike s t same = record { database = ap (λ (b : Base). b.database) same; numbering = ap (λ (b : Base). b.numbering) same }
 
-matches-db : (replayed session : Session) → Matches replayed session → database_of replayed ≡ database_of session
-matches-db replayed NotOpen m = ap database_of m
-matches-db replayed (Restored session) m = ap database_of m.1 ∙ ap (λ (base : Base). Some base.database) m.2
-matches-db replayed (Open session) m = ap database_of m.1 ∙ ap (λ (base : Base). Some base.database) m.2
+alike-base : (s t : OpenSession) → IsAlike t s → base_of t ≡ base_of s
+alike-base s t like = λ i. record { database = like.database i; numbering = like.numbering i }
 
-matches-numbering : (replayed session : Session) → Matches replayed session → numbering_of replayed ≡ numbering_of session
-matches-numbering replayed NotOpen m = ap numbering_of m
-matches-numbering replayed (Restored session) m = ap numbering_of m.1 ∙ ap (λ (base : Base). Some base.numbering) m.2
-matches-numbering replayed (Open session) m = ap numbering_of m.1 ∙ ap (λ (base : Base). Some base.numbering) m.2
+like-entries : (read session : Session) → IsLike read session → entries_of read ≡ entries_of session
+like-entries read NotOpen m = ap entries_of m
+like-entries read (Restored session) m = ap entries_of m.1 ∙ ap (λ (db : Database). length db.history + 1) m.2.database
+like-entries read (Open session) m = ap entries_of m.1 ∙ ap (λ (db : Database). length db.history + 1) m.2.database
 
-matches-entries : (replayed session : Session) → Matches replayed session → entries_of replayed ≡ entries_of session
-matches-entries replayed NotOpen m = ap entries_of m
-matches-entries replayed (Restored session) m = ap entries_of m.1 ∙ ap (λ (base : Base). length base.database.history + 1) m.2
-matches-entries replayed (Open session) m = ap entries_of m.1 ∙ ap (λ (base : Base). length base.database.history + 1) m.2
-
-matches-horizon : (replayed session : Session) → Matches replayed session → horizon_of replayed ≡ horizon_of session
-matches-horizon replayed NotOpen m = ap horizon_of m
-matches-horizon replayed (Restored session) m = ap horizon_of m.1 ∙ ap (λ (base : Base). base.numbering.horizon) m.2
-matches-horizon replayed (Open session) m = ap horizon_of m.1 ∙ ap (λ (base : Base). base.numbering.horizon) m.2
+like-horizon : (read session : Session) → IsLike read session → horizon_of read ≡ horizon_of session
+like-horizon read NotOpen m = ap horizon_of m
+like-horizon read (Restored session) m = ap horizon_of m.1 ∙ ap (λ (n : Numbering). n.horizon) m.2.numbering
+like-horizon read (Open session) m = ap horizon_of m.1 ∙ ap (λ (n : Numbering). n.horizon) m.2.numbering
 
 -- after a line: it changes nothing, and the two still match; or it makes one, and they match once it is replayed
 abbrev Follows : Session → Session → Session → Session → Type 0
 Follows replayed session again next =
-    (Matches replayed next × (changes_database session next ≡ false)) ⊎ (Matches again next × (changes_database session next ≡ true))
+    (IsLike replayed next × (changes_database session next ≡ false)) ⊎ (IsLike again next × (changes_database session next ≡ true))
 
 opening-follows : (asked : Result Opening DocFault) → Follows NotOpen NotOpen (turn_by_opening asked).session (turn_by_opening asked).session
 opening-follows (Err fault) = inl (refl, refl)
-opening-follows (Ok opening) = inr ((opened opening, refl, refl), refl)
+opening-follows (Ok opening) = inr ((opened opening, refl, record { database = refl; numbering = refl }), refl)
 
 abbrev reopened : OpenSession → Opening → Bool → Turn
 reopened session opening asks =
     cond asks (record { text = opening_text session.numbering (answers.Standing (status_of session.database)); session = Open (with_most_records session opening.records) })
     (record { text = opening_text session.numbering (answers.Refused refusals.AnotherOpening); session = Restored session })
 
-reopening-follows : (replayed : Session) (session : OpenSession) (again : Session) (asked : Result Opening DocFault) → Matches replayed (Restored session)
+reopening-follows : (replayed : Session) (session : OpenSession) (again : Session) (asked : Result Opening DocFault) → IsLike replayed (Restored session)
     → Follows replayed (Restored session) again (turn_by_reopening session asked).session
 reopening-follows replayed session again (Err fault) m = inl (m, same-entries (Restored session) (Restored session) refl refl)
 reopening-follows replayed session again (Ok opening) m = go (asks_for opening session.database)
@@ -375,109 +367,85 @@ request-follows replayed s t value is same =
     go : (next theirs : OpenSession) → (turn_by_value replayed value).session ≡ Open theirs → base_of theirs ≡ base_of next → Goes (base_of s) (base_of next)
         → Follows replayed (Open s) (turn_by_value replayed value).session (Open next)
     go next theirs again bases (inl stays) =
-        inl ((t, is, same ∙ sym stays), same-entries (Open s) (Open next) (ap (λ (base : Base). length base.database.history + 1) stays) (ap (λ (base : Base). base.numbering.horizon) stays))
+        inl ((t, is, base-alike next t (same ∙ sym stays)), same-entries (Open s) (Open next) (ap (λ (base : Base). length base.database.history + 1) stays) (ap (λ (base : Base). base.numbering.horizon) stays))
     go next theirs again bases (inr other) =
-        inr ((theirs, again, bases), ap not other)
+        inr ((theirs, again, base-alike next theirs bases), ap not other)
 
-value-follows : (replayed session : Session) (value : Result Data DocFault) → Matches replayed session
+value-follows : (replayed session : Session) (value : Result Data DocFault) → IsLike replayed session
     → Follows replayed session (turn_by_value replayed value).session (turn_by_value session value).session
 value-follows replayed NotOpen value m =
     subst (λ x. Follows x NotOpen (turn_by_value x value).session (turn_by_opening (opening_of value)).session) (sym m) (opening-follows (opening_of value))
 value-follows replayed (Restored session) value m = reopening-follows replayed session (turn_by_value replayed value).session (opening_of value) m
-value-follows replayed (Open session) value m = request-follows replayed session m.0 value m.1 m.2
+value-follows replayed (Open session) value m = request-follows replayed session m.0 value m.1 (alike-base session m.0 m.2)
 
 -- a line that is lost changes no database
-lost-follows : (replayed session again : Session) → Matches replayed session → Follows replayed session again (turn_without_memory session).session
+lost-follows : (replayed session again : Session) → IsLike replayed session → Follows replayed session again (turn_without_memory session).session
 lost-follows replayed NotOpen again m = inl (m, refl)
 lost-follows replayed (Restored session) again m = inl (m, same-entries (Restored session) (Restored session) refl refl)
 lost-follows replayed (Open session) again m = inl (m, same-entries (Open session) (Open (counted session)) refl refl)
 
-read-follows : (replayed session : Session) (read : LineRead) → Matches replayed session
+-- and neither does one for which the log couldn't be made anew
+unlogged-follows : (replayed session again : Session) → IsLike replayed session → Follows replayed session again (turn_without_log session).session
+unlogged-follows replayed NotOpen again m = inl (m, refl)
+unlogged-follows replayed (Restored session) again m = inl (m, same-entries (Restored session) (Restored session) refl refl)
+unlogged-follows replayed (Open session) again m = inl (m, same-entries (Open session) (Open (counted session)) refl refl)
+
+read-follows : (replayed session : Session) (read : LineRead) → IsLike replayed session
     → Follows replayed session (turn_of_read replayed (kept_line read.line)).session (turn_of_read session read).session
 read-follows replayed session read m = passed (is_passed_over read.line) refl
   where
-    lost : (b : Bool) → is_passed_over read.line ≡ false
-        → Follows replayed session (turn_of_read replayed (kept_line read.line)).session (cond b (turn_without_memory session) (turn_by_value session (value_of_line read.line))).session
-    lost true told = lost-follows replayed session _ m
-    lost false told =
+    unlogged : (b : Bool) → is_passed_over read.line ≡ false
+        → Follows replayed session (turn_of_read replayed (kept_line read.line)).session (cond b (turn_without_log session) (turn_by_value session (value_of_line read.line))).session
+    unlogged true told = unlogged-follows replayed session _ m
+    unlogged false told =
         subst (λ (t : Turn). Follows replayed session t.session (turn_by_value session (value_of_line read.line)).session) (sym (read-value replayed read.line told))
         (value-follows replayed session (value_of_line read.line) m)
 
+    lost : (b : Bool) → is_passed_over read.line ≡ false
+        → Follows replayed session (turn_of_read replayed (kept_line read.line)).session
+        (cond b (turn_without_memory session) (cond (read.is_unlogged && forgets_by session read.line) (turn_without_log session) (turn_by_value session (value_of_line read.line)))).session
+    lost true told = lost-follows replayed session _ m
+    lost false told = unlogged (read.is_unlogged && forgets_by session read.line) told
+
     passed : (b : Bool) → is_passed_over read.line ≡ b
         → Follows replayed session (turn_of_read replayed (kept_line read.line)).session
-        (cond b (record { text = []; session = session }) (cond (not (is_too_long read.line) && read.is_lost) (turn_without_memory session) (turn_by_value session (value_of_line read.line)))).session
+        (cond b (record { text = []; session = session }) (cond (not (is_too_long read.line) && read.is_lost) (turn_without_memory session)
+        (cond (read.is_unlogged && forgets_by session read.line) (turn_without_log session) (turn_by_value session (value_of_line read.line))))).session
     passed true told = inl (m, same-entries session session refl refl)
     passed false told = lost (not (is_too_long read.line) && read.is_lost) told
 
 -- ---- all lines
 
-again-append : (lines more : List (List ℕ)) (line : List ℕ) → (lines ++ line ∷ []) ++ more ≡ lines ++ line ∷ more
-again-append lines more line = append_assoc lines (line ∷ []) more
-
--- what is told of lines that are read back
-abbrev Told : List (List ℕ) → Session → Type 0
-Told lines session = AreLogged lines × (database_of (after_lines lines) ≡ database_of session) × (numbering_of (after_lines lines) ≡ numbering_of session)
-
-read-back : (reads : List LineRead) (lines : List (List ℕ)) (session : Session) → AreLogged lines → Matches (after_lines lines) session
-    → Told (lines ++ logged_of session reads) (turns_of session reads).session
-read-back [] lines session are m = subst (λ ls. Told ls session) (sym (append-nil lines)) (are, matches-db (after_lines lines) session m, matches-numbering (after_lines lines) session m)
-read-back (read ∷ reads) lines session are m =
-    go (λ more told matches. read-back reads more (turn_of_read session read).session told matches) (read-follows (after_lines lines) session read m)
+-- one line more: the log is one of the session after it
+log-next-read : (lines : List (List ℕ)) (session : Session) (read : LineRead) → IsLogOf lines session
+    → (makes_log_anew session read ≡ true → IsLogOf (lines_of_log (turn_of_read session read).session) (turn_of_read session read).session)
+    → IsLogOf (log_next lines session read) (turn_of_read session read).session
+log-next-read lines session read p new = anew (makes_log_anew session read) refl
   where
     next : Session
     next = (turn_of_read session read).session
 
     again : Session
-    again = (turn_of_read (after_lines lines) (kept_line read.line)).session
+    again = (turn_of_read p.read (kept_line read.line)).session
 
-    rest : List (List ℕ)
-    rest = logged_of next reads
+    plain : Follows p.read session again next → IsLogOf (lines ++ logged_by session next read.line) next
+    plain (inl (like, none)) =
+        subst (λ b. IsLogOf (lines ++ with_line_if b read.line []) next) (sym none)
+        (subst (λ ls. IsLogOf ls next) (sym (append-nil lines)) (record { read = p.read; reads = p.reads; alike = like }))
+    plain (inr (like, made)) =
+        let changes : changes_database p.read again ≡ true =
+        (λ i. not ((like-entries again next like i == like-entries p.read session p.alike i) && (like-horizon again next like i == like-horizon p.read session p.alike i))) ∙ made in
+        subst (λ b. IsLogOf (lines ++ with_line_if b read.line []) next) (sym made) (record { read = again; reads = reads-push lines p.read read.line p.reads changes; alike = like })
 
-    go : ((more : List (List ℕ)) → AreLogged more → Matches (after_lines more) next → Told (more ++ logged_of next reads) (turns_of next reads).session)
-        → Follows (after_lines lines) session again next → Told (lines ++ with_line_if (changes_database session next) read.line rest) (turns_of next reads).session
-    go further (inl (matches, none)) =
-        subst (λ b. Told (lines ++ with_line_if b read.line rest) (turns_of next reads).session) (sym none) (further lines are matches)
-    go further (inr (matches, made)) =
-        let more = lines ++ read.line ∷ [] in
-        let anew : changes_database (after_lines lines) again ≡ true =
-        (λ i. not ((matches-entries again next matches i == matches-entries (after_lines lines) session m i) && (matches-horizon again next matches i == matches-horizon (after_lines lines) session m i))) ∙ made in
-        let before = subst (λ x. Matches x next) (sym (after-append lines read.line)) matches in
-        subst (λ b. Told (lines ++ with_line_if b read.line rest) (turns_of next reads).session) (sym made)
-        (subst (λ ls. Told ls (turns_of next reads).session) (again-append lines rest read.line)
-        (further more (logged-append lines read.line are anew) before))
+    anew : (b : Bool) → makes_log_anew session read ≡ b → IsLogOf (cond b (lines_of_log next) (lines ++ logged_by session next read.line)) next
+    anew true made = new made
+    anew false none = plain (read-follows p.read session read p.alike)
 
--- the first lines that are logged are those of the first lines read
-record Front (session : Session) (reads : List LineRead) (count : ℕ) : Type 0 where
-  pub front : List LineRead
-  pub others : List LineRead
-  pub reads_are : reads ≡ front ++ others
-  pub first : take count (logged_of session reads) ≡ logged_of session front
-
-front-of : (session : Session) (reads : List LineRead) (count : ℕ) → count ≤ length (logged_of session reads) → Front session reads count
-front-of session reads zero few = record { front = []; others = reads; reads_are = refl; first = refl }
-front-of session [] (suc n) few = absurd (omega arith)
-front-of session (read ∷ reads) (suc n) few =
-    go (λ k le. front-of (turn_of_read session read).session reads k le) (changes_database session (turn_of_read session read).session) refl few
-  where
-    next : Session
-    next = (turn_of_read session read).session
-
-    front-more : (k : ℕ) (f : Front next reads k) → take (suc n) (with_line_if (changes_database session next) read.line (logged_of next reads)) ≡ with_line_if (changes_database session next) read.line (logged_of next f.front)
-        → Front session (read ∷ reads) (suc n)
-    front-more k f first = record { front = read ∷ f.front; others = f.others; reads_are = ap (λ rs. read ∷ rs) f.reads_are; first = first }
-
-    go : ((k : ℕ) → k ≤ length (logged_of next reads) → Front next reads k) → (b : Bool) → changes_database session next ≡ b → suc n ≤ length (with_line_if b read.line (logged_of next reads))
-        → Front session (read ∷ reads) (suc n)
-    go further true made few =
-        let f = further n (omega (arith, few)) in
-        front-more n f
-        (ap (λ b. take (suc n) (with_line_if b read.line (logged_of next reads))) made ∙ ap (λ ls. read.line ∷ ls) f.first
-        ∙ ap (λ b. with_line_if b read.line (logged_of next f.front)) (sym made))
-    go further false none few =
-        let f = further (suc n) few in
-        front-more (suc n) f
-        (ap (λ b. take (suc n) (with_line_if b read.line (logged_of next reads))) none ∙ f.first
-        ∙ ap (λ b. with_line_if b read.line (logged_of next f.front)) (sym none))
+read-back : (front others : List LineRead) (lines : List (List ℕ)) (session : Session) → IsLogOf lines session → NewLogsAreRead session (front ++ others)
+    → IsLogOf (log_after lines session front) (turns_of session front).session
+read-back [] others lines session p new = p
+read-back (read ∷ front) others lines session p new =
+    read-back front others (log_next lines session read) (turn_of_read session read).session (log-next-read lines session read p new.0) new.1
 
 -- a session from lines alone was never read back itself
 abbrev IsAfresh : Session → Type 0
@@ -504,14 +472,20 @@ lines-afresh : (lines : List (List ℕ)) (session : Session) → IsAfresh sessio
 lines-afresh [] session fresh = fresh
 lines-afresh (line ∷ lines) session fresh = lines-afresh lines (turn_of_read session (kept_line line)).session (read-afresh session line fresh)
 
-restored-matches : (session : Session) → IsAfresh session → Matches session (restored session)
-restored-matches NotOpen fresh = refl
-restored-matches (Restored session) fresh = absurd fresh
-restored-matches (Open session) fresh = (session, refl, refl)
+base-afresh : (first : List (List ℕ)) (base : Session) (left : ℕ) → BeginsLog first base left → IsAfresh base
+base-afresh first NotOpen left begins = tt
+base-afresh first (Restored session) left begins = absurd begins
+base-afresh first (Open session) left begins = tt
+
+read-afresh-log : (lines : List (List ℕ)) (session : Session) (left : ℕ) → ReadsLog lines session left → IsAfresh session
+read-afresh-log lines session left p = subst IsAfresh (sym p.session_is) (lines-afresh p.others p.base (base-afresh p.first p.base left p.begins))
+
+restored-like : (session : Session) → IsAfresh session → IsLike session (restored session)
+restored-like NotOpen fresh = refl
+restored-like (Restored session) fresh = absurd fresh
+restored-like (Open session) fresh = (session, refl, record { database = refl; numbering = refl })
 
 pub logs_are_read_back : LogsAreReadBack
-logs_are_read_back lines start reads count r few =
-    let f = front-of start reads count few in
-    let matches = subst (Matches (after_lines lines)) (sym r.session_is) (restored-matches (after_lines lines) (lines-afresh lines NotOpen tt)) in
-    let told = read-back f.front lines start r.are_logged matches in
-    record { front = f.front; others = f.others; reads_are = f.reads_are; first = f.first; are_logged = told.0; database = told.1; numbering = told.2 }
+logs_are_read_back lines start front others r new =
+    let like = subst (IsLike r.after) (sym r.session_is) (restored-like r.after (read-afresh-log lines r.after 0 r.reads)) in
+    read-back front others lines start (record { read = r.after; reads = r.reads; alike = like }) new

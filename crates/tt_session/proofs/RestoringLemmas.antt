@@ -1,5 +1,5 @@
 -- How a session is read back from the lines of a log.
-use Rattle.std.proofs.Common.{◌≡◌, ℕ, ◌+◌, ◌-◌, ◌==◌, Bool, true, false, cond, List, [], ◌∷◌, ◌++◌, length, take, drop, map, append_assoc, length-append, refl, sym, ap, ◌∙◌, subst, arith}
+use Rattle.std.proofs.Common.{◌≡◌, ℕ, ◌+◌, ◌-◌, ◌<◌, ◌==◌, Bool, true, false, cond, List, [], ◌∷◌, ◌++◌, length, take, drop, map, append-nil, append_assoc, length-append, inl, inr, Option, None, Some, option_and_then, Ok, IsErr, codes, refl, sym, ap, ◌∙◌, subst, arith}
 use Rattle.std.specs.List.{list_all}
 use Rattle.std.proofs.lemmas.Bool.{and_parts}
 use Rattle.std.proofs.lemmas.List.{map-append, take_rest, take-append-drop}
@@ -13,15 +13,21 @@ use Rattle.tt_session.specs.declared.restoring.Restoring.{Restoring}
 use Rattle.tt_session.specs.declared.restoring.RestoreFault.{RestoreFault}
 use Rattle.tt_session.specs.declared.restoring.RestoreFault.TheVariants as faults
 use Rattle.tt_session.specs.Lines.{HasBytes, HasFirstFeed, has_no_feed, joined}
+use Rattle.tt_grammar.specs.Fault.{refuse}
+use Rattle.tt_requests.specs.declared.log_opening.LogOpening.{LogOpening}
+use Rattle.tt_requests.specs.LogOpening.{log_opening_of}
+use Rattle.tt_requests.specs.GroundAction.{ground_action_of}
+use Rattle.tt_session.specs.Session.{OpenSession}
 use Rattle.tt_session.specs.Run.{Turn, begun, calls_of, turn_by_value}
 use Rattle.tt_session.specs.Answering.{turn_of_read, turns_of}
-use Rattle.tt_session.specs.Logged.{changes_database, with_line_if, logged_by, logged_of}
+use Rattle.tt_session.specs.Changing.{changes_database}
+use Rattle.tt_session.specs.Logged.{with_line_if, logged_by, logged_of}
 use Rattle.tt_session.specs.Together.{kept_line}
-use Rattle.tt_session.specs.Restoring.{after_lines, AreLogged, restored, Restores, IsNoLine}
-use Rattle.tt_session.specs.RestoringRun.{IsRestoring, FailsAtLine, FailsIn}
+use Rattle.tt_session.specs.Restoring.{opened_on, with_ground, laid_by, laid_by_lines, LaysGround, BeginsLog, ReadsLog, restored, Restores, IsNoGround, IsNoNext, IsNoLine}
+use Rattle.tt_session.specs.RestoringRun.{IsRestoring, FailsAtLine, FailsIn, IsNextOrNot}
 use Rattle.tt_session.proofs.AnsweringLemmas.{read-long, read-kept, whole_lines_of-joined, whole_lines_of-line}
 use Rattle.tt_session.proofs.LineLemmas.{first_line, rest_of}
-use Rattle.tt_session.proofs.LoggedLemmas.{logged_of-append, none-logged, same-logged}
+use Rattle.tt_session.proofs.LoggedLemmas.{logged_of-append, none-logged}
 use Rattle.tt_session.proofs.RunningLemmas.{turns-session, cuts-more, cuts-line, long-as-far}
 
 -- ---- lines of a log
@@ -29,52 +35,174 @@ use Rattle.tt_session.proofs.RunningLemmas.{turns-session, cuts-more, cuts-line,
 pub kept-append : (lines : List (List ℕ)) (line : List ℕ) → map kept_line (lines ++ line ∷ []) ≡ map kept_line lines ++ kept_line line ∷ []
 kept-append lines line = map-append kept_line lines (line ∷ [])
 
-pub after-append : (lines : List (List ℕ)) (line : List ℕ) → after_lines (lines ++ line ∷ []) ≡ (turn_of_read (after_lines lines) (kept_line line)).session
-after-append lines line = ap (λ rs. (turns_of NotOpen rs).session) (kept-append lines line) ∙ turns-session NotOpen (map kept_line lines) (kept_line line ∷ [])
+-- the session after lines from a session on
+abbrev pub after_kept : Session → List (List ℕ) → Session
+after_kept base lines = (turns_of base (map kept_line lines)).session
 
-pub logged-append : (lines : List (List ℕ)) (line : List ℕ) → AreLogged lines → changes_database (after_lines lines) (turn_of_read (after_lines lines) (kept_line line)).session ≡ true → AreLogged (lines ++ line ∷ [])
-logged-append lines line are made =
-    ap (logged_of NotOpen) (kept-append lines line) ∙ logged_of-append NotOpen (map kept_line lines) (kept_line line ∷ [])
+pub after-push : (base : Session) (lines : List (List ℕ)) (line : List ℕ) → after_kept base (lines ++ line ∷ []) ≡ (turn_of_read (after_kept base lines) (kept_line line)).session
+after-push base lines line = ap (λ rs. (turns_of base rs).session) (kept-append lines line) ∙ turns-session base (map kept_line lines) (kept_line line ∷ [])
+
+logged-push : (base : Session) (lines : List (List ℕ)) (line : List ℕ) → logged_of base (map kept_line lines) ≡ lines
+    → changes_database (after_kept base lines) (turn_of_read (after_kept base lines) (kept_line line)).session ≡ true → logged_of base (map kept_line (lines ++ line ∷ [])) ≡ lines ++ line ∷ []
+logged-push base lines line are made =
+    ap (logged_of base) (kept-append lines line) ∙ logged_of-append base (map kept_line lines) (kept_line line ∷ [])
     ∙ (λ i. are i ++ with_line_if (made i) line [])
+
+-- a further line that changes the database
+pub reads-push : (lines : List (List ℕ)) (session : Session) (line : List ℕ) → ReadsLog lines session 0 → changes_database session (turn_of_read session (kept_line line)).session ≡ true
+    → ReadsLog (lines ++ line ∷ []) (turn_of_read session (kept_line line)).session 0
+reads-push lines session line p made = record {
+  first = p.first;
+  others = p.others ++ line ∷ [];
+  lines_are = ap (λ ls. ls ++ line ∷ []) p.lines_are ∙ append_assoc p.first p.others (line ∷ []);
+  base = p.base;
+  begins = p.begins;
+  ground_first = λ less. absurd (omega (arith, less));
+  are_logged = logged-push p.base p.others line p.are_logged (subst (λ s. changes_database s (turn_of_read s (kept_line line)).session ≡ true) p.session_is made);
+  session_is = ap (λ s. (turn_of_read s (kept_line line)).session) p.session_is ∙ sym (after-push p.base p.others line);
+}
+
+laid-append : (session next : OpenSession) (lines : List (List ℕ)) (line : List ℕ) → laid_by_lines session lines ≡ Some next → laid_by_lines session (lines ++ line ∷ []) ≡ laid_by_lines next (line ∷ [])
+laid-append session next [] line is = ap (λ o. option_and_then (λ s. laid_by_lines s (line ∷ [])) o) is
+laid-append session next (first ∷ lines) line is = by (laid_by session first) is
+  where
+    by : (laid : Option OpenSession) → option_and_then (λ s. laid_by_lines s lines) laid ≡ Some next → option_and_then (λ s. laid_by_lines s (lines ++ line ∷ [])) laid ≡ laid_by_lines next (line ∷ [])
+    by None h = cc
+    by (Some s) h = laid-append s next lines line h
+
+laid-one : (session next : OpenSession) (line : List ℕ) → laid_by session line ≡ Some next → laid_by_lines session (line ∷ []) ≡ Some next
+laid-one session next line is = ap (λ o. option_and_then (λ s. laid_by_lines s []) o) is
+
+-- what a log begins with, where nothing is behind the ground
+begins-base : (lines : List (List ℕ)) (session : Session) (left : ℕ) (p : ReadsLog lines session left) → p.others ≡ [] → (lines ≡ p.first) × (p.base ≡ session)
+begins-base lines session left p none =
+    (p.lines_are ∙ ap (λ ls. p.first ++ ls) none ∙ append-nil p.first, sym (p.session_is ∙ ap (after_kept p.base) none))
+
+-- a further slot of the ground
+pub reads-lay : (lines : List (List ℕ)) (open next : OpenSession) (line : List ℕ) (left after : ℕ) → ReadsLog lines (Open open) left → left ≡ after + 1 → laid_by open line ≡ Some next
+    → ReadsLog (lines ++ line ∷ []) (Open next) after
+reads-lay lines open next line left after p left_is laid =
+    let none = p.ground_first (omega (arith, left_is)) in
+    let base = begins-base lines (Open open) left p none in
+    let ground : LaysGround p.first open left = subst (λ s. BeginsLog p.first s left) base.1 p.begins in
+    record {
+      first = lines ++ line ∷ [];
+      others = [];
+      lines_are = sym (append-nil (lines ++ line ∷ []));
+      base = Open next;
+      begins = record {
+        line = ground.line;
+        slots = ground.slots ++ line ∷ [];
+        lines_are = ap (λ ls. ls ++ line ∷ []) (base.0 ∙ ground.lines_are);
+        opening = ground.opening;
+        opens = ground.opens;
+        count = omega (arith, ground.count, left_is, length-append ground.slots (line ∷ []));
+        laid = laid-append (opened_on ground.opening) open ground.slots line ground.laid ∙ laid-one open next line laid;
+      };
+      ground_first = λ less. refl;
+      are_logged = refl;
+      session_is = refl;
+    }
+
+-- the opening of a log with a ground
+pub reads-ground : (line : List ℕ) (opening : LogOpening) → log_opening_of (value_of_line line) ≡ Ok opening → ReadsLog (line ∷ []) (Open (opened_on opening)) opening.numbering.ground_slots
+reads-ground line opening opens = record {
+  first = line ∷ [];
+  others = [];
+  lines_are = refl;
+  base = Open (opened_on opening);
+  begins = record { line = line; slots = []; lines_are = refl; opening = opening; opens = opens; count = refl; laid = refl };
+  ground_first = λ less. refl;
+  are_logged = refl;
+  session_is = refl;
+}
+
+pub reads-none : ReadsLog [] NotOpen 0
+reads-none = record {
+  first = [];
+  others = [];
+  lines_are = refl;
+  base = NotOpen;
+  begins = (refl, refl);
+  ground_first = λ less. refl;
+  are_logged = refl;
+  session_is = refl;
+}
+
+append-none : (first others : List (List ℕ)) → first ++ others ≡ [] → others ≡ []
+append-none [] others is = is
+append-none (line ∷ first) others is = cc
+
+-- before the first line no ground is still to come
+none-left : (left : ℕ) → ReadsLog [] NotOpen left → left ≡ 0
+none-left left p =
+    let base = begins-base [] NotOpen left p (append-none p.first p.others (sym p.lines_are)) in
+    (subst (λ s. BeginsLog p.first s left) base.1 p.begins).1
 
 -- what a line makes of a session, where it is neither passed over nor too long
 pub read-value : (session : Session) (line : List ℕ) → is_passed_over line ≡ false → turn_of_read session (kept_line line) ≡ turn_by_value session (value_of_line line)
 read-value session line told = read-kept session line ∙ (rw told refl)
 
+open-closed : (open : OpenSession) → Open open ≡ NotOpen → ⊥
+open-closed open is = cc
+
 -- ---- a session that is being read back
 
 pub restoring-more : (given bytes : List ℕ) (old new : Restoring) → IsRestoring given old → has_no_feed bytes ≡ true → ((left : List ℕ) → HasBytes old.line left → HasBytes new.line (left ++ bytes))
-    → new.session ≡ old.session → new.count ≡ old.count → IsRestoring (given ++ bytes) new
-restoring-more given bytes old new p none line session count = record {
+    → new.session ≡ old.session → new.ground_left ≡ old.ground_left → new.count ≡ old.count → IsRestoring (given ++ bytes) new
+restoring-more given bytes old new p none line session ground count = record {
   lines = p.lines;
   left = p.left ++ bytes;
   cuts = cuts-more given bytes p.lines p.left none p.cuts;
   line = line p.left p.line;
-  are_logged = p.are_logged;
-  session_is = ap begun session ∙ p.session_is;
+  reads = subst (λ s. ReadsLog p.lines (begun s) new.ground_left) (sym session) (subst (λ n. ReadsLog p.lines (begun old.session) n) (sym ground) p.reads);
+  fresh = λ closed. p.fresh (ap begun (sym session) ∙ closed);
   count_is = count ∙ p.count_is;
 }
 
-pub restoring-line : (given : List ℕ) (old new : Restoring) (p : IsRestoring given old) → is_passed_over p.left ≡ false → begun new.session ≡ (turn_by_value (begun old.session) (value_of_line p.left)).session
-    → changes_database (begun old.session) (begun new.session) ≡ true → HasBytes new.line [] → new.count ≡ old.count + 1 → IsRestoring (given ++ 10 ∷ []) new
-restoring-line given old new p told session made line count =
-    let next : begun new.session ≡ (turn_of_read (after_lines p.lines) (kept_line p.left)).session =
-    session ∙ ap (λ (t : Turn). t.session) (sym (read-value (begun old.session) p.left told)) ∙ ap (λ s. (turn_of_read s (kept_line p.left)).session) p.session_is in
+next-reads : (lines : List (List ℕ)) (open : Option OpenSession) (next : Session) (left after : ℕ) (line : List ℕ) → ReadsLog lines (begun open) left → (begun open ≡ NotOpen → lines ≡ [])
+    → IsNextOrNot true (begun open) left line next after → ReadsLog (lines ++ line ∷ []) next after × ((next ≡ NotOpen) → ⊥)
+next-reads lines open next left after line p fresh (inl lays) = (
+  subst (λ s. ReadsLog (lines ++ line ∷ []) s after) (sym lays.next_is)
+      (reads-lay lines lays.open lays.laid line left after (subst (λ s. ReadsLog lines s left) lays.session_is p) lays.left_is lays.is),
+  λ closed. open-closed lays.laid (sym lays.next_is ∙ closed),
+)
+next-reads lines open next left after line p fresh (inr (inl logs)) =
+    let session = begun open in
+    let zero_left : left ≡ 0 = no-left open refl in (
+      subst (λ s. ReadsLog (lines ++ line ∷ []) s after) (sym logs.next_is)
+          (subst (λ n. ReadsLog (lines ++ line ∷ []) (turn_of_read session (kept_line line)).session n) (sym logs.left_is)
+          (reads-push lines session line (subst (λ n. ReadsLog lines session n) zero_left p) (subst (λ s. changes_database session s ≡ true) logs.next_is logs.changes))),
+      λ closed. open-closed logs.open (sym logs.is_open ∙ closed),
+    )
+  where
+    no-left : (o : Option OpenSession) → open ≡ o → left ≡ 0
+    no-left None is = none-left left (subst (λ ls. ReadsLog ls NotOpen left) (fresh (ap begun is)) (subst (λ x. ReadsLog lines (begun x) left) is p))
+    no-left (Some s) is = logs.no_ground s (ap begun is)
+next-reads lines open next left after line p fresh (inr (inr opens)) = (
+  subst (λ ls. ReadsLog (ls ++ line ∷ []) next after) (sym (fresh opens.session_is))
+      (subst (λ s. ReadsLog (line ∷ []) s after) (sym opens.next_is) (subst (λ n. ReadsLog (line ∷ []) (Open (opened_on opens.opening)) n) (sym opens.left_is) (reads-ground line opens.opening opens.opens))),
+  λ closed. open-closed (opened_on opens.opening) (sym opens.next_is ∙ closed),
+)
+
+pub restoring-next : (given : List ℕ) (old new : Restoring) (p : IsRestoring given old) → IsNextOrNot true (begun old.session) old.ground_left p.left (begun new.session) new.ground_left
+    → HasBytes new.line [] → new.count ≡ old.count + 1 → IsRestoring (given ++ 10 ∷ []) new
+restoring-next given old new p next line count =
+    let reads = next-reads p.lines old.session (begun new.session) old.ground_left new.ground_left p.left p.reads p.fresh next in
     record {
       lines = p.lines ++ p.left ∷ [];
       left = [];
       cuts = cuts-line given p.lines p.left p.cuts;
       line = line;
-      are_logged = logged-append p.lines p.left p.are_logged ((λ i. changes_database (sym p.session_is i) (sym next i)) ∙ made);
-      session_is = next ∙ sym (after-append p.lines p.left);
+      reads = reads.0;
+      fresh = λ closed. absurd (reads.1 closed);
       count_is = omega (arith, count, p.count_is, length-append p.lines (p.left ∷ []));
     }
 
--- ---- a line that changes nothing
+-- ---- a line that can't be the next one
 
-fails-at : (given : List ℕ) (old : Restoring) (p : IsRestoring given old) (number : ℕ) → number ≡ old.count + 1
-    → logged_by (after_lines p.lines) (turn_of_read (after_lines p.lines) (kept_line p.left)).session p.left ≡ [] → FailsAtLine (given ++ 10 ∷ []) number
-fails-at given old p number number_is none = record {
+pub fails-at : (given : List ℕ) (old : Restoring) (p : IsRestoring given old) (number : ℕ) → number ≡ old.count + 1 → IsNoNext (begun old.session) old.ground_left p.left → FailsAtLine (given ++ 10 ∷ []) number
+fails-at given old p number number_is fails = record {
   front = p.lines;
   line = p.left;
   rest = [];
@@ -82,27 +210,30 @@ fails-at given old p number number_is none = record {
   whole = p.cuts.whole;
   no_feed = p.cuts.last;
   number_is = omega (arith, number_is, p.count_is);
-  are_logged = p.are_logged;
-  not_logged = none;
+  session = begun old.session;
+  left = old.ground_left;
+  reads = p.reads;
+  fails = fails;
 }
 
-pub fails-passed : (given : List ℕ) (old : Restoring) (p : IsRestoring given old) (number : ℕ) → number ≡ old.count + 1 → is_passed_over p.left ≡ true → FailsAtLine (given ++ 10 ∷ []) number
-fails-passed given old p number number_is told =
-    let after = after_lines p.lines in
-    let turn : turn_of_read after (kept_line p.left) ≡ record { text = []; session = after } = rw told refl in
-    fails-at given old p number number_is (ap (λ (t : Turn). logged_by after t.session p.left) turn ∙ same-logged after p.left)
+-- a line that is too long
+long-value : (line : List ℕ) → is_too_long line ≡ true → value_of_line line ≡ refuse (codes "longer than 16777216 bytes")
+unfolding value_of_line
+long-value line long = rw long refl
+
+long-none : (session : Session) (line : List ℕ) → is_too_long line ≡ true → IsNoGround session line
+long-none NotOpen line long = tt
+long-none (Restored session) line long = tt
+long-none (Open session) line long = ap (λ v. with_ground session (ground_action_of session.database.catalog v)) (long-value line long)
 
 pub fails-long : (given : List ℕ) (old : Restoring) (p : IsRestoring given old) (number : ℕ) → number ≡ old.count + 1 → is_too_long p.left ≡ true → FailsAtLine (given ++ 10 ∷ []) number
 fails-long given old p number number_is long =
-    let after = after_lines p.lines in
-    fails-at given old p number number_is (ap (λ (t : Turn). logged_by after t.session p.left) (read-long after p.left long) ∙ none-logged after _ p.left (long-as-far after))
-
-pub fails-unmade : (given : List ℕ) (old : Restoring) (new : Session) (p : IsRestoring given old) (number : ℕ) → number ≡ old.count + 1 → is_passed_over p.left ≡ false
-    → new ≡ (turn_by_value (begun old.session) (value_of_line p.left)).session → changes_database (begun old.session) new ≡ false → FailsAtLine (given ++ 10 ∷ []) number
-fails-unmade given old new p number number_is told session made =
-    let next : new ≡ (turn_of_read (after_lines p.lines) (kept_line p.left)).session =
-    session ∙ ap (λ (t : Turn). t.session) (sym (read-value (begun old.session) p.left told)) ∙ ap (λ s. (turn_of_read s (kept_line p.left)).session) p.session_is in
-    fails-at given old p number number_is ((λ i. logged_by (sym p.session_is i) (sym next i) p.left) ∙ ap (λ b. with_line_if b p.left []) made)
+    let session = begun old.session in
+    fails-at given old p number number_is (record {
+      no_ground = λ some. long-none session p.left long;
+      not_logged = λ none. ap (λ (t : Turn). logged_by session t.session p.left) (read-long session p.left long) ∙ none-logged session _ p.left (long-as-far session);
+      no_opening = λ closed. subst (λ v. IsErr (log_opening_of v)) (sym (long-value p.left long)) tt;
+    })
 
 pub fails-more : (given more : List ℕ) (fault : RestoreFault) → FailsIn given fault → FailsIn (given ++ more) fault
 fails-more given more (faults.Line number) p = record {
@@ -115,8 +246,10 @@ fails-more given more (faults.Line number) p = record {
   whole = p.whole;
   no_feed = p.no_feed;
   number_is = p.number_is;
-  are_logged = p.are_logged;
-  not_logged = p.not_logged;
+  session = p.session;
+  left = p.left;
+  reads = p.reads;
+  fails = p.fails;
 }
 fails-more given more faults.Read p = tt
 fails-more given more faults.Memory p = tt
@@ -136,14 +269,30 @@ same-lines (b ∷ bytes) = by (b == 10) (same-lines bytes)
     by true others = ap (λ ls. [] ∷ ls) others
     by false others = ap (log.with_byte_if b) others ∙ same-if b (whole_lines_of bytes)
 
-pub restores-all : (file given : List ℕ) (run : Restoring) (session : Session) → IsRestoring given run → given ≡ log.text file → session ≡ restored (begun run.session) → Restores (log.logged file) session
-restores-all file given run session p whole session_is =
-    let lines : log.logged file ≡ p.lines =
-    ap log.whole_lines_of (sym whole) ∙ same-lines given ∙ ap whole_lines_of p.cuts.parts ∙ whole_lines_of-joined p.lines p.left p.cuts.whole p.cuts.last in
-    record {
-      are_logged = subst AreLogged (sym lines) p.are_logged;
-      session_is = session_is ∙ ap restored (p.session_is ∙ ap after_lines (sym lines));
-    }
+lines-all : (file given : List ℕ) (run : Restoring) (p : IsRestoring given run) → given ≡ log.text file → log.logged file ≡ p.lines
+lines-all file given run p whole =
+    ap log.whole_lines_of (sym whole) ∙ same-lines given ∙ ap whole_lines_of p.cuts.parts ∙ whole_lines_of-joined p.lines p.left p.cuts.whole p.cuts.last
+
+pub restores-all : (file given : List ℕ) (run : Restoring) (session : Session) → IsRestoring given run → given ≡ log.text file → run.ground_left ≡ 0 → session ≡ restored (begun run.session)
+    → Restores (log.logged file) session
+restores-all file given run session p whole none session_is = record {
+  after = begun run.session;
+  reads = subst (λ ls. ReadsLog ls (begun run.session) 0) (sym (lines-all file given run p whole)) (subst (λ n. ReadsLog p.lines (begun run.session) n) none p.reads);
+  session_is = session_is;
+}
+
+-- some of the ground are still to come behind the last line
+pub no-more-lines : (file given : List ℕ) (run : Restoring) (number : ℕ) → IsRestoring given run → given ≡ log.text file → number ≡ run.count + 1 → 0 < run.ground_left → IsNoLine (log.logged file) number
+no-more-lines file given run number p whole number_is some = record {
+  front = p.lines;
+  others = [];
+  lines_are = lines-all file given run p whole ∙ sym (append-nil p.lines);
+  number_is = omega (arith, number_is, p.count_is);
+  session = begun run.session;
+  left = run.ground_left;
+  reads = p.reads;
+  fails = some;
+}
 
 whole_lines-front : (front : List (List ℕ)) (line rest : List ℕ) → list_all has_no_feed front ≡ true → has_no_feed line ≡ true
     → whole_lines_of (joined front ++ (line ++ 10 ∷ rest)) ≡ front ++ line ∷ whole_lines_of rest
@@ -156,15 +305,16 @@ whole_lines-front (first ∷ front) line rest whole none =
 pub no-line : (file given unread : List ℕ) (number : ℕ) → FailsAtLine given number → given ++ unread ≡ log.text file → IsNoLine (log.logged file) number
 no-line file given unread number p whole = record {
   front = p.front;
-  line = p.line;
-  others = whole_lines_of (p.rest ++ unread);
+  others = p.line ∷ whole_lines_of (p.rest ++ unread);
   lines_are =
       ap log.whole_lines_of (sym whole) ∙ same-lines (given ++ unread)
       ∙ ap whole_lines_of (ap (λ l. l ++ unread) p.parts ∙ append_assoc (joined p.front) (p.line ++ 10 ∷ p.rest) unread ∙ ap (λ l. joined p.front ++ l) (append_assoc p.line (10 ∷ p.rest) unread))
       ∙ whole_lines-front p.front p.line (p.rest ++ unread) p.whole p.no_feed;
   number_is = p.number_is;
-  are_logged = p.are_logged;
-  not_logged = p.not_logged;
+  session = p.session;
+  left = p.left;
+  reads = p.reads;
+  fails = p.fails;
 }
 
 pub restored-calls : (session : Session) → calls_of (restored session) ≡ calls_of session

@@ -12,20 +12,22 @@ use Rattle.tt_session.specs.declared.run.Run.{Run}
 use Rattle.tt_session.specs.Lines.{HasBytes, has_no_feed, joined}
 use Rattle.tt_session.specs.Run.{Turn, turn_with_memory, turn_without_memory, turn_of_long_line}
 use Rattle.tt_session.specs.Answering.{LineRead, turn_of_read, turns_of, lines_read}
-use Rattle.tt_session.specs.Logged.{logged_by, logged_of, with_lines}
+use Rattle.tt_session.specs.Changing.{line_asks_to_forget}
+use Rattle.tt_session.specs.Logged.{logged_by, logged_of, IsPlain, ArePlain, with_lines}
 use Rattle.tt_session.specs.PendingLines.{no_lines}
 use Rattle.tt_session.specs.Together.{kept_line, AnswersFront}
 use Rattle.tt_session.specs.Running.{Handing, Stands, Cuts, Serves, Rests, Halts, Takes, StopsIn, AnswersOne, StopsAt, HandsOver, StopsBetween, StandsOn, IsShort, HandsOverShort, StopsInShort}
 use Rattle.tt_session.proofs.AnsweringLemmas.{turns_of-append, joined-append, read-kept}
 use Rattle.tt_session.proofs.LineLemmas.{feed-more, rest_of}
-use Rattle.tt_session.proofs.LoggedLemmas.{IsAsFar, with-nil, logged_of-append, none-logged, same-logged}
+use Rattle.tt_session.specs.ForgetRequests.{AnswersPlain}
+use Rattle.tt_session.proofs.LoggedLemmas.{IsAsFar, with-nil, logged_of-append, none-logged, same-logged, plain-far, plain-other, plain-append}
 
 -- ---- lines that are read
 
 pub turns-session : (start : Session) (first others : List LineRead) → (turns_of start (first ++ others)).session ≡ (turns_of (turns_of start first).session others).session
 turns-session start first others = ap (λ (t : Turn). t.session) (turns_of-append start first others)
 
-turns-text : (start : Session) (first others : List LineRead) → (turns_of start (first ++ others)).text ≡ (turns_of start first).text ++ (turns_of (turns_of start first).session others).text
+pub turns-text : (start : Session) (first others : List LineRead) → (turns_of start (first ++ others)).text ≡ (turns_of start first).text ++ (turns_of (turns_of start first).session others).text
 turns-text start first others = ap (λ (t : Turn). t.text) (turns_of-append start first others)
 
 one-text : (session : Session) (read : LineRead) → (turns_of session (read ∷ [])).text ≡ (turn_of_read session read).text
@@ -33,6 +35,9 @@ one-text session read = append-nil (turn_of_read session read).text
 
 lines_read-append : (first others : List LineRead) → lines_read (first ++ others) ≡ lines_read first ++ lines_read others
 lines_read-append first others = map-append (λ (r : LineRead). r.line) first others
+
+pub read-last : (reads : List LineRead) (read : LineRead) (line : List ℕ) → read.line ≡ line → lines_read reads ++ line ∷ [] ≡ lines_read (reads ++ read ∷ [])
+read-last reads read line is = ap (λ l. lines_read reads ++ l ∷ []) (sym is) ∙ sym (lines_read-append reads (read ∷ []))
 
 lines-kept : (lines : List (List ℕ)) → lines_read (map kept_line lines) ≡ lines
 lines-kept [] = refl
@@ -51,13 +56,14 @@ stands-handed handed has_log first outlet after start reads out out_after lines 
   is_handed = given;
   text_is = none;
   lines_are = λ log. cleared ∙ ap no_lines (p.lines_are log);
+  plain = tt;
 }
 
 -- further lines are read, and their answers kept
 pub stands-more : {O : Type 0} (handed : Handing O) (has_log : Type 0) (first outlet : O) (start : Session) (reads more : List LineRead) (session : Session) (out out_after : List ℕ) (lines lines_after : Option (List (List ℕ)))
     → Stands handed has_log first outlet start reads out lines → session ≡ (turns_of start reads).session → out_after ≡ out ++ (turns_of session more).text
-    → lines_after ≡ with_lines lines (logged_of session more) → Stands handed has_log first outlet start (reads ++ more) out_after lines_after
-stands-more handed has_log first outlet start reads more session out out_after lines lines_after p session_is out_is further =
+    → lines_after ≡ with_lines lines (logged_of session more) → ArePlain session more → Stands handed has_log first outlet start (reads ++ more) out_after lines_after
+stands-more handed has_log first outlet start reads more session out out_after lines lines_after p session_is out_is further plain =
     let mid = (turns_of start p.over).session in
     let same : session ≡ (turns_of mid p.kept).session = session_is ∙ ap (λ rs. (turns_of start rs).session) p.reads_are ∙ turns-session start p.over p.kept in
     record {
@@ -68,13 +74,15 @@ stands-more handed has_log first outlet start reads more session out out_after l
       text_is = out_is ∙ (λ i. p.text_is i ++ (turns_of (same i) more).text) ∙ sym (turns-text mid p.kept more);
       lines_are = λ log.
           further ∙ (λ i. with_lines (p.lines_are log i) (logged_of (same i) more)) ∙ ap Some (sym (logged_of-append mid p.kept more));
+      plain = plain-append mid p.kept more p.plain (subst (λ s. ArePlain s more) same plain);
     }
 
 pub stands-push : {O : Type 0} (handed : Handing O) (has_log : Type 0) (first outlet : O) (start : Session) (reads : List LineRead) (read : LineRead) (session : Session) (out out_after : List ℕ) (lines lines_after : Option (List (List ℕ)))
     → Stands handed has_log first outlet start reads out lines → session ≡ (turns_of start reads).session → out_after ≡ out ++ (turn_of_read session read).text
-    → lines_after ≡ with_lines lines (logged_by session (turn_of_read session read).session read.line) → Stands handed has_log first outlet start (reads ++ read ∷ []) out_after lines_after
-stands-push handed has_log first outlet start reads read session out out_after lines lines_after p session_is out_is further =
-    stands-more handed has_log first outlet start reads (read ∷ []) session out out_after lines lines_after p session_is (out_is ∙ ap (λ t. out ++ t) (sym (one-text session read))) further
+    → lines_after ≡ with_lines lines (logged_by session (turn_of_read session read).session read.line) → IsPlain session read
+    → Stands handed has_log first outlet start (reads ++ read ∷ []) out_after lines_after
+stands-push handed has_log first outlet start reads read session out out_after lines lines_after p session_is out_is further plain =
+    stands-more handed has_log first outlet start reads (read ∷ []) session out out_after lines lines_after p session_is (out_is ∙ ap (λ t. out ++ t) (sym (one-text session read))) further (plain, tt)
 
 pub session-push : (start session new : Session) (reads : List LineRead) (read : LineRead) → session ≡ (turns_of start reads).session → new ≡ (turn_of_read session read).session
     → new ≡ (turns_of start (reads ++ read ∷ [])).session
@@ -91,28 +99,31 @@ stands-same handed has_log first outlet start reads out out_after lines lines_af
 -- a line that is passed over
 pub one-passed : {O : Type 0} (handed : Handing O) (has_log : Type 0) (outlet : O) (run : Run) → ((bytes : List ℕ) → HasBytes run.line bytes → is_passed_over bytes ≡ true) → AnswersOne handed has_log outlet outlet run run
 one-passed handed has_log outlet run told first start reads bytes has p session_is =
-    let read : LineRead = record { is_lost = false; line = bytes } in
+    let read : LineRead = kept_line bytes in
     let turn : turn_of_read run.session read ≡ record { text = []; session = run.session } = rw (told bytes has) refl in (
-      false,
+      read,
+      refl,
       stands-push handed has_log first outlet start reads read run.session run.out.items run.out.items run.workspace.lines run.workspace.lines p session_is
           (sym (append-nil run.out.items) ∙ ap (λ (t : Turn). run.out.items ++ t.text) (sym turn))
-          (sym (with-nil run.workspace.lines) ∙ ap (with_lines run.workspace.lines) (sym (same-logged run.session bytes)) ∙ ap (λ (t : Turn). with_lines run.workspace.lines (logged_by run.session t.session bytes)) (sym turn)),
+          (sym (with-nil run.workspace.lines) ∙ ap (with_lines run.workspace.lines) (sym (same-logged run.session bytes)) ∙ ap (λ (t : Turn). with_lines run.workspace.lines (logged_by run.session t.session bytes)) (sym turn))
+          (plain-far run.session read refl (subst (λ (t : Turn). IsAsFar run.session t.session) (sym turn) (refl, refl))),
       session-push start run.session run.session reads read session_is (ap (λ (t : Turn). t.session) (sym turn)),
     )
 
 -- a line for which there was memory
-pub one-kept : {O : Type 0} (handed : Handing O) (has_log : Type 0) (outlet : O) (old new : Run) → ((bytes : List ℕ) → HasBytes old.line bytes → (new.session ≡ (turn_with_memory old.session bytes).session)
-    × (new.out.items ≡ old.out.items ++ (turn_with_memory old.session bytes).text) × (new.workspace.lines ≡ with_lines old.workspace.lines (logged_by old.session new.session bytes)))
-    → AnswersOne handed has_log outlet outlet old new
+pub one-kept : {O : Type 0} (handed : Handing O) (has_log : Type 0) (outlet : O) (old new : Run)
+    → ((bytes : List ℕ) → HasBytes old.line bytes → AnswersPlain old.session new.session bytes old.out.items new.out.items old.workspace.lines new.workspace.lines) → AnswersOne handed has_log outlet outlet old new
 one-kept handed has_log outlet old new told first start reads bytes has p session_is =
-    let read : LineRead = record { is_lost = false; line = bytes } in
+    let read : LineRead = kept_line bytes in
     let turn = read-kept old.session bytes in
     let done = told bytes has in
-    let new_is : new.session ≡ (turn_of_read old.session read).session = done.0 ∙ ap (λ (t : Turn). t.session) (sym turn) in (
-      false,
+    let new_is : new.session ≡ (turn_of_read old.session read).session = done.session ∙ ap (λ (t : Turn). t.session) (sym turn) in (
+      read,
+      refl,
       stands-push handed has_log first outlet start reads read old.session old.out.items new.out.items old.workspace.lines new.workspace.lines p session_is
-          (done.1 ∙ ap (λ (t : Turn). old.out.items ++ t.text) (sym turn))
-          (done.2 ∙ ap (λ s. with_lines old.workspace.lines (logged_by old.session s bytes)) new_is),
+          (done.text ∙ ap (λ (t : Turn). old.out.items ++ t.text) (sym turn))
+          (done.lines ∙ ap (λ s. with_lines old.workspace.lines (logged_by old.session s bytes)) new_is)
+          (plain-other old.session read refl done.plain),
       session-push start old.session new.session reads read session_is new_is,
     )
 
@@ -128,36 +139,40 @@ lost-as-far (Restored session) = (refl, refl)
 lost-as-far (Open session) = (refl, refl)
 
 pub is-short : (start session : Session) (reads : List LineRead) (read : LineRead) (turn : Turn) (text : List ℕ) → session ≡ (turns_of start reads).session → turn_of_read session read ≡ turn
-    → IsAsFar session turn.session → text ≡ turn.text → IsShort start reads read text
-is-short start session reads read turn text session_is turn_is far text_is = record {
+    → read.is_unlogged ≡ false → IsAsFar session turn.session → text ≡ turn.text → IsShort start reads read text
+is-short start session reads read turn text session_is turn_is logged far text_is = record {
   text_is = text_is ∙ ap (λ (t : Turn). t.text) (sym turn_is) ∙ sym (one-text session read) ∙ ap (λ s. (turns_of s (read ∷ [])).text) session_is;
   not_logged =
       ap (λ s. logged_of s (read ∷ [])) (sym session_is)
       ∙ none-logged session (turn_of_read session read).session read.line (subst (λ (t : Turn). IsAsFar session t.session) (sym turn_is) far);
+  plain =
+      subst (λ s. ArePlain s (read ∷ [])) session_is
+      (plain-far session read logged (subst (λ (t : Turn). IsAsFar session t.session) (sym turn_is) far), tt);
 }
 
 -- a line whose short answer is handed over. The run is the old one but for its session, whose call is counted
 pub one-short : {O : Type 0} (handed : Handing O) (has_log : Type 0) (before after : O) (old mid new : Run) (is_lost : Bool) (turn : Turn) (text : List ℕ)
-    → ((bytes : List ℕ) → HasBytes old.line bytes → turn_of_read old.session (record { is_lost = is_lost; line = bytes }) ≡ turn) → IsAsFar old.session turn.session → text ≡ turn.text
+    → ((bytes : List ℕ) → HasBytes old.line bytes → turn_of_read old.session (record { is_lost = is_lost; is_unlogged = false; line = bytes }) ≡ turn) → IsAsFar old.session turn.session → text ≡ turn.text
     → mid.out.items ≡ old.out.items → mid.workspace.lines ≡ old.workspace.lines → new.session ≡ turn.session → new.out.items ≡ [] → new.workspace.lines ≡ no_lines mid.workspace.lines
     → HandsOverShort handed has_log before after mid text → AnswersOne handed has_log before after old new
 one-short handed has_log before after old mid new is_lost turn text told far text_is out_is lines_are session_is none cleared over first start reads bytes has p start_is =
-    let read : LineRead = record { is_lost = is_lost; line = bytes } in
+    let read : LineRead = record { is_lost = is_lost; is_unlogged = false; line = bytes } in
     let stands = stands-same handed has_log first before start reads old.out.items mid.out.items old.workspace.lines mid.workspace.lines p out_is lines_are in
-    let short = is-short start old.session reads read turn text start_is (told bytes has) far text_is in (
-      is_lost,
+    let short = is-short start old.session reads read turn text start_is (told bytes has) refl far text_is in (
+      read,
+      refl,
       stands-handed handed has_log first before after start reads mid.out.items new.out.items mid.workspace.lines new.workspace.lines stands (reads ++ read ∷ []) (over first start reads read stands short) none cleared,
       session-push start old.session new.session reads read start_is (session_is ∙ ap (λ (t : Turn). t.session) (sym (told bytes has))),
     )
 
 pub stops-short : {O : Type 0} (handed stopped : Handing O) (has_log : Type 0) (before after : O) (old mid : Run) (is_lost : Bool) (turn : Turn) (text : List ℕ)
-    → ((bytes : List ℕ) → HasBytes old.line bytes → turn_of_read old.session (record { is_lost = is_lost; line = bytes }) ≡ turn) → IsAsFar old.session turn.session → text ≡ turn.text
+    → ((bytes : List ℕ) → HasBytes old.line bytes → turn_of_read old.session (record { is_lost = is_lost; is_unlogged = false; line = bytes }) ≡ turn) → IsAsFar old.session turn.session → text ≡ turn.text
     → mid.out.items ≡ old.out.items → mid.workspace.lines ≡ old.workspace.lines → StopsInShort handed stopped has_log before after mid text → StopsAt handed stopped has_log before after old
 stops-short handed stopped has_log before after old mid is_lost turn text told far text_is out_is lines_are stops first start reads bytes has p start_is =
-    let read : LineRead = record { is_lost = is_lost; line = bytes } in
+    let read : LineRead = record { is_lost = is_lost; is_unlogged = false; line = bytes } in
     let stands = stands-same handed has_log first before start reads old.out.items mid.out.items old.workspace.lines mid.workspace.lines p out_is lines_are in
-    let short = is-short start old.session reads read turn text start_is (told bytes has) far text_is in
-    (is_lost, λ more. stops first start reads read more stands short)
+    let short = is-short start old.session reads read turn text start_is (told bytes has) refl far text_is in
+    (read, refl, λ more. stops first start reads read more stands short)
 
 -- ---- whole lines, and the bytes of the next one
 
@@ -197,6 +212,7 @@ stands-rests handed has_log first outlet start given run p = record {
   is_handed = p.is_handed;
   text_is = p.out;
   lines_are = p.lines;
+  plain = tt;
 }
 
 pub serves-rests : {O : Type 0} (handed : Handing O) (has_log : Type 0) (first outlet : O) (start : Session) (given : List ℕ) (run : Run) → Rests handed has_log first outlet start given run → Serves handed has_log first outlet start given run
@@ -256,14 +272,14 @@ pub takes-one : {O : Type 0} (handed : Handing O) (has_log : Type 0) (before aft
     → HasBytes new.line [] → new.session ≡ mid.session → new.out.items ≡ mid.out.items → new.workspace.lines ≡ mid.workspace.lines → Takes handed has_log before after (10 ∷ []) old new
 takes-one handed has_log before after old mid new one line session out lines first start given p =
     let done = one first start p.reads p.left p.line p.stands p.session in
-    let read : LineRead = record { is_lost = done.0; line = p.left } in
+    let read : LineRead = done.0 in
     record {
       reads = p.reads ++ read ∷ [];
       left = [];
-      cuts = subst (λ ls. Cuts (given ++ 10 ∷ []) ls []) (sym (lines_read-append p.reads (read ∷ []))) (cuts-line given (lines_read p.reads) p.left p.cuts);
+      cuts = subst (λ ls. Cuts (given ++ 10 ∷ []) ls []) (read-last p.reads read p.left done.1) (cuts-line given (lines_read p.reads) p.left p.cuts);
       line = line;
-      stands = stands-same handed has_log first after start (p.reads ++ read ∷ []) mid.out.items new.out.items mid.workspace.lines new.workspace.lines done.1 out lines;
-      session = session ∙ done.2;
+      stands = stands-same handed has_log first after start (p.reads ++ read ∷ []) mid.out.items new.out.items mid.workspace.lines new.workspace.lines done.2 out lines;
+      session = session ∙ done.3;
     }
 
 -- answers that are kept are handed over, or not
@@ -297,7 +313,7 @@ takes-together handed has_log outlet bytes count old new none line front first s
       line = subst (λ l. HasBytes l []) (sym line) (subst (λ l. HasBytes old.line l) empty p.line);
       stands =
           stands-more handed has_log first outlet start p.reads more old.session old.out.items new.out.items old.workspace.lines new.workspace.lines p.stands p.session
-          (front.out ∙ ap (λ t. old.out.items ++ t) (sym said)) front.logged;
+          (front.out ∙ ap (λ t. old.out.items ++ t) (sym said)) front.logged front.plain;
       session =
           sym (ap (λ (t : Turn). t.session) front.turn) ∙ ap (λ s. (turns_of s more).session) p.session ∙ sym (turns-session start p.reads more);
     }
@@ -349,10 +365,10 @@ stops-between handed stopped has_log a b c bytes old mid taken stops first start
 pub stops-one : {O : Type 0} (handed stopped : Handing O) (has_log : Type 0) (before after : O) (old : Run) → StopsAt handed stopped has_log before after old → StopsIn handed stopped has_log before after (10 ∷ []) old
 stops-one handed stopped has_log before after old stops first start given p =
     let at = stops first start p.reads p.left p.line p.stands p.session in
-    let read : LineRead = record { is_lost = at.0; line = p.left } in
+    let read : LineRead = at.0 in
     let cuts : Cuts (given ++ 10 ∷ []) (lines_read (p.reads ++ read ∷ [])) [] =
-    subst (λ ls. Cuts (given ++ 10 ∷ []) ls []) (sym (lines_read-append p.reads (read ∷ []))) (cuts-line given (lines_read p.reads) p.left p.cuts) in
-    record { reads = p.reads ++ read ∷ []; rest = []; parts = cuts.parts; whole = cuts.whole; is_stopped = at.1 }
+    subst (λ ls. Cuts (given ++ 10 ∷ []) ls []) (read-last p.reads read p.left at.1) (cuts-line given (lines_read p.reads) p.left p.cuts) in
+    record { reads = p.reads ++ read ∷ []; rest = []; parts = cuts.parts; whole = cuts.whole; is_stopped = at.2 }
 
 pub stops-of : {O : Type 0} (handed stopped : Handing O) (has_log : Type 0) (a b : O) (front bytes : List ℕ) (old : Run) → front ≡ bytes → StopsIn handed stopped has_log a b front old → StopsIn handed stopped has_log a b bytes old
 stops-of handed stopped has_log a b front bytes old same stops first start given p = subst (λ l. Halts stopped first b start (given ++ l)) same (stops first start given p)

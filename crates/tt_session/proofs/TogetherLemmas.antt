@@ -1,5 +1,5 @@
 -- Lines that are answered together.
-use Rattle.std.proofs.Common.{◌≡◌, ℕ, ◌+◌, ◌-◌, ◌<◌, ◌≤◌, false, List, [], ◌∷◌, ◌++◌, length, take, drop, map, append-nil, append_assoc, length-append, length-take, length-drop, Option, Result, refl, sym, ap, ◌∙◌, subst, arith}
+use Rattle.std.proofs.Common.{◌≡◌, ℕ, ◌+◌, ◌-◌, ◌<◌, ◌≤◌, false, List, [], ◌∷◌, ◌++◌, length, take, drop, map, append-nil, append_assoc, length-append, length-take, length-drop, Option, Result, Ok, Err, refl, sym, ap, ◌∙◌, subst, arith}
 use Rattle.std.proofs.Math.Seq.{take-add, take-nil, take-append_seam}
 use Rattle.std.proofs.lemmas.Bool.{and_from}
 use Rattle.std.proofs.lemmas.List.{map-append, take_rest, take-take}
@@ -13,15 +13,17 @@ use Rattle.tt_requests.specs.Requests.{request_of}
 use Rattle.tt_session.specs.declared.session.Session.{Session}
 use Rattle.tt_session.specs.declared.session.Session.TheVariants.{Open}
 use Rattle.tt_session.specs.Answering.{LineRead, turn_of_read, turns_of}
-use Rattle.tt_session.specs.Commands.{asks_for_records}
+use Rattle.tt_requests.specs.declared.request.Command.{Command}
+use Rattle.tt_requests.specs.declared.request.Command.TheVariants as commands
+use Rattle.tt_session.specs.Commands.{reads_records, asks_for_records, is_forget, asks_to_forget}
 use Rattle.tt_session.specs.Lines.{joined, has_no_feed}
-use Rattle.tt_session.specs.Logged.{logged_by, logged_of, with_lines}
+use Rattle.tt_session.specs.Logged.{logged_by, logged_of, ArePlain, with_lines}
 use Rattle.tt_session.specs.Run.{Turn, turn_by_request, turn_with_memory}
 use Rattle.tt_session.specs.Session.{OpenSession, counted, with_earlier_records, without_records}
 use Rattle.tt_session.specs.Together.{kept_line, AnswersFront, BeginsWith, BeginsPassedOver, BeginsWithLine, AnswersWith, Grows}
 use Rattle.tt_session.proofs.AnsweringLemmas.{turns_of-append, joined-append, read-kept}
 use Rattle.tt_session.proofs.EarlierLemmas.{earlier-all, turn-earlier}
-use Rattle.tt_session.proofs.LoggedLemmas.{with-nil, with-append, logged_of-append, same-logged}
+use Rattle.tt_session.proofs.LoggedLemmas.{IsAsFar, with-nil, with-append, logged_of-append, same-logged, plain-far, plain-other, plain-append}
 
 -- ---- lines that are answered
 
@@ -36,6 +38,7 @@ front-nil bytes session out kept = record {
   turn = refl;
   calls = omega arith;
   logged = sym (with-nil kept);
+  plain = tt;
 }
 
 pub front-trans : (bytes : List ℕ) (m n : ℕ) (old mid new : Session) (a b c : List ℕ) (x y z : Option (List (List ℕ)))
@@ -61,6 +64,10 @@ front-trans bytes m n old mid new a b c x y z p q = record {
       let later : logged_of mid others ≡ logged_of (turns_of old first).session others = ap (λ (t : Turn). logged_of t.session others) (sym p.turn) in
       q.logged ∙ ap (λ k. with_lines k (logged_of mid others)) p.logged ∙ with-append x (logged_of old first) (logged_of mid others)
       ∙ ap (λ ls. with_lines x (logged_of old first ++ ls)) later ∙ ap (with_lines x) (sym (logged_of-append old first others) ∙ ap (logged_of old) (sym (map-append kept_line p.lines q.lines)));
+  plain =
+      let first : List LineRead = map kept_line p.lines in
+      let others : List LineRead = map kept_line q.lines in
+      subst (ArePlain old) (sym (map-append kept_line p.lines q.lines)) (plain-append old first others p.plain (subst (λ (t : Turn). ArePlain t.session others) (sym p.turn) q.plain));
 }
 
 -- further lines are answered
@@ -117,13 +124,14 @@ front-passed bytes count session out kept passed =
       turn = λ i. record { text = ap (λ (t : Turn). t.text ++ []) one i; session = (one i).session };
       calls = omega arith;
       logged = sym (ap (λ (t : Turn). with_lines kept (logged_by session t.session line)) one ∙ ap (with_lines kept) (same-logged session line) ∙ with-nil kept);
+      plain = (plain-far session (kept_line line) refl (subst (λ (t : Turn). IsAsFar session t.session) (sym one) (refl, refl)), tt);
     }
 
 -- a line is answered
 pub front-one : (tables : Tables) (bytes : List ℕ) (count : ℕ) (asked : Result Request DocFault) (old new : OpenSession) (text before after : List ℕ) (kept left : Option (List (List ℕ))) → tables ≡ old.database.catalog
-    → BeginsWithLine tables bytes count asked → turn_by_request (counted old) asked ≡ record { text = text; session = Open new } → after ≡ before ++ text → new.calls ≡ old.calls + 1
+    → asks_to_forget asked ≡ false → BeginsWithLine tables bytes count asked → turn_by_request (counted old) asked ≡ record { text = text; session = Open new } → after ≡ before ++ text → new.calls ≡ old.calls + 1
     → left ≡ with_lines kept (logged_by (Open old) (Open new) (line_in bytes count)) → AnswersFront bytes count (Open old) (Open new) before after kept left
-front-one tables bytes count asked old new text before after kept left same is turn out calls logged =
+front-one tables bytes count asked old new text before after kept left same other is turn out calls logged =
     let line = is.line in
     let passed : turn_with_memory (Open old) line ≡ turn_by_request (counted old) (request_of old.database.catalog (value_of_line line)) = rw is.told refl in
     let asks : request_of old.database.catalog (value_of_line line) ≡ asked = ap (λ t. request_of t (value_of_line line)) (sym same) ∙ sym is.is in
@@ -142,12 +150,33 @@ front-one tables bytes count asked old new text before after kept left same is t
       logged =
           logged ∙ ap (λ l. with_lines kept (logged_by (Open old) (Open new) l)) (line_is bytes count line is.begins)
           ∙ ap (λ (t : Turn). with_lines kept (logged_by (Open old) t.session line)) (sym one);
+      plain = (plain-other (Open old) (kept_line line) refl (ap asks_to_forget asks ∙ other), tt);
     }
 
 -- what becomes of a line, told by its text and by its session
 turn-parts : (asked : Result Request DocFault) (session new : OpenSession) → Open new ≡ (turn_by_request session asked).session
     → turn_by_request session asked ≡ record { text = (turn_by_request session asked).text; session = Open new }
 turn-parts asked session new is = λ i. record { text = (turn_by_request session asked).text; session = sym is i }
+
+-- a line that asks for no records doesn't ask to forget
+pub not-forget : (asked : Result Request DocFault) → asks_for_records asked ≡ false → asks_to_forget asked ≡ false
+not-forget (Err fault) other = refl
+not-forget (Ok request) other = by request.command other
+  where
+    by : (command : Command) → reads_records command ≡ false → is_forget command ≡ false
+    by (commands.Forget time) is = cc
+    by (commands.Write action) is = refl
+    by (commands.Read select at generation page) is = refl
+    by (commands.Preview select page) is = refl
+    by (commands.Begin edits) is = refl
+    by (commands.Step most) is = refl
+    by commands.Finish is = refl
+    by commands.Abort is = refl
+    by commands.Status is = refl
+    by (commands.Slots from to worker row) is = refl
+    by commands.Changes is = refl
+    by commands.NextChanges is = refl
+    by commands.Tables is = refl
 
 -- a line is answered with earlier records
 pub front-earlier : (earlier : List Record) (tables : Tables) (bytes : List ℕ) (count : ℕ) (asked : Result Request DocFault) (old new : OpenSession) (before after : List ℕ) (kept left : Option (List (List ℕ)))
@@ -156,7 +185,7 @@ pub front-earlier : (earlier : List Record) (tables : Tables) (bytes : List ℕ)
     → left ≡ with_lines kept (logged_by (Open old) (Open new) (line_in bytes count))
     → AnswersFront bytes count (Open (with_earlier_records earlier old)) (Open (with_earlier_records earlier new)) before after kept left
 front-earlier earlier tables bytes count asked old new before after kept left same other is session out calls logged =
-    front-one tables bytes count asked (with_earlier_records earlier old) (with_earlier_records earlier new) (turn_by_request (counted old) asked).text before after kept left same is
+    front-one tables bytes count asked (with_earlier_records earlier old) (with_earlier_records earlier new) (turn_by_request (counted old) asked).text before after kept left same (not-forget asked other) is
     (turn-earlier earlier old new asked (turn_by_request (counted old) asked).text other (turn-parts asked (counted old) new session)) out calls logged
 
 -- a line and nothing behind it
@@ -175,12 +204,12 @@ with-one asked line behind old new before after kept left session out calls logg
 
 -- a line that is answered, and those behind it
 pub front-with : (tables : Tables) (bytes : List ℕ) (len count all : ℕ) (asked : Result Request DocFault) (old new : OpenSession) (before after : List ℕ) (kept left : Option (List (List ℕ))) → tables ≡ old.database.catalog
-    → BeginsWithLine tables bytes len asked → AnswersWith asked (line_in bytes len) (take (length bytes - len) (drop len bytes)) count old new before after kept left → len + count ≡ all
+    → asks_to_forget asked ≡ false → BeginsWithLine tables bytes len asked → AnswersWith asked (line_in bytes len) (take (length bytes - len) (drop len bytes)) count old new before after kept left → len + count ≡ all
     → AnswersFront bytes all (Open old) (Open new) before after kept left
-front-with tables bytes len count all asked old new before after kept left same is p e =
+front-with tables bytes len count all asked old new before after kept left same other is p e =
     let mid = with_lines kept (logged_by (Open old) (Open p.mid) (line_in bytes len)) in
     front-more bytes len count all (Open old) (Open p.mid) (Open new) before (before ++ p.text) after kept mid left
-    (front-one tables bytes len asked old p.mid p.text before (before ++ p.text) kept mid same is p.turn refl p.calls refl) p.others e
+    (front-one tables bytes len asked old p.mid p.text before (before ++ p.text) kept mid same other is p.turn refl p.calls refl) p.others e
 
 -- a line with nothing behind it is answered
 pub line-text : (asked : Result Request DocFault) (line : List ℕ) (count : ℕ) (old new : OpenSession) (before after : List ℕ) (kept left : Option (List (List ℕ))) → AnswersWith asked line [] count old new before after kept left
@@ -221,6 +250,7 @@ front-behind before bytes count old new a b kept left p = record {
   turn = p.turn;
   calls = p.calls;
   logged = p.logged;
+  plain = p.plain;
 }
 
 -- a session catches up with one that has answered a line and those behind it
@@ -254,10 +284,10 @@ with-ahead asked line behind count old fork first ahead new before empty mid tex
 
 -- and one more line is answered
 pub with-next : (asked next : Result Request DocFault) (line : List ℕ) (tables : Tables) (behind : List ℕ) (count len all : ℕ) (old mid new : OpenSession) (before kept after : List ℕ) (x y z : Option (List (List ℕ)))
-    → AnswersWith asked line behind count old mid before kept x y → tables ≡ mid.database.catalog → BeginsWithLine tables (drop count behind) len next
+    → AnswersWith asked line behind count old mid before kept x y → tables ≡ mid.database.catalog → asks_to_forget next ≡ false → BeginsWithLine tables (drop count behind) len next
     → Open new ≡ (turn_by_request (counted mid) next).session → after ≡ kept ++ (turn_by_request (counted mid) next).text → new.calls ≡ mid.calls + 1
     → z ≡ with_lines y (logged_by (Open mid) (Open new) (line_in (drop count behind) len)) → count + len ≡ all → AnswersWith asked line behind all old new before after x z
-with-next asked next line tables behind count len all old mid new before kept after x y z p same begins session out calls logged e = record {
+with-next asked next line tables behind count len all old mid new before kept after x y z p same other begins session out calls logged e = record {
   mid = p.mid;
   text = p.text;
   turn = p.turn;
@@ -266,7 +296,7 @@ with-next asked next line tables behind count len all old mid new before kept af
       let first = with_lines x (logged_by (Open old) (Open p.mid) line) in
       subst (λ n. AnswersFront behind n (Open p.mid) (Open new) (before ++ p.text) after first z) e
       (front-trans behind count len (Open p.mid) (Open mid) (Open new) (before ++ p.text) kept after first y z p.others
-      (front-one tables (drop count behind) len next mid new (turn_by_request (counted mid) next).text kept after y z same begins (turn-parts next (counted mid) new session) out calls logged));
+      (front-one tables (drop count behind) len next mid new (turn_by_request (counted mid) next).text kept after y z same other begins (turn-parts next (counted mid) new session) out calls logged));
 }
 
 -- and one more line is left

@@ -90,6 +90,16 @@ abbrev pub asks_for_records : Result Request DocFault → Bool
 asks_for_records (Ok request) = reads_records request.command
 asks_for_records (Err fault) = false
 
+-- whether a command is to forget what lies before a time
+abbrev pub is_forget : Command → Bool
+is_forget (commands.Forget time) = true
+is_forget command = false
+
+-- whether what a line asks is to forget what lies before a time
+abbrev pub asks_to_forget : Result Request DocFault → Bool
+asks_to_forget (Ok request) = is_forget request.command
+asks_to_forget (Err fault) = false
+
 -- a command of a worker is carried out
 abbrev pub carried_out : OpenSession → ℕ → Command → Result Answered Refusal
 carried_out session worker (commands.Write action) = write session worker action

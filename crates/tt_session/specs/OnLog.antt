@@ -5,21 +5,19 @@ use Rattle.tt_log.specs.declared.log_error.LogError.{LogError}
 use Rattle.tt_log.specs.declared.log_error.LogError.TheVariants as errors
 use Rattle.tt_log.specs.Lines.{logged, joined}
 use Rattle.tt_session.specs.declared.session.Session.{Session}
-use Rattle.tt_session.specs.Answering.{LineRead, turns_of}
-use Rattle.tt_session.specs.Logged.{logged_of}
+use Rattle.tt_session.specs.Answering.{LineRead, turns_of, AllLogged}
+use Rattle.tt_session.specs.Logged.{log_after}
+use Rattle.tt_session.specs.Restoring.{NewLogsAreRead}
 
--- A crash left the lines that were there, and the first few of those that are logged of what a session reads. What had been handed over are answers to the first lines read, or the first bytes of
--- them, and whichever of these lines is logged, is there.
+-- A crash left the log after the first lines that a session reads. What had been handed over are answers to the first of these, or the first bytes of them.
 pub record LeavesAnswered (start : Session) (lines : List (List ℕ)) (reads : List LineRead) (shown : List ℕ) (left : Left) : Type 0 where
-  pub count : ℕ
-  pub no_more : count ≤ length (logged_of start reads)
-  pub lines_are : logged left.file ≡ lines ++ take count (logged_of start reads)
   pub answered : List LineRead
+  pub unanswered : List LineRead
   pub others : List LineRead
-  pub reads_are : reads ≡ answered ++ others
+  pub reads_are : reads ≡ (answered ++ unanswered) ++ others
+  pub lines_are : logged left.file ≡ log_after lines start (answered ++ unanswered)
   pub bytes : ℕ
   pub shown_is : left.shown ≡ shown ++ take bytes (turns_of start answered).text
-  pub all_there : length (logged_of start answered) ≤ count
 
 -- what a device tells of itself
 pub record Telling (D : Type 0) : Type 1 where
@@ -34,12 +32,14 @@ abbrev pub telling : {D : Type 0} → (D → Type 0) → (D → List ℕ) → (D
 telling tells seen shown moment left_since failures =
     record { tells = tells; seen = seen; shown = shown; moment = moment; left_since = left_since; failures = failures }
 
--- since a device was like this, the answers to lines that a session read were handed over, and the lines that change the database were logged before
+-- Since a device was like this, the answers to lines that a session read were handed over, and its log is the one after these lines. Where it couldn't be made anew, the device has failed.
 pub record HandedOnLog {D : Type 0} (of : Telling D) (before after : D) (start : Session) (reads : List LineRead) : Type 0 where
   pub tells : of.tells after
-  pub lines_are : logged (of.seen after) ≡ logged (of.seen before) ++ logged_of start reads
+  pub lines_are : logged (of.seen after) ≡ log_after (logged (of.seen before)) start reads
   pub shown_is : of.shown after ≡ of.shown before ++ (turns_of start reads).text
   pub any_moment : LeavesOnly of.moment of.left_since before after (LeavesAnswered start (logged (of.seen before)) reads (of.shown before))
+  pub new_logs : NewLogsAreRead start reads
+  pub all_logged : AllLogged reads ⊎ (of.failures before < of.failures after)
   pub failures : of.failures before ≤ of.failures after
 
 -- these lines don't fit into a log
@@ -54,16 +54,18 @@ pub record StoppedInLog {D : Type 0} (of : Telling D) (before after : D) (start 
   pub reads_are : reads ≡ (answered ++ pending) ++ others
   pub shown_is : of.shown after ≡ of.shown before ++ (turns_of start answered).text
   pub any_moment : LeavesOnly of.moment of.left_since before after (LeavesAnswered start (logged (of.seen before)) (answered ++ pending) (of.shown before))
-  pub why : (of.failures before < of.failures after) ⊎ IsFull (logged (of.seen before) ++ logged_of start (answered ++ pending))
+  pub new_logs : NewLogsAreRead start (answered ++ pending)
+  pub why : (of.failures before < of.failures after) ⊎ IsFull (log_after (logged (of.seen before)) start (answered ++ pending))
 
--- The output has failed while it was handed the answers to the first lines read: of these lines those are logged that change the database, and no others are.
+-- The output has failed while it was handed the answers to the first lines read: the log is the one after these lines.
 pub record StoppedInOutput {D : Type 0} (of : Telling D) (before after : D) (start : Session) (reads : List LineRead) : Type 0 where
   pub answered : List LineRead
   pub others : List LineRead
   pub reads_are : reads ≡ answered ++ others
   pub shown_is : ShowsFirst (of.shown before) (of.shown after) (turns_of start answered).text
   pub any_moment : LeavesOnly of.moment of.left_since before after (LeavesAnswered start (logged (of.seen before)) answered (of.shown before))
-  pub lines_are : logged (of.seen after) ≡ logged (of.seen before) ++ logged_of start answered
+  pub new_logs : NewLogsAreRead start answered
+  pub lines_are : logged (of.seen after) ≡ log_after (logged (of.seen before)) start answered
   pub failed : of.failures before < of.failures after
 
 -- answers couldn't be handed over, and this is why

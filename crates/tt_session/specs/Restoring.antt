@@ -1,20 +1,80 @@
--- How a session is read back from the lines of a log: each is answered, and each of them changes the database.
-use Rattle.std.specs.Prelude.{◌≡◌, ℕ, ◌+◌, ◌≤◌, List, [], ◌∷◌, ◌++◌, map, length, take, Option, None, Some}
-use Rattle.tt_db.specs.Database.{Database}
-use Rattle.tt_numbers.specs.Numbers.{Numbering}
+-- How a session is read back from the lines of a log: the ground is laid, if there is one, and each line behind it is answered and changes the database.
+use Rattle.std.specs.Prelude.{◌≡◌, ℕ, ◌+◌, ◌<◌, ◌&&◌, Bool, true, is_none, List, [], ◌∷◌, ◌++◌, map, length, Option, None, Some, option_and_then, Result, Ok, Err, IsErr, if◌then◌else◌}
+use Rattle.std.specs.List.{list_all}
+use Rattle.tt_values.specs.declared.statement.Write.{Write}
+use Rattle.tt_values.specs.Action.{replies_of}
+use Rattle.tt_db.specs.declared.event.Event.TheVariants as events
+use Rattle.tt_db.specs.Database.{Database, now_in, current_of_db}
+use Rattle.tt_horizon.specs.Forgetting.{ground_worker}
+use Rattle.tt_horizon.specs.Grounds.{inserts_alone, is_inserted}
+use Rattle.tt_grammar.specs.declared.fault.DocFault.{DocFault}
+use Rattle.tt_requests.specs.declared.log_opening.LogOpening.{LogOpening}
+use Rattle.tt_requests.specs.LineValue.{value_of_line}
+use Rattle.tt_requests.specs.LogOpening.{log_opening_of}
+use Rattle.tt_requests.specs.GroundAction.{ground_action_of}
 use Rattle.tt_session.specs.declared.session.Session.{Session}
 use Rattle.tt_session.specs.declared.session.Session.TheVariants as sessions
+use Rattle.tt_session.specs.Session.{OpenSession, opened, with_database}
+use Rattle.tt_session.specs.Room.{refusal_in_session}
+use Rattle.tt_session.specs.Repairing.{with_event}
 use Rattle.tt_session.specs.Answering.{LineRead, turn_of_read, turns_of}
-use Rattle.tt_session.specs.Logged.{logged_by, logged_of}
+use Rattle.tt_session.specs.LogLines.{lines_of_log}
+use Rattle.tt_session.specs.Logged.{logged_by, logged_of, makes_log_anew, log_after}
 use Rattle.tt_session.specs.Together.{kept_line}
 
--- the session after lines that were all answered, with memory for each
-abbrev pub after_lines : List (List ℕ) → Session
-after_lines lines = (turns_of sessions.NotOpen (map kept_line lines)).session
+-- ---- the ground
 
--- lines are what a session logs that reads them
-abbrev pub AreLogged : List (List ℕ) → Type 0
-AreLogged lines = logged_of sessions.NotOpen (map kept_line lines) ≡ lines
+-- the session that the opening of such a log opens, before the ground is laid
+abbrev pub opened_on : LogOpening → OpenSession
+opened_on o = record (opened o.opening) { numbering = o.numbering }
+
+-- whether an action can be the next one of the ground of a session: it has inserts alone, the session doesn't refuse it, and each of them inserts its row
+abbrev pub can_be_laid : Database → List Write → Bool
+can_be_laid db action =
+    inserts_alone action && (is_none (refusal_in_session db (events.Write action)) && list_all is_inserted (replies_of action (current_of_db db (now_in db))))
+
+-- the session with a further action of the ground, if it is one
+abbrev pub with_ground : OpenSession → Result (List Write) DocFault → Option OpenSession
+with_ground session (Err fault) = None
+with_ground session (Ok action) =
+    if can_be_laid session.database action then Some (with_database session (with_event session.database ground_worker (events.Write action))) else None
+
+-- the session after a line of the ground, if it is one
+abbrev pub laid_by : OpenSession → List ℕ → Option OpenSession
+laid_by session line = with_ground session (ground_action_of session.database.catalog (value_of_line line))
+
+abbrev pub laid_by_lines : OpenSession → List (List ℕ) → Option OpenSession
+laid_by_lines session [] = Some session
+laid_by_lines session (line ∷ lines) = option_and_then (λ next. laid_by_lines next lines) (laid_by session line)
+
+-- lines begin a log with a ground: its opening, and the slots of the ground but for this many, which are still to come
+pub record LaysGround (lines : List (List ℕ)) (session : OpenSession) (left : ℕ) : Type 0 where
+  pub line : List ℕ
+  pub slots : List (List ℕ)
+  pub lines_are : lines ≡ line ∷ slots
+  pub opening : LogOpening
+  pub opens : log_opening_of (value_of_line line) ≡ Ok opening
+  pub count : length slots + left ≡ opening.numbering.ground_slots
+  pub laid : laid_by_lines (opened_on opening) slots ≡ Some session
+
+-- what the lines of a log begin with: a ground, or nothing
+abbrev pub BeginsLog : List (List ℕ) → Session → ℕ → Type 0
+BeginsLog lines sessions.NotOpen left = (lines ≡ []) × (left ≡ 0)
+BeginsLog lines (sessions.Restored session) left = ⊥
+BeginsLog lines (sessions.Open session) left = LaysGround lines session left
+
+-- ---- the lines of a log
+
+-- these are lines of a log, and make this session; this many slots of the ground are still to come
+pub record ReadsLog (lines : List (List ℕ)) (session : Session) (left : ℕ) : Type 0 where
+  pub first : List (List ℕ)
+  pub others : List (List ℕ)
+  pub lines_are : lines ≡ first ++ others
+  pub base : Session
+  pub begins : BeginsLog first base left
+  pub ground_first : 0 < left → others ≡ []
+  pub are_logged : logged_of base (map kept_line others) ≡ others
+  pub session_is : session ≡ (turns_of base (map kept_line others)).session
 
 -- a session that was read back is to be opened again
 abbrev pub restored : Session → Session
@@ -23,42 +83,64 @@ restored session = session
 
 -- lines are those of a log, and this is the session that they make
 pub record Restores (lines : List (List ℕ)) (session : Session) : Type 0 where
-  pub are_logged : AreLogged lines
-  pub session_is : session ≡ restored (after_lines lines)
+  pub after : Session
+  pub reads : ReadsLog lines after 0
+  pub session_is : session ≡ restored after
 
--- the line of this number, counted from 1, is the first one that no session would log
+-- a line isn't one of the ground of a session
+abbrev pub IsNoGround : Session → List ℕ → Type 0
+IsNoGround (sessions.Open session) line = laid_by session line ≡ None
+IsNoGround session line = Unit {0}
+
+-- a line can't be the next one of a log
+pub record IsNoNext (session : Session) (left : ℕ) (line : List ℕ) : Type 0 where
+  pub no_ground : 0 < left → IsNoGround session line
+  pub not_logged : left ≡ 0 → logged_by session (turn_of_read session (kept_line line)).session line ≡ []
+  pub no_opening : session ≡ sessions.NotOpen → IsErr (log_opening_of (value_of_line line))
+
+-- lines can't be the further ones of a log: none of them are there, but some of the ground are still to come; or the first can't be the next one
+abbrev pub IsNoLog : Session → ℕ → List (List ℕ) → Type 0
+IsNoLog session left [] = 0 < left
+IsNoLog session left (line ∷ lines) = IsNoNext session left line
+
+-- the line of this number, counted from 1, is the first one that can't be one of a log
 pub record IsNoLine (lines : List (List ℕ)) (number : ℕ) : Type 0 where
   pub front : List (List ℕ)
-  pub line : List ℕ
   pub others : List (List ℕ)
-  pub lines_are : lines ≡ front ++ line ∷ others
+  pub lines_are : lines ≡ front ++ others
   pub number_is : number ≡ length front + 1
-  pub are_logged : AreLogged front
-  pub not_logged : logged_by (after_lines front) (turn_of_read (after_lines front) (kept_line line)).session line ≡ []
+  pub session : Session
+  pub left : ℕ
+  pub reads : ReadsLog front session left
+  pub fails : IsNoLog session left others
 
--- the database of a session, if it has one
-abbrev pub database_of : Session → Option Database
-database_of sessions.NotOpen = None
-database_of (sessions.Restored session) = Some session.database
-database_of (sessions.Open session) = Some session.database
+-- ---- what is read back
 
--- how a session tells its numbers, if it has a database
-abbrev pub numbering_of : Session → Option Numbering
-numbering_of sessions.NotOpen = None
-numbering_of (sessions.Restored session) = Some session.numbering
-numbering_of (sessions.Open session) = Some session.numbering
+-- two sessions have the same database, and tell their numbers alike
+pub record IsAlike (one other : OpenSession) : Type 0 where
+  pub database : one.database ≡ other.database
+  pub numbering : one.numbering ≡ other.numbering
 
--- the first lines that a session logs, this many, are the lines of a log again, behind those that it was read back from: this has the database that the session had after the first lines read, and tells its numbers as that did
-pub record ReadsBack (lines : List (List ℕ)) (start : Session) (reads : List LineRead) (count : ℕ) : Type 0 where
-  pub front : List LineRead
-  pub others : List LineRead
-  pub reads_are : reads ≡ front ++ others
-  pub first : take count (logged_of start reads) ≡ logged_of start front
-  pub are_logged : AreLogged (lines ++ logged_of start front)
-  pub database : database_of (after_lines (lines ++ logged_of start front)) ≡ database_of (turns_of start front).session
-  pub numbering : numbering_of (after_lines (lines ++ logged_of start front)) ≡ numbering_of (turns_of start front).session
+-- a session from the lines of a log alone is like one that goes on
+abbrev pub IsLike : Session → Session → Type 0
+IsLike read sessions.NotOpen = read ≡ sessions.NotOpen
+IsLike read (sessions.Restored session) = (s : OpenSession) × (read ≡ sessions.Open s) × IsAlike s session
+IsLike read (sessions.Open session) = (s : OpenSession) × (read ≡ sessions.Open s) × IsAlike s session
 
--- whatever a crash leaves of a session, the next start reads back
+-- lines are a log of a session: they are read back, and make one with the same database that tells its numbers alike
+pub record IsLogOf (lines : List (List ℕ)) (session : Session) : Type 0 where
+  pub read : Session
+  pub reads : ReadsLog lines read 0
+  pub alike : IsLike read session
+
+-- where lines are read, each log that is made anew is one of the session then
+abbrev pub NewLogsAreRead : Session → List LineRead → Type 0
+NewLogsAreRead session [] = Unit {0}
+NewLogsAreRead session (read ∷ reads) =
+    let next = (turn_of_read session read).session in
+    (makes_log_anew session read ≡ true → IsLogOf (lines_of_log next) next) × NewLogsAreRead next reads
+
+-- whatever a crash leaves of a session, the next start reads back: the log after the first lines that were read is one of the session then
 abbrev pub LogsAreReadBack : Type 0
-LogsAreReadBack = (lines : List (List ℕ)) (start : Session) (reads : List LineRead) (count : ℕ) → Restores lines start → count ≤ length (logged_of start reads) →
-    ReadsBack lines start reads count
+LogsAreReadBack = (lines : List (List ℕ)) (start : Session) (front others : List LineRead) → Restores lines start → NewLogsAreRead start (front ++ others) →
+    IsLogOf (log_after lines start front) (turns_of start front).session

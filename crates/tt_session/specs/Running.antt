@@ -1,20 +1,21 @@
 -- How a session between a reader and an outlet goes on: the lines that it takes from the bytes read, and whose answers are handed over.
-use Rattle.std.specs.Prelude.{◌≡◌, ℕ, Bool, true, List, [], ◌∷◌, ◌++◌, Option, Some}
+use Rattle.std.specs.Prelude.{◌≡◌, ℕ, true, List, [], ◌∷◌, ◌++◌, Option, Some}
 use Rattle.std.specs.List.{list_all}
 use Rattle.tt_session.specs.declared.session.Session.{Session}
 use Rattle.tt_session.specs.declared.run.Run.{Run}
 use Rattle.tt_session.specs.Lines.{HasBytes, has_no_feed, joined}
 use Rattle.tt_session.specs.Answering.{LineRead, turns_of, lines_read}
-use Rattle.tt_session.specs.Logged.{logged_of}
+use Rattle.tt_session.specs.Logged.{logged_of, ArePlain}
 
 -- What an outlet tells: from its state before to that after, the answers to lines that a session reads were handed over.
 abbrev pub Handing : Type 0 → Type 1
 Handing O = O → O → Session → List LineRead → Type 0
 
--- behind the first lines that a session has read, this text answers further ones, and these are to be logged, if there is a log
+-- behind the first lines that a session has read, this text answers further ones, none of them by making the log anew, and these are to be logged, if there is a log
 pub record AnswersKept (has_log : Type 0) (start : Session) (over kept : List LineRead) (lines : List (List ℕ)) (text : List ℕ) : Type 0 where
   pub text_is : text ≡ (turns_of (turns_of start over).session kept).text
   pub lines_are : has_log → lines ≡ logged_of (turns_of start over).session kept
+  pub plain : ArePlain (turns_of start over).session kept
 
 -- of the lines read since a session the answers to the first ones were handed over, and the text of the others is kept, with the lines of them that are to be logged
 pub record Stands {O : Type 0} (handed : Handing O) (has_log : Type 0) (first outlet : O) (start : Session) (reads : List LineRead) (out : List ℕ) (lines : Option (List (List ℕ))) : Type 0 where
@@ -24,6 +25,7 @@ pub record Stands {O : Type 0} (handed : Handing O) (has_log : Type 0) (first ou
   pub is_handed : handed first outlet start over
   pub text_is : out ≡ (turns_of (turns_of start over).session kept).text
   pub lines_are : has_log → lines ≡ Some (logged_of (turns_of start over).session kept)
+  pub plain : ArePlain (turns_of start over).session kept
 
 -- bytes are whole lines, and the bytes of the next line so far
 pub record Cuts (bytes : List ℕ) (lines : List (List ℕ)) (left : List ℕ) : Type 0 where
@@ -69,18 +71,18 @@ abbrev pub StopsIn : {O : Type 0} → Handing O → Handing O → Type 0 → O �
 StopsIn {O} handed stopped has_log before after bytes old = (first : O) (start : Session) (given : List ℕ) →
     Serves handed has_log first before start given old → Halts stopped first after start (given ++ bytes)
 
--- a run answers a line, with memory or without
+-- a run answers a line, with memory or without, and with the log made anew for it or not
 abbrev pub AnswersOne : {O : Type 0} → Handing O → Type 0 → O → O → Run → Run → Type 0
 AnswersOne {O} handed has_log before after old new = (first : O) (start : Session) (reads : List LineRead) (bytes : List ℕ) → HasBytes old.line bytes →
     Stands handed has_log first before start reads old.out.items old.workspace.lines → old.session ≡ (turns_of start reads).session →
-    (is_lost : Bool) × Stands handed has_log first after start (reads ++ record { is_lost = is_lost; line = bytes } ∷ []) new.out.items new.workspace.lines
-    × (new.session ≡ (turns_of start (reads ++ record { is_lost = is_lost; line = bytes } ∷ [])).session)
+    (read : LineRead) × (read.line ≡ bytes) × Stands handed has_log first after start (reads ++ read ∷ []) new.out.items new.workspace.lines
+    × (new.session ≡ (turns_of start (reads ++ read ∷ [])).session)
 
 -- the outlet failed before it had all answers up to that of a line
 abbrev pub StopsAt : {O : Type 0} → Handing O → Handing O → Type 0 → O → O → Run → Type 0
 StopsAt {O} handed stopped has_log before after old = (first : O) (start : Session) (reads : List LineRead) (bytes : List ℕ) → HasBytes old.line bytes →
     Stands handed has_log first before start reads old.out.items old.workspace.lines → old.session ≡ (turns_of start reads).session →
-    (is_lost : Bool) × ((more : List LineRead) → stopped first after start ((reads ++ record { is_lost = is_lost; line = bytes } ∷ []) ++ more))
+    (read : LineRead) × (read.line ≡ bytes) × ((more : List LineRead) → stopped first after start ((reads ++ read ∷ []) ++ more))
 
 -- a run hands over all answers that are kept
 abbrev pub HandsOver : {O : Type 0} → Handing O → Type 0 → O → O → Run → Type 0
@@ -101,6 +103,7 @@ StandsOn {O} handed has_log before after old new = (first : O) (start : Session)
 pub record IsShort (start : Session) (reads : List LineRead) (read : LineRead) (text : List ℕ) : Type 0 where
   pub text_is : text ≡ (turns_of (turns_of start reads).session (read ∷ [])).text
   pub not_logged : logged_of (turns_of start reads).session (read ∷ []) ≡ []
+  pub plain : ArePlain (turns_of start reads).session (read ∷ [])
 
 -- a run hands over all answers that are kept, and a short one behind them
 abbrev pub HandsOverShort : {O : Type 0} → Handing O → Type 0 → O → O → Run → List ℕ → Type 0

@@ -13,15 +13,23 @@ use Rattle.tt_session.specs.declared.session.Session.{Session}
 use Rattle.tt_session.specs.declared.session.Session.TheVariants as sessions
 use Rattle.tt_session.specs.Answering.{LineRead, turns_of}
 use Rattle.tt_session.specs.Lines.{has_no_feed, joined}
-use Rattle.tt_session.specs.Logged.{logged_by, logged_of, with_lines}
+use Rattle.tt_session.specs.Logged.{logged_by, logged_of, ArePlain, with_lines}
 use Rattle.tt_session.specs.Run.{turn_by_request, calls_of}
 use Rattle.tt_session.specs.Session.{OpenSession, counted}
 
--- a line for which there is memory
+-- a line for which there is memory, and for which the log could be made anew, if it was to be
 abbrev pub kept_line : List ℕ → LineRead
-kept_line line = record { is_lost = false; line = line }
+kept_line line = record { is_lost = false; is_unlogged = false; line = line }
 
--- the first of some bytes are whole lines, and these are answered, each with memory, and those that change the database are to be logged
+-- a line for which there is no memory
+abbrev pub lost_line : List ℕ → LineRead
+lost_line line = record { is_lost = true; is_unlogged = false; line = line }
+
+-- a line for which the log couldn't be made anew
+abbrev pub unlogged_line : List ℕ → LineRead
+unlogged_line line = record { is_lost = false; is_unlogged = true; line = line }
+
+-- the first of some bytes are whole lines, and these are answered, each with memory and none by making the log anew, and those that change the database are to be logged
 pub record AnswersFront (bytes : List ℕ) (count : ℕ) (old new : Session) (before after : List ℕ) (kept left : Option (List (List ℕ))) : Type 0 where
   pub lines : List (List ℕ)
   pub within : count ≤ length bytes
@@ -32,6 +40,7 @@ pub record AnswersFront (bytes : List ℕ) (count : ℕ) (old new : Session) (be
   pub turn : turns_of old (map kept_line lines) ≡ record { text = text; session = new }
   pub calls : calls_of new ≤ calls_of old + count
   pub logged : left ≡ with_lines kept (logged_of old (map kept_line lines))
+  pub plain : ArePlain old (map kept_line lines)
 
 -- the first of some bytes are a whole line
 pub record BeginsWith (bytes : List ℕ) (count : ℕ) (line : List ℕ) : Type 0 where

@@ -1,8 +1,9 @@
 //! What an open session answers to a request.
-ghost use Rattle.std.specs.Prelude.{◌≡◌, ◌≢◌, true, IfErr};
+ghost use Rattle.std.specs.Prelude.{◌≡◌, ◌≢◌, true, false, IfErr, MatchOption};
 ghost use Rattle.tt_session.specs.Answers.{Becomes};
 ghost use Rattle.tt_session.specs.Session.{with_database};
-ghost use Rattle.tt_session.specs.Commands.{status, declared_tables, carried_out, is_read_only, reads_records, asks_read_only, asks_for_records, moved_to, outcome_of_request};
+ghost use Rattle.tt_session.specs.Commands.{status, declared_tables, carried_out, is_read_only, reads_records, asks_read_only, asks_for_records, asks_to_forget, moved_to, outcome_of_request};
+ghost use Rattle.tt_session.specs.ForgetRequests.{IsForgetRequest};
 
 use crate::change_entries::{changes, next_changes};
 use crate::failure::Failure;
@@ -90,6 +91,30 @@ pub(crate) fn asks_for_records(asked: &Result<Request, DocFault>) -> bool
     }
 }
 
+/// A request to forget what lies before a time.
+#[derive(Clone, Copy)]
+pub(crate) struct ForgetRequest {
+    /// The current time that it expects, if it does.
+    pub(crate) expected: Option<ToldTime>,
+    pub(crate) time: ToldTime,
+}
+
+/// What a line asks, if it is to forget what lies before a time.
+pub(crate) fn forget_request(asked: &Result<Request, DocFault>) -> Option<ForgetRequest>
+    ensures { MatchOption result (asks_to_forget asked.now ≡ false) (IsForgetRequest asked.now) }
+{
+    let Ok(request) = asked else {
+        return None;
+    };
+    match request.command {
+        Command::Forget(time) => Some(ForgetRequest {
+            expected: request.expected,
+            time,
+        }),
+        _ => None,
+    }
+}
+
 /// Carries out a command of a worker. Without memory the session is as before if the command is
 /// read-only; else nothing is promised of its database.
 fn carried_out(
@@ -130,7 +155,7 @@ fn carried_out(
 }
 
 /// The current time, if a request expects another one.
-fn moved_to(numbering: Numbering, now: u64, expected: Option<ToldTime>) -> Option<u64>
+pub(crate) fn moved_to(numbering: Numbering, now: u64, expected: Option<ToldTime>) -> Option<u64>
     ensures { result ≡ moved_to numbering now expected }
 {
     match expected {

@@ -1,8 +1,11 @@
 //! How a session forgets what lies before a time.
-ghost use Rattle.std.specs.Prelude.{◌≡◌, None, IfOk};
+ghost use Rattle.std.specs.Prelude.{◌≡◌, None, IfOk, IfErr};
 ghost use Rattle.tt_session.specs.Answers.{Becomes};
+ghost use Rattle.tt_session.specs.Failures.{FailsWith};
 ghost use Rattle.tt_session.specs.Forgetting.{forgetting_of, forget_refusal, forgets_nothing, forget};
+ghost use Rattle.tt_session.specs.ForgetRequests.{AnswersForget, outcome_of_forget};
 
+use crate::commands::{ForgetRequest, moved_to};
 use crate::failure::Failure;
 use crate::open_session::OpenSession;
 use crate::repairing::status_of;
@@ -68,22 +71,53 @@ fn forgetting(session: &OpenSession, time: ToldTime) -> Result<Forgetting, Alloc
     }
 }
 
-/// What lies before a time is forgotten, and the session tells how it stands.
-pub(crate) fn forget(session: &OpenSession, time: ToldTime) -> Result<Response, Failure>
-    ensures { Becomes session.now result (forget session.now time) }
+/// What lies before a time is forgotten, and the session tells how it stands. Returns the answer,
+/// and how the session goes on if there was something to forget.
+pub(crate) fn forget_or_stay(
+    session: &OpenSession,
+    time: ToldTime,
+) -> Result<(Answer, Option<BoxedForgetting>), Failure>
+    ensures ok { IfOk result (λ r. AnswersForget session.now (forget session.now time) r.0 r.1) }
+    ensures err { IfErr result (λ failure. FailsWith failure (forget session.now time)) }
 {
     if let Some(refusal) = forget_refusal(session, time) {
         return Err(Failure::Refused(refusal));
     }
     let forgetting = forgetting(session, time)?;
     if forgets_nothing(session, &forgetting) {
-        let status = status_of(session.db());
-        return Ok(Response::unrecorded(Answer::Standing(status)));
+        return Ok((Answer::Standing(status_of(session.db())), None));
     }
     let answer = Answer::Standing(status_of(&forgetting.db));
     let forgetting = BoxedForgetting::new(session.alloc(), forgetting)?;
-    Ok(Response {
-        answer,
-        change: SessionChange::Forgetting(forgetting),
-    })
+    Ok((answer, Some(forgetting)))
+}
+
+/// What lies before a time is forgotten, and the session tells how it stands.
+pub(crate) fn forget(session: &OpenSession, time: ToldTime) -> Result<Response, Failure>
+    ensures { Becomes session.now result (forget session.now time) }
+{
+    match forget_or_stay(session, time) {
+        Ok((answer, Some(forgetting))) => Ok(Response {
+            answer,
+            change: SessionChange::Forgetting(forgetting),
+        }),
+        Ok((answer, None)) => Ok(Response::unrecorded(answer)),
+        Err(failure) => Err(failure),
+    }
+}
+
+/// Carries out a request to forget, unless it expects another time.
+pub(crate) fn outcome_of_forget(
+    session: &OpenSession,
+    request: ForgetRequest,
+) -> Result<(Answer, Option<BoxedForgetting>), Failure>
+    ensures ok { IfOk result (λ r.
+        AnswersForget session.now (outcome_of_forget session.now request) r.0 r.1) }
+    ensures err { IfErr result (λ failure.
+        FailsWith failure (outcome_of_forget session.now request)) }
+{
+    match moved_to(session.numbering(), session.db().now(), request.expected) {
+        Some(now) => Err(Failure::Refused(Refusal::Moved { now })),
+        None => forget_or_stay(session, request.time),
+    }
 }

@@ -9,6 +9,7 @@ mod forgetting;
 pub mod laws;
 mod line;
 mod log_outlet;
+mod log_renewal;
 mod logged_session;
 mod open_session;
 mod outlet;

@@ -1,9 +1,12 @@
 //! Answers whose lines are logged.
-ghost use Rattle.std.specs.Prelude.{◌≡◌};
+ghost use Rattle.std.specs.Prelude.{◌≡◌, ◌↔◌, OnOk, OnErr};
 ghost use Rattle.tt_log.specs.Log.{IsSettled};
 ghost use Rattle.tt_session.specs.OnLog.{telling, HandedOnLog, StoppedOnLog};
+ghost use Rattle.tt_session.specs.Renewing.{HandsOverAlone, FailsAlone};
 
-use crate::outlet::{Outlet, OutletError};
+use crate::log_renewal::{RenewFault, make_anew};
+use crate::outlet::{Forgotten, Outlet, OutletError, Renewal};
+use std::alloc::Global;
 use tt_log::{Device, Lines, Log, LogError};
 
 /// The outlet of a session with a log.
@@ -23,6 +26,26 @@ impl<D: Device> LogOutlet<D> {
         ensures error { result.error ≡ None }
     {
         LogOutlet { log, error: None }
+    }
+
+    /// Hands over a text for which nothing is logged.
+    fn hand_over_alone(&mut self, alloc: Global, text: &[u8]) -> Result<(), OutletError>
+        requires { D.tells self.old.log.device → IsSettled D.seen D.may_leave self.old.log }
+        ensures ok { OnOk result (D.tells self.old.log.device → HandsOverAlone
+            (telling D.tells D.seen D.shown D.moment D.left_since D.failures) D.may_leave
+            self.old.log self.new.log text.now) }
+        ensures err { OnErr result (D.tells self.old.log.device → FailsAlone self.new.error
+            (telling D.tells D.seen D.shown D.moment D.left_since D.failures)
+            self.old.log self.new.log text.now) }
+        ensures tells { D.tells self.old.log.device ↔ D.tells self.new.log.device }
+    {
+        match self.log.hand_over(&Lines::new(alloc), text) {
+            Ok(()) => Ok(()),
+            Err(error) => {
+                self.error = Some(error);
+                Err(OutletError)
+            }
+        }
     }
 
     /// The log, and why it has failed, if it has.
@@ -52,6 +75,34 @@ impl<D: Device> Outlet for LogOutlet<D> {
             Ok(()) => Ok(()),
             Err(error) => {
                 self.error = Some(error);
+                Err(OutletError)
+            }
+        }
+    }
+
+    fn hand_over_anew(
+        &mut self,
+        alloc: Global,
+        forgotten: &Forgotten<'_>,
+    ) -> Result<Renewal, OutletError> {
+        let Forgotten {
+            forgetting,
+            most_records,
+            text,
+            refusal,
+        } = *forgotten;
+        match make_anew(alloc, &mut self.log, forgetting, most_records) {
+            Ok(()) => {
+                self.hand_over_alone(alloc, text)?;
+                Ok(Renewal::MadeAnew)
+            }
+            Err(RenewFault::Kept) => {
+                self.hand_over_alone(alloc, refusal)?;
+                Ok(Renewal::Refused)
+            }
+            Err(RenewFault::Memory) => Ok(Renewal::OutOfMemory),
+            Err(RenewFault::Lost) => {
+                self.error = Some(LogError::Write);
                 Err(OutletError)
             }
         }

@@ -5,22 +5,25 @@ ghost use Rattle.tt_session.specs.Session.{counted, opened, with_latest_if, with
 ghost use Rattle.tt_session.specs.Changes.{forgotten_by, with_change};
 ghost use Rattle.tt_session.specs.Invariants.{IsOpenSession};
 ghost use Rattle.tt_session.specs.Reopening.{with_most_records};
+ghost use Rattle.tt_session.specs.Restoring.{opened_on};
 
 mod advancing;
 mod answering;
 mod logging;
+mod ready_to_forget;
 mod reopening;
 mod together;
 
 use crate::records::Records;
-use crate::session_change::{Forgetting, SessionChange};
+use crate::session_change::{BoxedForgetting, Forgetting, SessionChange};
+pub(crate) use ready_to_forget::ReadyToForget;
 use std::alloc::{AllocError, Global};
 use std::marker::Model;
 pub(crate) use together::Extent;
 use tt_db::{Db, Limits};
 use tt_numbers::Numbering;
 use tt_records::Record;
-use tt_requests::Opening;
+use tt_requests::{LogOpening, Opening};
 
 /// A session that is open: its database, how its numbers are told, and the records of its last
 /// calls.
@@ -95,6 +98,18 @@ impl OpenSession {
         }
     }
 
+    /// The session that the opening of a log opens, before its ground is laid. Takes no memory.
+    pub(crate) fn on_ground(alloc: Global, log: LogOpening) -> OpenSession
+        requires keep { log.opening.keep ≤ max_keep }
+        requires records { log.opening.records ≤ max_records }
+        ensures { result ≡ opened_on log }
+    {
+        let LogOpening { opening, numbering } = log;
+        let mut session = OpenSession::new(alloc, opening);
+        session.numbering = numbering;
+        session
+    }
+
     /// The allocator of what the session makes.
     pub(crate) fn alloc(&self) -> Global {
         self.alloc
@@ -165,7 +180,7 @@ impl OpenSession {
         match change {
             SessionChange::Latest(latest) => self.keep(latest),
             SessionChange::Forgetting(forgetting) => {
-                self.go_on_behind(forgetting.into_inner());
+                self.go_on_behind(forgetting);
                 Ok(())
             }
         }
@@ -184,7 +199,7 @@ impl OpenSession {
     }
 
     /// Goes on with a database that has forgotten what lies before a time.
-    fn go_on_behind(&mut self, forgetting: Forgetting)
+    pub(crate) fn go_on_behind(&mut self, forgetting: BoxedForgetting)
         ensures { self.new ≡ forgotten_by self.old forgetting }
     {
         let Forgetting {
@@ -192,7 +207,7 @@ impl OpenSession {
             time,
             ground_slots,
             numbering,
-        } = forgetting;
+        } = forgetting.into_inner();
         self.records.forget_before(time, ground_slots);
         self.db = db;
         self.numbering = numbering;

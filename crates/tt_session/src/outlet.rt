@@ -1,9 +1,12 @@
 //! Where the answers of a session go.
-ghost use Rattle.std.specs.Prelude.{◌≡◌, ◌++◌, List, OnOk, OnErr};
+ghost use Rattle.std.specs.Prelude.{◌≡◌, ◌++◌, ℕ, List, IfOk, OnOk, OnErr};
 ghost use Rattle.tt_session.specs.declared.session.Session.{Session};
-ghost use Rattle.tt_session.specs.Answering.{LineRead, turns_of};
+ghost use Rattle.tt_session.specs.Answering.{LineRead};
 ghost use Rattle.tt_session.specs.Running.{AnswersKept};
+ghost use Rattle.tt_session.specs.Anew.{Forgets, Renews, StopsRenewing};
 
+use crate::session_change::Forgetting;
+use std::alloc::Global;
 use std::io::Write;
 use tt_log::Lines;
 use tt_streams::{MAX_RETRIES, write_text};
@@ -11,6 +14,30 @@ use tt_streams::{MAX_RETRIES, write_text};
 /// An outlet has failed: it may have taken some of what was handed over, or nothing.
 #[derive(Clone, Copy, Debug)]
 pub(crate) struct OutletError;
+
+/// What has become of a log that was to be made anew.
+#[derive(Clone, Copy, Debug)]
+pub(crate) enum Renewal {
+    /// It is made anew, and the answer is handed over.
+    MadeAnew,
+    /// It couldn't be made anew, and goes on as it was. The refusal is handed over.
+    Refused,
+    /// There is no memory for it. It goes on as it was, and nothing is handed over.
+    OutOfMemory,
+}
+
+/// What a log that is made anew is to have, and what is handed over then.
+#[derive(Clone, Copy)]
+pub(crate) struct Forgotten<'a> {
+    /// How the session goes on.
+    pub(crate) forgetting: &'a Forgetting,
+    /// How many records it keeps at most.
+    pub(crate) most_records: u32,
+    /// The answer.
+    pub(crate) text: &'a [u8],
+    /// What is handed over in its place where the log can't be made anew.
+    pub(crate) refusal: &'a [u8],
+}
 
 /// Where the answers of a session go. An outlet with a log keeps the lines that change the database
 /// before it hands the answers over.
@@ -40,27 +67,58 @@ pub(crate) trait Outlet {
             (over kept more : List LineRead) → handed first self.old start over
             → AnswersKept has_log start over kept lines.now text.now
             → stopped first self.new start ((over ++ kept) ++ more)) };
+
+    /// Makes the log anew, if there is one, with the lines of a session that has forgotten what lies
+    /// before a time, and only then hands over the answer. All earlier answers are handed over.
+    fn hand_over_anew(
+        &mut self,
+        alloc: Global,
+        forgotten: &Forgotten<'_>,
+    ) -> Result<Renewal, OutletError>
+        requires { is_ready self.old }
+        ensures ready { OnOk result (is_ready self.new) }
+        ensures renewed { IfOk result (λ renewal. (first : Self) (start : Session)
+            (over : List LineRead) (line : List ℕ) → handed first self.old start over
+            → Forgets start over line forgotten.now.forgetting.now forgotten.now.most_records
+            forgotten.now.text.now forgotten.now.refusal.now
+            → Renews handed first self.new start over line renewal) }
+        ensures stopped { OnErr result ((first : Self) (start : Session)
+            (over : List LineRead) (line : List ℕ) → handed first self.old start over
+            → Forgets start over line forgotten.now.forgetting.now forgotten.now.most_records
+            forgotten.now.text.now forgotten.now.refusal.now
+            → StopsRenewing stopped first self.new start over line) };
 }
 
 // A writer has no log.
 impl<W: Write> Outlet for W {
-    ghost use Rattle.std.specs.Io.KnownBytes.{Appends};
-    ghost use Rattle.tt_streams.specs.Writing.{AppendsPrefix};
+    ghost use Rattle.tt_session.specs.Writes.{Writes, WritesPrefix};
 
     ghost has_log = { ⊥ };
 
     ghost is_ready = { λ _. Unit {0} };
 
     ghost handed = { λ before after start reads.
-        Appends (W.contents before) (W.contents after) (turns_of start reads).text };
+        Writes (W.contents before) (W.contents after) start reads };
 
     ghost stopped = { λ before after start reads.
-        AppendsPrefix (W.contents before) (W.contents after) (turns_of start reads).text };
+        WritesPrefix (W.contents before) (W.contents after) start reads };
 
     fn hand_over(&mut self, _lines: &Lines, text: &[u8]) -> Result<(), OutletError> {
         let mut retries = MAX_RETRIES;
         match write_text(self, text, &mut retries) {
             Ok(()) => Ok(()),
+            Err(_) => Err(OutletError),
+        }
+    }
+
+    fn hand_over_anew(
+        &mut self,
+        _alloc: Global,
+        forgotten: &Forgotten<'_>,
+    ) -> Result<Renewal, OutletError> {
+        let mut retries = MAX_RETRIES;
+        match write_text(self, forgotten.text, &mut retries) {
+            Ok(()) => Ok(Renewal::MadeAnew),
             Err(_) => Err(OutletError),
         }
     }

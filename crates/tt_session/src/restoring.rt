@@ -1,12 +1,15 @@
 //! A session that is read back from its log.
-ghost use Rattle.std.specs.Prelude.{◌≡◌, ◌+◌, ◌-◌, ◌<◌, ◌≤◌, ◌^◌, ◌++◌, ◌∷◌, [], ℕ, List, length, IfOk, IfErr, OnOk};
+ghost use Rattle.std.specs.Prelude.{◌≡◌, ◌+◌, ◌-◌, ◌<◌, ◌≤◌, ◌^◌, ◌++◌, ◌∷◌, [], ℕ, List, Some, None, false, length, if◌then◌else◌, IfOk, IfErr, OnOk};
 ghost use Rattle.tt_log.specs.Lines.{text, logged};
 ghost use Rattle.tt_log.specs.Reading.{unread, IsReading};
-ghost use Rattle.tt_requests.specs.LineValue.{value_of_line};
-ghost use Rattle.tt_session.specs.Logged.{changes_database};
-ghost use Rattle.tt_session.specs.Run.{begun, calls_of, turn_by_value};
-ghost use Rattle.tt_session.specs.Restoring.{restored, Restores, IsNoLine};
-ghost use Rattle.tt_session.specs.RestoringRun.{IsRestoring, FailsIn};
+ghost use Rattle.tt_requests.specs.Lines.{is_passed_over};
+ghost use Rattle.tt_session.specs.Changing.{changes_database};
+ghost use Rattle.tt_session.specs.Run.{begun, calls_of};
+ghost use Rattle.tt_session.specs.Answering.{turn_of_read};
+ghost use Rattle.tt_session.specs.Together.{kept_line};
+ghost use Rattle.tt_session.specs.Restoring.{laid_by, restored, Restores, IsNoLine};
+ghost use Rattle.tt_session.specs.RestoringRun.{IsRestoring, FailsIn, IsNextOrNot, OpensLog};
+ghost use Rattle.tt_session.specs.declared.session.Session.TheVariants.{Open};
 
 use crate::first_line::{first_feed, read_request};
 use crate::line::Line;
@@ -14,8 +17,10 @@ use crate::open_session::OpenSession;
 use crate::run::MAX_TOTAL;
 use crate::session::{Session, open_or_stay};
 use std::alloc::{AllocError, Global};
+use tt_grammar::DocFault;
 use tt_json::Scratch;
 use tt_log::{Device, UnreadLog};
+use tt_requests::{LogOpening, ground_action_from_line, is_passed_over};
 
 /// Why a log isn't read back.
 #[derive(Clone, Copy, Debug, PartialEq, Eq)]
@@ -65,7 +70,7 @@ pub(crate) fn restore<D: Device>(
             return Err(RestoreFault::Read);
         };
         if count == 0 {
-            return Ok(restoring.into_session());
+            return restoring.finish();
         }
         if let Err(fault) = restoring.take(&buffer[..count]) {
             return Err(fault);
@@ -80,6 +85,8 @@ pub(crate) fn restore<D: Device>(
 pub(crate) struct Restoring {
     alloc: Global,
     session: Option<OpenSession>,
+    /// How many slots of the ground are still to come.
+    ground_left: u64,
     line: Line,
     /// How many lines there were.
     count: u64,
@@ -98,6 +105,7 @@ impl Restoring {
         Restoring {
             alloc,
             session: None,
+            ground_left: 0,
             line: Line::new(alloc),
             count: 0,
             scratch: Scratch::new(alloc),
@@ -105,21 +113,29 @@ impl Restoring {
         }
     }
 
-    /// The session that was read back, to be opened again.
-    fn into_session(self) -> Session
-        ensures { result ≡ restored (begun self.session) }
+    /// The session that was read back, to be opened again, once all lines are read.
+    fn finish(self) -> Result<Session, RestoreFault>
+        requires { self.count < 2 ^ 64 - 1 }
+        ensures session { IfOk result (λ session. session ≡ restored (begun self.session)) }
+        ensures whole { OnOk result (self.ground_left ≡ 0) }
+        ensures line { IfErr result (λ e.
+            (e ≡ RestoreFault.Line (self.count + 1)) × (0 < self.ground_left)) }
     {
         let Restoring {
             alloc: _,
             session,
+            ground_left,
             line: _,
-            count: _,
+            count,
             scratch: _,
             text: _,
         } = self;
+        if ground_left > 0 {
+            return Err(RestoreFault::Line(count + 1));
+        }
         match session {
-            Some(session) => Session::Restored(session),
-            None => Session::NotOpen,
+            Some(session) => Ok(Session::Restored(session)),
+            None => Ok(Session::NotOpen),
         }
     }
 
@@ -167,16 +183,13 @@ impl Restoring {
         if self.line.is_too_long() {
             return Err(RestoreFault::Line(self.count));
         }
-        if self.line.is_passed_over() {
-            return Err(RestoreFault::Line(self.count));
-        }
         let Some(line) = self.line.bytes() else {
             return Err(RestoreFault::Memory);
         };
         self.text.clear();
-        let (session, text) = (&mut self.session, &mut self.text);
-        let changes_database = repeat(self.alloc, session, line, text, &mut self.scratch)?;
-        if !changes_database {
+        let (session, left) = (&mut self.session, &mut self.ground_left);
+        let (text, scratch) = (&mut self.text, &mut self.scratch);
+        if !read_next(self.alloc, session, left, line, text, scratch)? {
             return Err(RestoreFault::Line(self.count));
         }
         self.line.clear();
@@ -184,35 +197,116 @@ impl Restoring {
     }
 }
 
-/// Answers a line, which isn't passed over, in place. Returns whether it changes the database. Where
-/// memory runs out, nothing is promised of the session.
-fn repeat(
+/// Reads the next line of a log in place. Returns whether it can be the
+/// next one. Where memory runs out, nothing is promised of the session.
+fn read_next(
     alloc: Global,
     session: &mut Option<OpenSession>,
+    ground_left: &mut u64,
     line: &[u8],
     text: &mut Vec<u8>,
     scratch: &mut Scratch,
 ) -> Result<bool, AllocError>
     requires { calls_of (begun session.old) < 2 ^ 64 - 1 }
-    ensures session { OnOk result (begun session.new
-        ≡ (turn_by_value (begun session.old) (value_of_line line.now)).session) }
-    ensures made { IfOk result (λ made.
-        made ≡ changes_database (begun session.old) (begun session.new)) }
+    ensures next { IfOk result (λ is_next. IsNextOrNot is_next (begun session.old)
+        ground_left.old line.now (begun session.new) ground_left.new) }
     ensures calls { OnOk result
         (calls_of (begun session.new) ≤ calls_of (begun session.old) + 1) }
 {
     match session {
         Some(open) => {
-            let asked = read_request(alloc, open.db().catalog(), line, scratch)?;
-            let extent = open.extent();
-            open.answer_in_place(text, asked)?;
-            Ok(!open.is_as_at(extent))
+            if *ground_left > 0 {
+                let is_laid = lay_line(alloc, open, line, scratch)?;
+                *ground_left -= 1;
+                return Ok(is_laid);
+            }
+            if is_passed_over(line) {
+                return Ok(false);
+            }
+            repeat(alloc, open, line, text, scratch)
         }
         None => {
-            let opened = open_or_stay(alloc, text, line)?;
+            let opened = open_log(alloc, line, text)?;
             let is_open = opened.is_some();
-            *session = opened;
+            if let Some(OpenLog { open, ground_slots }) = opened {
+                *session = Some(open);
+                *ground_left = ground_slots;
+            }
             Ok(is_open)
         }
+    }
+}
+
+/// Lays the ground that a line of a log tells. Returns whether it is one of a ground. Where memory
+/// runs out, or it isn't, nothing is promised of the session.
+fn lay_line(
+    alloc: Global,
+    session: &mut OpenSession,
+    line: &[u8],
+    scratch: &mut Scratch,
+) -> Result<bool, AllocError>
+    ensures laid { IfOk result (λ is_laid. laid_by session.old line.now
+        ≡ (if is_laid then Some session.new else None)) }
+    ensures calls { OnOk result (session.new.calls ≡ session.old.calls) }
+{
+    match ground_action_from_line(alloc, session.db().catalog(), line, scratch) {
+        Ok(action) => session.lay(action),
+        Err(DocFault::Memory) => Err(AllocError),
+        Err(_) => Ok(false),
+    }
+}
+
+/// Answers a line, which isn't passed over, in place. Returns whether it changes the database. Where memory runs out, nothing
+/// is promised of the session.
+fn repeat(
+    alloc: Global,
+    session: &mut OpenSession,
+    line: &[u8],
+    text: &mut Vec<u8>,
+    scratch: &mut Scratch,
+) -> Result<bool, AllocError>
+    requires calls { session.old.calls < 2 ^ 64 - 1 }
+    requires told { is_passed_over line.now ≡ false }
+    ensures session { OnOk result (Open session.new
+        ≡ (turn_of_read (Open session.old) (kept_line line.now)).session) }
+    ensures made { IfOk result (λ made.
+        made ≡ changes_database (Open session.old) (Open session.new)) }
+    ensures calls { OnOk result (session.new.calls ≡ session.old.calls + 1) }
+{
+    let asked = read_request(alloc, session.db().catalog(), line, scratch)?;
+    let extent = session.extent();
+    session.answer_in_place(text, asked)?;
+    Ok(!session.is_as_at(extent))
+}
+
+/// A session that the first line of a log opens.
+#[derive(Drop)]
+struct OpenLog {
+    open: OpenSession,
+    /// How many slots of the ground are to follow.
+    ground_slots: u64,
+}
+
+/// Opens a session by the first line of a log, with a ground or without one; None if it is no
+/// opening.
+fn open_log(alloc: Global, line: &[u8], text: &mut Vec<u8>) -> Result<Option<OpenLog>, AllocError>
+    ensures { IfOk result (λ opened. OpensLog line.now opened) }
+{
+    if !is_passed_over(line) {
+        if let Some(open) = open_or_stay(alloc, text, line)? {
+            return Ok(Some(OpenLog {
+                open,
+                ground_slots: 0,
+            }));
+        }
+    }
+    match LogOpening::from_line(alloc, line) {
+        Ok(opening) => {
+            let ground_slots = opening.numbering.ground_slots();
+            let open = OpenSession::on_ground(alloc, opening);
+            Ok(Some(OpenLog { open, ground_slots }))
+        }
+        Err(DocFault::Memory) => Err(AllocError),
+        Err(_) => Ok(None),
     }
 }

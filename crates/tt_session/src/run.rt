@@ -2,21 +2,23 @@
 ghost use Rattle.std.specs.Prelude.{◌≡◌, ◌+◌, ◌-◌, ◌^◌, ◌<◌, ◌≤◌, ◌++◌, ◌∷◌, [], ℕ, List, true, false, length, take, IfOk, IfErr, OnOk, OnErr, IsTrue, MatchOption, Some, None, if◌then◌else◌};
 ghost use Rattle.std.specs.Io.{ReadsAtMost};
 ghost use Rattle.std.specs.Io.KnownBytes.{Consumes, IsAtEnd, Keeps};
-ghost use Rattle.tt_requests.specs.Lines.{is_too_long};
+ghost use Rattle.tt_requests.specs.Lines.{is_too_long, is_passed_over};
 ghost use Rattle.tt_session.specs.declared.session.Session.{Session};
 ghost use Rattle.tt_session.specs.Lines.{HasBytes, has_no_feed};
-ghost use Rattle.tt_session.specs.Run.{calls_of, turn_with_memory};
+ghost use Rattle.tt_session.specs.Run.{calls_of};
 ghost use Rattle.tt_session.specs.ShortAnswers.{short_text};
-ghost use Rattle.tt_session.specs.Logged.{logged_by, with_lines};
+ghost use Rattle.tt_session.specs.ForgetRequests.{AnswersLine, AsksToForget};
+ghost use Rattle.tt_session.specs.Anew.{ForgetsOne, StopsForgetting};
 ghost use Rattle.tt_session.specs.PendingLines.{no_lines};
 ghost use Rattle.tt_session.specs.Running.{Rests, Takes, StopsIn, AnswersOne, StopsAt, HandsOver, StopsBetween, StandsOn, HandsOverShort, StopsInShort, Halts};
 ghost use Rattle.tt_session.specs.Together.{AnswersFront};
 ghost use Rattle.tt_session.specs.Ends.{AnswersAll, EndsEarly, HandsOverAll, Fails, Ends, StopsLast};
 
+use crate::commands::ForgetRequest;
 use crate::first_line::first_feed;
 use crate::line::Line;
-use crate::open_session::Extent;
-use crate::outlet::Outlet;
+use crate::open_session::{Extent, ReadyToForget};
+use crate::outlet::{Forgotten, Outlet, Renewal};
 use crate::session::Session;
 use crate::short_answer::ShortAnswer;
 use crate::workspace::{MANY_BYTES, Workspace, is_much};
@@ -429,39 +431,121 @@ impl Run {
             let answer = self.session.answer_too_long();
             return self.hand_over_short(outlet, &answer);
         }
-        if self.answer_with_memory() {
-            return Ok(());
+        match self.answer_with_memory() {
+            Ok(None) => Ok(()),
+            Ok(Some(request)) => self.answer_to_forget(outlet, request),
+            Err(AllocError) => self.answer_without_memory(outlet),
         }
+    }
+
+    /// Answers the line as one for which there is no memory, once all answers that are kept are
+    /// handed over.
+    fn answer_without_memory<O: Outlet>(&mut self, outlet: &mut O) -> Result<(), SessionFault>
+        requires calls { calls_of self.old.session < 2 ^ 64 - 1 }
+        requires ready { O.is_ready outlet.old }
+        requires some { (bytes : List ℕ) → HasBytes self.old.line bytes
+            → (is_too_long bytes ≡ false) × (is_passed_over bytes ≡ false) }
+        ensures ready { OnOk result (O.is_ready outlet.new) }
+        ensures ok { OnOk result
+            (AnswersOne O.handed O.has_log outlet.old outlet.new self.old self.new) }
+        ensures err { OnErr result
+            (StopsAt O.handed O.stopped O.has_log outlet.old outlet.new self.old) }
+        ensures fault { IfErr result (λ e. e ≡ SessionFault.Write) }
+        ensures calls { calls_of self.new.session ≤ calls_of self.old.session + 1 }
+    {
         self.workspace.release(self.alloc);
         let answer = self.session.answer_without_memory();
         self.hand_over_short(outlet, &answer)
     }
 
-    /// Answers the line, and returns whether there was memory for it. Where there wasn't, nothing is
-    /// answered.
-    fn answer_with_memory(&mut self) -> bool
-        requires { calls_of self.old.session < 2 ^ 64 - 1 }
-        ensures text { IsTrue result → (bytes : List ℕ) → HasBytes self.old.line bytes
-            → is_too_long bytes ≡ false → self.new.out.items
-            ≡ self.old.out.items ++ (turn_with_memory self.old.session bytes).text }
-        ensures session { IsTrue result → (bytes : List ℕ) → HasBytes self.old.line bytes
-            → is_too_long bytes ≡ false → self.new.session
-            ≡ (turn_with_memory self.old.session bytes).session }
-        ensures lines { IsTrue result → (bytes : List ℕ) → HasBytes self.old.line bytes
-            → is_too_long bytes ≡ false → self.new.workspace.lines ≡ with_lines
-            self.old.workspace.lines (logged_by self.old.session self.new.session bytes) }
+    /// Answers the line, which asks to forget what lies before a time. Where there is something to
+    /// forget, all answers that are kept are handed over before the log is made anew.
+    fn answer_to_forget<O: Outlet>(
+        &mut self,
+        outlet: &mut O,
+        request: ForgetRequest,
+    ) -> Result<(), SessionFault>
+        requires calls { calls_of self.old.session < 2 ^ 64 - 1 }
+        requires ready { O.is_ready outlet.old }
+        requires asks { (bytes : List ℕ) → HasBytes self.old.line bytes
+            → AsksToForget self.old.session bytes request }
+        ensures ready { OnOk result (O.is_ready outlet.new) }
+        ensures ok { OnOk result
+            (AnswersOne O.handed O.has_log outlet.old outlet.new self.old self.new) }
+        ensures err { OnErr result
+            (StopsAt O.handed O.stopped O.has_log outlet.old outlet.new self.old) }
+        ensures fault { IfErr result (λ e. e ≡ SessionFault.Write) }
         ensures calls { calls_of self.new.session ≤ calls_of self.old.session + 1 }
-        ensures text_stays { result ≡ false → self.new.out.items ≡ self.old.out.items }
-        ensures session_stays { result ≡ false → self.new.session ≡ self.old.session }
-        ensures lines_stay { result ≡ false
-            → self.new.workspace.lines ≡ self.old.workspace.lines }
+    {
+        match self.session.prepare_to_forget(&mut self.out, request) {
+            Ok(None) => Ok(()),
+            Ok(Some(ready)) => {
+                self.hand_over(outlet)?;
+                self.make_log_anew(outlet, ready)
+            }
+            Err(AllocError) => self.answer_without_memory(outlet),
+        }
+    }
+
+    /// Makes the log anew, and only then answers the line, whose call is counted, and goes on
+    /// behind the time. All earlier answers are handed over.
+    fn make_log_anew<O: Outlet>(
+        &mut self,
+        outlet: &mut O,
+        ready: ReadyToForget,
+    ) -> Result<(), SessionFault>
+        requires { O.is_ready outlet.old }
+        ensures ready { OnOk result (O.is_ready outlet.new) }
+        ensures ok { OnOk result (ForgetsOne O.handed O.has_log outlet.old outlet.new
+            self.old self.new ready) }
+        ensures err { OnErr result
+            (StopsForgetting O.handed O.stopped outlet.old outlet.new self.old ready) }
+        ensures fault { IfErr result (λ e. e ≡ SessionFault.Write) }
+        ensures calls { calls_of self.new.session ≡ calls_of self.old.session }
+    {
+        let call = self.session.calls();
+        let refusal = ShortAnswer::CallWithoutLog(call).text();
+        let ReadyToForget { forgetting, text } = ready;
+        let forgotten = Forgotten {
+            forgetting: &forgetting,
+            most_records: self.session.most_records(),
+            text: text.as_slice(),
+            refusal: refusal.as_str().as_bytes(),
+        };
+        match outlet.hand_over_anew(self.alloc, &forgotten) {
+            Ok(Renewal::MadeAnew) => {
+                self.session.go_on_behind(forgetting);
+                Ok(())
+            }
+            Ok(Renewal::Refused) => Ok(()),
+            Ok(Renewal::OutOfMemory) => {
+                self.hand_over_short(outlet, &ShortAnswer::CallOutOfMemory(call))
+            }
+            Err(_) => Err(SessionFault::Write),
+        }
+    }
+
+    /// Answers the line, where there is memory for it. A request to forget is returned, and nothing
+    /// is done for it.
+    fn answer_with_memory(&mut self) -> Result<Option<ForgetRequest>, AllocError>
+        requires { calls_of self.old.session < 2 ^ 64 - 1 }
+        ensures answered { IfOk result (λ asked. (bytes : List ℕ) → HasBytes self.old.line bytes
+            → is_too_long bytes ≡ false → AnswersLine self.old.session self.new.session bytes
+            self.old.out.items self.new.out.items
+            self.old.workspace.lines self.new.workspace.lines asked) }
+        ensures calls { calls_of self.new.session ≤ calls_of self.old.session + 1 }
+        ensures line { self.new.line ≡ self.old.line }
+        ensures text_stays { OnErr result (self.new.out.items ≡ self.old.out.items) }
+        ensures session_stays { OnErr result (self.new.session ≡ self.old.session) }
+        ensures lines_stay { OnErr result
+            (self.new.workspace.lines ≡ self.old.workspace.lines) }
     {
         match self.line.bytes() {
-            Some(line) => self
-                .session
-                .answer_line(self.alloc, &mut self.out, line, &mut self.workspace)
-                .is_ok(),
-            None => false,
+            Some(line) => {
+                self.session
+                    .answer_line(self.alloc, &mut self.out, line, &mut self.workspace)
+            }
+            None => Err(AllocError),
         }
     }
 

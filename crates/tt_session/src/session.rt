@@ -4,9 +4,11 @@ ghost use Rattle.tt_requests.specs.LineValue.{value_of_line};
 ghost use Rattle.tt_requests.specs.Opening.{opening_of};
 ghost use Rattle.tt_answers.specs.AnswerText.{opening_text};
 
-use crate::open_session::{Extent, OpenSession};
+use crate::commands::ForgetRequest;
+use crate::open_session::{Extent, OpenSession, ReadyToForget};
 use crate::pending_lines::PendingLines;
 use crate::repairing::status_of;
+use crate::session_change::BoxedForgetting;
 use crate::short_answer::ShortAnswer;
 use crate::workspace::{Workspace, append};
 use std::alloc::{AllocError, Global};
@@ -31,8 +33,9 @@ impl Session {
     ghost use Rattle.tt_session.specs.Run.{turn_with_memory, turn_without_memory, turn_of_long_line, calls_of};
     ghost use Rattle.tt_session.specs.ShortAnswers.{short_text};
     ghost use Rattle.tt_session.specs.Together.{AnswersFront};
-    ghost use Rattle.tt_session.specs.Logged.{logged_by, with_lines};
-    ghost use Rattle.tt_session.specs.Session.{OpenSession};
+    ghost use Rattle.tt_session.specs.ForgetRequests.{AnswersLine, turn_of_forget, Prepares};
+    ghost use Rattle.tt_session.specs.Changes.{forgotten_by};
+    ghost use Rattle.tt_session.specs.Session.{OpenSession, counted};
     ghost use Rattle.tt_session.specs.declared.session.Session.TheVariants.{Restored, Open};
 
     /// How many calls there were.
@@ -64,45 +67,112 @@ impl Session {
         ensures session_stays { OnErr result (self.new ≡ self.old) }
     {
         let mut workspace = Workspace::new(alloc, false);
-        self.answer_line(alloc, out, line, &mut workspace)
+        match self.answer_line(alloc, out, line, &mut workspace)? {
+            Some(request) => self.forget_at_once(out, request),
+            None => Ok(()),
+        }
     }
 
     /// As [`answer`](Session::answer), for a caller that keeps the workspace from line to line, and
-    /// the line with it if it is to be logged.
+    /// the line with it if it is to be logged. A request to forget is returned, and nothing is done
+    /// for it.
     pub(crate) fn answer_line(
         &mut self,
         alloc: Global,
         out: &mut Vec<u8>,
         line: &[u8],
         workspace: &mut Workspace,
-    ) -> Result<(), AllocError>
+    ) -> Result<Option<ForgetRequest>, AllocError>
         requires { calls_of self.old < 2 ^ 64 - 1 }
-        ensures text { OnOk result (out.new.items
-            ≡ out.old.items ++ (turn_with_memory self.old line.now).text) }
-        ensures session { OnOk result
-            (self.new ≡ (turn_with_memory self.old line.now).session) }
+        ensures answered { IfOk result (AnswersLine self.old self.new line.now
+            out.old.items out.new.items workspace.old.lines workspace.new.lines) }
         ensures calls { calls_of self.new ≤ calls_of self.old + 1 }
-        ensures lines { OnOk result (workspace.new.lines
-            ≡ with_lines workspace.old.lines (logged_by self.old self.new line.now)) }
         ensures text_stays { OnErr result (out.new.items ≡ out.old.items) }
         ensures session_stays { OnErr result (self.new ≡ self.old) }
         ensures lines_stay { OnErr result (workspace.new.lines ≡ workspace.old.lines) }
     {
         if is_passed_over(line) {
-            return Ok(());
+            return Ok(None);
         }
         match self {
             Session::Open(session) => session.answer_line(out, line, workspace),
             Session::NotOpen => {
                 *self = open(alloc, out, line, &mut workspace.lines)?;
-                Ok(())
+                Ok(None)
             }
             Session::Restored(session) => {
                 if session.reopen(out, line)? {
                     self.go_on();
                 }
-                Ok(())
+                Ok(None)
             }
+        }
+    }
+
+    /// Answers a request to forget, where there is no log. Where memory runs out, the session and
+    /// the text are as before.
+    fn forget_at_once(
+        &mut self,
+        out: &mut Vec<u8>,
+        request: ForgetRequest,
+    ) -> Result<(), AllocError>
+        requires calls { calls_of self.old < 2 ^ 64 - 1 }
+        ensures text { (session : OpenSession) → self.old ≡ Open session → OnOk result
+            (out.new.items ≡ out.old.items ++ (turn_of_forget (counted session) request).text) }
+        ensures session { (session : OpenSession) → self.old ≡ Open session → OnOk result
+            (self.new ≡ (turn_of_forget (counted session) request).session) }
+        ensures calls { calls_of self.new ≤ calls_of self.old + 1 }
+        ensures text_stays { OnErr result (out.new.items ≡ out.old.items) }
+        ensures session_stays { OnErr result (self.new ≡ self.old) }
+    {
+        match self {
+            Session::Open(session) => session.forget_at_once(out, request),
+            Session::NotOpen | Session::Restored(_) => Ok(()),
+        }
+    }
+
+    /// Answers a request to forget, as a call, if it is refused or nothing is left to forget; else
+    /// it is returned how the session is to go on. Where memory runs out, the session and what the
+    /// text is added to are as before.
+    pub(crate) fn prepare_to_forget(
+        &mut self,
+        out: &mut Vec<u8>,
+        request: ForgetRequest,
+    ) -> Result<Option<ReadyToForget>, AllocError>
+        requires calls { calls_of self.old < 2 ^ 64 - 1 }
+        ensures prepared { (session : OpenSession) → self.old ≡ Open session → IfOk result
+            (Prepares (counted session) request out.old.items out.new.items) }
+        ensures session { (session : OpenSession) → self.old ≡ Open session
+            → OnOk result (self.new ≡ Open (counted session)) }
+        ensures calls { calls_of self.new ≤ calls_of self.old + 1 }
+        ensures session_stays { OnErr result (self.new ≡ self.old) }
+        ensures text_stays { OnErr result (out.new.items ≡ out.old.items) }
+    {
+        match self {
+            Session::Open(session) => session.prepare_to_forget(out, request),
+            Session::NotOpen | Session::Restored(_) => Ok(None),
+        }
+    }
+
+    /// Goes on behind a time, if the session is open.
+    pub(crate) fn go_on_behind(&mut self, forgetting: BoxedForgetting)
+        ensures session { (session : OpenSession) → self.old ≡ Open session
+            → self.new ≡ Open (forgotten_by session forgetting) }
+        ensures calls { calls_of self.new ≡ calls_of self.old }
+    {
+        if let Session::Open(session) = self {
+            session.go_on_behind(forgetting);
+        }
+    }
+
+    /// How many records are kept at most.
+    pub(crate) fn most_records(&self) -> u32
+        ensures { (session : OpenSession) → self.now ≡ Open session
+            → result ≡ session.most_records }
+    {
+        match self {
+            Session::NotOpen => 0,
+            Session::Restored(session) | Session::Open(session) => session.most_records(),
         }
     }
 

@@ -20,6 +20,8 @@ pub enum ShortAnswer {
     CallOutOfMemory(u64),
     /// The call of this number is longer than lines may be.
     CallTooLong(u64),
+    /// The log couldn't be made anew for the call of this number.
+    CallWithoutLog(u64),
 }
 
 /// As many bytes hold the line of each short answer.
@@ -38,6 +40,7 @@ impl ShortAnswer {
             ShortAnswer::CallOutOfMemory(call) => {
                 text_of_call(*call, ",\"refused\":\"memory\"}\n")
             }
+            ShortAnswer::CallWithoutLog(call) => { text_of_call(*call, ",\"refused\":\"log\"}\n") }
             ShortAnswer::CallTooLong(call) => text_of_call(
                 *call,
                 ",\"fault\":{\"path\":\"$\",\"cause\":\"longer than 16777216 bytes\"}}\n",

@@ -1,15 +1,18 @@
 //! Events that a session carries out.
-ghost use Rattle.std.specs.Prelude.{◌≡◌, ◌≢◌, None, IfOk, IfErr, OnOk};
+ghost use Rattle.std.specs.Prelude.{◌≡◌, ◌≢◌, Some, None, Ok, if◌then◌else◌, IfOk, IfErr, OnOk};
 ghost use Rattle.tt_db.specs.Database.{outcome_for};
 ghost use Rattle.tt_session.specs.Failures.{IsRefusal};
 ghost use Rattle.tt_session.specs.Room.{refusal_in_session};
 ghost use Rattle.tt_session.specs.Session.{with_database};
 ghost use Rattle.tt_session.specs.Repairing.{with_event};
+ghost use Rattle.tt_session.specs.Restoring.{with_ground};
 
 use super::OpenSession;
 use crate::room::{leaves_no_room, refusal_without_room};
 use std::alloc::AllocError;
 use tt_db::{DbError, Entry, Event, Outcome};
+use tt_horizon::{GROUND_WORKER, has_inserted, inserts_alone};
+use tt_values::{Items, Write};
 
 impl OpenSession {
     /// Carries out an event of a worker in place, or stays and returns why a session refuses it.
@@ -30,6 +33,23 @@ impl OpenSession {
         match self.db.advance(Entry { worker, event }) {
             Ok(outcome) => Ok(outcome),
             Err(error) => Err(error),
+        }
+    }
+
+    /// Carries out an action as the next one of the ground. Returns whether it is one of a ground;
+    /// where it isn't, or without memory, nothing is promised of the database.
+    pub(crate) fn lay(&mut self, action: Items<Write>) -> Result<bool, AllocError>
+        ensures laid { IfOk result (λ is_laid. with_ground self.old (Ok action)
+            ≡ (if is_laid then Some self.new else None)) }
+        ensures rest { self.new ≡ with_database self.old self.new.database }
+    {
+        if !inserts_alone(action.as_slice()) {
+            return Ok(false);
+        }
+        match self.advance(GROUND_WORKER, Event::Write(action)) {
+            Ok(outcome) => Ok(has_inserted(&outcome)),
+            Err(DbError::Memory) => Err(AllocError),
+            Err(_) => Ok(false),
         }
     }
 

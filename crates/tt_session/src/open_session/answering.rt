@@ -177,7 +177,7 @@ impl OpenSession {
     }
 
     /// Pushes the text of an answer to the last call.
-    fn push_answer(&self, text: &mut Vec<u8>, answer: &Answer) -> Result<(), AllocError>
+    pub(super) fn push_answer(&self, text: &mut Vec<u8>, answer: &Answer) -> Result<(), AllocError>
         ensures { OnOk result (text.new.items ≡ text.old.items
             ++ call_text self.now.database.catalog self.now.numbering self.now.calls answer.now) }
     {

@@ -2,20 +2,22 @@
 //!
 //! The first of several lines forks the session. The fork goes ahead, changed in place, and the
 //! session catches up with it behind the last line, or before a line that asks for the records of
-//! earlier calls, which a fork hasn't. Where memory runs out, the fork is dropped, and the session
+//! earlier calls, which a fork hasn't. A request to forget is left for later. Where memory runs out, the fork is dropped, and the session
 //! is as it was before that first line.
 ghost use Rattle.std.specs.Prelude.{◌≡◌, ◌+◌, ◌-◌, ◌≤◌, ◌<◌, ◌^◌, ◌++◌, true, false, length, drop, List, IfOk, IfSome, OnOk, OnErr};
 ghost use Rattle.tt_session.specs.declared.session.Session.TheVariants.{Open};
 ghost use Rattle.tt_requests.specs.LineValue.{value_of_line};
 ghost use Rattle.tt_requests.specs.Requests.{request_of};
 ghost use Rattle.tt_session.specs.Session.{counted, with_earlier_records};
-ghost use Rattle.tt_session.specs.Commands.{asks_for_records};
+ghost use Rattle.tt_requests.specs.Lines.{is_passed_over};
+ghost use Rattle.tt_session.specs.Commands.{asks_for_records, asks_to_forget};
+ghost use Rattle.tt_session.specs.ForgetRequests.{AnswersLine};
 ghost use Rattle.tt_session.specs.Run.{turn_by_request};
 ghost use Rattle.tt_session.specs.Logged.{logged_by, with_lines};
 ghost use Rattle.tt_session.specs.Together.{AnswersFront, AnswersWith, BeginsWithLine, Grows};
 
 use super::OpenSession;
-use crate::commands::asks_for_records;
+use crate::commands::{ForgetRequest, asks_for_records, forget_request};
 use crate::first_line::{FirstLine, RequestLine, read_request};
 use crate::workspace::{Workspace, append, is_much};
 use std::alloc::AllocError;
@@ -94,6 +96,9 @@ impl OpenSession {
             FirstLine::NotWhole => Ok(0),
             FirstLine::PassedOver(len) => Ok(len),
             FirstLine::Read(RequestLine { asked, len }) => {
+                if forget_request(&asked).is_some() {
+                    return Ok(0);
+                }
                 let (line, behind) = (&bytes[..len - 1], &bytes[len..]);
                 let more = self.answer_and_further(out, asked, line, behind, workspace)?;
                 Ok(len + more)
@@ -102,30 +107,32 @@ impl OpenSession {
     }
 
     /// Answers a line, as a call: adds the text of the answer, goes on as the call leaves the
-    /// session, and keeps the line if it is to be logged. Where memory runs out, the session, the
-    /// text and the lines to log are as before.
+    /// session, and keeps the line if it is to be logged. A request to forget is returned, and
+    /// nothing is done for it. Where memory runs out, the session, the text and the lines to log
+    /// are as before.
     pub(crate) fn answer_line(
         &mut self,
         out: &mut Vec<u8>,
         line: &[u8],
         workspace: &mut Workspace,
-    ) -> Result<(), AllocError>
-        requires { self.old.calls < 2 ^ 64 - 1 }
-        ensures text { OnOk result (out.new.items ≡ out.old.items
-            ++ (turn_by_request (counted self.old)
-            (request_of self.old.database.catalog (value_of_line line.now))).text) }
-        ensures session { OnOk result (Open self.new ≡ (turn_by_request (counted self.old)
-            (request_of self.old.database.catalog (value_of_line line.now))).session) }
-        ensures calls { OnOk result (self.new.calls ≡ self.old.calls + 1) }
-        ensures lines { OnOk result (workspace.new.lines ≡ with_lines workspace.old.lines
-            (logged_by (Open self.old) (Open self.new) line.now)) }
+    ) -> Result<Option<ForgetRequest>, AllocError>
+        requires calls { self.old.calls < 2 ^ 64 - 1 }
+        requires told { is_passed_over line.now ≡ false }
+        ensures answered { IfOk result (AnswersLine (Open self.old) (Open self.new) line.now
+            out.old.items out.new.items workspace.old.lines workspace.new.lines) }
+        ensures calls { OnOk result (self.new.calls ≤ self.old.calls + 1) }
         ensures text_stays { OnErr result (out.new.items ≡ out.old.items) }
         ensures session_stays { OnErr result (self.new ≡ self.old) }
         ensures lines_stay { OnErr result (workspace.new.lines ≡ workspace.old.lines) }
     {
         let asked = read_request(self.alloc, self.db.catalog(), line, &mut workspace.scratch)?;
-        self.answer_and_further(out, asked, line, &[], workspace)?;
-        Ok(())
+        match forget_request(&asked) {
+            Some(request) => Ok(Some(request)),
+            None => {
+                self.answer_and_further(out, asked, line, &[], workspace)?;
+                Ok(None)
+            }
+        }
     }
 
     /// Answers what a line asks, and the lines behind it. Returns how many bytes of these were
@@ -138,7 +145,8 @@ impl OpenSession {
         behind: &[u8],
         workspace: &mut Workspace,
     ) -> Result<usize, AllocError>
-        requires { self.old.calls + length behind.now < 2 ^ 64 - 1 }
+        requires calls { self.old.calls + length behind.now < 2 ^ 64 - 1 }
+        requires plain { asks_to_forget asked ≡ false }
         ensures answered { IfOk result (λ count. AnswersWith asked line.now behind.now count
             self.old self.new out.old.items out.new.items
             workspace.old.lines workspace.new.lines) }
@@ -191,6 +199,9 @@ impl OpenSession {
         let Some(next) = next else {
             return Ok(taken);
         };
+        if forget_request(&next.asked).is_some() {
+            return Ok(taken);
+        }
         let end = taken + next.len;
         match self.log_alone(out, next.asked, &behind[taken..end - 1], workspace) {
             Ok(()) => Ok(end),

@@ -4,6 +4,7 @@ use Rattle.std.proofs.lemmas.Result.{IfOk-weaker}
 use Rattle.tt_values.specs.Tables.{Tables}
 use Rattle.tt_db.specs.Database.{Database, current_of_db}
 use Rattle.tt_horizon_laws.specs.Ground.{ground_writes, inserts_of_tables}
+use Rattle.tt_horizon.specs.Grounds.{IsGround}
 use Rattle.tt_horizon.specs.Laying.{AreLaid, with_last}
 use Rattle.tt_horizon.proofs.LayingLemmas.{inserts_of_tables-more, laid-all}
 use Rattle.tt_horizon.proofs.ground.database_of_rows.Goals as goal
@@ -18,6 +19,7 @@ loop-table-preserved c =
           (made.added (inserts_of_tables c.loop-table.table X) c.loop-table.invariant.added);
       catalog = made.catalog ∙ c.loop-table.invariant.catalog;
       limits = made.limits ∙ c.loop-table.invariant.limits;
+      ground = made.ground c.loop-table.invariant.ground;
     }
 
 pub returns : goal.returns
@@ -27,4 +29,7 @@ returns c =
     let count = ap (λ (tables : Tables). length tables) c.catalog.ensures in
     let all : c.loop-table.table ≡ length db.catalog = omega (arith, c.loop-table-test.false, c.loop-table.auto.table-end, c.len-tables.ensures.count, count) in
     let is = laid-all db laid.db laid.waiting.items c.loop-table.table (current_of_db db c.args.time) c.loop-table.invariant.catalog c.loop-table.invariant.limits all c.loop-table.invariant.added in
-    IfOk-weaker c.finished.result (λ (made : Database). made ≡ with_last laid.db laid.waiting.items) _ (λ made last. last ∙ is) c.finished.ensures
+    record {
+      rows = IfOk-weaker c.finished.result (λ (made : Database). made ≡ with_last laid.db laid.waiting.items) _ (λ made last. last ∙ is) c.finished.ensures.last;
+      ground = IfOk-weaker c.finished.result (λ (made : Database). IsGround laid.db → IsGround made) _ (λ made behind. behind c.loop-table.invariant.ground) c.finished.ensures.ground;
+    }

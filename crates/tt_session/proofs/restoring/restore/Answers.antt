@@ -49,7 +49,7 @@ returns-then-count-eq0-clause-restores g c = λ told.
     let read = c.in-Ok.ensures in
     let none = read.end now c.if-count-eq0.true (omega (arith, l.invariant.some, c.read.auto.buffer)) in
     let left : unread g.D.Device.seen l.log ≡ [] = sym (read.bytes now) ∙ (λ i. take (c.if-count-eq0.true i) c.read.new.buffer ++ none i) in
-    restores-all (g.D.Device.seen c.args.log.now.device) so_far.given l.restoring c.into_session.result so_far.restoring (sym (append-nil so_far.given) ∙ ap (λ r. so_far.given ++ r) (sym left) ∙ so_far.parts told) c.into_session.ensures
+    restores-all (g.D.Device.seen c.args.log.now.device) so_far.given l.restoring c.finish.result so_far.restoring (sym (append-nil so_far.given) ∙ ap (λ r. so_far.given ++ r) (sym left) ∙ so_far.parts told) c.finish.ensures
 
 pub returns-in-Err-clause-line : goal.returns-in-Err-clause-line
 returns-in-Err-clause-line g c = λ n is told.

@@ -7,7 +7,7 @@ pub returns-in_ok-carry_out_waiting : goal.returns-in_ok-carry_out_waiting
 returns-in_ok-carry_out_waiting c =
     let made = c.in_ok-carry_out_waiting.ensures in
     let full : length c.push.new.self.items ≡ 16 = omega (arith, c.len.ensures, c.if-len-eq-GROUND_WRITES.true, c.push.new.self.ok.0) in
-    AddsWrites-full c.args.self.now c.carry_out_waiting.new.self c.args.write c.push.new.self.items c.in_ok-push.ensures.items full made.db made.waiting
+    AddsWrites-full c.args.self.now c.carry_out_waiting.new.self c.args.write c.push.new.self.items c.in_ok-push.ensures.items full made.db made.ground made.waiting
 
 pub returns-else-len-eq-GROUND_WRITES : goal.returns-else-len-eq-GROUND_WRITES
 returns-else-len-eq-GROUND_WRITES c =

@@ -5,10 +5,11 @@ use Rattle.tt_log.specs.declared.log_error.LogError.{LogError}
 use Rattle.tt_log.specs.declared.log_error.LogError.TheVariants as errors
 use Rattle.tt_log.specs.Log.{KeepsAnswered}
 use Rattle.tt_log.proofs.MomentLemmas as moments
-use Rattle.tt_session.specs.Logged.{logged_of}
+use Rattle.tt_session.specs.Answering.{turns_of}
+use Rattle.tt_session.specs.Logged.{log_after}
 use Rattle.tt_session.specs.OnLog.{telling, LeavesAnswered, StoppedInLog, StoppedOnLog, IsFull}
 use Rattle.tt_session.proofs.ResultLemmas.{at_err}
-use Rattle.tt_session.proofs.OnLogLemmas.{leaves-more, leaves-shown, shown-all, shown-first, lines-all, full-stopped, why-stopped}
+use Rattle.tt_session.proofs.OnLogLemmas.{leaves-more, leaves-shown, shown-all, shown-first, lines-all, full-stopped, why-stopped, new-append, new-plain, all-logged}
 use Rattle.tt_session.proofs.log_outlet.LogOutletOutlet.hand_over.Goals as goal
 
 pub returns-in-Ok-clause-handed : goal.returns-in-Ok-clause-handed
@@ -24,16 +25,18 @@ returns-in-Ok-clause-handed g c = λ first start over kept so_far is told.
     record {
       tells = done.tells.0 h.tells;
       lines_are =
-          lines-all start lines over kept shown c.args.lines.now c.args.text.now (logged (D.seen old)) (D.shown old) (is.lines_are tt) is.text_is h.lines_are h.shown_is _
+          lines-all start lines over kept shown c.args.lines.now c.args.text.now (logged (D.seen old)) (D.shown old) (is.lines_are tt) is.text_is is.plain h.lines_are h.shown_is _
           (c.in-Ok.ensures.logged h.tells);
       shown_is =
-          shown-all start lines over kept shown c.args.lines.now c.args.text.now (logged (D.seen old)) (D.shown old) (is.lines_are tt) is.text_is h.lines_are h.shown_is _
+          shown-all start lines over kept shown c.args.lines.now c.args.text.now (logged (D.seen old)) (D.shown old) (is.lines_are tt) is.text_is is.plain h.lines_are h.shown_is _
           (c.in-Ok.ensures.shown h.tells);
       any_moment =
           moments.joined D.moment D.left_since begun old new (LeavesAnswered start lines over shown) (KeepsAnswered (logged (D.seen old)) c.args.lines.now (D.shown old) c.args.text.now)
           (LeavesAnswered start lines (over ++ kept) shown) h.any_moment (done.any_moment h.tells) (λ left p. leaves-more start lines over kept shown left p)
           (λ left p.
-          leaves-shown start lines over kept shown c.args.lines.now c.args.text.now (logged (D.seen old)) (D.shown old) (is.lines_are tt) is.text_is h.lines_are h.shown_is left p);
+          leaves-shown start lines over kept shown c.args.lines.now c.args.text.now (logged (D.seen old)) (D.shown old) (is.lines_are tt) is.text_is is.plain h.lines_are h.shown_is left p);
+      new_logs = new-append start over kept h.new_logs (new-plain (turns_of start over).session kept is.plain);
+      all_logged = all-logged start over kept _ _ _ h.all_logged is.plain (done.failures h.tells);
       failures = omega (arith, h.failures, done.failures h.tells);
     }
 
@@ -49,19 +52,21 @@ returns-in-Err-clause-stopped g c = λ first start over kept more so_far is told
     let shown = D.shown begun in
     let of = telling D.tells D.seen D.shown D.moment D.left_since D.failures in
     let now = logged (D.seen old) in
-    let all = lines-all start lines over kept shown c.args.lines.now c.args.text.now now (D.shown old) (is.lines_are tt) is.text_is h.lines_are h.shown_is _ refl in
+    let all = lines-all start lines over kept shown c.args.lines.now c.args.text.now now (D.shown old) (is.lines_are tt) is.text_is is.plain h.lines_are h.shown_is _ refl in
     let moment =
     moments.joined D.moment D.left_since begun old new (LeavesAnswered start lines over shown) (KeepsAnswered now c.args.lines.now (D.shown old) c.args.text.now)
     (LeavesAnswered start lines (over ++ kept) shown) h.any_moment (done.any_moment h.tells) (λ left p. leaves-more start lines over kept shown left p)
     (λ left p.
-    leaves-shown start lines over kept shown c.args.lines.now c.args.text.now now (D.shown old) (is.lines_are tt) is.text_is h.lines_are h.shown_is left p) in
-    let in_log : D.shown new ≡ D.shown old → (D.failures begun < D.failures new) ⊎ IsFull (lines ++ logged_of start (over ++ kept)) → StoppedInLog of begun new start ((over ++ kept) ++ more) = λ unshown why. record {
+    leaves-shown start lines over kept shown c.args.lines.now c.args.text.now now (D.shown old) (is.lines_are tt) is.text_is is.plain h.lines_are h.shown_is left p) in
+    let new_logs = new-append start over kept h.new_logs (new-plain (turns_of start over).session kept is.plain) in
+    let in_log : D.shown new ≡ D.shown old → (D.failures begun < D.failures new) ⊎ IsFull (log_after lines start (over ++ kept)) → StoppedInLog of begun new start ((over ++ kept) ++ more) = λ unshown why. record {
       answered = over;
       pending = kept;
       others = more;
       reads_are = refl;
       shown_is = unshown ∙ h.shown_is;
       any_moment = moment;
+      new_logs = new_logs;
       why = why;
     } in
     let unless_output = λ (e : LogError). e ≢ errors.HandOver → D.shown new ≡ D.shown old in
@@ -71,8 +76,9 @@ returns-in-Err-clause-stopped g c = λ first start over kept more so_far is told
       answered = over ++ kept;
       others = more;
       reads_are = refl;
-      shown_is = shown-first start lines over kept shown c.args.lines.now c.args.text.now now (D.shown old) (is.lines_are tt) is.text_is h.lines_are h.shown_is _ (done.first h.tells);
+      shown_is = shown-first start lines over kept shown c.args.lines.now c.args.text.now now (D.shown old) (is.lines_are tt) is.text_is is.plain h.lines_are h.shown_is _ (done.first h.tells);
       any_moment = moment;
+      new_logs = new_logs;
       lines_are = done.all_logged h.tells e ∙ all;
       failed = omega (arith, h.failures, done.hand_over h.tells e);
     })

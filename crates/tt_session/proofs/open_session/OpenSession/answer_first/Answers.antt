@@ -20,5 +20,5 @@ returns-in_ok-more-in-Read-clause-answered c =
     let tables = c.catalog.result.now in
     front-with tables c.args.bytes.now line.len c.in_ok-more-in-Read.more (line.len + c.in_ok-more-in-Read.more) line.asked c.args.self.now c.answer_and_further.new.self c.args.out.now.items c.answer_and_further.new.out.items
     c.args.workspace.now.lines c.answer_and_further.new.workspace.lines
-    (c.catalog.ensures ∙ ap (λ (s : OpenSession). s.database.catalog) c.self.view_is) (subst (IsFirstLine tables c.args.bytes.now) c.in-Read.is c.in_ok-of.ensures)
+    (c.catalog.ensures ∙ ap (λ (s : OpenSession). s.database.catalog) c.self.view_is) PLAIN (subst (IsFirstLine tables c.args.bytes.now) c.in-Read.is c.in_ok-of.ensures)
     c.in_ok-more-in-Read.ensures.answered refl

@@ -1,0 +1,267 @@
+//! How a log is made anew, with the lines of a session that has forgotten what lies before a time.
+ghost use Rattle.std.specs.Prelude.{◌≡◌, ◌↔◌, ◌++◌, ◌∷◌, ◌+◌, ◌-◌, ◌<◌, ◌≤◌, [], Some, List, ℕ, All, length, take, drop, slice_get, IfErr, IfOk, IsErrOf, OnOk, OnErr};
+ghost use Rattle.tt_db.specs.declared.event.Entry.{Entry};
+ghost use Rattle.tt_log.specs.Lines.{logged, IsJoined};
+ghost use Rattle.tt_log.specs.Log.{IsSettled, IsMaking};
+ghost use Rattle.tt_session.specs.OnLog.{telling};
+ghost use Rattle.tt_session.specs.LogLines.{line_of_entry, lines_of_entries, lines_of_database};
+ghost use Rattle.tt_session.specs.Renewing.{IsPrintable, IsReadable, IsWriting, TakesLines, FailsToRenew, FailsToWrite};
+
+use crate::session_change::Forgetting;
+use crate::workspace::MANY_BYTES;
+use std::alloc::{AllocError, Global};
+use tt_answers::{push_ground_line, push_log_opening, push_slot_line};
+use tt_db::{Db, Event};
+use tt_log::{Device, Lines, Log, LogError, RenewError};
+use tt_requests::MAX_GROUND_SLOTS;
+
+/// Why a log isn't made anew.
+#[derive(Clone, Copy, Debug, PartialEq, Eq)]
+pub(crate) enum RenewFault {
+    /// There is no memory for its lines. The log goes on as it was.
+    Memory,
+    /// The new file can't be made, written, synced or named. The log goes on as it was.
+    Kept,
+    /// The name of the new file can't be synced: a crash leaves the old log or the new one.
+    Lost,
+}
+
+impl From<AllocError> for RenewFault {
+    ghost use Rattle.tt_session.specs.declared.log_renewal.RenewFault.TheVariants.{Memory};
+
+    ghost from_gives = { λ _ e. e ≡ Memory };
+
+    fn from(_error: AllocError) -> RenewFault {
+        RenewFault::Memory
+    }
+}
+
+/// Makes a log anew: puts in its place one of a session that goes on with a database which has
+/// forgotten what lies before a time.
+pub(crate) fn make_anew<D: Device>(
+    alloc: Global,
+    log: &mut Log<D>,
+    forgetting: &Forgetting,
+    most_records: u32,
+) -> Result<(), RenewFault>
+    requires { D.tells log.old.device → IsSettled D.seen D.may_leave log.old }
+    ensures ok { OnOk result (D.tells log.old.device → TakesLines
+        (telling D.tells D.seen D.shown D.moment D.left_since D.failures) D.may_leave
+        log.old log.new (lines_of_database forgetting.now.db forgetting.now.numbering most_records)) }
+    ensures err { IfErr result (λ fault. D.tells log.old.device → FailsToRenew fault
+        (telling D.tells D.seen D.shown D.moment D.left_since D.failures) D.may_leave
+        log.old log.new (lines_of_database forgetting.now.db forgetting.now.numbering most_records)) }
+    ensures readable { OnOk result (IsReadable forgetting.now most_records) }
+    ensures readable_lost { IsErrOf result RenewFault.Lost
+        → IsReadable forgetting.now most_records }
+    ensures tells { D.tells log.old.device ↔ D.tells log.new.device }
+{
+    let Ok(()) = log.begin_new() else {
+        return Err(RenewFault::Kept);
+    };
+    match write_new(alloc, log, forgetting, most_records) {
+        Ok(()) => take_new(log),
+        Err(fault) => {
+            log.remove_new();
+            Err(fault)
+        }
+    }
+}
+
+/// Puts the new file in the place of the log's own.
+fn take_new<D: Device>(log: &mut Log<D>) -> Result<(), RenewFault>
+    requires settled { D.tells log.old.device → IsSettled D.seen D.may_leave log.old }
+    requires making { D.tells log.old.device → IsMaking D.new_file log.old }
+    requires lines { D.tells log.old.device → IsJoined (D.new_file log.old.device) }
+    ensures ok { OnOk result (D.tells log.old.device → TakesLines
+        (telling D.tells D.seen D.shown D.moment D.left_since D.failures) D.may_leave
+        log.old log.new (logged (D.new_file log.old.device))) }
+    ensures err { IfErr result (λ fault. D.tells log.old.device → FailsToRenew fault
+        (telling D.tells D.seen D.shown D.moment D.left_since D.failures) D.may_leave
+        log.old log.new (logged (D.new_file log.old.device))) }
+    ensures tells { D.tells log.old.device ↔ D.tells log.new.device }
+{
+    match log.take_new() {
+        Ok(()) => Ok(()),
+        Err(RenewError::Kept) => {
+            log.remove_new();
+            Err(RenewFault::Kept)
+        }
+        Err(RenewError::Lost) => Err(RenewFault::Lost),
+    }
+}
+
+/// Writes the lines of a log for a database that has forgotten what lies before a time into the new
+/// file, which is empty.
+fn write_new<D: Device>(
+    alloc: Global,
+    log: &mut Log<D>,
+    forgetting: &Forgetting,
+    most_records: u32,
+) -> Result<(), RenewFault>
+    requires settled { D.tells log.old.device → IsSettled D.seen D.may_leave log.old }
+    requires making { D.tells log.old.device → IsMaking D.new_file log.old }
+    requires empty { D.tells log.old.device → D.new_file log.old.device ≡ [] }
+    ensures ok { OnOk result (D.tells log.old.device → IsWriting
+        (telling D.tells D.seen D.shown D.moment D.left_since D.failures) D.may_leave D.new_file
+        log.old log.new []
+        (lines_of_database forgetting.now.db forgetting.now.numbering most_records)) }
+    ensures err { IfErr result (λ fault. D.tells log.old.device → FailsToWrite fault
+        (telling D.tells D.seen D.shown D.moment D.left_since D.failures) D.may_leave
+        log.old log.new) }
+    ensures readable { OnOk result (IsReadable forgetting.now most_records) }
+    ensures tells { D.tells log.old.device ↔ D.tells log.new.device }
+{
+    let db = &forgetting.db;
+    let ground_slots = forgetting.numbering.ground_slots();
+    let slots = db.events();
+    if ground_slots > u64::from(MAX_GROUND_SLOTS) || ground_slots > slots {
+        // No database has so many slots.
+        return Err(RenewFault::Memory);
+    }
+    let mut lines = Lines::new(alloc);
+    let mut text = Vec::new(alloc);
+    let keep = db.limits().keep;
+    push_log_opening(
+        &mut text,
+        db.catalog(),
+        keep,
+        most_records,
+        forgetting.numbering,
+    )?;
+    push_line(log, &mut lines, &text)?;
+    push_slots(log, &mut lines, &mut text, db, 0, ground_slots, true)?;
+    push_slots(log, &mut lines, &mut text, db, ground_slots, slots, false)?;
+    write_pending(log, &mut lines)
+}
+
+/// Adds the lines of the slots of a database from one place of its history up to another.
+fn push_slots<D: Device>(
+    log: &mut Log<D>,
+    lines: &mut Lines,
+    text: &mut Vec<u8>,
+    db: &Db,
+    from: u64,
+    to: u64,
+    is_ground: bool,
+) -> Result<(), RenewFault>
+    requires within { from ≤ to }
+    requires end { to ≤ length db.now.history }
+    requires settled { D.tells log.old.device → IsSettled D.seen D.may_leave log.old }
+    requires making { D.tells log.old.device → IsMaking D.new_file log.old }
+    ensures ok { OnOk result (D.tells log.old.device → (before : Log D)
+        (all : List (List ℕ)) → IsWriting
+        (telling D.tells D.seen D.shown D.moment D.left_since D.failures) D.may_leave D.new_file
+        before log.old lines.old all → IsWriting
+        (telling D.tells D.seen D.shown D.moment D.left_since D.failures) D.may_leave D.new_file
+        before log.new lines.new (all ++ lines_of_entries is_ground db.now.catalog
+        (take (to - from) (drop from db.now.history)))) }
+    ensures err { IfErr result (λ fault. D.tells log.old.device → (before : Log D)
+        (all : List (List ℕ)) → IsWriting
+        (telling D.tells D.seen D.shown D.moment D.left_since D.failures) D.may_leave D.new_file
+        before log.old lines.old all → FailsToWrite fault
+        (telling D.tells D.seen D.shown D.moment D.left_since D.failures) D.may_leave
+        before log.new) }
+    ensures printable { OnOk result (All (IsPrintable is_ground)
+        (take (to - from) (drop from db.now.history))) }
+    ensures settled { OnOk result
+        (D.tells log.new.device → IsSettled D.seen D.may_leave log.new) }
+    ensures making { OnOk result (D.tells log.new.device → IsMaking D.new_file log.new) }
+    ensures tells { D.tells log.old.device ↔ D.tells log.new.device }
+{
+    for place in from..to {
+        print_slot(text, db, place, is_ground)?;
+        push_line(log, lines, text)?;
+    }
+    Ok(())
+}
+
+/// Puts the line of a slot of a database, the one at this place of its history, into a text.
+fn print_slot(text: &mut Vec<u8>, db: &Db, place: u64, is_ground: bool) -> Result<(), AllocError>
+    requires { place < length db.now.history }
+    ensures line { OnOk result ((e : Entry) → slice_get db.now.history place ≡ Some e
+        → text.new.items ≡ line_of_entry is_ground db.now.catalog e) }
+    ensures printable { OnOk result ((e : Entry) → slice_get db.now.history place ≡ Some e
+        → IsPrintable is_ground e) }
+{
+    text.clear();
+    let Some(entry) = db.entry(place + 1) else {
+        unreachable!();
+    };
+    let Event::Write(action) = &entry.event else {
+        // A database that has just forgotten has actions alone.
+        return Err(AllocError);
+    };
+    if is_ground {
+        return push_ground_line(text, db.catalog(), action.as_slice());
+    }
+    if entry.worker == 0 {
+        // Behind the ground no slot is one of it.
+        return Err(AllocError);
+    }
+    push_slot_line(text, db.catalog(), entry.worker, action.as_slice())
+}
+
+/// Adds a line, and writes those that are pending once they are many bytes.
+fn push_line<D: Device>(log: &mut Log<D>, lines: &mut Lines, line: &[u8]) -> Result<(), RenewFault>
+    requires settled { D.tells log.old.device → IsSettled D.seen D.may_leave log.old }
+    requires making { D.tells log.old.device → IsMaking D.new_file log.old }
+    ensures ok { OnOk result (D.tells log.old.device → (before : Log D)
+        (all : List (List ℕ)) → IsWriting
+        (telling D.tells D.seen D.shown D.moment D.left_since D.failures) D.may_leave D.new_file
+        before log.old lines.old all → IsWriting
+        (telling D.tells D.seen D.shown D.moment D.left_since D.failures) D.may_leave D.new_file
+        before log.new lines.new (all ++ line.now ∷ [])) }
+    ensures err { IfErr result (λ fault. D.tells log.old.device → (before : Log D)
+        (all : List (List ℕ)) → IsWriting
+        (telling D.tells D.seen D.shown D.moment D.left_since D.failures) D.may_leave D.new_file
+        before log.old lines.old all → FailsToWrite fault
+        (telling D.tells D.seen D.shown D.moment D.left_since D.failures) D.may_leave
+        before log.new) }
+    ensures settled { OnOk result
+        (D.tells log.new.device → IsSettled D.seen D.may_leave log.new) }
+    ensures making { OnOk result (D.tells log.new.device → IsMaking D.new_file log.new) }
+    ensures tells { D.tells log.old.device ↔ D.tells log.new.device }
+{
+    // A line that is printed has no byte 0 and no line feed, so there is no memory.
+    let Ok(()) = lines.push(line) else {
+        return Err(RenewFault::Memory);
+    };
+    if lines.byte_len() < MANY_BYTES {
+        return Ok(());
+    }
+    write_pending(log, lines)
+}
+
+/// Writes the lines that are pending into the new file.
+fn write_pending<D: Device>(log: &mut Log<D>, lines: &mut Lines) -> Result<(), RenewFault>
+    requires settled { D.tells log.old.device → IsSettled D.seen D.may_leave log.old }
+    requires making { D.tells log.old.device → IsMaking D.new_file log.old }
+    ensures ok { OnOk result (D.tells log.old.device → (before : Log D)
+        (all : List (List ℕ)) → IsWriting
+        (telling D.tells D.seen D.shown D.moment D.left_since D.failures) D.may_leave D.new_file
+        before log.old lines.old all → IsWriting
+        (telling D.tells D.seen D.shown D.moment D.left_since D.failures) D.may_leave D.new_file
+        before log.new [] all) }
+    ensures lines { OnOk result (lines.new ≡ []) }
+    ensures err { IfErr result (λ fault. D.tells log.old.device → (before : Log D)
+        (all : List (List ℕ)) → IsWriting
+        (telling D.tells D.seen D.shown D.moment D.left_since D.failures) D.may_leave D.new_file
+        before log.old lines.old all → FailsToWrite fault
+        (telling D.tells D.seen D.shown D.moment D.left_since D.failures) D.may_leave
+        before log.new) }
+    ensures settled { OnOk result
+        (D.tells log.new.device → IsSettled D.seen D.may_leave log.new) }
+    ensures making { OnOk result (D.tells log.new.device → IsMaking D.new_file log.new) }
+    ensures tells { D.tells log.old.device ↔ D.tells log.new.device }
+{
+    match log.push_new(lines) {
+        Ok(()) => {
+            lines.clear();
+            Ok(())
+        }
+        Err(LogError::Write) => Err(RenewFault::Kept),
+        // No lines in memory have 2^60 bytes.
+        Err(_) => Err(RenewFault::Memory),
+    }
+}
