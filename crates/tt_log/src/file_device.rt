@@ -40,6 +40,12 @@ impl<W: Write> Device for FileDevice<W> {
 
     ghost may_leave = { λ d c. ⊥ };
 
+    ghost new_file = { λ d. [] };
+
+    ghost may_leave_new = { λ d c. ⊥ };
+
+    ghost may_leave_named = { λ d c. ⊥ };
+
     ghost moment = { λ d. 0 };
 
     ghost left_since = { λ d t left. ⊥ };
@@ -99,4 +105,30 @@ impl<W: Write> Device for FileDevice<W> {
             Err(_) => Err(DeviceError),
         }
     }
+
+    fn create_new(&mut self) -> Result<(), DeviceError> {
+        Err(DeviceError)
+    }
+
+    fn append_new(&mut self, _bytes: &[u8]) -> Result<(), DeviceError> {
+        Err(DeviceError)
+    }
+
+    fn grow_new(&mut self, _len: u64) -> Result<(), DeviceError> {
+        Err(DeviceError)
+    }
+
+    fn sync_new(&mut self) -> Result<(), DeviceError> {
+        Err(DeviceError)
+    }
+
+    fn rename_new(&mut self) -> Result<(), DeviceError> {
+        Err(DeviceError)
+    }
+
+    fn sync_folder(&mut self) -> Result<(), DeviceError> {
+        Err(DeviceError)
+    }
+
+    fn remove_new(&mut self) {}
 }

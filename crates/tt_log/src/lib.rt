@@ -14,6 +14,6 @@ pub use device::{Device, DeviceError};
 pub use file_device::FileDevice;
 pub use lines::{LineError, Lines};
 pub use log::Log;
-pub use log_error::LogError;
+pub use log_error::{LogError, RenewError};
 pub use show::{LogSummary, show_log};
 pub use unread_log::UnreadLog;
