@@ -96,7 +96,8 @@ pub trait Device {
             → CountsFailure (failures self.old) (failures self.new) result };
 
     /// Puts all bytes of the file on the disk, and its length: after `Ok` a crash leaves what is
-    /// read. After an error it may not be called again, since what it has done is unknown.
+    /// read. So it fails where the file has a new name that isn't on the disk (`rename_new`). After
+    /// an error it may not be called again, since what it has done is unknown.
     fn sync(&mut self) -> Result<(), DeviceError>
         ensures tells { tells self.old ↔ tells self.new }
         ensures durable { tells self.old → OnOk result
