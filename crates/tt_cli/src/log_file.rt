@@ -2,8 +2,13 @@
 ghost use Rattle.std.specs.Prelude.{◌≡◌, IfErr};
 
 use crate::log_fault::LogFault;
-use std::fs;
 use std::fs::{File, Files, OpenOptions, TryLockError};
+use std::io;
+use std::io::ErrorKind;
+use tt_log::FilePlace;
+
+/// As often is a file opened that another session puts a new one in the place of.
+const MOST_TRIES: usize = 100;
 
 /// Opens a file to read it. It is `Unreadable` if it can't be.
 pub fn open_to_read(rt: &impl Files<File = File>, path: &str) -> Result<File, LogFault>
@@ -15,13 +20,29 @@ pub fn open_to_read(rt: &impl Files<File = File>, path: &str) -> Result<File, Lo
     }
 }
 
-/// Opens a file for reading and writing, or makes it, puts its name on the disk, and locks it until
-/// it is closed. It is `InUse` if another process has its lock, and `Unreadable` if any of this
-/// fails; what it has stays as it is.
+/// Opens a file for reading and writing, or makes it, locks it until it is closed, and puts its name
+/// on the disk. What an earlier session has left of a new file beside it is removed. It is `InUse`
+/// if another process has its lock, and `Unreadable` if any of this fails; what it has stays as it
+/// is.
 pub fn open_to_go_on(
     rt: &(impl Files<File = File> + AllocGlobal),
     path: &str,
-) -> Result<File, LogFault> {
+) -> Result<(File, FilePlace), LogFault> {
+    for _ in 0..MOST_TRIES {
+        let file = open_locked(rt, path)?;
+        if let Some(place) = place_of(rt, path, &file)? {
+            let Ok(()) = place.sync_folder(rt) else {
+                return Err(LogFault::Unreadable);
+            };
+            let _ = place.remove_left(rt);
+            return Ok((file, place));
+        }
+    }
+    Err(LogFault::Unreadable)
+}
+
+/// Opens a file for reading and writing, or makes it, and locks it.
+fn open_locked(rt: &impl Files<File = File>, path: &str) -> Result<File, LogFault> {
     let opened = OpenOptions::new()
         .read(true)
         .write(true)
@@ -30,7 +51,6 @@ pub fn open_to_go_on(
     let Ok(file) = opened else {
         return Err(LogFault::Unreadable);
     };
-    sync_folder(rt, path)?;
     match file.try_lock() {
         Ok(()) => Ok(file),
         Err(TryLockError::WouldBlock) => Err(LogFault::InUse),
@@ -38,19 +58,26 @@ pub fn open_to_go_on(
     }
 }
 
-/// Puts the name of a file that is there on the disk, in the folder where it is, also where the path
-/// leads to it by a link.
-fn sync_folder(rt: &(impl Files<File = File> + AllocGlobal), path: &str) -> Result<(), LogFault> {
-    let Ok(path) = fs::canonicalize(rt, path) else {
-        return Err(LogFault::Unreadable);
-    };
-    let folder = match path.as_path().parent() {
-        Some(folder) => folder.as_str(),
-        None => "/",
-    };
-    let folder = open_to_read(rt, folder)?;
-    match folder.sync_all() {
-        Ok(()) => Ok(()),
+/// The place of a file that was opened and locked, unless another one is there by now, or none.
+fn place_of(
+    rt: &(impl Files<File = File> + AllocGlobal),
+    path: &str,
+    file: &File,
+) -> Result<Option<FilePlace>, LogFault> {
+    match find_place(rt, path, file) {
+        Ok(place) => Ok(place),
+        Err(error) if error.kind() == ErrorKind::NotFound => Ok(None),
         Err(_) => Err(LogFault::Unreadable),
     }
+}
+
+/// The same, where there is a file.
+fn find_place(
+    rt: &(impl Files<File = File> + AllocGlobal),
+    path: &str,
+    file: &File,
+) -> io::Result<Option<FilePlace>> {
+    let place = FilePlace::of(rt, rt.alloc(), path)?;
+    let is_there = place.is_of(rt, file)?;
+    Ok(is_there.then_some(place))
 }

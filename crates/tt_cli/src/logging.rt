@@ -29,11 +29,12 @@ pub fn answer_on_file<R: Read, W: Write>(
 ) -> Ending
     ensures { IsEndingOfSession result }
 {
-    let file = match open_to_go_on(rt, path) {
-        Ok(file) => file,
+    let (file, place) = match open_to_go_on(rt, path) {
+        Ok(opened) => opened,
         Err(fault) => return print_log_fault(rt, fault),
     };
-    answer_on_log(rt, reader, FileDevice::new(file, writer))
+    let device = FileDevice::new(rt, Some(place), file, writer);
+    answer_on_log(rt, reader, device)
 }
 
 /// Goes on with the session whose log a device has: answers the lines of a reader until its end, and
@@ -85,7 +86,7 @@ pub fn print_log<W: Write>(
         Ok(file) => file,
         Err(fault) => return print_log_fault(rt, fault),
     };
-    let mut device = FileDevice::new(file, writer);
+    let mut device = FileDevice::new(rt, None, file, writer);
     print_lines(rt, &mut device)
 }
 

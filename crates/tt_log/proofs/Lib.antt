@@ -2,6 +2,7 @@ pub mod LineLemmas
 pub mod MomentLemmas
 mod PendingLemmas
 mod ReadingLemmas
+mod RenewalLemmas
 mod RestLemmas
 mod ShowLemmas
 mod StepLemmas

@@ -4,7 +4,7 @@ use Rattle.std.proofs.lemmas.List.{append-nil, drop_more, drop_all, drop-replica
 use Rattle.std.proofs.Math.Seq.{drop-append-add}
 use Rattle.std.proofs.lemmas.Bool.{cases_eq}
 use Rattle.tt_log.specs.Crash.{written_over}
-use Rattle.tt_log.specs.Lines.{text, with_byte_if, whole_lines_of, logged, joined, zeros}
+use Rattle.tt_log.specs.Lines.{with_byte_if, whole_lines_of, logged, joined, zeros}
 use Rattle.tt_log.specs.Log.{IsAtRest}
 use Rattle.tt_log.proofs.LineLemmas.{whole_lines_of-feed, whole_lines_of-other, whole_lines_of-joined, AreLines-logged}
 use Rattle.tt_log.proofs.ReadingLemmas.{take-add}

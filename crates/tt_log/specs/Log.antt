@@ -36,3 +36,11 @@ pub record KeepsFirst (lines new : List (List ℕ)) (shown : List ℕ) (left : L
 abbrev pub KeepsAnswered : List (List ℕ) → List (List ℕ) → List ℕ → List ℕ → Left → Type 0
 KeepsAnswered lines new shown answers left =
     KeepsFirst lines new shown left ⊎ ((logged left.file ≡ lines ++ new) × ((n : ℕ) × (left.shown ≡ shown ++ take n answers)))
+
+-- a crash left the old lines or the new ones, when this had been handed over
+abbrev pub KeepsEither : List (List ℕ) → List (List ℕ) → List ℕ → Left → Type 0
+KeepsEither old new shown left = Keeps old shown left ⊎ Keeps new shown left
+
+-- the log knows how many bytes the new file has
+abbrev pub IsMaking : {D : Type 0} → (D → List ℕ) → Log D → Type 0
+IsMaking new_file log = log.new_end ≡ length (new_file log.device)

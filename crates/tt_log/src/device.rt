@@ -1,5 +1,5 @@
 //! What a log is kept on.
-ghost use Rattle.std.specs.Prelude.{◌≡◌, ◌↔◌, ◌≤◌, ◌+◌, ◌++◌, List, ℕ, length, take, drop, IfOk, OnOk};
+ghost use Rattle.std.specs.Prelude.{◌≡◌, ◌⊎◌, ◌↔◌, ◌≤◌, ◌+◌, ◌-◌, ◌++◌, [], List, ℕ, length, take, drop, IfOk, OnOk, OnErr};
 ghost use Rattle.tt_log.specs.Crash.{written_over, MayBeWritten, MayBeLonger};
 ghost use Rattle.tt_log.specs.Device.{Left, Only, AllAsLong, NothingNew, Follows, Now, NowShowing, Elapses, CountsFailure, ShowsFirst};
 ghost use Rattle.tt_log.specs.Lines.{zeros};
@@ -28,6 +28,16 @@ pub trait Device {
 
     /// The files that a crash at this moment may leave.
     ghost may_leave: { Self → List ℕ → Type 0 };
+
+    /// The bytes of the new file that is being made beside the file.
+    ghost new_file: { Self → List ℕ };
+
+    /// What a crash at this moment may leave of the new file.
+    ghost may_leave_new: { Self → List ℕ → Type 0 };
+
+    /// What a crash at this moment may leave of the file that has the name now, were its name on
+    /// the disk.
+    ghost may_leave_named: { Self → List ℕ → Type 0 };
 
     /// The moment, as a number that doesn't fall.
     ghost moment: { Self → ℕ };
@@ -86,7 +96,8 @@ pub trait Device {
             → CountsFailure (failures self.old) (failures self.new) result };
 
     /// Puts all bytes of the file on the disk, and its length: after `Ok` a crash leaves what is
-    /// read. After an error it may not be called again, since what it has done is unknown.
+    /// read. So it fails where the file has a new name that isn't on the disk (`rename_new`). After
+    /// an error it may not be called again, since what it has done is unknown.
     fn sync(&mut self) -> Result<(), DeviceError>
         ensures tells { tells self.old ↔ tells self.new }
         ensures durable { tells self.old → OnOk result
@@ -114,6 +125,115 @@ pub trait Device {
             (NowShowing (may_leave self.new) (shown self.old) bytes.now) }
         ensures failed { tells self.old
             → CountsFailure (failures self.old) (failures self.new) result };
+
+    /// Makes an empty new file beside the file, to be filled and then put in its place. Fails where
+    /// there is one. Whatever comes of it, the file stays as it is.
+    fn create_new(&mut self) -> Result<(), DeviceError>
+        ensures tells { tells self.old ↔ tells self.new }
+        ensures created { tells self.old → OnOk result (new_file self.new ≡ []) }
+        ensures seen { tells self.old → seen self.new ≡ seen self.old }
+        ensures shown { tells self.old → shown self.new ≡ shown self.old }
+        ensures crash { tells self.old → NothingNew (may_leave self.old) (may_leave self.new) }
+        ensures time { tells self.old → Elapses (moment self.old) (moment self.new)
+            (left_since self.old) (left_since self.new)
+            (Now (may_leave self.new) (shown self.old)) }
+        ensures failed { tells self.old
+            → CountsFailure (failures self.old) (failures self.new) result };
+
+    /// Writes bytes at the end of the new file. After an error the new file may have any bytes.
+    /// Whatever comes of it, the file stays as it is.
+    fn append_new(&mut self, bytes: &[u8]) -> Result<(), DeviceError>
+        ensures tells { tells self.old ↔ tells self.new }
+        ensures written { tells self.old → OnOk result
+            (new_file self.new ≡ new_file self.old ++ bytes.now) }
+        ensures seen { tells self.old → seen self.new ≡ seen self.old }
+        ensures shown { tells self.old → shown self.new ≡ shown self.old }
+        ensures crash { tells self.old → NothingNew (may_leave self.old) (may_leave self.new) }
+        ensures time { tells self.old → Elapses (moment self.old) (moment self.new)
+            (left_since self.old) (left_since self.new)
+            (Now (may_leave self.new) (shown self.old)) }
+        ensures failed { tells self.old
+            → CountsFailure (failures self.old) (failures self.new) result };
+
+    /// Makes the new file longer by bytes 0, up to a length. After an error the new file may have
+    /// any bytes. Whatever comes of it, the file stays as it is.
+    fn grow_new(&mut self, len: u64) -> Result<(), DeviceError>
+        requires { tells self.old → length (new_file self.old) ≤ len }
+        ensures tells { tells self.old ↔ tells self.new }
+        ensures grown { tells self.old → OnOk result (new_file self.new
+            ≡ new_file self.old ++ zeros (len - length (new_file self.old))) }
+        ensures seen { tells self.old → seen self.new ≡ seen self.old }
+        ensures shown { tells self.old → shown self.new ≡ shown self.old }
+        ensures crash { tells self.old → NothingNew (may_leave self.old) (may_leave self.new) }
+        ensures time { tells self.old → Elapses (moment self.old) (moment self.new)
+            (left_since self.old) (left_since self.new)
+            (Now (may_leave self.new) (shown self.old)) }
+        ensures failed { tells self.old
+            → CountsFailure (failures self.old) (failures self.new) result };
+
+    /// Puts all bytes of the new file on the disk, and its length: after `Ok` a crash leaves what it
+    /// has. After an error a crash may leave any bytes of it. Whatever comes of it, the file stays
+    /// as it is.
+    fn sync_new(&mut self) -> Result<(), DeviceError>
+        ensures tells { tells self.old ↔ tells self.new }
+        ensures new_file { tells self.old → OnOk result (new_file self.new ≡ new_file self.old) }
+        ensures durable { tells self.old → OnOk result
+            (Only (new_file self.old) (may_leave_new self.new)) }
+        ensures seen { tells self.old → seen self.new ≡ seen self.old }
+        ensures shown { tells self.old → shown self.new ≡ shown self.old }
+        ensures crash { tells self.old → NothingNew (may_leave self.old) (may_leave self.new) }
+        ensures time { tells self.old → Elapses (moment self.old) (moment self.new)
+            (left_since self.old) (left_since self.new)
+            (Now (may_leave self.new) (shown self.old)) }
+        ensures failed { tells self.old
+            → CountsFailure (failures self.old) (failures self.new) result };
+
+    /// Gives the new file the name of the file, in one step: it is the file that is read and written
+    /// from then on, and the old one is let go. Until its folder is synced a crash leaves the old
+    /// file or the new one, and of the new one what it may leave of its bytes. After an error the
+    /// file has its name, and stays as it is.
+    fn rename_new(&mut self) -> Result<(), DeviceError>
+        ensures tells { tells self.old ↔ tells self.new }
+        ensures named { tells self.old → OnOk result (seen self.new ≡ new_file self.old) }
+        ensures either { tells self.old → OnOk result ((c : List ℕ) → may_leave self.new c
+            → may_leave self.old c ⊎ may_leave_new self.old c) }
+        ensures once_synced { tells self.old → OnOk result
+            (NothingNew (may_leave_new self.old) (may_leave_named self.new)) }
+        ensures seen { tells self.old → OnErr result (seen self.new ≡ seen self.old) }
+        ensures crash { tells self.old → OnErr result
+            (NothingNew (may_leave self.old) (may_leave self.new)) }
+        ensures shown { tells self.old → shown self.new ≡ shown self.old }
+        ensures time { tells self.old → Elapses (moment self.old) (moment self.new)
+            (left_since self.old) (left_since self.new)
+            (Now (may_leave self.new) (shown self.old)) }
+        ensures failed { tells self.old
+            → CountsFailure (failures self.old) (failures self.new) result };
+
+    /// Puts the name of the file on the disk: after `Ok` a crash leaves what it may leave of the file
+    /// that has the name. After an error it leaves what it might have left before.
+    fn sync_folder(&mut self) -> Result<(), DeviceError>
+        ensures tells { tells self.old ↔ tells self.new }
+        ensures durable { tells self.old → OnOk result
+            (NothingNew (may_leave_named self.old) (may_leave self.new)) }
+        ensures seen { tells self.old → seen self.new ≡ seen self.old }
+        ensures shown { tells self.old → shown self.new ≡ shown self.old }
+        ensures crash { tells self.old → NothingNew (may_leave self.old) (may_leave self.new) }
+        ensures time { tells self.old → Elapses (moment self.old) (moment self.new)
+            (left_since self.old) (left_since self.new)
+            (Now (may_leave self.new) (shown self.old)) }
+        ensures failed { tells self.old
+            → CountsFailure (failures self.old) (failures self.new) result };
+
+    /// Removes the new file, if there is one and it can be removed. The file stays as it is.
+    fn remove_new(&mut self)
+        ensures tells { tells self.old ↔ tells self.new }
+        ensures seen { tells self.old → seen self.new ≡ seen self.old }
+        ensures shown { tells self.old → shown self.new ≡ shown self.old }
+        ensures crash { tells self.old → NothingNew (may_leave self.old) (may_leave self.new) }
+        ensures time { tells self.old → Elapses (moment self.old) (moment self.new)
+            (left_since self.old) (left_since self.new)
+            (Now (may_leave self.new) (shown self.old)) }
+        ensures failures { tells self.old → failures self.old ≤ failures self.new };
 
     /// This moment is one of those since an earlier one.
     ghost counts_now: { (device : Self) (t : ℕ) (c : Left) → t ≤ moment device

@@ -3,6 +3,7 @@
 
 mod device;
 mod file_device;
+mod file_place;
 mod lines;
 mod log;
 mod log_error;
@@ -12,8 +13,9 @@ mod unread_log;
 
 pub use device::{Device, DeviceError};
 pub use file_device::FileDevice;
+pub use file_place::FilePlace;
 pub use lines::{LineError, Lines};
 pub use log::Log;
-pub use log_error::LogError;
+pub use log_error::{LogError, RenewError};
 pub use show::{LogSummary, show_log};
 pub use unread_log::UnreadLog;

@@ -1,9 +1,9 @@
 //! A log that is written.
-ghost use Rattle.std.specs.Prelude.{◌≡◌, ◌≢◌, ◌↔◌, ◌+◌, ◌++◌, ◌<◌, ◌≤◌, ◌^◌, length, IfOk, IfErr, OnOk, IsErrOf};
-ghost use Rattle.tt_log.specs.Lines.{logged, joined};
-ghost use Rattle.tt_log.specs.Device.{LeavesOnly, ShowsFirst};
+ghost use Rattle.std.specs.Prelude.{◌≡◌, ◌≢◌, ◌↔◌, ◌⊎◌, ◌+◌, ◌++◌, ◌<◌, ◌≤◌, ◌^◌, [], List, ℕ, length, IfOk, IfErr, OnOk, OnErr, IsErrOf};
+ghost use Rattle.tt_log.specs.Lines.{logged, joined, IsJoined};
+ghost use Rattle.tt_log.specs.Device.{Only, LeavesOnly, ShowsFirst};
 
-use crate::{Device, Lines, LogError};
+use crate::{Device, DeviceError, Lines, LogError, RenewError};
 
 /// The length of a file is a multiple of this, so that writing lines seldom changes it.
 const ROOM_UNIT: u64 = 1 << 20;
@@ -19,11 +19,14 @@ pub struct Log<D> {
     end: u64,
     /// The length of the file.
     len: u64,
+    /// How many bytes were written into the new file, if one is being made.
+    new_end: u64,
     ghost within: { end ≤ len },
+    ghost new_within: { new_end < 2 ^ 60 },
 }
 
 impl<D: Device> Log<D> {
-    ghost use Rattle.tt_log.specs.Log.{IsSettled, Keeps, KeepsFirst, KeepsAnswered};
+    ghost use Rattle.tt_log.specs.Log.{IsAtRest, IsSettled, IsMaking, Keeps, KeepsFirst, KeepsAnswered, KeepsEither};
 
     /// A log whose lines end here in a file of this length, with bytes 0 behind them.
     pub(crate) fn new(device: D, end: u64, len: u64) -> Log<D>
@@ -32,7 +35,12 @@ impl<D: Device> Log<D> {
         ensures end { result.end ≡ end }
         ensures len { result.len ≡ len }
     {
-        Log { device, end, len }
+        Log {
+            device,
+            end,
+            len,
+            new_end: 0,
+        }
     }
 
     /// What the log is kept on.
@@ -130,6 +138,192 @@ impl<D: Device> Log<D> {
             return Err(LogError::HandOver);
         };
         Ok(())
+    }
+
+    /// Begins to make the log anew: makes an empty new file beside that of the log, which stays as
+    /// it is. Lines are then pushed into the new file, and it is taken or removed, before the log is
+    /// used further. After an error there is no new file to write lines into.
+    pub fn begin_new(&mut self) -> Result<(), DeviceError>
+        requires { D.tells self.old.device → IsSettled D.seen D.may_leave self.old }
+        ensures tells { D.tells self.old.device ↔ D.tells self.new.device }
+        ensures settled { D.tells self.old.device → IsSettled D.seen D.may_leave self.new }
+        ensures empty { D.tells self.old.device → OnOk result
+            (D.new_file self.new.device ≡ []) }
+        ensures making { D.tells self.old.device → OnOk result
+            (IsMaking D.new_file self.new) }
+        ensures seen { D.tells self.old.device
+            → D.seen self.new.device ≡ D.seen self.old.device }
+        ensures shown { D.tells self.old.device
+            → D.shown self.new.device ≡ D.shown self.old.device }
+
+        // A crash at any moment of the call leaves the lines that the log has.
+        ensures any_moment { D.tells self.old.device → LeavesOnly D.moment D.left_since
+            self.old.device self.new.device
+            (Keeps (logged (D.seen self.old.device)) (D.shown self.old.device)) }
+
+        ensures failures { D.tells self.old.device
+            → D.failures self.old.device ≤ D.failures self.new.device }
+        ensures failed { D.tells self.old.device → OnErr result
+            (D.failures self.old.device < D.failures self.new.device) }
+    {
+        self.device.create_new()?;
+        self.new_end = 0;
+        Ok(())
+    }
+
+    /// Writes lines into the new file, behind those that it has. It is `Write` if the new file can't
+    /// be written, and `Full` if it would be longer than 2^60 bytes. The log stays as it is, and
+    /// after an error the new file is to be removed.
+    pub fn push_new(&mut self, lines: &Lines) -> Result<(), LogError>
+        requires settled { D.tells self.old.device → IsSettled D.seen D.may_leave self.old }
+        requires making { D.tells self.old.device → IsMaking D.new_file self.old }
+        ensures tells { D.tells self.old.device ↔ D.tells self.new.device }
+        ensures settled { D.tells self.old.device → IsSettled D.seen D.may_leave self.new }
+        ensures pushed { D.tells self.old.device → OnOk result (D.new_file self.new.device
+            ≡ D.new_file self.old.device ++ joined lines.now) }
+        ensures making { D.tells self.old.device → OnOk result
+            (IsMaking D.new_file self.new) }
+        ensures seen { D.tells self.old.device
+            → D.seen self.new.device ≡ D.seen self.old.device }
+        ensures shown { D.tells self.old.device
+            → D.shown self.new.device ≡ D.shown self.old.device }
+
+        // A crash at any moment of the call leaves the lines that the log has.
+        ensures any_moment { D.tells self.old.device → LeavesOnly D.moment D.left_since
+            self.old.device self.new.device
+            (Keeps (logged (D.seen self.old.device)) (D.shown self.old.device)) }
+
+        ensures failures { D.tells self.old.device
+            → D.failures self.old.device ≤ D.failures self.new.device }
+        ensures write { D.tells self.old.device → IsErrOf result LogError.Write
+            → D.failures self.old.device < D.failures self.new.device }
+        ensures full { IsErrOf result LogError.Full
+            → 2 ^ 60 ≤ self.old.new_end + length (joined lines.now) }
+        ensures no_read { IsErrOf result LogError.Read → ⊥ }
+        ensures no_hand_over { IsErrOf result LogError.HandOver → ⊥ }
+    {
+        let bytes = lines.as_bytes();
+        let count = bytes.len() as u64;
+        if count >= MAX_LEN - self.new_end {
+            return Err(LogError::Full);
+        }
+        self.device.append_new(bytes)?;
+        self.new_end += count;
+        Ok(())
+    }
+
+    /// Puts the new file in the place of the log's own, once its lines are on the disk, and goes on
+    /// there: after `Ok` a crash leaves the new lines. After `Kept` the log goes on as it was, and
+    /// the new file is to be removed; after `Lost` the log is not to be used any more.
+    pub fn take_new(&mut self) -> Result<(), RenewError>
+        requires settled { D.tells self.old.device → IsSettled D.seen D.may_leave self.old }
+        requires making { D.tells self.old.device → IsMaking D.new_file self.old }
+        requires lines { D.tells self.old.device → IsJoined (D.new_file self.old.device) }
+        ensures tells { D.tells self.old.device ↔ D.tells self.new.device }
+        ensures settled { D.tells self.old.device → OnOk result
+            (IsSettled D.seen D.may_leave self.new) }
+        ensures logged { D.tells self.old.device → OnOk result
+            (logged (D.seen self.new.device) ≡ logged (D.new_file self.old.device)) }
+        ensures shown { D.tells self.old.device
+            → D.shown self.new.device ≡ D.shown self.old.device }
+
+        // A crash at any moment of the call leaves the old lines or the new ones, never a mix.
+        ensures any_moment { D.tells self.old.device → LeavesOnly D.moment D.left_since
+            self.old.device self.new.device (KeepsEither (logged (D.seen self.old.device))
+            (logged (D.new_file self.old.device)) (D.shown self.old.device)) }
+
+        // Where the old log is kept, a crash leaves its lines.
+        ensures kept_settled { D.tells self.old.device → IsErrOf result RenewError.Kept
+            → IsSettled D.seen D.may_leave self.new }
+        ensures kept_seen { D.tells self.old.device → IsErrOf result RenewError.Kept
+            → D.seen self.new.device ≡ D.seen self.old.device }
+        ensures kept_any_moment { D.tells self.old.device → IsErrOf result RenewError.Kept
+            → LeavesOnly D.moment D.left_since self.old.device self.new.device
+            (Keeps (logged (D.seen self.old.device)) (D.shown self.old.device)) }
+
+        // It doesn't give up by itself.
+        ensures failures { D.tells self.old.device
+            → D.failures self.old.device ≤ D.failures self.new.device }
+        ensures failed { D.tells self.old.device → OnErr result
+            (D.failures self.old.device < D.failures self.new.device) }
+    {
+        let Ok(new_len) = self.name_new() else {
+            return Err(RenewError::Kept);
+        };
+        let Ok(()) = self.device.sync_folder() else {
+            return Err(RenewError::Lost);
+        };
+        self.end = self.new_end;
+        self.len = new_len;
+        Ok(())
+    }
+
+    /// Gives up the new file, and removes it where that is possible. The log stays as it is.
+    pub fn remove_new(&mut self)
+        requires { D.tells self.old.device → IsSettled D.seen D.may_leave self.old }
+        ensures tells { D.tells self.old.device ↔ D.tells self.new.device }
+        ensures settled { D.tells self.old.device → IsSettled D.seen D.may_leave self.new }
+        ensures seen { D.tells self.old.device
+            → D.seen self.new.device ≡ D.seen self.old.device }
+        ensures shown { D.tells self.old.device
+            → D.shown self.new.device ≡ D.shown self.old.device }
+
+        // A crash at any moment of the call leaves the lines that the log has.
+        ensures any_moment { D.tells self.old.device → LeavesOnly D.moment D.left_since
+            self.old.device self.new.device
+            (Keeps (logged (D.seen self.old.device)) (D.shown self.old.device)) }
+
+        ensures failures { D.tells self.old.device
+            → D.failures self.old.device ≤ D.failures self.new.device }
+    {
+        self.device.remove_new();
+    }
+
+    /// Makes the new file longer by bytes 0, syncs it, and gives it the name of the old one. Returns
+    /// its length. After an error the old one has its name, and is as it was.
+    fn name_new(&mut self) -> Result<u64, DeviceError>
+        requires settled { D.tells self.old.device → IsSettled D.seen D.may_leave self.old }
+        requires making { D.tells self.old.device → IsMaking D.new_file self.old }
+        requires lines { D.tells self.old.device → IsJoined (D.new_file self.old.device) }
+        ensures tells { D.tells self.old.device ↔ D.tells self.new.device }
+        ensures new_end { self.new.new_end ≡ self.old.new_end }
+        ensures within { IfOk result (λ len. self.new.new_end ≤ len) }
+        ensures len { D.tells self.old.device → IfOk result (λ len.
+            len ≡ length (D.seen self.new.device)) }
+        ensures at_rest { D.tells self.old.device → OnOk result
+            (IsAtRest (D.seen self.new.device)) }
+        ensures logged { D.tells self.old.device → OnOk result
+            (logged (D.seen self.new.device) ≡ logged (D.new_file self.old.device)) }
+        ensures once_synced { D.tells self.old.device → OnOk result
+            (Only (D.seen self.new.device) (D.may_leave_named self.new.device)) }
+        ensures shown { D.tells self.old.device
+            → D.shown self.new.device ≡ D.shown self.old.device }
+
+        // A crash after the call, or at any moment of it, leaves the old lines or the new ones.
+        ensures crash { D.tells self.old.device → OnOk result ((c : List ℕ)
+            → D.may_leave self.new.device c → (logged c ≡ logged (D.seen self.old.device))
+            ⊎ (logged c ≡ logged (D.new_file self.old.device))) }
+        ensures any_moment { D.tells self.old.device → LeavesOnly D.moment D.left_since
+            self.old.device self.new.device (KeepsEither (logged (D.seen self.old.device))
+            (logged (D.new_file self.old.device)) (D.shown self.old.device)) }
+
+        ensures kept_settled { D.tells self.old.device → OnErr result
+            (IsSettled D.seen D.may_leave self.new) }
+        ensures kept_seen { D.tells self.old.device → OnErr result
+            (D.seen self.new.device ≡ D.seen self.old.device) }
+        ensures kept_any_moment { D.tells self.old.device → OnErr result
+            (LeavesOnly D.moment D.left_since self.old.device self.new.device
+            (Keeps (logged (D.seen self.old.device)) (D.shown self.old.device))) }
+        ensures failures { D.tells self.old.device
+            → D.failures self.old.device ≤ D.failures self.new.device }
+        ensures failed { D.tells self.old.device → OnErr result
+            (D.failures self.old.device < D.failures self.new.device) }
+    {
+        let len = self.new_end.div_ceil(ROOM_UNIT) * ROOM_UNIT;
+        self.device.grow_new(len)?;
+        self.device.sync_new()?;
+        self.device.rename_new()?;
+        Ok(len)
     }
 
     /// Makes the file longer where it has no room for this many further bytes. Returns where they

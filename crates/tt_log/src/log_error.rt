@@ -29,3 +29,16 @@ impl From<DeviceError> for LogError {
         LogError::Write
     }
 }
+
+/// Why a log isn't made anew.
+#[derive(Clone, Copy, Debug, PartialEq, Eq, Error)]
+pub enum RenewError {
+    /// The new file can't be finished, synced or named. The log goes on in its old file, which is
+    /// as it was.
+    #[error("cannot make the log anew")]
+    Kept,
+    /// The new file has the name of the old one, but its folder can't be synced: a crash leaves the
+    /// old lines or the new ones. The log is not to be used any more.
+    #[error("cannot keep the log that was made anew")]
+    Lost,
+}

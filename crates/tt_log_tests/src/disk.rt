@@ -2,6 +2,7 @@
 ghost use Rattle.std.specs.Prelude.{◌≡◌, []};
 
 use std::alloc::Global;
+use std::mem;
 use std::process::Abort;
 use tt_log::{Device, DeviceError};
 
@@ -13,9 +14,18 @@ pub(crate) enum Failing {
     From(usize),
 }
 
+/// A file that hasn't the name yet, or not any more.
+#[derive(Drop)]
+struct Unnamed {
+    synced: Vec<u8>,
+    latest: Vec<u8>,
+    written: usize,
+}
+
 /// A file whose latest bytes are on the disk after a sync. A call that fails is done by half.
 #[derive(Drop)]
 pub(crate) struct Disk {
+    alloc: Global,
     synced: Vec<u8>,
     pub(crate) latest: Vec<u8>,
     pub(crate) shown: Vec<u8>,
@@ -24,6 +34,10 @@ pub(crate) struct Disk {
     pub(crate) readable: usize,
     /// Where the last write ended, of those that went furthest.
     written: usize,
+    /// The new file that is being made.
+    new_file: Option<Unnamed>,
+    /// The file that has the name on the disk, where that isn't this one.
+    old_file: Option<Unnamed>,
     pub(crate) calls: usize,
     pub(crate) writes: usize,
     pub(crate) grows: usize,
@@ -34,12 +48,15 @@ impl Disk {
     /// A file with these bytes, which are on the disk.
     pub(crate) fn new(rt: &impl Abort, alloc: Global, bytes: &[u8]) -> Self {
         Disk {
+            alloc,
             synced: bytes.to_vec(alloc).expect(rt, "memory"),
             latest: bytes.to_vec(alloc).expect(rt, "memory"),
             shown: Vec::new(alloc),
             failing: Failing::Never,
             readable: usize::MAX,
             written: 0,
+            new_file: None,
+            old_file: None,
             calls: 0,
             writes: 0,
             grows: 0,
@@ -56,16 +73,35 @@ impl Disk {
         choices: &[bool],
         len: usize,
     ) -> Disk {
-        let len = len.max(self.synced.len()).min(self.latest.len());
-        let mut file = self.latest[..len].to_vec(alloc).expect(rt, "memory");
-        let mut choices = choices.iter();
-        for (i, byte) in file.iter_mut().enumerate().take(self.written) {
-            let old = self.synced.get(i).copied().unwrap_or(0);
-            if *byte != old && !choices.next().copied().unwrap_or(false) {
-                *byte = old;
-            }
-        }
-        Disk::new(rt, alloc, file.as_slice())
+        let bytes = torn(
+            rt,
+            alloc,
+            [&self.synced, &self.latest],
+            self.written,
+            choices,
+            len,
+        );
+        Disk::new(rt, alloc, bytes.as_slice())
+    }
+
+    /// The same, where a crash may find that another file has the name.
+    pub(crate) fn after_crash_unnamed(
+        &self,
+        rt: &impl Abort,
+        alloc: Global,
+        choices: &[bool],
+        len: usize,
+    ) -> Option<Disk> {
+        let old = self.old_file.as_ref()?;
+        let bytes = torn(
+            rt,
+            alloc,
+            [&old.synced, &old.latest],
+            old.written,
+            choices,
+            len,
+        );
+        Some(Disk::new(rt, alloc, bytes.as_slice()))
     }
 
     fn fails(&mut self) -> bool {
@@ -79,6 +115,27 @@ impl Disk {
     }
 }
 
+/// What a crash leaves of synced and latest bytes that were written up to a place.
+fn torn(
+    rt: &impl Abort,
+    alloc: Global,
+    [synced, latest]: [&[u8]; 2],
+    written: usize,
+    choices: &[bool],
+    len: usize,
+) -> Vec<u8> {
+    let len = len.max(synced.len()).min(latest.len());
+    let mut file = latest[..len].to_vec(alloc).expect(rt, "memory");
+    let mut choices = choices.iter();
+    for (i, byte) in file.iter_mut().enumerate().take(written) {
+        let old = synced.get(i).copied().unwrap_or(0);
+        if *byte != old && !choices.next().copied().unwrap_or(false) {
+            *byte = old;
+        }
+    }
+    file
+}
+
 impl Device for Disk {
     ghost tells = { λ d. ⊥ };
 
@@ -87,6 +144,12 @@ impl Device for Disk {
     ghost shown = { λ d. [] };
 
     ghost may_leave = { λ d c. ⊥ };
+
+    ghost new_file = { λ d. [] };
+
+    ghost may_leave_new = { λ d c. ⊥ };
+
+    ghost may_leave_named = { λ d c. ⊥ };
 
     ghost moment = { λ d. 0 };
 
@@ -148,7 +211,7 @@ impl Device for Disk {
 
     fn sync(&mut self) -> Result<(), DeviceError> {
         self.syncs = self.syncs.saturating_add(1);
-        if self.fails() {
+        if self.fails() || self.old_file.is_some() {
             return Err(DeviceError);
         }
         self.synced.clear();
@@ -165,5 +228,91 @@ impl Device for Disk {
             return Err(DeviceError);
         };
         if fails { Err(DeviceError) } else { Ok(()) }
+    }
+
+    fn create_new(&mut self) -> Result<(), DeviceError> {
+        if self.fails() || self.new_file.is_some() {
+            return Err(DeviceError);
+        }
+        self.new_file = Some(Unnamed {
+            synced: Vec::new(self.alloc),
+            latest: Vec::new(self.alloc),
+            written: 0,
+        });
+        Ok(())
+    }
+
+    fn append_new(&mut self, bytes: &[u8]) -> Result<(), DeviceError> {
+        let fails = self.fails();
+        let done = if fails { bytes.len() / 2 } else { bytes.len() };
+        let Some(file) = &mut self.new_file else {
+            return Err(DeviceError);
+        };
+        let Ok(()) = file.latest.extend_from_slice(&bytes[..done]) else {
+            return Err(DeviceError);
+        };
+        file.written = file.latest.len();
+        if fails { Err(DeviceError) } else { Ok(()) }
+    }
+
+    fn grow_new(&mut self, len: u64) -> Result<(), DeviceError> {
+        let fails = self.fails();
+        let Some(file) = &mut self.new_file else {
+            return Err(DeviceError);
+        };
+        let Ok(()) = file.latest.resize(len as usize, 0) else {
+            return Err(DeviceError);
+        };
+        if fails { Err(DeviceError) } else { Ok(()) }
+    }
+
+    fn sync_new(&mut self) -> Result<(), DeviceError> {
+        let fails = self.fails();
+        let Some(file) = &mut self.new_file else {
+            return Err(DeviceError);
+        };
+        file.synced.clear();
+        let half = file.latest.len() / 2;
+        let done = if fails {
+            &file.latest[..half]
+        } else {
+            &file.latest
+        };
+        let Ok(()) = file.synced.extend_from_slice(done) else {
+            return Err(DeviceError);
+        };
+        if fails { Err(DeviceError) } else { Ok(()) }
+    }
+
+    fn rename_new(&mut self) -> Result<(), DeviceError> {
+        if self.fails() || self.old_file.is_some() {
+            return Err(DeviceError);
+        }
+        let Some(file) = self.new_file.take() else {
+            return Err(DeviceError);
+        };
+        let Unnamed {
+            synced,
+            latest,
+            written,
+        } = file;
+        self.old_file = Some(Unnamed {
+            synced: mem::replace(&mut self.synced, synced),
+            latest: mem::replace(&mut self.latest, latest),
+            written: mem::replace(&mut self.written, written),
+        });
+        Ok(())
+    }
+
+    fn sync_folder(&mut self) -> Result<(), DeviceError> {
+        if self.fails() {
+            return Err(DeviceError);
+        }
+        self.old_file = None;
+        Ok(())
+    }
+
+    fn remove_new(&mut self) {
+        self.new_file = None;
     }
 }

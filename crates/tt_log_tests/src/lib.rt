@@ -18,6 +18,8 @@ mod pending;
 #[cfg(test)]
 mod random;
 #[cfg(test)]
+mod renewals;
+#[cfg(test)]
 mod same;
 #[cfg(test)]
 mod sessions;

@@ -4,7 +4,7 @@ use crate::same::same;
 use std::alloc::Global;
 use std::fmt::Display;
 use std::process::Abort;
-use tt_log::{DeviceError, LineError, Lines, LogError};
+use tt_log::{DeviceError, LineError, Lines, LogError, RenewError};
 
 /// Asserts that lines have these bytes.
 fn are(rt: &impl Abort, lines: &Lines, bytes: &[u8]) {
@@ -66,6 +66,9 @@ fn texts_of_errors(rt: HostRuntime) {
     prints(&rt, alloc, &LogError::Write, "cannot write the log");
     prints(&rt, alloc, &LogError::Full, "the log is full");
     prints(&rt, alloc, &LogError::HandOver, "cannot write");
+    prints(&rt, alloc, &RenewError::Kept, "cannot make the log anew");
+    let lost = "cannot keep the log that was made anew";
+    prints(&rt, alloc, &RenewError::Lost, lost);
     prints(&rt, alloc, &LineError::NotALine, "not a line of a log");
     prints(&rt, alloc, &LineError::Memory, "out of memory");
     prints(&rt, alloc, &DeviceError, "the device has failed");

@@ -1,5 +1,5 @@
 -- One piece more is handed over.
-use Rattle.std.proofs.Common.{◌≡◌, ◌+◌, ◌-◌, ◌≤◌, ℕ, length, take, drop, sym, ◌∙◌, ap, arith, length-append, length-drop, length-take-le}
+use Rattle.std.proofs.Common.{◌≡◌, ◌+◌, ◌≤◌, ℕ, length, take, drop, ◌∙◌, ap, arith, length-append, length-drop, length-take-le}
 use Rattle.tt_log.proofs.ShowLemmas.{count_piece, shown_piece}
 use Rattle.tt_log.proofs.show.show_first.Goals as goal
 

@@ -1,5 +1,5 @@
 -- so many bytes are handed over, and so many lines end in them
-use Rattle.std.proofs.Common.{◌≡◌, ◌↔◌, ◌-◌, ◌+◌, ◌<◌, ◌≤◌, ◌++◌, length, take}
+use Rattle.std.proofs.Common.{◌≡◌, ◌↔◌, ◌-◌, ◌<◌, ◌≤◌, ◌++◌, length, take}
 use Rattle.tt_log.specs.Device.{NothingNew}
 use Rattle.tt_log.specs.Lines.{whole_lines_of}
 use Rattle.tt_log.proofs.show.show_first.Given as goal
