@@ -33,3 +33,4 @@ pub mod LoggedSession
 pub mod Invariants
 pub mod Laws
 pub mod ReadBack
+pub mod LogReadBack
