@@ -29,6 +29,7 @@ further-members tables numbering (answers.Faulty faults.Memory) = refl
 further-members tables numbering (answers.Refused (refusals.Moved now)) = refl
 further-members tables numbering (answers.Refused (refusals.NoSlot slot)) = refl
 further-members tables numbering (answers.Refused refusals.Forgotten) = refl
+further-members tables numbering (answers.Refused refusals.Log) = refl
 further-members tables numbering (answers.Refused refusals.AnotherOpening) = refl
 further-members tables numbering (answers.Refused (refusals.Event (errors.Statement fault))) = refl
 further-members tables numbering (answers.Refused (refusals.Event errors.Repairing)) = refl

@@ -96,3 +96,25 @@ pub opening-pieces : (out first second all begin members close feed : List ℕ) 
     → all ≡ out ++ (begin ++ ((members ++ close) ++ feed))
 opening-pieces out first second all begin members close feed p q r =
     r ∙ ap (λ o. o ++ (close ++ feed)) (q ∙ ap (λ o. o ++ members) p) ∙ simp append_assoc
+
+-- the opening of a log: what is declared, and an object of three numbers
+pub log-pieces : (out first second third fourth fifth all begin name_1 number_1 name_2 value_2 name_3 number_3 name_4 number_4 name_5 number_5 name_6 number_6 name_7 number_7 end : List ℕ)
+    → first ≡ out ++ begin
+    → second ≡ first ++ (name_1 ++ (number_1 ++ (name_2 ++ (value_2 ++ (name_3 ++ (number_3 ++ (name_4 ++ (number_4 ++ []))))))))
+    → third ≡ second ++ (name_5 ++ number_5) → fourth ≡ third ++ (name_6 ++ number_6) → fifth ≡ fourth ++ (name_7 ++ number_7) → all ≡ fifth ++ (end ++ end)
+    → all ≡ out ++ (begin ++ (name_1 ++ ((number_1 ++ (name_2 ++ (value_2 ++ (name_3 ++ (number_3 ++ (name_4 ++ (number_4 ++ (name_5 ++ (((number_5 ++ (name_6 ++ (number_6 ++ (name_7 ++ (number_7 ++ []))))) ++ end) ++ []))))))))) ++ end)))
+log-pieces out first second third fourth fifth all begin name_1 number_1 name_2 value_2 name_3 number_3 name_4 number_4 name_5 number_5 name_6 number_6 name_7 number_7 end p q r s t u =
+    u ∙ ap (λ o. o ++ (end ++ end)) (t ∙ ap (λ o. o ++ (name_7 ++ number_7)) (s ∙ ap (λ o. o ++ (name_6 ++ number_6)) (r ∙ ap (λ o. o ++ (name_5 ++ number_5))
+    (q ∙ ap (λ o. o ++ (name_1 ++ (number_1 ++ (name_2 ++ (value_2 ++ (name_3 ++ (number_3 ++ (name_4 ++ (number_4 ++ [])))))))) p)))))
+    ∙ simp (append_assoc, append-nil)
+
+-- an object of one value
+pub one-value : (out first second all label value end : List ℕ) → first ≡ out ++ label → second ≡ first ++ value → all ≡ second ++ end
+    → all ≡ out ++ (label ++ ((value ++ []) ++ end))
+one-value out first second all label value end p q r = r ∙ ap (λ o. o ++ end) (q ∙ ap (λ o. o ++ value) p) ∙ simp (append_assoc, append-nil)
+
+-- an object of a number, and a value
+pub number-value-object : (out first second third all label number name_2 value end : List ℕ) → first ≡ out ++ (label ++ number) → second ≡ first ++ name_2
+    → third ≡ second ++ value → all ≡ third ++ end → all ≡ out ++ (label ++ ((number ++ (name_2 ++ (value ++ []))) ++ end))
+number-value-object out first second third all label number name_2 value end p q r s =
+    s ∙ ap (λ o. o ++ end) (r ∙ ap (λ o. o ++ value) (q ∙ ap (λ o. o ++ name_2) p)) ∙ simp (append_assoc, append-nil)

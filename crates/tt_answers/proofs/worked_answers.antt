@@ -3,3 +3,4 @@ mod Repairing
 mod Telling
 mod Refusing
 mod Forgetting
+mod Logging

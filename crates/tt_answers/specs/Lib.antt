@@ -1,3 +1,4 @@
 pub mod ToldText
 pub mod RefusalText
 pub mod AnswerText
+pub mod LogText

@@ -20,6 +20,8 @@ pub enum Refusal {
     NoSlot { slot: ToldTime },
     /// What lies before the horizon is asked for.
     Forgotten,
+    /// The log couldn't be made anew.
+    Log,
     /// An opening asks for other tables than a log has, or for another number of closed generations.
     AnotherOpening,
 }

@@ -264,7 +264,7 @@ fn push_changes_from(
 }
 
 /// Pushes the tables, and how much is kept.
-fn push_declared(
+pub(crate) fn push_declared(
     out: &mut Vec<u8>,
     catalog: &Catalog,
     keep: u32,

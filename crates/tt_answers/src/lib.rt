@@ -4,6 +4,7 @@
 mod answer;
 mod answer_text;
 mod fault_text;
+mod log_text;
 mod refusal_text;
 mod reply_text;
 mod slot_text;
@@ -11,3 +12,4 @@ mod told_text;
 
 pub use answer::{Answer, ChangeEntry, Place, Refusal, RowPage, SlotEntry, Status};
 pub use answer_text::{push_call, push_opening};
+pub use log_text::{push_ground_line, push_log_opening, push_slot_line};

@@ -30,6 +30,7 @@ pub(crate) fn push_refusal(
         Refusal::Forgotten => {
             push_refused_at_time(out, "forgotten", "horizon", numbering.horizon())
         }
+        Refusal::Log => push_refused(out, "log"),
         Refusal::AnotherOpening => push_refused(out, "another opening"),
     }
 }

@@ -14,6 +14,10 @@ use Rattle.tt_grammar.specs.TextValue.{value_of_json}
 use Rattle.tt_requests.specs.declared.request.Command.TheVariants as commands
 use Rattle.tt_requests.specs.Lines.{lines_of, whole_lines_of, is_passed_over}
 use Rattle.tt_requests.specs.LineValue.{value_of_line}
+use Rattle.tt_grammar.specs.Actions.{action}
+use Rattle.tt_requests.specs.Opening.{declaration}
+use Rattle.tt_requests.specs.LogOpening.{ground_numbering, members_of_log_opening, log_opening_of}
+use Rattle.tt_requests.specs.GroundAction.{ground_action_of}
 use Rattle.tt_requests.specs.Requests.{forget, only_true, bare, members_of_request, request_of}
 
 -- an empty line is a line, and what stands after the last line feed is one, too
@@ -58,3 +62,28 @@ forget_below_zero = refl
 status_and_forget : request_of [] (value_of_line (codes "{\"status\":true,\"forget\":1}")) ≡ Err (At (codes "$") (codes "unknown member \"forget\""))
 unfolding is_utf8 chars encode_utf8 lex content short_escape punctuate word after_number json.value json.items json.members scan_numeral number_of value_of_json value_of_line bare only_true members_of_request
 status_and_forget = refl
+
+-- the opening of a log without tables
+log_opening_read : log_opening_of (value_of_line (codes "{\"version\":2,\"tables\":[],\"ground\":{\"time\":7,\"generation\":1,\"slots\":2}}"))
+    ≡ Ok (record {
+      opening = record { catalog = []; keep = 4; records = 100000 };
+      numbering = record { horizon = 7; ground_slots = 2; generations = 1 };
+    })
+unfolding is_utf8 chars encode_utf8 lex content short_escape punctuate word after_number json.value json.items json.members scan_numeral number_of value_of_json value_of_line declaration ground_numbering members_of_log_opening
+log_opening_read = refl
+
+-- a ground of more slots than were forgotten
+ground_too_large : log_opening_of (value_of_line (codes "{\"version\":2,\"tables\":[],\"ground\":{\"time\":1,\"generation\":1,\"slots\":2}}"))
+    ≡ Err (At (codes "$.ground") (codes "out of range"))
+unfolding is_utf8 chars encode_utf8 lex content short_escape punctuate word after_number json.value json.items json.members scan_numeral number_of value_of_json value_of_line declaration ground_numbering members_of_log_opening
+ground_too_large = refl
+
+-- the opening of a session
+no_ground : log_opening_of (value_of_line (codes "{\"version\":2,\"tables\":[]}")) ≡ Err (At (codes "$") (codes "missing member ground"))
+unfolding is_utf8 chars encode_utf8 lex content short_escape punctuate word after_number json.value json.items json.members scan_numeral number_of value_of_json value_of_line declaration members_of_log_opening
+no_ground = refl
+
+-- a slot of the ground, which has no worker
+worker_of_ground : ground_action_of [] (value_of_line (codes "{\"worker\":1,\"do\":[]}")) ≡ Err (At (codes "$") (codes "unknown member \"worker\""))
+unfolding is_utf8 chars encode_utf8 lex content short_escape punctuate word after_number json.value json.items json.members scan_numeral number_of value_of_json value_of_line action
+worker_of_ground = refl

@@ -6,4 +6,6 @@ pub mod Edits
 pub mod Reads
 pub mod Questions
 pub mod Requests
+pub mod LogOpening
+pub mod GroundAction
 pub mod Judged

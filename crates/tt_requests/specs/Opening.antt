@@ -24,16 +24,22 @@ max_records = 1000000
 abbrev pub usual_records : ℕ
 usual_records = 100000
 
--- an opening: its version, which is 2, its tables, and how much is kept
-unfoldable pub members_of_opening : Data → Result Opening DocFault
-members_of_opening v = do
+-- what an object declares that may have further members: its version, which is 2, its tables, and how much is kept
+unfoldable pub declaration : Data → Result Opening DocFault
+declaration v = do
   _ ← object v
   _ ← member (codes "version") (count_within 2 2) v
   tables ← member (codes "tables") catalog v
   keep ← optional (codes "keep") (count_within 0 max_keep) v
   records ← optional (codes "records") (count_within 0 max_records) v
-  _ ← no_members_but (is_one_of (codes "keep" ∷ codes "records" ∷ codes "tables" ∷ codes "version" ∷ [])) v
   Ok (record { catalog = tables; keep = unwrap_or keep usual_keep; records = unwrap_or records usual_records })
+
+-- an opening: what it declares, and no further members
+unfoldable pub members_of_opening : Data → Result Opening DocFault
+members_of_opening v = do
+  opening ← declaration v
+  _ ← no_members_but (is_one_of (codes "keep" ∷ codes "records" ∷ codes "tables" ∷ codes "version" ∷ [])) v
+  Ok opening
 
 -- the meaning of a JSON value, or of none: an opening, or its first fault with the path from the root
 abbrev pub opening_of : Result Data DocFault → Result Opening DocFault

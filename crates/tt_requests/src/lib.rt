@@ -4,16 +4,20 @@
 
 mod commands;
 mod edits;
+mod ground_action;
 pub mod laws;
 mod line_value;
 mod lines;
+mod log_opening;
 mod opening;
 mod questions;
 mod reads;
 mod request;
 mod told;
 
+pub use ground_action::ground_action_from_line;
 pub use lines::{is_blank, is_passed_over};
+pub use log_opening::LogOpening;
 pub use opening::Opening;
 pub use request::{Command, Page, Request, ToldEdits};
 
@@ -25,6 +29,9 @@ pub const MAX_KEEP: u32 = 16;
 
 /// The largest number of records of calls that a session keeps.
 pub const MAX_RECORDS: u32 = 1_000_000;
+
+/// The largest number of slots that the ground of a log has.
+pub const MAX_GROUND_SLOTS: u32 = 1_000_000;
 
 /// The largest number of steps of a repair that a request asks for.
 pub const MAX_STEPS: u32 = 10_000;

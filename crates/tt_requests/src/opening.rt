@@ -1,7 +1,7 @@
 //! The opening of a session.
 ghost use Rattle.std.specs.Prelude.{Ok};
 ghost use Rattle.tt_grammar.specs.Fault.{Gives};
-ghost use Rattle.tt_requests.specs.Opening.{members_of_opening, opening_of};
+ghost use Rattle.tt_requests.specs.Opening.{declaration, members_of_opening, opening_of};
 
 use crate::line_value::parse_line;
 use crate::{MAX_KEEP, MAX_RECORDS};
@@ -68,12 +68,21 @@ fn from_json<V: JsonValue>(alloc: Global, value: &V) -> Result<Opening, DocFault
 fn from_members<V: JsonValue>(alloc: Global, value: &V) -> Result<Opening, DocFault>
     ensures { Gives result (members_of_opening (V.json value.now)) }
 {
+    let opening = declaration(alloc, value)?;
+    no_members_but(alloc, value, &["keep", "records", "tables", "version"])?;
+    Ok(opening)
+}
+
+/// What an object declares that may have further members. Paths begin at the object.
+#[tactic(auto, unfolding(crate::specs::Opening::declaration))]
+pub(crate) fn declaration<V: JsonValue>(alloc: Global, value: &V) -> Result<Opening, DocFault>
+    ensures { Gives result (declaration (V.json value.now)) }
+{
     object(alloc, value)?;
     member(alloc, value, "version", &VERSION)?;
     let catalog = member(alloc, value, "tables", &TablesDecoder)?;
     let keep = optional(alloc, value, "keep", &KEEP)?;
     let records = optional(alloc, value, "records", &RECORDS)?;
-    no_members_but(alloc, value, &["keep", "records", "tables", "version"])?;
     let catalog = Shared::new(alloc, catalog)?;
     Ok(Opening {
         catalog,

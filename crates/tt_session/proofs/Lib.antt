@@ -7,6 +7,7 @@ pub mod LawLemmas
 pub mod OpeningLemmas
 pub mod PageLemmas
 pub mod ReadBackLemmas
+pub mod LogReadLemmas
 pub mod RoomLemmas
 pub mod SlotLemmas
 pub mod StepLemmas

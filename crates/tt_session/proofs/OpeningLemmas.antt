@@ -18,6 +18,7 @@ use Rattle.tt_grammar.specs.Causes.{judge, cause_of_catalog}
 use Rattle.tt_grammar.specs.Members.{is_one_of, no_members_but}
 use Rattle.tt_grammar.specs.Tables.{column, with_table, table_after, catalog}
 use Rattle.tt_requests.specs.declared.opening.Opening.{Opening}
+use Rattle.tt_requests.proofs.BoundLemmas.{is_declared}
 use Rattle.tt_requests.proofs.StepBackLemmas.{ok_same, step, with_path-ok, choice-ok, member-ok}
 use Rattle.tt_db.specs.Database.{Database}
 use Rattle.tt_answers.specs.declared.answer.Status.{Status}
@@ -27,24 +28,7 @@ use Rattle.tt_numbers.specs.Numbers.{Numbering}
 use Rattle.tt_session.specs.Session.{OpenSession, opened}
 use Rattle.tt_session.specs.Repairing.{status_of}
 use Rattle.tt_session.specs.Run.{turn_by_opening}
-use Rattle.tt_requests.specs.Opening.{max_keep, usual_keep, max_records, usual_records, members_of_opening, opening_of}
-
-second : (x y : Bool) → (x || y) ≡ false → y ≡ false
-second true y e = cc
-second false y e = e
-
-within-most : (least most n m : ℕ) → within least most n ≡ Ok m → m ≤ most
-within-most least most n m e =
-    let chosen = choice-ok (nat_lt n least || nat_lt most n) n m (codes "out of range") e in
-    subst (λ k. k ≤ most) chosen.1 (ltb-false most n (second (nat_lt n least) (nat_lt most n) chosen.0))
-
-read_optional-most : (name : List ℕ) (most usual : ℕ) (found : Option Data) (o : Option ℕ) → usual ≤ most
-    → read_optional name (count_within 0 most) found ≡ Ok o → unwrap_or o usual ≤ most
-read_optional-most name most usual None o few e = subst (λ p. unwrap_or p usual ≤ most) (ok_same e) few
-read_optional-most name most usual (Some d) o few e =
-    let read = step (with_path (member_path name) (count_within 0 most d)) _ o e in
-    let counted = step (count d) (within 0 most) read.value (with_path-ok (member_path name) (count_within 0 most d) read.value read.is) in
-    subst (λ p. unwrap_or p usual ≤ most) (ok_same read.rest) (within-most 0 most counted.value read.value counted.rest)
+use Rattle.tt_requests.specs.Opening.{max_keep, max_records, declaration, members_of_opening, opening_of}
 
 -- the tables of an opening are a catalog, and it keeps no more than openings may
 pub record IsOpening (opening : Opening) : Type 0 where
@@ -89,20 +73,17 @@ catalog-is v tables e =
     let read = step (array source.value) (λ ds. fold_items table_after 0 [] ds) tables source.is in
     tables-are 0 [] read.value tables no_tables read.rest
 
+pub declaration-is : (v : Data) (opening : Opening) → declaration v ≡ Ok opening → IsOpening opening
+declaration-is v opening e =
+    let declared = is_declared v opening e in
+    record { catalog = catalog-is v opening.catalog declared.tables; keep = declared.keep; records = declared.records }
+
 members-are : (v : Data) (opening : Opening) → members_of_opening v ≡ Ok opening → IsOpening opening
 unfolding members_of_opening
 members-are v opening e =
-    let read = step (object v) _ opening e in
-    let version = step (member (codes "version") (count_within 2 2) v) _ opening read.rest in
-    let tables = step (member (codes "tables") catalog v) _ opening version.rest in
-    let keep = step (optional (codes "keep") (count_within 0 max_keep) v) _ opening tables.rest in
-    let records = step (optional (codes "records") (count_within 0 max_records) v) _ opening keep.rest in
-    let known = step (no_members_but (is_one_of (codes "keep" ∷ codes "records" ∷ codes "tables" ∷ codes "version" ∷ [])) v) _ opening records.rest in
-    subst IsOpening (ok_same known.rest) (record {
-      catalog = catalog-is v tables.value tables.is;
-      keep = read_optional-most (codes "keep") max_keep usual_keep (get (codes "keep") v) keep.value (omega arith) keep.is;
-      records = read_optional-most (codes "records") max_records usual_records (get (codes "records") v) records.value (omega arith) records.is;
-    })
+    let declared = step (declaration v) _ opening e in
+    let known = step (no_members_but (is_one_of (codes "keep" ∷ codes "records" ∷ codes "tables" ∷ codes "version" ∷ [])) v) _ opening declared.rest in
+    subst IsOpening (ok_same known.rest) (declaration-is v declared.value declared.is)
 
 pub is_opening : (value : Result Data DocFault) (opening : Opening) → opening_of value ≡ Ok opening → IsOpening opening
 is_opening value opening e =

@@ -24,7 +24,7 @@ use Rattle.tt_requests.specs.declared.opening.Opening.{Opening}
 use Rattle.tt_requests.specs.Edits.{replace, edit}
 use Rattle.tt_requests.specs.LineValue.{value_of_line}
 use Rattle.tt_requests.specs.Lines.{max_line_bytes, is_too_long}
-use Rattle.tt_requests.specs.Opening.{max_keep, max_records, members_of_opening, opening_of}
+use Rattle.tt_requests.specs.Opening.{max_keep, max_records, declaration, members_of_opening, opening_of}
 use Rattle.tt_requests.specs.Requests.{begin, members_of_request, usual_worker, request_of}
 use Rattle.tt_grammar.specs.JsonText.{Member, array_text, number_member, object_text}
 use Rattle.tt_grammar.specs.WriteText.{write_text, action_text}
@@ -39,7 +39,7 @@ use Rattle.tt_grammar.proofs.TableReadLemmas.{json_of_tables, data_of_tables, ta
 use Rattle.tt_grammar.proofs.LengthLemmas.{length-write, length-action, length-tables}
 use Rattle.tt_session.specs.ReadBack.{opening_line, PrintedTablesOpen, Replaces, PrintedWritesReplace, replacing_text, replacing_line, PrintedActionsReplace}
 
-digits-utf8 : (n : ℕ) → n < 2 ^ 64 → IsUtf8 (decimal n)
+pub digits-utf8 : (n : ℕ) → n < 2 ^ 64 → IsUtf8 (decimal n)
 digits-utf8 n fits = IsUtf8-from_ascii (decimal n) (IsAscii-decimal n fits)
 
 -- ---- an edit, and the line that begins a repair with it, with the tree of what stands under `by`, its text, and what it stands for
@@ -99,7 +99,7 @@ line-back tables slot nested by text d ws back =
     }
 
 -- a line that isn't too long is read as its bytes are
-line-read : (line : List ℕ) → is_too_long line ≡ false → value_of_line line ≡ value_of_found (json_of_bytes line)
+pub line-read : (line : List ℕ) → is_too_long line ≡ false → value_of_line line ≡ value_of_found (json_of_bytes line)
 unfolding value_of_line
 line-read line short = rw short refl
 
@@ -143,7 +143,7 @@ opening_data tables keep records =
     spec.object (member (codes "keep") (number (unsigned keep))
     (member (codes "records") (number (unsigned records)) (member (codes "tables") (data_of_tables tables) (member (codes "version") (number (unsigned 2)) no_members))))
 
-count-within : (max n : ℕ) → n ≤ max → count_within 0 max (number (unsigned n)) ≡ Ok n
+pub count-within : (max n : ℕ) → n ≤ max → count_within 0 max (number (unsigned n)) ≡ Ok n
 count-within max n h =
     let above : nat_lt n 0 ≡ false = grind (arith, nat_tests) in
     let below : nat_lt max n ≡ false = grind (arith, nat_tests) in
@@ -152,7 +152,7 @@ count-within max n h =
 opening-back : (tables : Tables) (keep records : ℕ) → IsCatalog tables → keep ≤ max_keep → records ≤ max_records
     → IsReadBack 5 (json.object (opening_tree tables keep records)) (opening_line tables keep records) (opening_data tables keep records) members_of_opening
     (record { catalog = tables; keep = keep; records = records })
-unfolding members_of_opening
+unfolding members_of_opening declaration
 opening-back tables keep records sound few_kept few_records =
     let back = tables-back tables sound in
     let keep_fits : keep < 2 ^ 64 = omega arith in

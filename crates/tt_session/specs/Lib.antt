@@ -39,3 +39,4 @@ pub mod LoggedSession
 pub mod Invariants
 pub mod Laws
 pub mod ReadBack
+pub mod LogReadBack

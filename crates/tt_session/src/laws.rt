@@ -4,6 +4,8 @@ ghost use Rattle.tt_session.specs.Invariants.{OpenSessionsStaySound, SessionsSta
 ghost use Rattle.tt_session.specs.Laws.{OtherErrorsAnswerNoLine, NextChangesEndAsChanges};
 ghost use Rattle.tt_session.specs.ReadBack.{PrintedWritesReplace, PrintedActionsReplace};
 ghost use Rattle.tt_session.specs.ReadBack.{PrintedTablesOpen};
+ghost use Rattle.tt_session.specs.LogReadBack.{PrintedLogOpens, PrintedGroundIsRead};
+ghost use Rattle.tt_session.specs.LogReadBack.{PrintedSlotsAreRead, OpeningsHaveNoGround};
 ghost use Rattle.tt_session.specs.Restoring.{LogsAreReadBack};
 
 /// A repair that is under way can be finished, with none of its steps refused, and can be given up:
@@ -64,4 +66,26 @@ pub fn printed_actions_replace()
 /// the same.
 pub fn printed_tables_open()
     ensures { PrintedTablesOpen }
+{}
+
+/// The first line of a log that is made anew, as it is printed, opens a log with the same tables,
+/// the same that is kept, and the same ground. It opens no session.
+pub fn printed_log_opens()
+    ensures { PrintedLogOpens }
+{}
+
+/// The line of a slot of the ground, as it is printed, is read as the same action.
+pub fn printed_ground_is_read()
+    ensures { PrintedGroundIsRead }
+{}
+
+/// The line of a further slot, as it is printed, is a request of the same worker for the same
+/// action.
+pub fn printed_slots_are_read()
+    ensures { PrintedSlotsAreRead }
+{}
+
+/// What opens a session opens no log that was made anew.
+pub fn openings_have_no_ground()
+    ensures { OpeningsHaveNoGround }
 {}

@@ -84,6 +84,10 @@ forgotten : call_text accounts behind 17 (answers.Refused refusals.Forgotten) �
 unfolding digits
 forgotten = refl
 
+no_log : call_text accounts behind 17 (answers.Refused refusals.Log) ≡ codes "{\"call\":17,\"refused\":\"log\"}\n"
+unfolding digits
+no_log = refl
+
 -- a slot that the request names, by the number that it is told by
 no_slot : call_text accounts behind 18 (answers.Refused (refusals.NoSlot (record { number = 9 })))
     ≡ codes "{\"call\":18,\"refused\":\"no slot\",\"slot\":9}\n"

@@ -1,0 +1,33 @@
+-- The lines of a log that is made anew, without their line feeds: its opening, and a line for each slot of the database.
+use Rattle.std.specs.Prelude.{ℕ, List, [], ◌∷◌, ◌++◌, codes}
+use Rattle.tt_numbers.specs.Numbers.{Numbering}
+use Rattle.tt_values.specs.declared.statement.Write.{Write}
+use Rattle.tt_values.specs.Tables.{Tables}
+use Rattle.tt_grammar.specs.JsonText.{Member, number_member, object_text}
+use Rattle.tt_grammar.specs.WriteText.{action_text}
+use Rattle.tt_answers.specs.AnswerText.{declared_members}
+
+-- the time that was last forgotten up to, the generation of that, and how many slots of the database are the ground
+abbrev pub ground_members : Numbering → List Member
+ground_members numbering =
+    number_member (codes "time") numbering.horizon
+    ∷ number_member (codes "generation") numbering.generations
+    ∷ number_member (codes "slots") numbering.ground_slots
+    ∷ []
+
+-- the opening as the tables are told, and the ground
+abbrev pub log_opening_members : Tables → ℕ → ℕ → Numbering → List Member
+log_opening_members tables keep records numbering =
+    declared_members tables keep records ++ (codes "ground", object_text (ground_members numbering)) ∷ []
+
+-- the first line
+abbrev pub log_opening_line : Tables → ℕ → ℕ → Numbering → List ℕ
+log_opening_line tables keep records numbering = object_text (log_opening_members tables keep records numbering)
+
+-- a slot of the ground: its action
+abbrev pub ground_line : Tables → List Write → List ℕ
+ground_line tables action = object_text ((codes "do", action_text tables action) ∷ [])
+
+-- a further slot: its worker, and its action
+abbrev pub slot_line : Tables → ℕ → List Write → List ℕ
+slot_line tables worker action = object_text (number_member (codes "worker") worker ∷ (codes "do", action_text tables action) ∷ [])

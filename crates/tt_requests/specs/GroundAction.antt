@@ -1,0 +1,20 @@
+-- The action of a slot of the ground, as a line of a log that was made anew spells it.
+use Rattle.std.specs.Prelude.{List, Result}
+use Rattle.serde_json.specs.Data.{Data}
+use Rattle.tt_values.specs.declared.statement.Write.{Write}
+use Rattle.tt_values.specs.Tables.{Tables}
+use Rattle.tt_grammar.specs.declared.fault.DocFault.{DocFault}
+use Rattle.tt_grammar.specs.declared.statements.Context.TheVariants as contexts
+use Rattle.tt_grammar.specs.Fault.{◌>>=◌, with_path, document_path}
+use Rattle.tt_grammar.specs.Decoder.{object}
+use Rattle.tt_grammar.specs.Actions.{action}
+
+-- the action of an object that has the member do alone
+abbrev pub members_of_ground_action : Tables → Data → Result (List Write) DocFault
+members_of_ground_action tables v = do
+  _ ← object v
+  action tables contexts.Nested v
+
+-- the meaning of a JSON value, or of none: an action, or its first fault with the path from the root
+abbrev pub ground_action_of : Tables → Result Data DocFault → Result (List Write) DocFault
+ground_action_of tables value = with_path document_path (value >>= members_of_ground_action tables)
