@@ -105,7 +105,7 @@ pub log-pieces : (out first second third fourth fifth all begin name_1 number_1 
     → all ≡ out ++ (begin ++ (name_1 ++ ((number_1 ++ (name_2 ++ (value_2 ++ (name_3 ++ (number_3 ++ (name_4 ++ (number_4 ++ (name_5 ++ (((number_5 ++ (name_6 ++ (number_6 ++ (name_7 ++ (number_7 ++ []))))) ++ end) ++ []))))))))) ++ end)))
 log-pieces out first second third fourth fifth all begin name_1 number_1 name_2 value_2 name_3 number_3 name_4 number_4 name_5 number_5 name_6 number_6 name_7 number_7 end p q r s t u =
     u ∙ ap (λ o. o ++ (end ++ end)) (t ∙ ap (λ o. o ++ (name_7 ++ number_7)) (s ∙ ap (λ o. o ++ (name_6 ++ number_6)) (r ∙ ap (λ o. o ++ (name_5 ++ number_5))
-    (q ∙ ap (λ o. o ++ (name_1 ++ (number_1 ++ (name_2 ++ (value_2 ++ (name_3 ++ (number_3 ++ (name_4 ++ (number_4 ++ [])))))))) p)))))
+    (q ∙ ap (λ o. o ++ (name_1 ++ (number_1 ++ (name_2 ++ (value_2 ++ (name_3 ++ (number_3 ++ (name_4 ++ (number_4 ++ []))))))))) p))))
     ∙ simp (append_assoc, append-nil)
 
 -- an object of one value

@@ -36,16 +36,23 @@ impl LogOpening {
     /// The opening of a log that a line spells, or its first fault: that the line is too long; or
     /// else that it isn't JSON; or else that an object names a member twice; or else the one of its
     /// JSON value. Memory can run out before the fault is met.
-    #[tactic(auto, using(crate::proofs::LogOpeningLemmas::gives_bounds))]
     pub fn from_line(alloc: Global, line: &[u8]) -> Result<LogOpening, DocFault>
         ensures gives { Gives result (log_opening_of (value_of_line line.now)) }
         ensures bounds { IfOk result IsLogOpening }
     {
-        let mut scratch = Scratch::new(alloc);
-        match parse_line(alloc, line, &mut scratch) {
-            Ok(tape) => from_json(alloc, &root(&tape)),
-            Err(fault) => Err(fault.in_document(alloc)),
-        }
+        from_text(alloc, line)
+    }
+}
+
+ghost use Rattle.tt_requests.specs.LineValue.{value_of_line};
+
+fn from_text(alloc: Global, line: &[u8]) -> Result<LogOpening, DocFault>
+    ensures { Gives result (log_opening_of (value_of_line line.now)) }
+{
+    let mut scratch = Scratch::new(alloc);
+    match parse_line(alloc, line, &mut scratch) {
+        Ok(tape) => from_json(alloc, &root(&tape)),
+        Err(fault) => Err(fault.in_document(alloc)),
     }
 }
 

@@ -8,6 +8,7 @@ pub mod OpeningLemmas
 pub mod PageLemmas
 pub mod ReadBackLemmas
 pub mod LogReadLemmas
+pub mod LogRenewalLemmas
 pub mod RoomLemmas
 pub mod SlotLemmas
 pub mod StepLemmas

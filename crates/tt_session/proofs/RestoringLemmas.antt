@@ -79,12 +79,12 @@ begins-base lines session left p none =
     (p.lines_are ∙ ap (λ ls. p.first ++ ls) none ∙ append-nil p.first, sym (p.session_is ∙ ap (after_kept p.base) none))
 
 -- a further slot of the ground
-pub reads-lay : (lines : List (List ℕ)) (open next : OpenSession) (line : List ℕ) (left after : ℕ) → ReadsLog lines (Open open) left → left ≡ after + 1 → laid_by open line ≡ Some next
+pub reads-lay : (lines : List (List ℕ)) (now next : OpenSession) (line : List ℕ) (left after : ℕ) → ReadsLog lines (Open now) left → left ≡ after + 1 → laid_by now line ≡ Some next
     → ReadsLog (lines ++ line ∷ []) (Open next) after
-reads-lay lines open next line left after p left_is laid =
+reads-lay lines now next line left after p left_is laid =
     let none = p.ground_first (omega (arith, left_is)) in
-    let base = begins-base lines (Open open) left p none in
-    let ground : LaysGround p.first open left = subst (λ s. BeginsLog p.first s left) base.1 p.begins in
+    let base = begins-base lines (Open now) left p none in
+    let ground : LaysGround p.first now left = subst (λ s. BeginsLog p.first s left) base.1 p.begins in
     record {
       first = lines ++ line ∷ [];
       others = [];
@@ -97,7 +97,7 @@ reads-lay lines open next line left after p left_is laid =
         opening = ground.opening;
         opens = ground.opens;
         count = omega (arith, ground.count, left_is, length-append ground.slots (line ∷ []));
-        laid = laid-append (opened_on ground.opening) open ground.slots line ground.laid ∙ laid-one open next line laid;
+        laid = laid-append (opened_on ground.opening) now ground.slots line ground.laid ∙ laid-one now next line laid;
       };
       ground_first = λ less. refl;
       are_logged = refl;
@@ -143,8 +143,8 @@ none-left left p =
 pub read-value : (session : Session) (line : List ℕ) → is_passed_over line ≡ false → turn_of_read session (kept_line line) ≡ turn_by_value session (value_of_line line)
 read-value session line told = read-kept session line ∙ (rw told refl)
 
-open-closed : (open : OpenSession) → Open open ≡ NotOpen → ⊥
-open-closed open is = cc
+open-closed : (s : OpenSession) → Open s ≡ NotOpen → ⊥
+open-closed s is = cc
 
 -- ---- a session that is being read back
 
@@ -160,26 +160,26 @@ restoring-more given bytes old new p none line session ground count = record {
   count_is = count ∙ p.count_is;
 }
 
-next-reads : (lines : List (List ℕ)) (open : Option OpenSession) (next : Session) (left after : ℕ) (line : List ℕ) → ReadsLog lines (begun open) left → (begun open ≡ NotOpen → lines ≡ [])
-    → IsNextOrNot true (begun open) left line next after → ReadsLog (lines ++ line ∷ []) next after × ((next ≡ NotOpen) → ⊥)
-next-reads lines open next left after line p fresh (inl lays) = (
+next-reads : (lines : List (List ℕ)) (begun_as : Option OpenSession) (next : Session) (left after : ℕ) (line : List ℕ) → ReadsLog lines (begun begun_as) left → (begun begun_as ≡ NotOpen → lines ≡ [])
+    → IsNextOrNot true (begun begun_as) left line next after → ReadsLog (lines ++ line ∷ []) next after × ((next ≡ NotOpen) → ⊥)
+next-reads lines begun_as next left after line p fresh (inl lays) = (
   subst (λ s. ReadsLog (lines ++ line ∷ []) s after) (sym lays.next_is)
-      (reads-lay lines lays.open lays.laid line left after (subst (λ s. ReadsLog lines s left) lays.session_is p) lays.left_is lays.is),
+      (reads-lay lines lays.before lays.laid line left after (subst (λ s. ReadsLog lines s left) lays.session_is p) lays.left_is lays.is),
   λ closed. open-closed lays.laid (sym lays.next_is ∙ closed),
 )
-next-reads lines open next left after line p fresh (inr (inl logs)) =
-    let session = begun open in
-    let zero_left : left ≡ 0 = no-left open refl in (
+next-reads lines begun_as next left after line p fresh (inr (inl logs)) =
+    let session = begun begun_as in
+    let zero_left : left ≡ 0 = no-left begun_as refl in (
       subst (λ s. ReadsLog (lines ++ line ∷ []) s after) (sym logs.next_is)
           (subst (λ n. ReadsLog (lines ++ line ∷ []) (turn_of_read session (kept_line line)).session n) (sym logs.left_is)
           (reads-push lines session line (subst (λ n. ReadsLog lines session n) zero_left p) (subst (λ s. changes_database session s ≡ true) logs.next_is logs.changes))),
-      λ closed. open-closed logs.open (sym logs.is_open ∙ closed),
+      λ closed. open-closed logs.after (sym logs.is_open ∙ closed),
     )
   where
-    no-left : (o : Option OpenSession) → open ≡ o → left ≡ 0
+    no-left : (o : Option OpenSession) → begun_as ≡ o → left ≡ 0
     no-left None is = none-left left (subst (λ ls. ReadsLog ls NotOpen left) (fresh (ap begun is)) (subst (λ x. ReadsLog lines (begun x) left) is p))
     no-left (Some s) is = logs.no_ground s (ap begun is)
-next-reads lines open next left after line p fresh (inr (inr opens)) = (
+next-reads lines begun_as next left after line p fresh (inr (inr opens)) = (
   subst (λ ls. ReadsLog (ls ++ line ∷ []) next after) (sym (fresh opens.session_is))
       (subst (λ s. ReadsLog (line ∷ []) s after) (sym opens.next_is) (subst (λ n. ReadsLog (line ∷ []) (Open (opened_on opens.opening)) n) (sym opens.left_is) (reads-ground line opens.opening opens.opens))),
   λ closed. open-closed (opened_on opens.opening) (sym opens.next_is ∙ closed),
@@ -232,7 +232,7 @@ fails-long given old p number number_is long =
     fails-at given old p number number_is (record {
       no_ground = λ some. long-none session p.left long;
       not_logged = λ none. ap (λ (t : Turn). logged_by session t.session p.left) (read-long session p.left long) ∙ none-logged session _ p.left (long-as-far session);
-      no_opening = λ closed. subst (λ v. IsErr (log_opening_of v)) (sym (long-value p.left long)) tt;
+      no_opening = λ closed. subst (λ v. IsErr (log_opening_of v)) (sym (long-value p.left long)) refl;
     })
 
 pub fails-more : (given more : List ℕ) (fault : RestoreFault) → FailsIn given fault → FailsIn (given ++ more) fault

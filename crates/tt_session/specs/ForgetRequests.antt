@@ -54,11 +54,11 @@ Prepares session f before after (Some ready) =
 
 -- a line asks a session to forget what lies before a time
 pub record AsksToForget (session : Session) (line : List ℕ) (f : ForgetRequest) : Type 0 where
-  pub open : OpenSession
-  pub session_is : session ≡ sessions.Open open
+  pub opened : OpenSession
+  pub session_is : session ≡ sessions.Open opened
   pub short : is_too_long line ≡ false
   pub told : is_passed_over line ≡ false
-  pub asks : IsForgetRequest (request_of open.database.catalog (value_of_line line)) f
+  pub asks : IsForgetRequest (request_of opened.database.catalog (value_of_line line)) f
 
 -- a line that isn't to forget is answered, and kept if it is to be logged
 pub record AnswersPlain (old new : Session) (line before after : List ℕ) (kept left : Option (List (List ℕ))) : Type 0 where

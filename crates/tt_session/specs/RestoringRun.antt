@@ -58,18 +58,18 @@ pub record RestoresSoFar (tells : Type 0) (unread file_text : List ℕ) (run : R
 
 -- a line is the next one of the ground
 pub record LaysNext (session : Session) (left : ℕ) (line : List ℕ) (next : Session) (left_after : ℕ) : Type 0 where
-  pub open : OpenSession
-  pub session_is : session ≡ sessions.Open open
+  pub before : OpenSession
+  pub session_is : session ≡ sessions.Open before
   pub laid : OpenSession
-  pub is : laid_by open line ≡ Some laid
+  pub is : laid_by before line ≡ Some laid
   pub next_is : next ≡ sessions.Open laid
   pub left_is : left ≡ left_after + 1
 
 -- a line is answered and changes the database
 pub record LogsNext (session : Session) (left : ℕ) (line : List ℕ) (next : Session) (left_after : ℕ) : Type 0 where
-  pub no_ground : (open : OpenSession) → session ≡ sessions.Open open → left ≡ 0
-  pub open : OpenSession
-  pub is_open : next ≡ sessions.Open open
+  pub no_ground : (s : OpenSession) → session ≡ sessions.Open s → left ≡ 0
+  pub after : OpenSession
+  pub is_open : next ≡ sessions.Open after
   pub next_is : next ≡ (turn_of_read session (kept_line line)).session
   pub changes : changes_database session next ≡ true
   pub left_is : left_after ≡ 0
@@ -89,9 +89,9 @@ IsNextOrNot true session left line next left_after =
 IsNextOrNot false session left line next left_after = IsNoNext session left line
 
 -- the first line of a log opens this, if it opens anything
-abbrev pub OpensLog : List ℕ → Option OpenLog → Type 0
-OpensLog line None =
+abbrev pub OpensBy : List ℕ → Option OpenLog → Type 0
+OpensBy line None =
     ((turn_of_read sessions.NotOpen (kept_line line)).session ≡ sessions.NotOpen) × IsErr (log_opening_of (value_of_line line))
-OpensLog line (Some log) =
-    ((sessions.Open log.open ≡ (turn_of_read sessions.NotOpen (kept_line line)).session) × (log.ground_slots ≡ 0))
-    ⊎ OpensGround sessions.NotOpen line (sessions.Open log.open) log.ground_slots
+OpensBy line (Some log) =
+    ((sessions.Open log.session ≡ (turn_of_read sessions.NotOpen (kept_line line)).session) × (log.ground_slots ≡ 0))
+    ⊎ OpensGround sessions.NotOpen line (sessions.Open log.session) log.ground_slots

@@ -26,6 +26,7 @@ mod session;
 mod session_change;
 mod short_answer;
 mod slot_entries;
+mod storable;
 mod told_requests;
 mod workspace;
 mod writing;

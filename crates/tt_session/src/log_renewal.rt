@@ -8,6 +8,7 @@ ghost use Rattle.tt_session.specs.LogLines.{line_of_entry, lines_of_entries, lin
 ghost use Rattle.tt_session.specs.Renewing.{IsPrintable, IsReadable, IsWriting, TakesLines, FailsToRenew, FailsToWrite};
 
 use crate::session_change::Forgetting;
+use crate::storable::read_action;
 use crate::workspace::MANY_BYTES;
 use std::alloc::{AllocError, Global};
 use tt_answers::{push_ground_line, push_log_opening, push_slot_line};
@@ -192,6 +193,7 @@ fn print_slot(text: &mut Vec<u8>, db: &Db, place: u64, is_ground: bool) -> Resul
         // A database that has just forgotten has actions alone.
         return Err(AllocError);
     };
+    read_action(action.as_slice());
     if is_ground {
         return push_ground_line(text, db.catalog(), action.as_slice());
     }

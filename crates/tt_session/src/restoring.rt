@@ -8,7 +8,7 @@ ghost use Rattle.tt_session.specs.Run.{begun, calls_of};
 ghost use Rattle.tt_session.specs.Answering.{turn_of_read};
 ghost use Rattle.tt_session.specs.Together.{kept_line};
 ghost use Rattle.tt_session.specs.Restoring.{laid_by, restored, Restores, IsNoLine};
-ghost use Rattle.tt_session.specs.RestoringRun.{IsRestoring, FailsIn, IsNextOrNot, OpensLog};
+ghost use Rattle.tt_session.specs.RestoringRun.{IsRestoring, FailsIn, IsNextOrNot, OpensBy};
 ghost use Rattle.tt_session.specs.declared.session.Session.TheVariants.{Open};
 
 use crate::first_line::{first_feed, read_request};
@@ -228,7 +228,13 @@ fn read_next(
         None => {
             let opened = open_log(alloc, line, text)?;
             let is_open = opened.is_some();
-            if let Some(OpenLog { open, ground_slots }) = opened {
+            if let Some(
+                OpenLog {
+                    session: open,
+                    ground_slots,
+                },
+            ) = opened
+            {
                 *session = Some(open);
                 *ground_left = ground_slots;
             }
@@ -282,7 +288,7 @@ fn repeat(
 /// A session that the first line of a log opens.
 #[derive(Drop)]
 struct OpenLog {
-    open: OpenSession,
+    session: OpenSession,
     /// How many slots of the ground are to follow.
     ground_slots: u64,
 }
@@ -290,12 +296,12 @@ struct OpenLog {
 /// Opens a session by the first line of a log, with a ground or without one; None if it is no
 /// opening.
 fn open_log(alloc: Global, line: &[u8], text: &mut Vec<u8>) -> Result<Option<OpenLog>, AllocError>
-    ensures { IfOk result (λ opened. OpensLog line.now opened) }
+    ensures { IfOk result (λ opened. OpensBy line.now opened) }
 {
     if !is_passed_over(line) {
-        if let Some(open) = open_or_stay(alloc, text, line)? {
+        if let Some(session) = open_or_stay(alloc, text, line)? {
             return Ok(Some(OpenLog {
-                open,
+                session,
                 ground_slots: 0,
             }));
         }
@@ -303,8 +309,11 @@ fn open_log(alloc: Global, line: &[u8], text: &mut Vec<u8>) -> Result<Option<Ope
     match LogOpening::from_line(alloc, line) {
         Ok(opening) => {
             let ground_slots = opening.numbering.ground_slots();
-            let open = OpenSession::on_ground(alloc, opening);
-            Ok(Some(OpenLog { open, ground_slots }))
+            let session = OpenSession::on_ground(alloc, opening);
+            Ok(Some(OpenLog {
+                session,
+                ground_slots,
+            }))
         }
         Err(DocFault::Memory) => Err(AllocError),
         Err(_) => Ok(None),

@@ -507,7 +507,7 @@ impl Run {
         let refusal = ShortAnswer::CallWithoutLog(call).text();
         let ReadyToForget { forgetting, text } = ready;
         let forgotten = Forgotten {
-            forgetting: &forgetting,
+            forgetting: forgetting.get(),
             most_records: self.session.most_records(),
             text: text.as_slice(),
             refusal: refusal.as_str().as_bytes(),

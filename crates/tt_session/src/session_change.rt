@@ -1,7 +1,6 @@
 //! What becomes of a session with an answer, apart from its database.
 use std::alloc::{AllocError, Global};
 use std::marker::Model;
-use std::ops::Deref;
 use tt_db::Db;
 use tt_numbers::Numbering;
 use tt_records::Record;
@@ -28,7 +27,8 @@ pub(crate) struct Forgetting {
 }
 
 impl Model for Forgetting {
-    ghost use Rattle.std.specs.Prelude.{◌≤◌, []};
+    ghost use Rattle.std.specs.Prelude.{◌≡◌, ◌≤◌, []};
+    ghost use Rattle.tt_horizon.specs.Grounds.{HasGround};
     ghost use Rattle.tt_session.specs.Session.{Forgetting};
     ghost use Rattle.tt_session.specs.Sound.{IsSound};
 
@@ -41,8 +41,8 @@ impl Model for Forgetting {
       numbering = f.numbering;
     } };
 
-    ghost invariant = { λ f.
-        IsSound f.db f.numbering [] 0 × (f.ground_slots ≤ f.time) };
+    ghost invariant = { λ f. IsSound f.db f.numbering [] 0 × (f.ground_slots ≤ f.time)
+        × HasGround f.db f.ground_slots × (f.numbering.ground_slots ≡ f.ground_slots) };
 }
 
 /// A forgetting in a block of its own: without one, what becomes of a session is small to move.
@@ -70,22 +70,16 @@ impl BoxedForgetting {
         Ok(BoxedForgetting { forgetting })
     }
 
+    pub(crate) fn get(&self) -> &Forgetting
+        ensures { result.now ≡ self.now }
+    {
+        &self.forgetting
+    }
+
     pub(crate) fn into_inner(self) -> Forgetting
         ensures { result ≡ self }
     {
         let BoxedForgetting { forgetting } = self;
         Box::into_inner(forgetting)
-    }
-}
-
-impl Deref for BoxedForgetting {
-    type Target = Forgetting;
-
-    ghost deref_gives = { λ b forgetting. forgetting ≡ b };
-
-    fn deref(&self) -> &Forgetting
-        ensures { result.now ≡ self.now }
-    {
-        &self.forgetting
     }
 }

@@ -170,8 +170,14 @@ impl OpenSession {
         match change {
             SessionChange::Latest(_) => self.push_answer(text, answer),
             SessionChange::Forgetting(forgetting) => {
-                let catalog = forgetting.db.catalog();
-                push_call(text, catalog, forgetting.numbering, self.calls, answer)
+                let behind = forgetting.get();
+                push_call(
+                    text,
+                    behind.db.catalog(),
+                    behind.numbering,
+                    self.calls,
+                    answer,
+                )
             }
         }
     }

@@ -79,14 +79,9 @@ impl OpenSession {
         let mut text = Vec::new(self.alloc);
         match outcome_of_forget(self, request) {
             Ok((answer, Some(forgetting))) => {
-                let catalog = forgetting.db.catalog();
-                push_call(
-                    &mut text,
-                    catalog,
-                    forgetting.numbering,
-                    self.calls,
-                    &answer,
-                )?;
+                let behind = forgetting.get();
+                let catalog = behind.db.catalog();
+                push_call(&mut text, catalog, behind.numbering, self.calls, &answer)?;
                 Ok((text, Some(forgetting)))
             }
             Ok((answer, None)) => {
