@@ -457,7 +457,8 @@ class ReplicaTest(WithEtcd):
         for replica in replicas[:2]:
             logged = self.logged(replica)
             self.assertEqual(logged[0]["ground"], {"time": 30, "generation": 0, "slots": 2})
-            self.assertEqual([len(line.get("do", [])) for line in logged[1:]], [16, 14, *[1] * 10, 0, 0, 0, 0])
+            sizes = [len(line.get("do", [])) for line in logged[1:]]
+            self.assertEqual(sizes, [16, 14, *[1] * 10, 0, 0, 0, 0])
         for replica in replicas:
             replica.send(signal.SIGTERM)
             self.assertEqual(self.ended(replica), 0)
