@@ -528,8 +528,7 @@ class Anew(Checks):
             first.stdin.write(text_of([OPENING]).encode())
             first.stdin.flush()
             first.stdout.readline()
-            second = self.stopped(file, [OPENING, FORGETTING[6]],
-                                  self.with_calls(library, file, STOP_AT=opens))
+            second = self.stopped(file, [OPENING], self.with_calls(library, file, STOP_AT=opens))
             first.stdin.write(text_of([FORGETTING[5]]).encode())
             first.stdin.flush()
             self.check(b'"horizon":2' in first.stdout.readline(), what)
@@ -538,6 +537,6 @@ class Anew(Checks):
             it.write(OPENING)
         second.send_signal(18)
         answers, told = second.communicate(text_of([FORGETTING[7]]).encode())
-        self.check(second.returncode == 0 and answers.count(b'\n') == 3 and b'"horizon":2' in answers, what,
+        self.check(second.returncode == 0 and answers.count(b'\n') == 2 and b'"horizon":2' in answers, what,
                    answers, told)
         self.is_behind(file, self.expected, 8, 8, what)
