@@ -164,7 +164,9 @@ class Replica(Server):
 
     def _begin_again(self) -> None:
         self._floor = max(self._floor or 0, self._fed_next + (self._fed_part > 0))
-        self._forgetting = None
+        self._forgetting = self._at_rest = None
+        self._holding = False
+        self._parts.clear()    # they come again
         reads = [fed for fed in self._fed if isinstance(fed, LocalRead)]
         self._fed.clear()
         for read in reads:
