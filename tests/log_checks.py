@@ -10,6 +10,7 @@ OPENING = ('{"version":2,"tables":[{"name":"acct","columns":[{"name":"id","kind"
 WIDE = '{"insert":"acct","row":[%d,"' + 'x' * 1000 + '",0]}'
 CANNOT_READ = 'timetravel: cannot read the log\n'
 CANNOT_WRITE = 'timetravel: cannot write the log\n'
+IN_USE = 'timetravel: the log is in use\n'
 CANNOT_ANSWER = 'timetravel: cannot write standard output\n'
 
 

@@ -17,7 +17,7 @@ import sys
 import tempfile
 from concurrent.futures import ThreadPoolExecutor
 
-from log_checks import CANNOT_ANSWER, CANNOT_READ, CANNOT_WRITE, OPENING, WIDE, text_of
+from log_checks import CANNOT_ANSWER, CANNOT_READ, CANNOT_WRITE, IN_USE, OPENING, WIDE, text_of
 from logs_anew import Anew
 from shared_objects import built
 
@@ -124,8 +124,7 @@ class Logs(Anew):
             held.stdin.flush()
             held.stdout.readline()
             status, answers, told = self.run(file, [OPENING])
-            self.check((status, answers) == (1, []) and told == 'timetravel: the log is in use\n',
-                       'a second session on a file', status, told)
+            self.check((status, answers, told) == (1, [], IN_USE), 'a second session on a file', status, told)
             self.is_shown(file, 'a file that is in use', False)
             held.stdin.close()
         self.check(self.run(file, [OPENING])[0] == 0, 'a session after another one has ended')
@@ -242,7 +241,7 @@ def main(words):
             logs.fail_calls(library)
             logs.lose_the_power_after_a_start(library)
             logs.tear(library, ways)
-            logs.forget_with_calls(library, ways // 5)
+            logs.forget_with_calls(library, ways // 8)
         print(f'tests/logs.py: {logs.checks} checks, {logs.failed} failed')
         return 1 if logs.failed else 0
 

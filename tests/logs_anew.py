@@ -8,12 +8,13 @@ import copy
 import json
 import os
 import random
+import signal
 import subprocess
 import sys
 from concurrent.futures import ThreadPoolExecutor
+from contextlib import contextmanager
 
-from log_checks import (
-    CANNOT_ANSWER, CANNOT_READ, CANNOT_WRITE, OPENING, WIDE, Checks, text_of)
+from log_checks import CANNOT_ANSWER, CANNOT_READ, CANNOT_WRITE, IN_USE, OPENING, WIDE, Checks, text_of
 from session_model import Session
 from session_model import text_of as json_of
 
@@ -127,6 +128,16 @@ class Expected:
                 log = made_anew(session) if '"forget"' in line else [*log, line]
             self.logs.append(log)
             self.sessions.append(session)
+        self.wanted = {}
+
+    def answers_behind(self, place):
+        """What a start answers to the opening and the questions where its log is that of this place."""
+        if place not in self.wanted:
+            session, log = copy.deepcopy(self.sessions[place]), self.logs[place]
+            session.calls = len(log) - 1 - ground_slots(log)    # behind the ground
+            self.wanted[place] = [json_of(session.status()),
+                                  *(json_of(session.answer(line.encode())) for line in QUESTIONS)]
+        return self.wanted[place]
 
 
 def ground_slots(log):
@@ -140,10 +151,8 @@ class Anew(Checks):
     def goes_on_behind(self, file, expected, place, what):
         """A start on a file answers as the session behind so many lines, and leaves the file as it is,
         with bytes 0 behind its lines, and no other one beside it."""
-        session, log = copy.deepcopy(expected.sessions[place]), expected.logs[place]
+        log, want = expected.logs[place], expected.answers_behind(place)
         status, answers, told = self.run(file, [OPENING, *QUESTIONS])
-        session.calls = len(log) - 1 - ground_slots(log)    # behind the ground
-        want = [json_of(session.status()), *(json_of(session.answer(it.encode())) for it in QUESTIONS)]
         differs = [pair for pair in zip(answers, want) if pair[0] != pair[1]]
         self.check((status, told) == (0, '') and answers == want, what, status, told, *differs[:1])
         self.check(self.logged(file) == log, f'{what}: another log behind a start')
@@ -163,7 +172,8 @@ class Anew(Checks):
 
     def forget(self):
         """What needs no shared object."""
-        self.expected = Expected(FORGETTING)
+        self.expected_of = {}
+        self.expected = self.expected_without([])
         self.forget_and_go_on()
         self.forget_behind_a_link()
         self.make_room()
@@ -173,7 +183,20 @@ class Anew(Checks):
         self.fill_a_disk_while_forgetting()
         self.forget_in_a_folder_that_is_not_written()
 
+    def expected_without(self, refused):
+        """What is expected where the lines of these places are refused. It is as if the status had been
+        asked for in their stead."""
+        if (*refused,) not in self.expected_of:
+            lines = [STATUS if place in refused else line for place, line in enumerate(FORGETTING)]
+            self.expected_of[(*refused,)] = Expected(lines)
+        return self.expected_of[(*refused,)]
+
     def forget_with_calls(self, library, ways):
+        """What needs the shared object."""
+        calls = self.calls_of(library, FORGETTING, self.one_by_one)
+        self.check({'open new', 'rename', 'fsync folder'} <= {*calls}, 'no log is made anew', calls)
+        if 'rename' not in calls:
+            return
         self.kill_while_forgetting(library)
         self.fail_while_forgetting(library)
         self.start_while_forgetting(library)
@@ -299,14 +322,13 @@ class Anew(Checks):
             session.answer(line.encode())
             if size_of(session) != before:
                 log.append(line)
-        self.expected.sessions.append(session)
-        self.expected.logs.append(log)
+        old = Expected([])
+        old.sessions.append(session)
+        old.logs.append(log)
         file = self.new_file()
         with open(file, 'w') as it:
             it.write(text_of(log))
-        self.goes_on_behind(file, self.expected, -1, 'an old log')
-        self.expected.sessions.pop()
-        self.expected.logs.pop()
+        self.goes_on_behind(file, old, 1, 'an old log')
         answer = self.run(file, [OPENING, '{"forget":7}'])[1][1]
         self.check(json.loads(answer).get('horizon') == 7, 'an old log forgets', answer)
         self.check(json.loads(self.logged(file)[0])['ground']['time'] == 7, 'an old log is made anew')
@@ -424,7 +446,7 @@ class Anew(Checks):
         with open(trace) as it:
             calls = len(it.readlines())
         self.in_threads(self.lose_a_name_once, [(library, naming, call, seed)
-                                                for call in range(1, calls + 1) for seed in range(6)])
+                                                for call in range(1, calls + 1) for seed in range(3)])
 
     def named(self, library, naming):
         """A file of a session that was killed behind the naming of its log."""
@@ -434,7 +456,8 @@ class Anew(Checks):
         return file
 
     def lose_a_name_once(self, library, naming, call, seed):
-        file, what = self.named(library, naming), f'torn at call {call} of a start behind a naming, way {seed}'
+        file = self.named(library, naming)
+        what = f'torn at call {call} of a start behind a naming, in way {seed}'
         _, answers, _ = self.one_by_one(file, [OPENING, *FORGETTING[6:8]],
                                         self.with_calls(library, file, TEAR_AT=call, TEAR_SEED=seed))
         if answers:
@@ -458,8 +481,7 @@ class Anew(Checks):
         status, answers, told = self.one_by_one(
             file, FORGETTING, self.with_calls(library, file, FAIL_FROM=first, FAIL_TO=max(first, last)))
         refused = [place for place, answer in enumerate(answers) if answer.endswith(',"refused":"log"}')]
-        # Where it is refused, it is as if the status had been asked for.
-        expected = Expected([STATUS if place in refused else line for place, line in enumerate(FORGETTING)])
+        expected = self.expected_without(refused)
         want = ['{"call":%d,"refused":"log"}' % place if place in refused else answer
                 for place, answer in enumerate(expected.answers)]
         self.check(answers == want[:len(answers)] and all('"forget"' in FORGETTING[it].replace(' ', '')
@@ -485,15 +507,26 @@ class Anew(Checks):
         self.in_threads(self.start_behind_a_call, given)
         self.start_before_a_naming(library)
 
+    @contextmanager
     def stopped(self, file, lines, environment):
         """A session that was given some lines, and is stopped by one of its calls."""
         held = subprocess.Popen(self.session(file), stdin=subprocess.PIPE, stdout=subprocess.PIPE,
                                 stderr=subprocess.PIPE, env={**os.environ, **environment})
-        held.stdin.write(text_of(lines).encode())
-        held.stdin.flush()
-        _, status = os.waitpid(held.pid, os.WUNTRACED)
-        self.check(os.WIFSTOPPED(status), 'a session that is stopped', status)
-        return held
+        try:
+            held.stdin.write(text_of(lines).encode())
+            held.stdin.flush()
+            _, status = os.waitpid(held.pid, os.WUNTRACED)
+            self.check(os.WIFSTOPPED(status), 'a session that is stopped', status)
+            yield held
+        finally:
+            held.kill()
+
+    def ended(self, held, lines):
+        """The answers of a session that was stopped, and goes on with some lines to its end."""
+        held.send_signal(signal.SIGCONT)
+        answers, told = held.communicate(text_of(lines).encode(), 60)
+        self.check((held.returncode, told) == (0, b''), 'a session that goes on', held.returncode, told)
+        return answers.decode().splitlines()
 
     def start_behind_a_call(self, library, call):
         file, what = self.new_file(), f'a start behind call {call} of a session that forgets'
@@ -501,14 +534,14 @@ class Anew(Checks):
         calls = self.calls_again(library, file)
         if call > len(calls):
             return
-        held = self.stopped(file, [OPENING, FORGETTING[5]], self.with_calls(library, file, STOP_AT=call))
-        before = os.path.lexists(f'{file}.new')
-        status, answers, told = self.run(file, [OPENING, STATUS])
-        self.check((status, answers, told) == (1, [], 'timetravel: the log is in use\n'), what, status, told)
-        self.check(os.path.lexists(f'{file}.new') == before, f'{what}: the new log is removed')
-        held.send_signal(18)
-        answers = held.communicate(text_of([FORGETTING[6]]).encode())[0].decode().splitlines()
-        self.check(held.returncode == 0 and len(answers) == 3 and '"horizon":2' in answers[1], what, answers)
+        environment = self.with_calls(library, file, STOP_AT=call)
+        with self.stopped(file, [OPENING, FORGETTING[5]], environment) as held:
+            before = os.path.lexists(f'{file}.new')
+            status, answers, told = self.run(file, [OPENING, STATUS])
+            self.check((status, answers, told) == (1, [], IN_USE), what, status, told)
+            self.check(os.path.lexists(f'{file}.new') == before, f'{what}: the new log is removed')
+            answers = self.ended(held, [FORGETTING[6]])
+        self.check(len(answers) == 3 and '"horizon":2' in answers[1], what, answers)
         self.is_behind(file, self.expected, 6, 6, what)
 
     def calls_again(self, library, file):
@@ -528,15 +561,14 @@ class Anew(Checks):
             first.stdin.write(text_of([OPENING]).encode())
             first.stdin.flush()
             first.stdout.readline()
-            second = self.stopped(file, [OPENING], self.with_calls(library, file, STOP_AT=opens))
-            first.stdin.write(text_of([FORGETTING[5]]).encode())
-            first.stdin.flush()
-            self.check(b'"horizon":2' in first.stdout.readline(), what)
-            first.stdin.close()
-        with open(f'{file}.new', 'w') as it:    # as if a third one had been killed
-            it.write(OPENING)
-        second.send_signal(18)
-        answers, told = second.communicate(text_of([FORGETTING[7]]).encode())
-        self.check(second.returncode == 0 and answers.count(b'\n') == 2 and b'"horizon":2' in answers, what,
-                   answers, told)
+            with self.stopped(file, [OPENING], self.with_calls(library, file, STOP_AT=opens)) as second:
+                first.stdin.write(text_of([FORGETTING[5]]).encode())
+                first.stdin.flush()
+                self.check(b'"horizon":2' in first.stdout.readline(), what)
+                first.stdin.close()
+                first.wait(60)
+                with open(f'{file}.new', 'w') as it:    # as if a third one had been killed
+                    it.write(OPENING)
+                answers = self.ended(second, [FORGETTING[7]])
+        self.check(len(answers) == 2 and '"horizon":2' in answers[0], what, answers)
         self.is_behind(file, self.expected, 8, 8, what)
