@@ -162,10 +162,13 @@ class PositionTest(unittest.TestCase):
         self.assertEqual(log.position, noted)
 
     def test_a_log_that_was_made_anew_by_another_request(self) -> None:
-        for forgetting in (None, Forgetting(2, 5, 1), Forgetting(3, 5, 2), Forgetting(3, 6, 1)):
+        repair = self.ANEW.replace(b'{"worker":1,"do":[4]}', b'{"worker":1,"begin":[]}')
+        for forgetting, data in ((None, self.ANEW), (Forgetting(2, 5, 1), self.ANEW),
+                                 (Forgetting(3, 5, 2), self.ANEW), (Forgetting(3, 6, 1), self.ANEW),
+                                 (Forgetting(3, 5, 1), repair)):
             with self.subTest(forgetting), self.assertRaisesRegex(PositionError, "hasn't the lines"):
                 noted = self.noted_before(forgetting)
-                log = self.log(self.ANEW, noted)
+                log = self.log(data, noted)
                 try:
                     log.read()
                 finally:

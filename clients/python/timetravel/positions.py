@@ -17,15 +17,18 @@ import fcntl
 import hashlib
 import json
 import os
+import re
 import shutil
 import time
 from collections.abc import Iterable, Iterator
 from dataclasses import asdict, dataclass
-from typing import IO, Any
+from itertools import islice
+from typing import Any
 
 SUFFIX = ".position"
 _PIECE = 1 << 20
 _LOCKING = 10.0    # seconds that an earlier session has to end
+_SLOT = re.compile(rb'\{"worker":\d+,"do":\[')    # how a line of a slot begins in a log that was made anew
 
 
 class PositionError(Exception):
@@ -126,8 +129,7 @@ class LogFile:
             position = Position()
             write_position(self.position_path, position)    # before the log has its first line
         self.position, self._tally = self._found(position)
-        return [line for piece in _logged(self.path, self.position.bytes)
-                for line in piece[:-1].split(b"\n")]
+        return list(_lines(self.path, self.position.bytes))
 
     def _found(self, position: Position) -> tuple[Position, _Tally]:
         """The position as it stands in this log, and the lines by then. They are other ones where the log
@@ -148,10 +150,12 @@ class LogFile:
         ground = _ground(self.path)
         if forgetting is None or ground is None:
             return None
-        told = ground.get("time"), ground.get("generation")
-        if told != (forgetting.to, forgetting.generation) or type(ground.get("slots")) is not int:
+        told, slots = (ground.get("time"), ground.get("generation")), ground.get("slots")
+        if told != (forgetting.to, forgetting.generation) or type(slots) is not int or slots < 0:
             return None
-        return 1 + int(ground["slots"]) + forgetting.time - forgetting.to
+        lines = 1 + slots + max(0, forgetting.time - forgetting.to)
+        later = islice(_lines(self.path, 0), 1 + slots, lines)
+        return lines if all(map(_SLOT.match, later)) else None
 
     def cut(self) -> None:
         """Cuts off what is past the position."""
@@ -252,7 +256,6 @@ def _tally_of_lines(path: str, number: int) -> _Tally:
 
 def _logged(path: str, start: int) -> Iterator[bytes]:
     """The log's whole lines from this byte on, in pieces of some of them."""
-    file: IO[bytes]
     try:
         file = open(path, "rb")
     except FileNotFoundError:
@@ -271,15 +274,19 @@ def _logged(path: str, start: int) -> Iterator[bytes]:
             begun = text[end:]
 
 
+def _lines(path: str, start: int) -> Iterator[bytes]:
+    """The log's whole lines from this byte on."""
+    for piece in _logged(path, start):
+        yield from piece[:-1].split(b"\n")
+
+
 def _ground(path: str) -> dict[str, Any] | None:
     """What the first line of a log tells of its ground, or `None` where it has none."""
-    for piece in _logged(path, 0):
-        try:
-            ground = json.loads(piece.partition(b"\n")[0]).get("ground")
-        except (ValueError, AttributeError, RecursionError):
-            return None
-        return ground if isinstance(ground, dict) else None
-    return None
+    try:
+        ground = json.loads(next(_lines(path, 0), b"")).get("ground")
+    except (ValueError, AttributeError, RecursionError):
+        return None
+    return ground if isinstance(ground, dict) else None
 
 
 def behind(lines: Iterable[bytes], logged: list[bytes]) -> list[bytes]:
