@@ -527,6 +527,32 @@ class ReplicaTest(WithEtcd):
                 replica.send(signal.SIGTERM)
                 self.assertEqual(self.ended(replica), 0)
 
+    def test_a_replica_that_dies_around_a_forgetting(self) -> None:
+        """Before each call that puts a line or a position somewhere, and right behind the line itself,
+        which the session then carries out without a replica."""
+        runner = os.path.join(self.folder, "runner.py")
+        Path(runner).write_text(DYING_REPLICA)
+        watching = self.client(self.replica("watching"))
+        slots = {"slots": [1, 999]}
+        for number, (step, when) in enumerate([*((step, "before") for step in range(1, 9)), (5, "behind")]):
+            with self.subTest(step=step, when=when):
+                key, time = 100 * number, 22 * number + 15
+                package = [runner, str(step), when, str(time)]
+                replica = self.replica(f"{step}.{when}", log=True, package=package)
+                client = self.client(replica)
+                client.ask_all(*(insert(key + some) for some in range(20)))
+                client.send(insert(key + 20), {"forget": time}, insert(key + 21))
+                self.assertEqual(self.ended(replica), -signal.SIGKILL)
+                replica = self.replica(f"{step}.{when}", log=True)
+                client = self.client(replica)
+                until(lambda: client.ask({"status": True}).get("horizon") == time, "it has forgotten")
+                until(lambda: client.ask(slots)["slots"] == watching.ask(slots)["slots"], "the same slots")
+                self.assert_same_rows(client, watching)
+                self.assertEqual(self.logged(replica)[0]["ground"]["time"], time)
+                watching.ask_all(*[{"do": []}] * (22 * (number + 1) - client.ask({"status": True})["time"]))
+                replica.send(signal.SIGTERM)
+                self.assertEqual(self.ended(replica), 0)
+
     def test_a_log_that_can_not_be_made_anew(self) -> None:
         replica, other = self.replica("a", log=True), self.replica("b", log=True)
         client, elsewhere = self.client(replica), self.client(other)
@@ -747,6 +773,40 @@ for line in sys.stdin.buffer:
     sys.stdout.buffer.flush()
 held.stdin.close()
 held.wait()
+"""
+
+
+# A replica that is killed at a step: of what it writes from a line on that forgets up to a time.
+DYING_REPLICA = """
+import os, signal, sys
+sys.path.insert(0, os.getcwd())
+from timetravel import __main__, positions, replicas, serving
+step, when, time = int(sys.argv[1]), sys.argv[2], int(sys.argv[3])
+steps = None
+
+def counted(call):
+    def called(*given):
+        global steps
+        steps = None if steps is None else steps + 1
+        if steps == step and when == "before":
+            os.kill(os.getpid(), signal.SIGKILL)
+        done = call(*given)
+        if steps == step:
+            os.kill(os.getpid(), signal.SIGKILL)
+        return done
+    return called
+
+def begins(call):
+    def called(*given):
+        global steps
+        steps = 0 if given[0]._forgetting.forgets == time else None
+        return call(*given)
+    return called
+
+os.fsync, os.rename = counted(os.fsync), counted(os.rename)
+serving.Program.take = counted(serving.Program.take)
+replicas.Replica._ask_before_forgetting = begins(replicas.Replica._ask_before_forgetting)
+sys.exit(__main__.main(sys.argv[4:]))
 """
 
 
