@@ -1,28 +1,26 @@
 #!/usr/bin/env python3
-"""Sessions with a log that are killed, whose file is torn, and whose calls fail.
+"""Sessions with a log that are killed, whose file is torn, and whose calls fail; also while they forget,
+and make it anew (tests/logs_anew.py).
 
   tests/logs.py PROGRAM [--tears N]
 
 PROGRAM is crates/tt_cli/out/tt_cli. Each check prints a line where it fails, and the status is 1 then.
 The file is torn in 2,000 ways, or in N. What isn't synced is torn, and calls fail, by a shared object
 (tests/tear_unsynced.c) that stands before the C library; where no C compiler builds it, the status is
-1, too. Where no file system can be mounted, a line says that the full one is left out. It takes two
-minutes.
+1, too. Where no file system can be mounted, a line says which tests are left out. It takes two minutes.
 """
-import itertools
 import os
 import random
 import signal
 import subprocess
 import sys
 import tempfile
-import threading
 from concurrent.futures import ThreadPoolExecutor
 
+from log_checks import CANNOT_ANSWER, CANNOT_READ, CANNOT_WRITE, IN_USE, OPENING, WIDE, text_of
+from logs_anew import Anew
 from shared_objects import built
 
-OPENING = ('{"version":2,"tables":[{"name":"acct","columns":[{"name":"id","kind":"int"},'
-           '{"name":"owner","kind":"text","partition":true},{"name":"bal","kind":"int"}]}]}')
 LINES = [
     OPENING,
     '{"insert":"acct","row":[1,"ann",100]}',
@@ -42,7 +40,6 @@ LINES = [
 ]
 # Whether the line is logged.
 IS_LOGGED = [1, 1, 1, 0, 0, 1, 0, 1, 1, 1, 0, 1, 0, 1]
-WIDE = '{"insert":"acct","row":[%d,"' + 'x' * 1000 + '",0]}'
 # With the program, where the file system goes, and a folder for what is given and told.
 FILL = """
 mount -t tmpfs -o size=1m tmpfs "$2" && : >"$3/mounted" || exit 77
@@ -55,47 +52,7 @@ mount -o remount,size=16m "$2" &&
 QUESTIONS = ['{"slots":[1,9]}', '{"status":true}', '{"select":"acct","where":[]}']
 
 
-def text_of(lines):
-    return ''.join(line + '\n' for line in lines)
-
-
-class Logs:
-    def __init__(self, program, folder):
-        self.program = os.path.abspath(program)
-        self.folder = folder
-        self.numbers = itertools.count(1)
-        self.lock = threading.Lock()
-        self.failed = 0
-        self.checks = 0
-
-    def check(self, holds, what, *shown):
-        with self.lock:
-            self.checks += 1
-            if not holds:
-                self.failed += 1
-                print(f'tests/logs.py: {what}', *(repr(it)[:300] for it in shown), file=sys.stderr)
-
-    def new_file(self):
-        return f'{self.folder}/log{next(self.numbers)}'
-
-    def run(self, file, lines, environment=None):
-        """A session to its end: its status, its answers, and what it says on standard error."""
-        ended = subprocess.run(self.session(file), input=text_of(lines).encode(), timeout=60,
-                               capture_output=True, env={**os.environ, **(environment or {})})
-        return ended.returncode, ended.stdout.decode().splitlines(), ended.stderr.decode()
-
-    def session(self, file):
-        """The command of a session with its log in a file."""
-        return [self.program, 'session', '--log', file]
-
-    def logged(self, file):
-        """The lines of a file that count."""
-        if not os.path.exists(file):
-            return []
-        with open(file, 'rb') as it:
-            text = it.read().split(b'\0')[0].decode()
-        return text.split('\n')[:-1]
-
+class Logs(Anew):
     def goes_on(self, file, what):
         """A session on a file answers as one that was given its lines alone."""
         before = self.logged(file)
@@ -108,21 +65,6 @@ class Logs:
         with open(file, 'rb') as it:
             rest = it.read()[len(text_of(before or [OPENING])):]
         self.check(not rest.strip(b'\0'), f'{what}: bytes behind the lines')
-
-    def is_shown(self, file, what, is_torn):
-        """`timetravel log` prints the lines of a file, tells how many, and leaves it as it is."""
-        with open(file, 'rb') as it:
-            before = it.read()
-        text = text_of(self.logged(file))
-        lines, size = text.count('\n'), len(text.encode())
-        torn = ', and a torn rest that counts for nothing' if is_torn else ''
-        shown = subprocess.run([self.program, 'log', file], stdin=subprocess.DEVNULL, timeout=60,
-                               capture_output=True)
-        self.check(shown.returncode == 0 and shown.stdout == text.encode()
-                   and shown.stderr.decode() == f'timetravel: lines: {lines}, bytes: {size}{torn}\n',
-                   f'{what}: shown otherwise', shown.returncode, shown.stdout, shown.stderr)
-        with open(file, 'rb') as it:
-            self.check(it.read() == before, f'{what}: changed by a look at it')
 
     def has_answered(self, file, answered, what):
         """A file has the first of the logged lines, at least those that were answered."""
@@ -168,11 +110,11 @@ class Logs:
                    and answers[2].startswith('{"time":1,'), 'another opening', answers)
         self.goes_on(file, 'a torn last line')
         status, _, told = self.run(f'{self.folder}/none/log', [OPENING])
-        self.check((status, told) == (1, 'timetravel: cannot read the log\n'), 'no folder', told)
+        self.check((status, told) == (1, CANNOT_READ), 'no folder', told)
         for path in (f'{self.folder}/none', self.folder):
             shown = subprocess.run([self.program, 'log', path], capture_output=True, timeout=60)
             self.check((shown.returncode, shown.stdout, shown.stderr)
-                       == (1, b'', b'timetravel: cannot read the log\n'), 'no file to look at', path)
+                       == (1, b'', CANNOT_READ.encode()), 'no file to look at', path)
 
     def hold_twice(self):
         file = self.new_file()
@@ -182,8 +124,7 @@ class Logs:
             held.stdin.flush()
             held.stdout.readline()
             status, answers, told = self.run(file, [OPENING])
-            self.check((status, answers) == (1, []) and told == 'timetravel: the log is in use\n',
-                       'a second session on a file', status, told)
+            self.check((status, answers, told) == (1, [], IN_USE), 'a second session on a file', status, told)
             self.is_shown(file, 'a file that is in use', False)
             held.stdin.close()
         self.check(self.run(file, [OPENING])[0] == 0, 'a session after another one has ended')
@@ -194,7 +135,7 @@ class Logs:
         lines = [OPENING, *(WIDE % number for number in range(2000))]
         limited = ['bash', '-c', 'ulimit -f 1024; trap "" XFSZ; exec "$@"', 'bash', *self.session(file)]
         ended = subprocess.run(limited, input=text_of(lines).encode(), capture_output=True)
-        self.check(ended.returncode == 4 and ended.stderr == b'timetravel: cannot write the log\n',
+        self.check(ended.returncode == 4 and ended.stderr == CANNOT_WRITE.encode(),
                    'a full disk', ended.returncode, ended.stderr)
         answered = ended.stdout.count(b'\n')
         logged = self.logged(file)
@@ -205,19 +146,12 @@ class Logs:
 
     def fill_a_disk(self):
         """A file system of a MiB gets full, and is then made larger."""
-        disk, beside = f'{self.folder}/disk', f'{self.folder}/beside'
-        os.mkdir(disk)
-        os.mkdir(beside)
+        disk, beside = self.new_folder(), self.new_folder()
         lines = [OPENING, *(WIDE % number for number in range(2000))]
         for name, given in (('lines', lines), ('questions', [OPENING, '{"status":true}'])):
             with open(f'{beside}/{name}', 'w') as it:
                 it.write(text_of(given))
-        words = ['unshare', '--mount', *(['--map-root-user'] if os.geteuid() else []),
-                 'sh', '-c', FILL, 'sh', self.program, disk, beside]
-        try:
-            ended = subprocess.run(words, capture_output=True, timeout=60).returncode
-        except FileNotFoundError:
-            ended = 77
+        ended = self.in_a_mount(FILL, disk, beside)
         if not os.path.exists(f'{beside}/mounted'):
             print('tests/logs.py: no file system can be mounted: left out is a disk that is full',
                   file=sys.stderr)
@@ -228,7 +162,7 @@ class Logs:
                 found[name] = it.read()
         logged = found['logged'].splitlines()
         self.check((ended, found['status'], found['told'])
-                   == (0, '4\n', 'timetravel: cannot write the log\n'), 'a full file system', found['told'])
+                   == (0, '4\n', CANNOT_WRITE), 'a full file system', found['told'])
         self.check(logged == lines[:len(logged)] and found['answers'].count('\n') <= len(logged),
                    'a full file system: lines that were answered are lost', len(logged))
         self.check(f'"entries":{len(logged) - 1},' in found['after'], 'a file system with room')
@@ -246,12 +180,9 @@ class Logs:
         file = self.new_file()
         if before:
             self.run(file, LINES[:before])
-        environment = {'LD_PRELOAD': library, 'TEAR_AT': str(call), 'TEAR_SEED': str(seed)}
+        environment = self.with_calls(library, file, TEAR_AT=call, TEAR_SEED=seed)
         given = [OPENING, *LINES[max(before, 1):]] if before else LINES
-        if at_once:
-            answers = self.run(file, given, environment)[1]
-        else:
-            answers = self.one_by_one(file, given, environment)
+        answers = (self.run if at_once else self.one_by_one)(file, given, environment)[1]
         answered = max(before - 1, 0) + len(answers) if answers else before
         what = f'torn in way {seed}'
         self.has_answered(file, max(answered, before), what)
@@ -264,48 +195,28 @@ class Logs:
         told_more = set()
         for call in range(1, 40):
             file, synced = self.new_file(), self.new_file()
-            self.one_by_one(file, LINES, {'LD_PRELOAD': library, 'KILL_AT': str(call)})
-            told = self.run(file, [OPENING, *QUESTIONS], {'LD_PRELOAD': library, 'KEEP_SYNCED': synced})
+            self.one_by_one(file, LINES, self.with_calls(library, file, KILL_AT=call))
+            told = self.run(file, [OPENING, *QUESTIONS],
+                            self.with_calls(library, file, KEEP_SYNCED=synced))
             found = self.run(synced, [OPENING, *QUESTIONS])
             self.check(told == found, f'killed at call {call}: what a start has told is lost', told, found)
             told_more.add(len(self.logged(synced)))
         self.check(len(told_more) > 5, 'sessions that are killed: all at one place', told_more)
 
-    def one_by_one(self, file, lines, environment):
-        answers = []
-        with subprocess.Popen(self.session(file), stdin=subprocess.PIPE, stdout=subprocess.PIPE,
-                              env={**os.environ, **environment}) as held:
-            try:
-                for line in lines:
-                    held.stdin.write(line.encode() + b'\n')
-                    held.stdin.flush()
-                    answer = held.stdout.readline()
-                    if not answer.endswith(b'\n'):
-                        break
-                    answers.append(answer)
-            except BrokenPipeError:
-                pass
-            try:
-                held.stdin.close()
-            except BrokenPipeError:
-                pass
-        return answers
-
     def fail_calls(self, library):
-        told_of = {0: '', 1: 'timetravel: cannot read the log\n', 4: 'timetravel: cannot write the log\n'}
+        told_of = {0: '', 1: CANNOT_READ, 4: CANNOT_WRITE}
         met = set()
         for last in (0, 1 << 40):
             for first in range(1, 40):
                 file = self.new_file()
-                environment = {'LD_PRELOAD': library, 'FAIL_FROM': str(first),
-                               'FAIL_TO': str(max(first, last))}
+                environment = self.with_calls(library, file, FAIL_FROM=first, FAIL_TO=max(first, last))
                 before = [] if first % 3 else LINES[:3]
                 if before:
                     self.run(file, before)
                 given = [OPENING, *LINES[3:]] if before else LINES
                 status, answers, told = self.run(file, given, environment)
                 met.add((status, told))
-                is_output = (status, told) == (4, 'timetravel: cannot write standard output\n')
+                is_output = (status, told) == (4, CANNOT_ANSWER)
                 self.check(status in told_of and (told == told_of[status] or is_output),
                            f'call {first} fails', status, told)
                 answered = max(len(before) - 1, 0) + len(answers) if answers else len(before)
@@ -323,12 +234,14 @@ def main(words):
         logs.hold_twice()
         logs.grow_no_further()
         logs.fill_a_disk()
+        logs.forget()
         library = built('tear_unsynced', folder)
         logs.check(library, 'no C compiler builds tests/tear_unsynced.c')
         if library:
             logs.fail_calls(library)
             logs.lose_the_power_after_a_start(library)
             logs.tear(library, ways)
+            logs.forget_with_calls(library, ways // 8)
         print(f'tests/logs.py: {logs.checks} checks, {logs.failed} failed')
         return 1 if logs.failed else 0
 

@@ -146,14 +146,15 @@ class ReplicaProcess(Process):
     """A replica, whose session's number is noted."""
 
     def __init__(self, folder: str, name: str, urls: Sequence[str], *, log: bool = False, bound: float = 10.0,
-                 options: Sequence[str] = (), session: Sequence[str] = ()) -> None:
+                 options: Sequence[str] = (), session: Sequence[str] = (),
+                 package: Sequence[str] = ("-m", "timetravel")) -> None:
         self.socket = os.path.join(folder, f"{name}.socket")
         self.log = os.path.join(folder, f"{name}.log")
         self._noted = os.path.join(folder, f"{name}.session")
         self.said = os.path.join(folder, f"{name}.said")
         command = [*(session or [str(PROGRAM)]), "session", *(["--log", self.log] if log else [])]
         self._command = [
-            sys.executable, "-m", "timetravel", "replica", "--etcd", ",".join(urls), "--prefix", "bank",
+            sys.executable, *package, "replica", "--etcd", ",".join(urls), "--prefix", "bank",
             "--bound", str(bound), *options, self.socket, "--", *NOTING, self._noted, *command]
 
     def start(self) -> ReplicaProcess:

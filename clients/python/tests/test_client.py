@@ -16,9 +16,9 @@ from typing import Any
 
 from timetravel import (
     AnotherOpening, ChangedSelect, ChangedWrite, Changes, Closed, EditedTwice, Error, Fault, Forgotten, Full,
-    Later, Lost, Moved, NoAnswer, NoGeneration, NoSlot, NotRepairing, NotStarted, OutOfMemory, Previewed,
-    Progress, Refused, Repairing, Reply, Selected, Session, Slot, Slots, Status, Stepped, Switched, Tables,
-    Written, cancel, delete, do, insert, preview, replace, select, update)
+    Later, LogFailed, Lost, Moved, NoAnswer, NoGeneration, NoSlot, NotRepairing, NotStarted, OutOfMemory,
+    Previewed, Progress, Refused, Repairing, Reply, Selected, Session, Slot, Slots, Status, Stepped, Switched,
+    Tables, Written, cancel, delete, do, insert, preview, replace, select, update)
 
 from stand_in import ACCT, ACCT_LINE, INSERTED, OPENING, PROGRAM, Case, StandInCase, told
 
@@ -233,10 +233,12 @@ class StandIn(Conversation, StandInCase):
     def test_the_other_refusals(self) -> None:
         with self.open(told('{"call":1,"refused":"full","limit":4000000}',
                             '{"call":2,"refused":"memory"}',
-                            '{"call":3,"refused":"something new","size":3}')) as session:
+                            '{"call":3,"refused":"something new","size":3}',
+                            '{"call":4,"refused":"log"}')) as session:
             self.assert_raises(session.status, Full, {"limit": 4000000, "call": 1})
             self.assert_raises(session.status, OutOfMemory, {"cause": "memory", "call": 2})
             self.assert_raises(session.status, Refused, {"cause": "something new", "size": 3})
+            self.assert_raises(lambda: session.forget(1), LogFailed, {"cause": "log", "call": 4})
 
     def test_texts_of_exceptions(self) -> None:
         self.assertEqual(str(Moved("moved", 1, now=4)), "moved (now 4)")
@@ -567,6 +569,30 @@ class Program(Conversation):
             self.assertRaises(AnotherOpening, self.open, log=path, keep=0)
             with self.open(log=path) as session:
                 self.assertEqual([slot.slot for slot in session.slots(1, 9).slots], [1, 2])
+
+    def test_a_session_that_forgets_with_a_log(self) -> None:
+        with tempfile.TemporaryDirectory() as folder:
+            path, in_the_way = Path(folder) / "bank.log", Path(folder) / "bank.log.new"
+            with self.open(log=path) as session:
+                for key in range(40):
+                    session.insert("acct", [key, "ann", 0])
+                in_the_way.mkdir()
+                self.assertRaises(LogFailed, session.forget, 39)
+                self.assertEqual(session.status().horizon, 0)
+                in_the_way.rmdir()
+                self.assertEqual(session.forget(39), Status(43, 40, 0, 0, 4, None, 39))
+                self.assertEqual(session.insert("acct", [40, "ann", 0]).slot, 41)
+            lines = path.read_bytes().split(b"\0")[0].splitlines()
+            self.assertEqual(len(lines), 1 + 3 + 1 + 1)    # the opening, 39 rows, the slots 40 and 41
+            with self.open(log=path, keep_slots=1) as session:
+                self.assertEqual(session.opened, Status(0, 41, 0, 0, 5, None, 39))
+                self.assertEqual([row["id"] for row in session.select("acct").rows], list(range(41)))
+                in_the_way.mkdir()
+                self.assertEqual(session.insert("acct", [41, "ann", 0]).slot, 42)    # and a line is refused
+                self.assertEqual(session.status().horizon, 39)
+                in_the_way.rmdir()
+                session.insert("acct", [42, "ann", 0])
+                self.assertEqual(session.status().horizon, 42)
 
     def test_a_session_that_is_opened_again(self) -> None:
         with tempfile.TemporaryDirectory() as folder:

@@ -38,7 +38,7 @@ STORE = {"version": 2, "tables": [
 @dataclass
 class Asked:
     """A request of a client, and what came of it."""
-    kind: str    # "read", "write", "note" or "repair"
+    kind: str    # "read", "write", "note" or "repair", which may be another request
     line: bytes    # with a number of a worker that no other has
     called: float
     key: int = 0
@@ -143,6 +143,14 @@ class Caller:
             else:
                 self.ask("repair", {"worker": worker, "finish": True})
 
+    def forget_old(self, stop: threading.Event) -> None:
+        """Forgets all but the last slots, now and then."""
+        while not stop.is_set():
+            time.sleep(0.1)
+            status = self.ask("repair", {"worker": self.workers(), "status": True})
+            if status is not None and "time" in status:
+                self.ask("repair", {"worker": self.workers(), "forget": max(0, status["time"] - 40)})
+
     def note(self, now: int) -> int:
         slots = self.ask("repair", {"worker": self.workers(), "slots": [1, now]})
         notes = [slot["slot"] for slot in (slots or {"slots": []})["slots"] if "note" in str(slot["do"])]
@@ -191,11 +199,12 @@ class KillsTest(WithEtcd):
         self.assertEqual(self.client(self.replicas[0], STORE).ask(first)["slot"], 1)
         counter = itertools.count(100)
         callers = [Caller([replica.socket for replica in self.replicas], random.Random(f"{seed} {place}"),
-                          lambda: next(counter)) for place in range(13)]
+                          lambda: next(counter)) for place in range(14)]
         stop = threading.Event()
         pause = 12 * rounds * 6 / least
         threads = [threading.Thread(target=self.call, args=(caller, stop, pause)) for caller in callers[:12]]
         threads.append(threading.Thread(target=callers[12].repair, args=(stop,)))
+        threads.append(threading.Thread(target=callers[13].forget_old, args=(stop,)))
         for thread in threads:
             thread.start()
         try:
@@ -302,6 +311,7 @@ class KillsTest(WithEtcd):
         self.assertTrue(linearizable(history, model, (1, (0,) * REGISTERS)))
         self.judge_reads_here([one for one in answered if one.here], history)
         self.assertTrue(any(one.line.endswith(b'"finish": true}') for one in answered), "no repair")
+        self.assertTrue(any("horizon" in (one.answer or {}) for one in answered), "nothing is forgotten")
         print(f"\n{len(asked)} requests, {len(answered)} answered, {len(lines)} lines in entries, "
               f"{len(history)} in the history", file=sys.stderr)
 

@@ -889,6 +889,24 @@ class Serving(unittest.TestCase):
         found = samples(metrics(server.path))
         self.assertEqual((found["timetravel_slots"], found["timetravel_horizon"]), (10, 7))
 
+    def test_a_session_with_a_log_that_forgets(self) -> None:
+        server = self.with_log("--restart")
+        client = server.client()
+        client.send(*(insert(key) for key in range(40)))
+        self.assertEqual([client.answer()["slot"] for _ in range(40)], list(range(1, 41)))
+        before = samples(metrics(server.path))["timetravel_log_bytes"]
+        os.mkdir(self.log + ".new")
+        self.assertEqual(client.ask({"forget": 40})["refused"], "log")
+        os.rmdir(self.log + ".new")
+        self.assertEqual(client.ask({"forget": 40})["horizon"], 40)
+        client.ask(insert(40))
+        found = samples(metrics(server.path))
+        self.assertEqual(found['timetravel_refusals_total{cause="log"}'], 1)
+        self.assertLess(found["timetravel_log_bytes"], before)
+        os.kill(server.session(), signal.SIGKILL)
+        until(lambda: server.client().opened.get("horizon") == 40, "the session is started again")
+        self.assertEqual(len(server.client().ask(ALL)["rows"]), 41)
+
     # Stalls
 
     def test_hundreds_of_starts_and_ends(self) -> None:

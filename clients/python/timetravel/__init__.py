@@ -32,8 +32,8 @@ from .answers import (
     Stepped, Switched, Tables, Written)
 from .errors import (
     AnotherOpening, Closed, Disconnected, EditedTwice, Ended, Error, Fault, Forgotten, Forked, Full, Later,
-    Lost, Moved, NoAnswer, NoGeneration, NoSlot, NotConnected, NotRepairing, NotStarted, OutOfMemory, Refused,
-    Repairing)
+    LogFailed, Lost, Moved, NoAnswer, NoGeneration, NoSlot, NotConnected, NotRepairing, NotStarted,
+    OutOfMemory, Refused, Repairing)
 from .requests import (
     Change, Edit, NewRow, Where, Write, cancel, delete, do, insert, preview, replace, select, update)
 from .session import Session
@@ -44,7 +44,8 @@ __version__ = "0.1.0"
 __all__ = [
     "AnotherOpening", "Answer", "Change", "ChangedSelect", "ChangedWrite", "Changes", "Closed", "Column",
     "Disconnected", "Edit", "EditedTwice", "Ended", "Error", "Fault", "Forgotten", "Forked", "Full", "Later",
-    "Lost", "Moved", "NewRow", "NoAnswer", "NoGeneration", "NoSlot", "NotConnected", "NotRepairing",
-    "NotStarted", "OutOfMemory", "Previewed", "Progress", "Refused", "Repairing", "Reply", "Row", "Selected",
-    "Session", "Slot", "Slots", "Status", "Stepped", "Switched", "Table", "Tables", "Value", "Where", "Write",
-    "Written", "aio", "cancel", "delete", "do", "insert", "preview", "replace", "select", "update"]
+    "LogFailed", "Lost", "Moved", "NewRow", "NoAnswer", "NoGeneration", "NoSlot", "NotConnected",
+    "NotRepairing", "NotStarted", "OutOfMemory", "Previewed", "Progress", "Refused", "Repairing", "Reply",
+    "Row", "Selected", "Session", "Slot", "Slots", "Status", "Stepped", "Switched", "Table", "Tables",
+    "Value", "Where", "Write", "Written", "aio", "cancel", "delete", "do", "insert", "preview", "replace",
+    "select", "update"]

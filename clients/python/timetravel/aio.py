@@ -586,8 +586,8 @@ class Session:
         """Forgets what lies before a time, closed generations too, so that there is room again. The rows
         stay, and each slot behind this time can be read and repaired as before.
 
-        Raises `Repairing`, `Later`, `Forgotten` where more is forgotten already, and what any request
-        does.
+        Raises `Repairing`, `Later`, `Forgotten` where more is forgotten already, `LogFailed` where there
+        is a log and it can't be made anew, and what any request does.
         """
         return await self._ask({"forget": time}, answers.status, worker, if_time, timeout)
 

@@ -157,7 +157,13 @@ class OutOfMemory(Refused):
     """The program has no memory for this request; the database is as it was."""
 
 
+class LogFailed(Refused):
+    """The log couldn't be made anew, for example because its disk is full, so nothing is forgotten. The
+    session goes on with the log as it was."""
+
+
 REFUSALS: dict[str, type[Refused]] = {
     "moved": Moved, "later": Later, "forgotten": Forgotten, "no generation": NoGeneration,
     "not repairing": NotRepairing, "repairing": Repairing, "no slot": NoSlot,
-    "edited twice": EditedTwice, "full": Full, "another opening": AnotherOpening, "memory": OutOfMemory}
+    "edited twice": EditedTwice, "full": Full, "another opening": AnotherOpening, "memory": OutOfMemory,
+    "log": LogFailed}

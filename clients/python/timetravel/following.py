@@ -44,9 +44,11 @@ class Found:
 
 @dataclass(frozen=True)
 class Started:
-    """The session can be started, and will be fed with the entries from this number on."""
+    """The session can be started, and will be fed with the entries from this number on, the first of them
+    without as many lines as `part`."""
     run: int
     number: int
+    part: int
 
 
 def encoded(name: bytes, requests: Iterable[Request]) -> bytes:
@@ -100,6 +102,7 @@ class Follower:
         self._prepared = False
         self._next = 0    # the next entry
         self._behind = 0    # entries that the log has, between the first one and this one
+        self._part = 0    # and lines of this one
         self._page = PAGE    # entries that are asked for at once
         self._rivalry = 0    # above 0 where others have appended lately
         self._yields = 0.0    # seconds to leave to others, and to look for entries, before it appends again
@@ -275,33 +278,35 @@ class Follower:
     def _prepare(self, run: int) -> None:
         """Makes the log ready for a session. Its lines past its position are cut off, once it is known
         that they will come again."""
-        number = 0
+        number = part = 0
         if self._log is not None:
             past = self._log.read()
-            number = self._log.position.entry
+            number, part = self._log.position.entry, self._log.position.part
             if past:
-                self._look_for(past, number)
+                self._look_for(past, number, part)
                 self._log.cut()
         with self._changed:
             if run == self._run:
-                self._behind = number
+                self._behind, self._part = number, part
                 self._prepared = True
-                self._found.append(Started(run, number))
+                self._found.append(Started(run, number, part))
         self._wake()
 
-    def _look_for(self, past: list[bytes], number: int) -> None:
+    def _look_for(self, past: list[bytes], number: int, part: int) -> None:
         while past:
             values = self._entries.fetch(number)
             if not values:
                 raise PositionError(f"etcd hasn't the log's line {past[0][:200]!r}")
             for value in values:
-                past = behind((line for _, line in decoded(value)), past)
+                past = behind((line for _, line in decoded(value)[part:]), past)
+                part = 0
             number += len(values)
 
     def _skip(self, run: int) -> None:
         """Goes on behind the entries that the log has. The last of them is never dropped."""
-        if not self._entries.fetch(self._behind - 1, 1):
-            raise EntriesGone(f"entry {self._behind - 1} is gone from etcd")
+        last = self._behind if self._part else self._behind - 1
+        if not self._entries.fetch(last, 1):
+            raise EntriesGone(f"entry {last} is gone from etcd")
         with self._changed:
             if run == self._run:
                 self._next = max(self._behind, 1)

@@ -15,8 +15,8 @@ class Keeping:
     who waits for the answer to that line, so nobody else does.
 
     It is time once a write has taken a slot twice as far behind the horizon as slots are to be kept.
-    Where that line is refused, since a repair is under way, or somebody else has forgotten more, or for
-    another cause, there is another one some slots later.
+    Where that line is refused, since a repair is under way, or somebody else has forgotten more, or the
+    log can't be made anew, or for another cause, there is another one some slots later.
     """
 
     def __init__(self, slots: int) -> None:

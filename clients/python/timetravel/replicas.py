@@ -12,7 +12,7 @@ import os
 import select
 import socket
 from collections import deque
-from collections.abc import Callable, Sequence
+from collections.abc import Callable, Iterator, Sequence
 from dataclasses import dataclass
 from functools import partial
 from time import monotonic
@@ -23,7 +23,7 @@ from .front import PATIENCE, Connection
 from .joining import Judge, flag, is_status, strictly, understood, without_call
 from .lines import BLANK, Notifier, SocketError, handed_over, listen
 from .metrics import command_log, kinds_of, one
-from .positions import LogFile, PositionError, read_position
+from .positions import Forgetting, LogFile, PositionError, read_position
 from .serving import (
     FIRST_PAUSE, LONGEST_PAUSE, MEASURING, STATUS, STOPPING, TRIES, Program, Server, Signals, complain,
     exit_status, how_ended, without_log)
@@ -37,6 +37,7 @@ _MOST_FED = 1 << 20    # bytes of entries that the session has to answer, beyond
 _READS = {b"select", b"preview", b"status", b"slots", b"changes", b"tables"}
 _READ = b'"read"'
 _MEMORY = b',"refused":"memory"}'
+_NO_LOG = b',"refused":"log"}'
 _NO_ETCD = b'{"lost":"etcd has not answered in time"}\n'
 _TOO_LONG = b'{"refused":"too long for a replica","limit":%d}' % LONGEST
 _NOT_JUDGED = b'{"refused":"memory"}'    # no program could be asked
@@ -50,12 +51,22 @@ class LocalRead:
     then: Callable[[bytes], None]
 
 
+@dataclass(eq=False)
+class Part:
+    """Lines of an entry that are fed together."""
+    lines: bytes
+    number: int    # how many lines
+    own: int | None    # the number of the first one where they are requests of this replica
+    next: int    # the first entry that isn't carried out as a whole behind them
+    part: int    # and how many of its lines are
+    forgets: int | None = None    # the time up to which the session is to forget: there is one line then
+
+
 @dataclass
 class Fed:
     """Lines of an entry that the session is to answer."""
+    part: Part
     number: int    # how many lines
-    size: int
-    next: int    # the entry behind it
     own: int | None    # the number of the first one where they are requests of this replica
 
 
@@ -76,14 +87,20 @@ class Replica(Server):
         self._fed: deque[Fed | LocalRead] = deque()    # what the session has to answer
         self._fed_size = 0
         self._first_entry = b""    # the opening that is in etcd
+        self._parts: deque[Part] = deque()    # of an entry, to be fed
+        self._forgetting: Part | None = None    # the next one, before which the session is at rest
+        self._refusals = 0    # in a row, of a session that couldn't make its log anew
         self._fed_next = 0    # the entry that comes next
+        self._fed_part = 0    # and how many of its lines were fed
         self._answered_next = 0    # the first entry that isn't answered as a whole
-        self._first_behind_log = 0    # the first entry that isn't in the log
+        self._first_behind_log = 0    # the first entry that isn't in the log as a whole
+        self._first_part = 0    # and how many of its lines were carried out
         self._floor: int | None = None    # the entry before which nothing may be read any more
         self._next_number = 1    # of the next request
         self._next_answer = 1    # of the first request that isn't answered
         self._arrivals: deque[list[float]] = deque()    # when these arrived, and how many did
-        self._noting = False    # the session is to come to rest for a position
+        self._holding = False    # nothing further is to be fed for now
+        self._at_rest: Callable[[], None] | None = None    # what is done when all that was fed is answered
         self._noted = 0
         self._proposing = False
         self._told_failing = False
@@ -111,18 +128,20 @@ class Replica(Server):
 
     def _start_program(self) -> None:
         """Begins to feed a new session. The program is started once its log is ready for it."""
-        self._is_open = self._ignoring = self._noting = False
+        self._is_open = self._ignoring = self._holding = False
+        self._at_rest = self._forgetting = None
         self._fed.clear()
-        self._fed_size = self._fed_next = self._answered_next = 0
+        self._parts.clear()
+        self._fed_size = self._fed_next = self._fed_part = self._answered_next = 0
         self._run = self._follower.restart()
 
-    def _start_session(self, next_entry: int) -> None:
+    def _start_session(self, next_entry: int, part: int) -> None:
         try:
             self._program = Program(self, self._command, self._session_ended, self._session_answered)
         except OSError as error:
             self._fail(f"cannot start {self._command[0]}: {error.strerror}")
             return
-        self._first_behind_log = next_entry
+        self._first_behind_log, self._first_part = next_entry, part
         self.metrics.starts += 1
 
     def _session_ended(self, status: int) -> None:
@@ -144,7 +163,10 @@ class Replica(Server):
         self._begin_again()
 
     def _begin_again(self) -> None:
-        self._floor = max(self._floor or 0, self._fed_next)
+        self._floor = max(self._floor or 0, self._fed_next + (self._fed_part > 0))
+        self._forgetting = self._at_rest = None
+        self._holding = False
+        self._parts.clear()    # they come again
         reads = [fed for fed in self._fed if isinstance(fed, LocalRead)]
         self._fed.clear()
         for read in reads:
@@ -346,28 +368,54 @@ class Replica(Server):
         if self._follower.fatal:
             self._fail(self._follower.fatal)
             return
-        while not self._noting and self._fed_size <= _MOST_FED and not self._closed_input:
+        while not self._holding and self._fed_size <= _MOST_FED and not self._closed_input:
+            if self._parts:
+                self._feed_part(self._parts.popleft())
+                continue
             found = self._follower.found()
             if found is None:
                 break
             if found.run != self._run:
                 continue
             if isinstance(found, Started):
-                self._start_session(found.number)
+                self._start_session(found.number, found.part)
             elif self._program is not None:
-                self._feed_entry(found)
-        if self._follower.at_end and not self._noting:
+                self._parts.extend(self._parts_of(found))
+        if self._follower.at_end and not self._holding and not self._parts:
             self._reached_end()
 
-    def _feed_entry(self, entry: Found) -> None:
-        assert self._program is not None
-        lines = entry.lines
-        self._fed_next = max(entry.number + 1, self._first_behind_log)
-        self._fed.append(Fed(entry.requests, len(lines), self._fed_next, entry.own))
-        self._fed_size += len(lines)
+    def _parts_of(self, entry: Found) -> Iterator[Part]:
+        """What is fed of an entry, one part after the other. A line that forgets is fed alone where there
+        is a log."""
         if entry.number == 0:
-            self._first_entry = lines.partition(b"\n")[0]
-        self._program.take(lines)
+            self._first_entry = entry.lines.partition(b"\n")[0]
+            yield Part(entry.lines, entry.requests, entry.own, max(1, self._first_behind_log),
+                       self._first_part)
+            return
+        lines, done = entry.lines, 0
+        if entry.number == self._first_behind_log and self._first_part:
+            done = self._first_part
+            lines = b"".join(_lines(lines)[done:])
+        for piece, time in _alone(lines) if self._file is not None else ((lines, None),):
+            own = None if entry.own is None else entry.own + done
+            number = piece.count(b"\n")
+            done += number
+            whole = done >= entry.requests
+            yield Part(piece, number, own, entry.number + whole, 0 if whole else done, time)
+
+    def _feed_part(self, part: Part) -> None:
+        if part.forgets is None:
+            self._fed_next, self._fed_part = part.next, part.part
+            self._put(part)
+        else:
+            self._forgetting = part
+            self._rest(self._ask_before_forgetting)
+
+    def _put(self, part: Part) -> None:
+        assert self._program is not None
+        self._fed.append(Fed(part, part.number, part.own))
+        self._fed_size += len(part.lines)
+        self._program.take(part.lines)
 
     def _reached_end(self) -> None:
         """The session has been fed with all that etcd had at a time after the replica's start."""
@@ -401,23 +449,28 @@ class Replica(Server):
             if suspicious and any(line.endswith(_MEMORY + b"\n") for line in lines[at:at + some]):
                 self._end_session_without_memory()
                 return
+            if fed.part.forgets is not None:
+                if lines[at].endswith(_NO_LOG + b"\n"):
+                    self._has_not_forgotten(fed)
+                    at += 1
+                    continue
+                self._has_forgotten(fed.part)
             self._entry_answered(fed, some, lines[at:at + some])
             at += some
         self._feed()
-        if self._noting and not self._fed_size:
-            self._note()
+        self._look_whether_at_rest()
 
     def _is_asked(self, fed: Fed | LocalRead) -> bool:
-        """Whether somebody here waits for what the session answers to this."""
-        return isinstance(fed, LocalRead) or fed.own is not None or not self._is_open
+        """Whether what the session answers to this is to be looked at."""
+        return (isinstance(fed, LocalRead) or fed.own is not None or fed.part.forgets is not None
+                or not self._is_open)
 
     def _entry_answered(self, fed: Fed, some: int, lines: list[bytes]) -> None:
         """The session has answered this many lines of an entry: by `lines`, where they were asked for."""
         own = fed.own
         if some == fed.number:
-            self._fed.popleft()
-            self._fed_size -= fed.size
-            self._answered_next = fed.next
+            self._is_answered(fed)
+            self._answered_next = fed.part.next
         else:
             fed.number -= some
             fed.own = None if own is None else own + some
@@ -425,6 +478,10 @@ class Replica(Server):
             self._opening_answered(lines[0])
         elif own is not None:
             self._own_answered(own, lines)
+
+    def _is_answered(self, fed: Fed) -> None:
+        self._fed.popleft()
+        self._fed_size -= len(fed.part.lines)
 
     def _own_answered(self, first: int, answers: list[bytes]) -> None:
         """Gives out the answers of this replica's requests from `first` on, but for those that have one."""
@@ -463,6 +520,62 @@ class Replica(Server):
         self._ignoring = True
         assert self._program is not None
         self._program.kill()
+
+    # Coming to rest, and forgetting
+
+    def _rest(self, then: Callable[[], None]) -> None:
+        """Feeds nothing further, and calls `then` once all that was fed is answered."""
+        self._holding, self._at_rest = True, then
+        self._look_whether_at_rest()
+
+    def _look_whether_at_rest(self) -> None:
+        if self._at_rest is not None and not self._fed_size:
+            then, self._at_rest = self._at_rest, None
+            then()
+
+    def _ask_before_forgetting(self) -> None:
+        """The session is to forget next. Its status tells which log it will make."""
+        self._feed_read(LocalRead(STATUS, partial(self._note_before_forgetting, self._forgetting)))
+
+    def _note_before_forgetting(self, part: Part | None, answer: bytes) -> None:
+        if part is None or not self._may_forget(part):
+            return
+        status = json.loads(answer)
+        if "time" not in status:
+            self._end_session_without_memory()
+            return
+        assert part.forgets is not None
+        if self._write_position(Forgetting(part.forgets, status["time"], status["generation"])):
+            self._put(part)
+
+    def _may_forget(self, part: Part) -> bool:
+        """Whether this is still what the session is to be fed with next."""
+        return (self._forgetting is part and self._program is not None and not self._ignoring
+                and not self._closed_input)
+
+    def _has_forgotten(self, part: Part) -> None:
+        """The session has answered a line that forgets, and its log is perhaps a new one."""
+        self._forgetting, self._refusals = None, 0
+        self._holding = False
+        self._fed_next, self._fed_part = part.next, part.part
+        self._write_position(anew=True)
+
+    def _has_not_forgotten(self, fed: Fed) -> None:
+        """The session couldn't make its log anew. Others have forgotten, so it is asked again before it
+        gets anything further; and where it can't after some tries, this replica ends."""
+        self._is_answered(fed)
+        assert self._file is not None
+        self._refusals += 1
+        if self._refusals >= TRIES:
+            self._fail(f"the session can't make {self._file.path} anew, and so can't forget")
+            return
+        complain(f"the session can't make {self._file.path} anew to forget, and is asked again")
+        pause = min(FIRST_PAUSE * 2 ** (self._refusals - 1), LONGEST_PAUSE)
+        self.at(self.now + pause, partial(self._forget_again, fed.part))
+
+    def _forget_again(self, part: Part) -> None:
+        if self._may_forget(part):
+            self._put(part)
 
     # Reads at this replica
 
@@ -518,7 +631,9 @@ class Replica(Server):
 
     def _is_carrying_out(self) -> bool:
         """Whether the session is to answer requests of this replica that are in the log of entries."""
-        return any(isinstance(fed, Fed) and fed.own is not None for fed in self._fed)
+        parts = [*self._parts] if self._forgetting is None else [self._forgetting, *self._parts]
+        return (any(isinstance(fed, Fed) and fed.own is not None for fed in self._fed)
+                or any(part.own is not None for part in parts))
 
     def _tell_of_etcd(self) -> None:
         """Says on standard error when etcd has failed for a while, and when it is back."""
@@ -534,19 +649,28 @@ class Replica(Server):
 
     def _note_later(self) -> None:
         self.at(self.now + _NOTE, self._note_later)
-        if self._is_open and not self._ignoring and self._fed_next > self._noted:
-            self._noting = True
-            if not self._fed_size:
-                self._note()
+        if self._is_open and not self._ignoring and not self._holding and self._fed_next > self._noted:
+            self._rest(self._note)
 
     def _note(self) -> None:
-        """Writes the position: the session has answered all entries that it was fed with."""
-        self._noting = False
-        if self._file is not None and self._is_open:
-            self._file.note(self._fed_next)
-            self._noted = self._fed_next
+        """Writes the position: the session has answered all that it was fed with."""
+        self._holding = False
+        self._write_position()
         if not self._closed_input:
             self._feed()
+
+    def _write_position(self, forgetting: Forgetting | None = None, anew: bool = False) -> bool:
+        """Writes the position of a session that is at rest. Ends where it can't, and tells whether it
+        could."""
+        if self._file is None or not self._is_open:
+            return False
+        try:
+            self._file.note(self._fed_next, self._fed_part, forgetting, anew)
+        except OSError as error:
+            self._fail(f"cannot write {self._file.position_path}: {error.strerror}")
+            return False
+        self._noted = self._fed_next
+        return True
 
     # Metrics
 
@@ -582,6 +706,42 @@ def _reads(line: bytes) -> object:
         return None
     value = strictly(line)
     return value["read"] if isinstance(value, dict) and value.keys() == {"read"} else None
+
+
+def _lines(lines: bytes) -> list[bytes]:
+    return [line + b"\n" for line in lines[:-1].split(b"\n")]    # a carriage return ends none
+
+
+def _alone(lines: bytes) -> Iterator[tuple[bytes, int | None]]:
+    """Lines of an entry in pieces: each that forgets alone, with the time up to which it does, and those
+    between them together."""
+    if b'"forget"' not in lines and b"\\" not in lines:    # as nearly always
+        yield lines, None
+        return
+    between: list[bytes] = []
+    for line in _lines(lines):
+        time = _time_to_forget(line)
+        if time is None:
+            between.append(line)
+            continue
+        if between:
+            yield b"".join(between), None
+            between.clear()
+        yield line, time
+    if between:
+        yield b"".join(between), None
+
+
+def _time_to_forget(line: bytes) -> int | None:
+    """The time up to which a line forgets, or `None` where it doesn't, or has a fault."""
+    if b'"forget"' not in line and b"\\" not in line:    # a name may be written with escapes
+        return None
+    try:
+        value = json.loads(line.decode())
+    except (ValueError, RecursionError):
+        return None
+    time = value.get("forget") if isinstance(value, dict) else None
+    return time if type(time) is int and time >= 0 else None
 
 
 def _is_special(line: bytes) -> bool:

@@ -64,8 +64,8 @@ class Session:
         With `keep_slots` the session forgets what is old, so that it doesn't get full: after a write at
         least twice so many slots behind the horizon, up to the time of that write less `keep_slots`. The
         line for it is sent beside the requests, and nobody waits for its answer. Where it is refused, as
-        during a repair, it is sent again some slots later. Of several clients of one session, one is
-        given `keep_slots`.
+        during a repair or on a full disk, it is sent again some slots later. Of several clients of one
+        session, one is given `keep_slots`.
 
         Raises `NotStarted`, `Lost` where the program ends again, `AnotherOpening`, `Fault`,
         `OutOfMemory`, `NoAnswer`, and `ValueError` or `TypeError` for what a line can't carry.
@@ -376,8 +376,8 @@ class Session:
         """Forgets what lies before a time, closed generations too, so that there is room again. The rows
         stay, and each slot behind this time can be read and repaired as before.
 
-        Raises `Repairing`, `Later`, `Forgotten` where more is forgotten already, and what any request
-        does.
+        Raises `Repairing`, `Later`, `Forgotten` where more is forgotten already, `LogFailed` where there
+        is a log and it can't be made anew, and what any request does.
         """
         return self._ask({"forget": time}, answers.status, worker, if_time, timeout)
 
