@@ -9,6 +9,8 @@ pub mod PageLemmas
 pub mod ReadBackLemmas
 pub mod LogReadLemmas
 pub mod LogRenewalLemmas
+pub mod RenewingLemmas
+pub mod AnewLemmas
 pub mod RoomLemmas
 pub mod SlotLemmas
 pub mod StepLemmas

@@ -188,7 +188,7 @@ printed_log_opens tables keep records n sound few_kept few_records is few_slots 
     let short = short_log tables keep records n sound few_kept few_records is few_slots in
     let value = line-value 5 (json.object (log_tree tables keep records n)) line (log_data tables keep records n) members_of_log_opening (the_log tables keep records n) back (omega arith) short in
     record {
-      log = ap log_opening_of value ∙ ap (with_path document_path) back.decoded;
+      read = ap log_opening_of value ∙ ap (with_path document_path) back.decoded;
       no_opening = ap (λ v. is_err (opening_of v)) value ∙ no-session tables keep records n sound few_kept few_records;
       taken_up = taken-up (log_opening_members tables keep records n) short;
     }

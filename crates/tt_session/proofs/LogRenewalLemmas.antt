@@ -248,7 +248,7 @@ log-of session p numbered few =
           slots = ground_lines;
           lines_are = refl;
           opening = log;
-          opens = opens.log;
+          opens = opens.read;
           count = omega (arith, length-map first (line_of_entry true db.catalog), length-take-le size db.history p.within);
           laid = lays.laid;
         };

@@ -47,12 +47,19 @@ same-next n m = grind (arith, nat_tests)
 -- ---- lines for which the log isn't made anew
 
 -- a line that changes nothing
+pub far-not-anew : (session : Session) (read : LineRead) → IsAsFar session (turn_of_read session read).session → makes_log_anew session read ≡ false
+far-not-anew session read far =
+    ap (λ b. line_asks_to_forget session read.line && b) (same-entries session (turn_of_read session read).session far.0 far.1)
+    ∙ and_right (line_asks_to_forget session read.line) false refl
+
+pub log-far : (lines : List (List ℕ)) (session : Session) (read : LineRead) → IsAsFar session (turn_of_read session read).session → log_next lines session read ≡ lines
+log-far lines session read far =
+    rw (far-not-anew session read far) (ap (λ ls. lines ++ ls) (none-logged session (turn_of_read session read).session read.line far) ∙ append-nil lines)
+
 pub plain-far : (session : Session) (read : LineRead) → read.is_unlogged ≡ false → IsAsFar session (turn_of_read session read).session → IsPlain session read
 plain-far session read logged far = record {
   not_unlogged = logged;
-  not_anew =
-      ap (λ b. line_asks_to_forget session read.line && b) (same-entries session (turn_of_read session read).session far.0 far.1)
-      ∙ and_right (line_asks_to_forget session read.line) false refl;
+  not_anew = far-not-anew session read far;
 }
 
 -- a line that doesn't ask for it

@@ -1,5 +1,5 @@
 -- How a session between a reader and an outlet goes on.
-use Rattle.std.proofs.Common.{◌≡◌, ℕ, ◌+◌, ◌-◌, Bool, true, false, List, [], ◌∷◌, ◌++◌, length, take, drop, map, append-nil, append_assoc, Option, Some, refl, sym, ap, ◌∙◌, subst}
+use Rattle.std.proofs.Common.{◌≡◌, ℕ, ◌+◌, ◌-◌, ◌≤◌, ◌==◌, ◌&&◌, not, Bool, true, false, List, [], ◌∷◌, ◌++◌, length, take, drop, map, append-nil, append_assoc, Option, Some, refl, sym, ap, ◌∙◌, subst}
 use Rattle.std.proofs.Math.Seq.{take-add}
 use Rattle.std.proofs.lemmas.Bool.{and_from}
 use Rattle.std.proofs.lemmas.List.{map-append, take_rest}
@@ -10,17 +10,29 @@ use Rattle.tt_session.specs.declared.session.Session.{Session}
 use Rattle.tt_session.specs.declared.session.Session.TheVariants.{NotOpen, Restored, Open}
 use Rattle.tt_session.specs.declared.run.Run.{Run}
 use Rattle.tt_session.specs.Lines.{HasBytes, has_no_feed, joined}
-use Rattle.tt_session.specs.Run.{Turn, turn_with_memory, turn_without_memory, turn_of_long_line}
-use Rattle.tt_session.specs.Answering.{LineRead, turn_of_read, turns_of, lines_read}
-use Rattle.tt_session.specs.Changing.{line_asks_to_forget}
+use Rattle.tt_requests.specs.LineValue.{value_of_line}
+use Rattle.tt_requests.specs.Opening.{max_records}
+use Rattle.tt_requests.specs.Requests.{request_of}
+use Rattle.tt_session.specs.declared.commands.ForgetRequest.{ForgetRequest}
+use Rattle.tt_session.specs.declared.open_session.ready_to_forget.ReadyToForget.{ReadyToForget}
+use Rattle.tt_session.specs.declared.short_answer.ShortAnswer.TheVariants as shorts
+use Rattle.tt_session.specs.ShortAnswers.{short_text}
+use Rattle.tt_session.specs.Session.{OpenSession, Forgetting, counted}
+use Rattle.tt_session.specs.Changes.{forgotten_by}
+use Rattle.tt_session.specs.Commands.{asks_to_forget}
+use Rattle.tt_session.specs.Forgetting.{forgets_nothing}
+use Rattle.tt_session.specs.Anew.{Forgets, IsReady}
+use Rattle.tt_session.specs.Run.{Turn, calls_of, turn_by_request, turn_by_value, turn_with_memory, turn_without_memory, turn_of_long_line}
+use Rattle.tt_session.specs.Answering.{LineRead, forgets_by, turn_of_read, turns_of, lines_read}
+use Rattle.tt_session.specs.Changing.{changes_database}
 use Rattle.tt_session.specs.Logged.{logged_by, logged_of, IsPlain, ArePlain, with_lines}
 use Rattle.tt_session.specs.PendingLines.{no_lines}
 use Rattle.tt_session.specs.Together.{kept_line, AnswersFront}
 use Rattle.tt_session.specs.Running.{Handing, Stands, Cuts, Serves, Rests, Halts, Takes, StopsIn, AnswersOne, StopsAt, HandsOver, StopsBetween, StandsOn, IsShort, HandsOverShort, StopsInShort}
-use Rattle.tt_session.proofs.AnsweringLemmas.{turns_of-append, joined-append, read-kept}
+use Rattle.tt_session.proofs.AnsweringLemmas.{turns_of-append, joined-append, read-kept, read-unlogged}
 use Rattle.tt_session.proofs.LineLemmas.{feed-more, rest_of}
-use Rattle.tt_session.specs.ForgetRequests.{AnswersPlain}
-use Rattle.tt_session.proofs.LoggedLemmas.{IsAsFar, with-nil, logged_of-append, none-logged, same-logged, plain-far, plain-other, plain-append}
+use Rattle.tt_session.specs.ForgetRequests.{IsForgetRequest, turn_of_forget, TurnsForget, AsksToForget, AnswersPlain}
+use Rattle.tt_session.proofs.LoggedLemmas.{IsAsFar, with-nil, logged_of-append, none-logged, same-logged, same-next, plain-far, plain-other, plain-append}
 
 -- ---- lines that are read
 
@@ -173,6 +185,105 @@ stops-short handed stopped has_log before after old mid is_lost turn text told f
     let stands = stands-same handed has_log first before start reads old.out.items mid.out.items old.workspace.lines mid.workspace.lines p out_is lines_are in
     let short = is-short start old.session reads read turn text start_is (told bytes has) refl far text_is in
     (read, refl, λ more. stops first start reads read more stands short)
+
+-- ---- a line that asks to forget
+
+forget-turn : (session : Session) (bytes : List ℕ) (f : ForgetRequest) (a : AsksToForget session bytes f) → turn_of_read session (kept_line bytes) ≡ turn_of_forget (counted a.opened) f
+forget-turn session bytes f a =
+    ap (λ s. turn_of_read s (kept_line bytes)) a.session_is ∙ read-kept (Open a.opened) bytes ∙ value-turn a.opened bytes f a.told a.asks
+  where
+    value-turn : (s : OpenSession) (line : List ℕ) (g : ForgetRequest) → is_passed_over line ≡ false → IsForgetRequest (request_of s.database.catalog (value_of_line line)) g
+        → turn_with_memory (Open s) line ≡ turn_of_forget (counted s) g
+    value-turn s line g told asks = rw told (ap (turn_by_request (counted s)) asks.1)
+
+-- it is refused, or nothing is left to forget
+pub one-stays : {O : Type 0} (handed : Handing O) (has_log : Type 0) (outlet : O) (old new : Run) (f : ForgetRequest) → ((bytes : List ℕ) → HasBytes old.line bytes → AsksToForget old.session bytes f)
+    → ((session : OpenSession) → old.session ≡ Open session → (text : List ℕ) × (new.out.items ≡ old.out.items ++ text) × (turn_of_forget (counted session) f ≡ record { text = text; session = Open (counted session) }))
+    → ((session : OpenSession) → old.session ≡ Open session → new.session ≡ Open (counted session)) → new.workspace.lines ≡ old.workspace.lines → AnswersOne handed has_log outlet outlet old new
+one-stays handed has_log outlet old new f asks prepared next lines first start reads bytes has p session_is =
+    let read : LineRead = kept_line bytes in
+    let a = asks bytes has in
+    let said = prepared a.opened a.session_is in
+    let turn : turn_of_read old.session read ≡ record { text = said.0; session = Open (counted a.opened) } = forget-turn old.session bytes f a ∙ said.2 in
+    let new_is : new.session ≡ (turn_of_read old.session read).session = next a.opened a.session_is ∙ ap (λ (t : Turn). t.session) (sym turn) in
+    let far : IsAsFar old.session (turn_of_read old.session read).session =
+    subst (λ (t : Turn). IsAsFar old.session t.session) (sym turn) (subst (λ s. IsAsFar s (Open (counted a.opened))) (sym a.session_is) (refl, refl)) in (
+      read,
+      refl,
+      stands-push handed has_log first outlet start reads read old.session old.out.items new.out.items old.workspace.lines new.workspace.lines p session_is
+          (said.1 ∙ ap (λ (t : Turn). old.out.items ++ t.text) (sym turn))
+          (lines ∙ sym (with-nil old.workspace.lines) ∙ ap (with_lines old.workspace.lines) (sym (none-logged old.session (turn_of_read old.session read).session bytes far)))
+          (plain-far old.session read refl far),
+      session-push start old.session new.session reads read session_is new_is,
+    )
+
+-- all answers before it are handed over, and there is something to forget
+pub is-ready : {O : Type 0} (handed : Handing O) (has_log : Type 0) (first outlet after : O) (start : Session) (reads : List LineRead) (bytes : List ℕ) (old mid run : Run) (f : ForgetRequest) (ready : ReadyToForget)
+    (a : AsksToForget old.session bytes f) → old.session ≡ (turns_of start reads).session → TurnsForget (counted a.opened) (turn_of_forget (counted a.opened) f) ready.text.items (Some ready.forgetting)
+    → mid.session ≡ Open (counted a.opened) → run.session ≡ mid.session → handed first after start reads → run.out.items ≡ [] → (has_log → run.workspace.lines ≡ Some [])
+    → IsReady handed has_log first after start reads bytes run ready
+is-ready handed has_log first outlet after start reads bytes old mid run f ready a session_is turns counted_is same given out lines = record {
+  session = a.opened;
+  before = sym session_is ∙ a.session_is;
+  counted_is = same ∙ counted_is;
+  asks = ap asks_to_forget a.asks.1;
+  short = a.short;
+  told = a.told;
+  turn = ap (turn_by_request (counted a.opened)) a.asks.1 ∙ turns.0;
+  anew = turns.1;
+  is_handed = given;
+  out = out;
+  lines = lines;
+}
+
+-- a session that forgets something has another database
+forgets-changes : (session : OpenSession) (f : Forgetting) → forgets_nothing (counted session) f ≡ false → changes_database (Open session) (Open (forgotten_by (counted session) f)) ≡ true
+forgets-changes session f is =
+    ap not (ap (λ b. b && (f.numbering.horizon == session.numbering.horizon)) (same-next (length f.db.history) (length session.database.history)) ∙ is)
+
+pub forgets : {O : Type 0} (handed : Handing O) (has_log : Type 0) (first outlet : O) (start : Session) (over : List LineRead) (line : List ℕ) (run : Run) (ready : ReadyToForget) (most : ℕ) (text refusal : List ℕ)
+    → (p : IsReady handed has_log first outlet start over line run ready) → ((session : OpenSession) → run.session ≡ Open session → most ≡ session.most_records) → most ≤ max_records
+    → text ≡ ready.text.items → refusal ≡ short_text (shorts.CallWithoutLog (calls_of run.session)) → Forgets start over line ready.forgetting most text refusal
+forgets handed has_log first outlet start over line run ready most text refusal p most_is few text_is refusal_is =
+    let s = p.session in
+    let next = forgotten_by (counted s) ready.forgetting in
+    let value : turn_of_read (Open s) (kept_line line) ≡ record { text = ready.text.items; session = Open next } = read-kept (Open s) line ∙ with-memory s line p.told ∙ p.turn in
+    let changes = forgets-changes s ready.forgetting p.anew in
+    let by_line : forgets_by (Open s) line ≡ true = (λ i. p.asks i && changes_database (Open s) (p.turn i).session) ∙ changes in
+    record {
+      session = s;
+      session_is = p.before;
+      most_is = most_is (counted s) p.counted_is;
+      few = few;
+      turn = value ∙ ap (λ t. record { text = t; session = Open next }) (sym text_is);
+      anew = (λ i. p.asks i && changes_database (Open s) (value i).session) ∙ changes;
+      refused =
+          read-unlogged (Open s) line p.told by_line
+          ∙ ap (λ t. record { text = t; session = Open (counted s) }) (ap (λ x. short_text (shorts.CallWithoutLog (calls_of x))) (sym p.counted_is) ∙ sym refusal_is);
+    }
+  where
+    with-memory : (s : OpenSession) (l : List ℕ) → is_passed_over l ≡ false → turn_with_memory (Open s) l ≡ turn_by_value (Open s) (value_of_line l)
+    with-memory s l told = rw told refl
+
+-- after it is answered, with the log made anew or refused
+pub forgets-one : {O : Type 0} (handed : Handing O) (has_log : Type 0) (first before after : O) (start : Session) (over : List LineRead) (line : List ℕ) (old new : Run) (ready : ReadyToForget) (read : LineRead)
+    → IsReady handed has_log first before start over line old ready → read.line ≡ line → handed first after start (over ++ read ∷ []) → new.session ≡ (turn_of_read (turns_of start over).session read).session
+    → new.out.items ≡ [] → (has_log → new.workspace.lines ≡ Some [])
+    → (r : LineRead) × (r.line ≡ line) × Stands handed has_log first after start (over ++ r ∷ []) new.out.items new.workspace.lines × (new.session ≡ (turns_of start (over ++ r ∷ [])).session)
+forgets-one handed has_log first before after start over line old new ready read p is given session out lines = (
+  read,
+  is,
+  record {
+    over = over ++ read ∷ [];
+    kept = [];
+    reads_are = sym (append-nil (over ++ read ∷ []));
+    is_handed = given;
+    text_is = out;
+    lines_are = lines;
+    plain = tt;
+  },
+  session ∙ sym (turns-session start over (read ∷ [])),
+)
 
 -- ---- whole lines, and the bytes of the next one
 

@@ -15,6 +15,8 @@ use Rattle.tt_session.specs.declared.session.Session.TheVariants.{Open}
 use Rattle.tt_session.specs.Answering.{LineRead, turn_of_read, turns_of}
 use Rattle.tt_requests.specs.declared.request.Command.{Command}
 use Rattle.tt_requests.specs.declared.request.Command.TheVariants as commands
+use Rattle.tt_requests.specs.Lines.{is_passed_over}
+use Rattle.tt_session.specs.ForgetRequests.{AnswersPlain}
 use Rattle.tt_session.specs.Commands.{reads_records, asks_for_records, is_forget, asks_to_forget}
 use Rattle.tt_session.specs.Lines.{joined, has_no_feed}
 use Rattle.tt_session.specs.Logged.{logged_by, logged_of, ArePlain, with_lines}
@@ -235,6 +237,20 @@ pub line-logged : (asked : Result Request DocFault) (line : List ℕ) (count : �
 line-logged asked line count old new before after kept left p =
     let none = front-nothing count (Open p.mid) (Open new) (before ++ p.text) after (with_lines kept (logged_by (Open old) (Open p.mid) line)) left p.others in
     none.2 ∙ ap (λ s. with_lines kept (logged_by (Open old) s line)) (sym none.0)
+
+-- a line that is answered alone, and doesn't ask to forget
+pub line-plain : (tables : Tables) (asked : Result Request DocFault) (line : List ℕ) (count : ℕ) (old new : OpenSession) (before after : List ℕ) (kept left : Option (List (List ℕ))) → tables ≡ old.database.catalog
+    → is_passed_over line ≡ false → asked ≡ request_of tables (value_of_line line) → asks_to_forget asked ≡ false → AnswersWith asked line [] count old new before after kept left
+    → AnswersPlain (Open old) (Open new) line before after kept left
+line-plain tables asked line count old new before after kept left same told is other p =
+    let asks : asked ≡ request_of old.database.catalog (value_of_line line) = is ∙ ap (λ t. request_of t (value_of_line line)) same in
+    let turn : turn_with_memory (Open old) line ≡ turn_by_request (counted old) asked = rw told (ap (turn_by_request (counted old)) (sym asks)) in
+    record {
+      text = line-text asked line count old new before after kept left p ∙ ap (λ (t : Turn). before ++ t.text) (sym turn);
+      session = line-session asked line count old new before after kept left p ∙ ap (λ (t : Turn). t.session) (sym turn);
+      lines = line-logged asked line count old new before after kept left p;
+      plain = ap asks_to_forget (sym asks) ∙ other;
+    }
 
 -- ---- a session that goes ahead
 

@@ -1,7 +1,8 @@
 -- How an outlet makes its log anew for a line by which a session forgets what lies before a time.
-use Rattle.std.specs.Prelude.{◌≡◌, ℕ, true, false, List, [], ◌∷◌, ◌++◌, Some}
+use Rattle.std.specs.Prelude.{◌≡◌, ℕ, ◌≤◌, true, false, List, [], ◌∷◌, ◌++◌, Some}
 use Rattle.tt_requests.specs.Lines.{is_too_long, is_passed_over}
 use Rattle.tt_requests.specs.LineValue.{value_of_line}
+use Rattle.tt_requests.specs.Opening.{max_records}
 use Rattle.tt_session.specs.declared.session.Session.{Session}
 use Rattle.tt_session.specs.declared.session.Session.TheVariants as sessions
 use Rattle.tt_session.specs.declared.outlet.Renewal.{Renewal}
@@ -23,6 +24,7 @@ pub record Forgets (start : Session) (over : List LineRead) (line : List ℕ) (f
   pub session : OpenSession
   pub session_is : (turns_of start over).session ≡ sessions.Open session
   pub most_is : most_records ≡ session.most_records
+  pub few : most_records ≤ max_records
   pub turn : turn_of_read (sessions.Open session) (kept_line line) ≡ record { text = text; session = sessions.Open (forgotten_by (counted session) f) }
   pub anew : makes_log_anew (sessions.Open session) (kept_line line) ≡ true
   pub refused : turn_of_read (sessions.Open session) (unlogged_line line) ≡ record { text = refusal; session = sessions.Open (counted session) }
@@ -60,6 +62,6 @@ ForgetsOne {O} handed has_log before after old new ready = (first : O) (start : 
     × (new.session ≡ (turns_of start (over ++ read ∷ [])).session)
 
 -- the outlet has failed before it had the answer
-abbrev pub StopsForgetting : {O : Type 0} → Handing O → Handing O → O → O → Run → ReadyToForget → Type 0
-StopsForgetting {O} handed stopped before after old ready = (has_log : Type 0) (first : O) (start : Session) (over : List LineRead) (line : List ℕ) →
+abbrev pub StopsForgetting : {O : Type 0} → Handing O → Handing O → Type 0 → O → O → Run → ReadyToForget → Type 0
+StopsForgetting {O} handed stopped has_log before after old ready = (first : O) (start : Session) (over : List LineRead) (line : List ℕ) →
     IsReady handed has_log first before start over line old ready → StopsRenewing stopped first after start over line

@@ -25,7 +25,7 @@ pub record IsTakenUp (line : List ℕ) : Type 0 where
 
 -- a line opens this log, and no session
 pub record OpensLog (line : List ℕ) (log : LogOpening) : Type 0 where
-  pub log : log_opening_of (value_of_line line) ≡ Ok log
+  pub read : log_opening_of (value_of_line line) ≡ Ok log
   pub no_opening : IsErr (opening_of (value_of_line line))
   pub taken_up : IsTakenUp line
 

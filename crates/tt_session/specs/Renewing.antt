@@ -10,6 +10,7 @@ use Rattle.tt_values.specs.declared.statement.Write.{Write}
 use Rattle.tt_db.specs.declared.event.Entry.{Entry}
 use Rattle.tt_grammar.specs.ReadBack.{IsStorable, values_of_write}
 use Rattle.tt_horizon.specs.Forgetting.{entry_of}
+use Rattle.tt_requests.specs.Opening.{max_records}
 use Rattle.tt_session.specs.declared.session.Session.TheVariants as sessions
 use Rattle.tt_session.specs.declared.log_renewal.RenewFault.{RenewFault}
 use Rattle.tt_session.specs.declared.log_renewal.RenewFault.TheVariants as faults
@@ -31,7 +32,7 @@ pub record IsPrintable (is_ground : Bool) (e : Entry) : Type 0 where
 
 -- a log that is made for a session which forgets is one of that session
 abbrev pub IsReadable : Forgetting → ℕ → Type 0
-IsReadable f most_records = (session : OpenSession) → session.database ≡ f.db → session.numbering ≡ f.numbering → session.most_records ≡ most_records →
+IsReadable f most_records = (session : OpenSession) → session.database ≡ f.db → session.numbering ≡ f.numbering → session.most_records ≡ most_records → most_records ≤ max_records →
     IsLogOf (lines_of_log (sessions.Open session)) (sessions.Open session)
 
 -- a log goes on as it was

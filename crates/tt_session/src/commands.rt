@@ -2,7 +2,7 @@
 ghost use Rattle.std.specs.Prelude.{◌≡◌, ◌≢◌, true, false, IfErr, MatchOption};
 ghost use Rattle.tt_session.specs.Answers.{Becomes};
 ghost use Rattle.tt_session.specs.Session.{with_database};
-ghost use Rattle.tt_session.specs.Commands.{status, declared_tables, carried_out, is_read_only, reads_records, asks_read_only, asks_for_records, asks_to_forget, moved_to, outcome_of_request};
+ghost use Rattle.tt_session.specs.Commands.{status, declared_tables, carried_out, is_read_only, reads_records, asks_read_only, asks_for_records, is_forget, asks_to_forget, moved_to, outcome_of_request};
 ghost use Rattle.tt_session.specs.ForgetRequests.{IsForgetRequest};
 
 use crate::change_entries::{changes, next_changes};
@@ -97,6 +97,25 @@ pub(crate) struct ForgetRequest {
     /// The current time that it expects, if it does.
     pub(crate) expected: Option<ToldTime>,
     pub(crate) time: ToldTime,
+}
+
+/// Whether what a line asks is to forget what lies before a time.
+pub(crate) fn asks_to_forget(asked: &Result<Request, DocFault>) -> bool
+    ensures { result ≡ asks_to_forget asked.now }
+{
+    match asked {
+        Ok(request) => is_forget(&request.command),
+        Err(_) => false,
+    }
+}
+
+fn is_forget(command: &Command) -> bool
+    ensures { result ≡ is_forget command.now }
+{
+    match command {
+        Command::Forget(_) => true,
+        _ => false,
+    }
 }
 
 /// What a line asks, if it is to forget what lies before a time.

@@ -96,13 +96,13 @@ pub(crate) fn forget_or_stay(
 pub(crate) fn forget(session: &OpenSession, time: ToldTime) -> Result<Response, Failure>
     ensures { Becomes session.now result (forget session.now time) }
 {
-    match forget_or_stay(session, time) {
-        Ok((answer, Some(forgetting))) => Ok(Response {
+    let (answer, forgetting) = forget_or_stay(session, time)?;
+    match forgetting {
+        Some(forgetting) => Ok(Response {
             answer,
             change: SessionChange::Forgetting(forgetting),
         }),
-        Ok((answer, None)) => Ok(Response::unrecorded(answer)),
-        Err(failure) => Err(failure),
+        None => Ok(Response::unrecorded(answer)),
     }
 }
 

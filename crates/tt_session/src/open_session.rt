@@ -149,7 +149,8 @@ impl OpenSession {
 
     /// How many records are kept at most.
     pub(crate) fn most_records(&self) -> u32
-        ensures { result ≡ self.now.most_records }
+        ensures most { result ≡ self.now.most_records }
+        ensures few { result ≤ max_records }
     {
         self.most_records
     }

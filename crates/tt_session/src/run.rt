@@ -499,7 +499,7 @@ impl Run {
         ensures ok { OnOk result (ForgetsOne O.handed O.has_log outlet.old outlet.new
             self.old self.new ready) }
         ensures err { OnErr result
-            (StopsForgetting O.handed O.stopped outlet.old outlet.new self.old ready) }
+            (StopsForgetting O.handed O.stopped O.has_log outlet.old outlet.new self.old ready) }
         ensures fault { IfErr result (λ e. e ≡ SessionFault.Write) }
         ensures calls { calls_of self.new.session ≡ calls_of self.old.session }
     {

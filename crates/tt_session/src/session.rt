@@ -1,7 +1,7 @@
 //! A session, from its opening on.
 ghost use Rattle.std.specs.Prelude.{◌≡◌, ◌+◌, ◌<◌, ◌≤◌, ◌-◌, ◌^◌, ◌++◌, length, OnOk, OnErr, IfOk};
 ghost use Rattle.tt_requests.specs.LineValue.{value_of_line};
-ghost use Rattle.tt_requests.specs.Opening.{opening_of};
+ghost use Rattle.tt_requests.specs.Opening.{max_records, opening_of};
 ghost use Rattle.tt_answers.specs.AnswerText.{opening_text};
 
 use crate::commands::ForgetRequest;
@@ -167,8 +167,9 @@ impl Session {
 
     /// How many records are kept at most.
     pub(crate) fn most_records(&self) -> u32
-        ensures { (session : OpenSession) → self.now ≡ Open session
+        ensures most { (session : OpenSession) → self.now ≡ Open session
             → result ≡ session.most_records }
+        ensures few { result ≤ max_records }
     {
         match self {
             Session::NotOpen => 0,

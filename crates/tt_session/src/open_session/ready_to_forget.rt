@@ -77,23 +77,20 @@ impl OpenSession {
             TurnsForget self.now (turn_of_forget self.now request) r.0.items r.1) }
     {
         let mut text = Vec::new(self.alloc);
-        match outcome_of_forget(self, request) {
-            Ok((answer, Some(forgetting))) => {
+        let (answer, forgetting) = match outcome_of_forget(self, request) {
+            Ok(outcome) => outcome,
+            Err(Failure::Refused(refusal)) => (Answer::Refused(refusal), None),
+            Err(Failure::Memory) => return Err(AllocError),
+        };
+        match &forgetting {
+            Some(forgetting) => {
                 let behind = forgetting.get();
                 let catalog = behind.db.catalog();
                 push_call(&mut text, catalog, behind.numbering, self.calls, &answer)?;
-                Ok((text, Some(forgetting)))
             }
-            Ok((answer, None)) => {
-                self.push_answer(&mut text, &answer)?;
-                Ok((text, None))
-            }
-            Err(Failure::Refused(refusal)) => {
-                self.push_answer(&mut text, &Answer::Refused(refusal))?;
-                Ok((text, None))
-            }
-            Err(Failure::Memory) => Err(AllocError),
+            None => self.push_answer(&mut text, &answer)?,
         }
+        Ok((text, forgetting))
     }
 
     /// Answers a request to forget, as a call, where there is no log: adds the text of the answer,

@@ -17,7 +17,7 @@ ghost use Rattle.tt_session.specs.Logged.{logged_by, with_lines};
 ghost use Rattle.tt_session.specs.Together.{AnswersFront, AnswersWith, BeginsWithLine, Grows};
 
 use super::OpenSession;
-use crate::commands::{ForgetRequest, asks_for_records, forget_request};
+use crate::commands::{ForgetRequest, asks_for_records, asks_to_forget, forget_request};
 use crate::first_line::{FirstLine, RequestLine, read_request};
 use crate::workspace::{Workspace, append, is_much};
 use std::alloc::AllocError;
@@ -96,7 +96,7 @@ impl OpenSession {
             FirstLine::NotWhole => Ok(0),
             FirstLine::PassedOver(len) => Ok(len),
             FirstLine::Read(RequestLine { asked, len }) => {
-                if forget_request(&asked).is_some() {
+                if asks_to_forget(&asked) {
                     return Ok(0);
                 }
                 let (line, behind) = (&bytes[..len - 1], &bytes[len..]);
@@ -199,7 +199,7 @@ impl OpenSession {
         let Some(next) = next else {
             return Ok(taken);
         };
-        if forget_request(&next.asked).is_some() {
+        if asks_to_forget(&next.asked) {
             return Ok(taken);
         }
         let end = taken + next.len;

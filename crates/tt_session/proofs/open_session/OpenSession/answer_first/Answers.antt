@@ -1,5 +1,5 @@
 -- There is no whole line, or the first one is passed over, or it is answered with those behind it.
-use Rattle.std.proofs.Common.{◌+◌, refl, ap, subst, ◌∙◌}
+use Rattle.std.proofs.Common.{◌+◌, refl, sym, ap, subst, ◌∙◌}
 use Rattle.tt_session.specs.declared.session.Session.TheVariants.{Open}
 use Rattle.tt_session.specs.Session.{OpenSession}
 use Rattle.tt_session.specs.Together.{IsFirstLine}
@@ -20,5 +20,5 @@ returns-in_ok-more-in-Read-clause-answered c =
     let tables = c.catalog.result.now in
     front-with tables c.args.bytes.now line.len c.in_ok-more-in-Read.more (line.len + c.in_ok-more-in-Read.more) line.asked c.args.self.now c.answer_and_further.new.self c.args.out.now.items c.answer_and_further.new.out.items
     c.args.workspace.now.lines c.answer_and_further.new.workspace.lines
-    (c.catalog.ensures ∙ ap (λ (s : OpenSession). s.database.catalog) c.self.view_is) PLAIN (subst (IsFirstLine tables c.args.bytes.now) c.in-Read.is c.in_ok-of.ensures)
+    (c.catalog.ensures ∙ ap (λ (s : OpenSession). s.database.catalog) c.self.view_is) (sym c.asks_to_forget.ensures ∙ c.if-asks_to_forget.false) (subst (IsFirstLine tables c.args.bytes.now) c.in-Read.is c.in_ok-of.ensures)
     c.in_ok-more-in-Read.ensures.answered refl

@@ -63,7 +63,7 @@ returns-in-Ok-clause-answered c =
     let done = c.in-Ok.ensures in
     let cut : take ((taken + next.len) - 1 - taken) (drop taken behind) ≡ take (next.len - 1) (drop taken behind) = ap (λ n. take n (drop taken behind)) (omega arith) in
     with-next c.args.asked next.asked c.args.line.now tables behind taken next.len (taken + next.len) old c.commit.new.self c.log_alone.new.self
-    c.args.out.now.items c.commit.new.out.items c.log_alone.new.out.items c.args.workspace.now.lines c.answer_further.new.workspace.lines c.log_alone.new.workspace.lines caught (sym (ap (λ (s : OpenSession). s.database.catalog) c.in_ok-commit.ensures.session)) begins
+    c.args.out.now.items c.commit.new.out.items c.log_alone.new.out.items c.args.workspace.now.lines c.answer_further.new.workspace.lines c.log_alone.new.workspace.lines caught (sym (ap (λ (s : OpenSession). s.database.catalog) c.in_ok-commit.ensures.session)) (sym c.asks_to_forget.ensures ∙ c.if-asks_to_forget.false) begins
     done.session done.text done.calls (done.lines ∙ ap (λ l. with_lines c.answer_further.new.workspace.lines (logged_by (Open c.commit.new.self) (Open c.log_alone.new.self) l)) cut) refl
 
 pub returns-in_err-taken-clause-lines_grow : goal.returns-in_err-taken-clause-lines_grow
