@@ -1,5 +1,5 @@
 //! A log that is written.
-ghost use Rattle.std.specs.Prelude.{◌≡◌, ◌≢◌, ◌↔◌, ◌⊎◌, ◌+◌, ◌++◌, ◌<◌, ◌≤◌, ◌^◌, [], List, ℕ, length, IfOk, IfErr, OnOk, OnErr, IsErrOf};
+ghost use Rattle.std.specs.Prelude.{◌≡◌, ◌≢◌, ◌↔◌, ◌⊎◌, ◌+◌, ◌++◌, ◌<◌, ◌≤◌, ◌^◌, [], List, ℕ, length, IsOk, IfOk, IfErr, OnOk, OnErr, IsErrOf};
 ghost use Rattle.tt_log.specs.Lines.{logged, joined, IsJoined};
 ghost use Rattle.tt_log.specs.Device.{Only, LeavesOnly, ShowsFirst};
 
@@ -85,6 +85,7 @@ impl<D: Device> Log<D> {
             → 2 ^ 60 ≤ self.old.end + length (joined lines.now) }
         ensures no_read { IsErrOf result LogError.Read → ⊥ }
         ensures no_hand_over { IsErrOf result LogError.HandOver → ⊥ }
+        ensures nothing { lines.now ≡ [] → IsOk result }
     {
         let bytes = lines.as_bytes();
         if bytes.is_empty() {
@@ -132,6 +133,9 @@ impl<D: Device> Log<D> {
         ensures full { IsErrOf result LogError.Full
             → 2 ^ 60 ≤ self.old.end + length (joined lines.now) }
         ensures no_read { IsErrOf result LogError.Read → ⊥ }
+
+        // Where there are no lines, only the output can fail.
+        ensures alone { lines.now ≡ [] → IfErr result (λ e. e ≡ LogError.HandOver) }
     {
         self.append(lines)?;
         let Ok(()) = self.device.hand_over(answers) else {

@@ -1,5 +1,5 @@
 -- What a session on a log has done once the log was made anew for a line, or couldn't be.
-use Rattle.std.proofs.Common.{◌≡◌, ◌⊎◌, ℕ, ◌+◌, ◌<◌, ◌≤◌, true, false, List, [], ◌∷◌, ◌++◌, length, take, append-nil, append_assoc, inl, inr, Some, refl, sym, ap, ◌∙◌, subst, arith}
+use Rattle.std.proofs.Common.{◌≡◌, ◌⊎◌, ℕ, ◌+◌, ◌<◌, ◌≤◌, true, false, List, [], ◌∷◌, ◌++◌, length, take, append-nil, append_assoc, inl, inr, Option, refl, sym, ap, ◌∙◌, subst, arith}
 use Rattle.std.proofs.Math.Seq.{take-append-add, take-length}
 use Rattle.tt_log.specs.Device.{Left, LeavesOnly, ShowsFirst}
 use Rattle.tt_log.specs.Lines.{logged}
@@ -11,39 +11,38 @@ use Rattle.tt_session.specs.declared.session.Session.TheVariants.{Open}
 use Rattle.tt_session.specs.Session.{OpenSession, Forgetting, counted}
 use Rattle.tt_session.specs.Changes.{forgotten_by}
 use Rattle.tt_session.specs.Run.{Turn}
-use Rattle.tt_log.specs.declared.log_error.LogError.TheVariants as errors
+use Rattle.tt_log.specs.declared.log_error.LogError.{LogError}
 use Rattle.tt_session.specs.Answering.{LineRead, turn_of_read, turns_of, AllLogged}
 use Rattle.tt_session.specs.LogLines.{lines_of_database, lines_of_log}
-use Rattle.tt_session.specs.Logged.{makes_log_anew, log_next, log_after}
+use Rattle.tt_session.specs.Logged.{makes_log_anew, log_after}
 use Rattle.tt_session.specs.Together.{kept_line, unlogged_line}
 use Rattle.tt_session.specs.Restoring.{IsLogOf, NewLogsAreRead}
-use Rattle.tt_session.specs.OnLog.{Telling, LeavesAnswered, HandedOnLog, StoppedInLog, StoppedInOutput}
+use Rattle.tt_session.specs.OnLog.{Telling, LeavesAnswered, HandedOnLog, StoppedInLog, StoppedInOutput, StoppedOnLog}
 use Rattle.tt_session.specs.Anew.{Forgets}
-use Rattle.tt_session.specs.Renewing.{IsReadable, KeepsLog, TakesLines, LosesLog, KeepsShowing, HandsOverAlone, FailsAlone}
+use Rattle.tt_session.specs.Renewing.{IsReadable, KeepsLog, LosesLog, KeepsShowing, HandsOverAlone, FailsAlone}
 use Rattle.tt_session.proofs.LoggedLemmas.{IsAsFar, log-append, log-anew, log-far, far-not-anew, logged-all}
 use Rattle.tt_session.proofs.OnLogLemmas.{leaves-more, leaves-all, new-append, not-anew}
-use Rattle.tt_session.proofs.RunningLemmas.{turns-session, turns-text, one-text}
+use Rattle.tt_session.proofs.RunningLemmas.{turns-text, one-text}
 
 -- a line is read behind others, by which the log is made anew or goes on
-record Step (start : Session) (over : List LineRead) (read : LineRead) (lines new : List (List ℕ)) (text : List ℕ) : Type 0 where
+pub record Step (start : Session) (over : List LineRead) (read : LineRead) (lines new : List (List ℕ)) (text : List ℕ) : Type 0 where
   pub lines_are : new ≡ log_after lines start (over ++ read ∷ [])
   pub text_is : (turns_of start (over ++ read ∷ [])).text ≡ (turns_of start over).text ++ text
   pub new_logs : NewLogsAreRead (turns_of start over).session (read ∷ [])
 
+pub text-one : (start : Session) (over : List LineRead) (read : LineRead) (session : Session) (text : List ℕ) → (turns_of start over).session ≡ session → (turn_of_read session read).text ≡ text
+    → (turns_of start (over ++ read ∷ [])).text ≡ (turns_of start over).text ++ text
+text-one start over read session text is said =
+    turns-text start over (read ∷ []) ∙ ap (λ t. (turns_of start over).text ++ t) (one-text (turns_of start over).session read ∙ ap (λ s. (turn_of_read s read).text) is ∙ said)
+
 module _ {D : Type 0} (of : Telling D) (may_leave : D → List ℕ → Type 0) (first : D) (start : Session) (over : List LineRead) where
-  lines : List (List ℕ)
+  abbrev lines : List (List ℕ)
   lines = logged (of.seen first)
 
-  shown : List ℕ
+  abbrev shown : List ℕ
   shown = of.shown first
 
   -- ---- the two lines
-
-  text-one : (read : LineRead) (session : Session) (text : List ℕ) → (turns_of start over).session ≡ session → (turn_of_read session read).text ≡ text
-      → (turns_of start (over ++ read ∷ [])).text ≡ (turns_of start over).text ++ text
-  text-one read session text is said =
-      turns-text start over (read ∷ [])
-      ∙ ap (λ t. (turns_of start over).text ++ t) (one-text (turns_of start over).session read ∙ ap (λ s. (turn_of_read s read).text) is ∙ said)
 
   pub step-anew : (line : List ℕ) (f : Forgetting) (most : ℕ) (text refusal : List ℕ) → Forgets start over line f most text refusal → IsReadable f most
       → Step start over (kept_line line) lines (lines_of_database f.db f.numbering most) text
@@ -58,7 +57,7 @@ module _ {D : Type 0} (of : Telling D) (may_leave : D → List ℕ → Type 0) (
         lines_are =
             ap (lines_of_database f.db f.numbering) p.most_is ∙ sym (ap lines_of_log next_is) ∙ sym (log-anew (log_after lines start over) S read made)
             ∙ sym (log-append lines start over (read ∷ []));
-        text_is = text-one read (Open p.session) text p.session_is (ap (λ (t : Turn). t.text) p.turn);
+        text_is = text-one start over read (Open p.session) text p.session_is (ap (λ (t : Turn). t.text) p.turn);
         new_logs = (λ anew. subst (λ s. IsLogOf (lines_of_log s) s) (sym next_is) is_log, tt);
       }
 
@@ -72,7 +71,7 @@ module _ {D : Type 0} (of : Telling D) (may_leave : D → List ℕ → Type 0) (
       (subst (λ (t : Turn). IsAsFar (Open p.session) t.session) (sym p.refused) (refl, refl)) in
       record {
         lines_are = sym (log-far (log_after lines start over) S read far) ∙ sym (log-append lines start over (read ∷ []));
-        text_is = text-one read (Open p.session) refusal p.session_is (ap (λ (t : Turn). t.text) p.refused);
+        text_is = text-one start over read (Open p.session) refusal p.session_is (ap (λ (t : Turn). t.text) p.refused);
         new_logs = (not-anew (makes_log_anew S read) (far-not-anew S read far), tt);
       }
 
@@ -159,17 +158,19 @@ module _ {D : Type 0} (of : Telling D) (may_leave : D → List ℕ → Type 0) (
           logged-or (inr failed) (inr again) = inr (omega (arith, failed, failures, alone.failures))
 
       -- the output has failed before it had all of it
-      pub stopped-anew : (more : List LineRead) → FailsAlone (Some errors.HandOver) of mid after text → StoppedInOutput of first after.device start ((over ++ read ∷ []) ++ more)
-      stopped-anew more alone = record {
-        answered = over ++ read ∷ [];
-        others = more;
-        reads_are = refl;
-        shown_is = shown-first (of.shown after.device) (subst (λ t. ShowsFirst t (of.shown after.device) text) shown_mid alone.first);
-        any_moment = all-moments alone.any_moment;
-        new_logs = all-new;
-        lines_are = alone.lines_are ∙ lines_mid ∙ s.lines_are;
-        failed = omega (arith, h.failures, failures, alone.failed);
-      }
+      pub stopped-anew : (error : Option LogError) (more : List LineRead) → FailsAlone error of mid after text → StoppedOnLog error of first after.device start ((over ++ read ∷ []) ++ more)
+      stopped-anew error more alone =
+          let in_output : StoppedInOutput of first after.device start ((over ++ read ∷ []) ++ more) = record {
+            answered = over ++ read ∷ [];
+            others = more;
+            reads_are = refl;
+            shown_is = shown-first (of.shown after.device) (subst (λ t. ShowsFirst t (of.shown after.device) text) shown_mid alone.first);
+            any_moment = all-moments alone.any_moment;
+            new_logs = all-new;
+            lines_are = alone.lines_are ∙ lines_mid ∙ s.lines_are;
+            failed = omega (arith, h.failures, failures, alone.failed);
+          } in
+          subst (λ e. StoppedOnLog e of first after.device start ((over ++ read ∷ []) ++ more)) (sym alone.error_is) in_output
 
     -- the name of the new file couldn't be synced
     pub lost-anew : (before after : Log D) (more : List LineRead) → before.device ≡ old → LosesLog of before after new → StoppedInLog of first after.device start ((over ++ read ∷ []) ++ more)

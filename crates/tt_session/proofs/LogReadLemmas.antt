@@ -268,16 +268,16 @@ known-is (Some name) t h = cc
 -- where no member is unknown, none has an unknown name
 no-member : (is_known : List ℕ → Bool) (name : List ℕ) (ms : Members) → is_known name ≡ false → least (filter (λ n. not (is_known n)) (member_names ms)) ≡ None → get_member name ms ≡ None
 no-member is_known name no_members unknown none = refl
-no-member is_known name (member l e ms) unknown none = by (is_known l) refl
+no-member is_known name (member l e ms) unknown none = by (λ others. no-member is_known name ms unknown others) (is_known l) refl
   where
-    other : is_known l ≡ true → get_member name ms ≡ None → (order : Ordering) → slice_cmp nat_cmp name l ≡ order → match_ordering order (get_member name ms) (Some e) (get_member name ms) ≡ None
-    other known rest Less c = rest
-    other known rest Equal c = let same : name ≡ l = exact_bytes name l c in let both : is_known name ≡ is_known l = ap is_known same in cc
-    other known rest Greater c = rest
+    other : get_member name ms ≡ None → is_known l ≡ true → (order : Ordering) → slice_cmp nat_cmp name l ≡ order → match_ordering order (get_member name ms) (Some e) (get_member name ms) ≡ None
+    other rest known Less c = rest
+    other rest known Equal c = let same : name ≡ l = exact_bytes name l c in let both : is_known name ≡ is_known l = ap is_known same in cc
+    other rest known Greater c = rest
 
-    by : (known : Bool) → is_known l ≡ known → get_member name (member l e ms) ≡ None
-    by true known = other known (no-member is_known name ms unknown (rw known at none)) (slice_cmp nat_cmp name l) refl
-    by false known = let found = rw known at none in cc
+    by : (least (filter (λ n. not (is_known n)) (member_names ms)) ≡ None → get_member name ms ≡ None) → (known : Bool) → is_known l ≡ known → get_member name (member l e ms) ≡ None
+    by others true known = other (others (rw known at none)) known (slice_cmp nat_cmp name l) refl
+    by others false known = let found = rw known at none in cc
 
 no-get : (is_known : List ℕ → Bool) (name : List ℕ) (v : Data) → is_known name ≡ false → least_unknown is_known v ≡ None → get name v ≡ None
 no-get is_known name null unknown none = refl

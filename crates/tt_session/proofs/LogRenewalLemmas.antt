@@ -1,22 +1,21 @@
 -- The lines of a log that is made anew are read back: they make the same database again.
-use Rattle.std.proofs.Common.{◌≡◌, ℕ, ◌+◌, ◌<◌, ◌≤◌, ◌==◌, ◌&&◌, Bool, true, false, not, List, [], ◌∷◌, ◌++◌, map, length, take, drop, append-nil, append_assoc, length-append, Option, None, Some, option_and_then, is_none, Ok, All, refl, sym, ap, ◌∙◌, subst, arith, ne_eqb}
-use Rattle.std.specs.Option.{option_map, option_or}
+use Rattle.std.proofs.Common.{◌≡◌, ℕ, ◌+◌, ◌-◌, ◌≤◌, ◌==◌, ◌&&◌, true, false, not, List, [], ◌∷◌, ◌++◌, map, length, take, drop, append-nil, append_assoc, length-append, Option, None, Some, option_and_then, is_none, Ok, All, refl, sym, ap, ◌∙◌, subst, arith, ne_eqb}
+use Rattle.std.specs.Option.{option_map}
 use Rattle.std.specs.List.{list_all}
-use Rattle.std.proofs.lemmas.Bool.{and_parts, and_from}
-use Rattle.std.proofs.lemmas.List.{length-map, take-append-drop, length-take-le}
+use Rattle.std.proofs.lemmas.Bool.{and_parts}
+use Rattle.std.proofs.lemmas.List.{length-map, take-append-drop, length-take-le, take_rest}
 use Rattle.tt_values.specs.declared.statement.Write.{Write}
 use Rattle.tt_values.specs.declared.checking.CheckError.{CheckError}
 use Rattle.tt_values.specs.Tables.{Tables, IsCatalog}
 use Rattle.tt_values.specs.Action.{replies_of}
 use Rattle.tt_values.specs.Check.{action_fault}
 use Rattle.tt_generations.specs.TwoGenerations.{is_repairing}
-use Rattle.tt_db.specs.declared.limits.Limits.{Limits}
 use Rattle.tt_db.specs.declared.event.Event.TheVariants as events
 use Rattle.tt_db.specs.declared.event.Entry.{Entry}
 use Rattle.tt_db.specs.declared.errors.DbError.{DbError}
 use Rattle.tt_db.specs.declared.errors.DbError.TheVariants as errors
-use Rattle.tt_db.specs.Limits.{Fits, usual_limits}
-use Rattle.tt_db.specs.State.{State, next_state, first_refusal, full_at, now_of, refusal, IsLegalFrom, IsLegal}
+use Rattle.tt_db.specs.Limits.{usual_limits}
+use Rattle.tt_db.specs.State.{State, next_state, first_refusal, IsLegalFrom, IsLegal}
 use Rattle.tt_db.specs.Database.{Database, state_of, now_in, current_of_db, refusal_of, with_entry}
 use Rattle.tt_db.proofs.EntryLemmas.{after-push}
 use Rattle.tt_horizon.specs.Forgetting.{entry_of, ground_worker}
@@ -25,28 +24,24 @@ use Rattle.tt_horizon.specs.Laying.{with_entries}
 use Rattle.tt_grammar.proofs.EveryLemmas.{Every, every}
 use Rattle.tt_numbers.specs.Numbers.{Numbering, IsNumbering}
 use Rattle.tt_requests.specs.declared.request.Command.TheVariants as commands
-use Rattle.tt_requests.specs.declared.request.Request.{Request}
 use Rattle.tt_requests.specs.declared.log_opening.LogOpening.{LogOpening}
-use Rattle.tt_requests.specs.LineValue.{value_of_line}
 use Rattle.tt_requests.specs.Opening.{max_keep, max_records}
 use Rattle.tt_requests.specs.LogOpening.{max_ground_slots}
-use Rattle.tt_requests.specs.GroundAction.{ground_action_of}
-use Rattle.tt_requests.specs.Requests.{request_of}
 use Rattle.tt_answers.specs.LogText.{log_opening_line, ground_line, slot_line}
-use Rattle.tt_session.specs.declared.session.Session.{Session}
 use Rattle.tt_session.specs.declared.session.Session.TheVariants.{Open}
-use Rattle.tt_session.specs.Session.{OpenSession, counted, with_database}
+use Rattle.tt_session.specs.Session.{OpenSession, Forgetting, counted, with_database}
 use Rattle.tt_session.specs.Commands.{written}
 use Rattle.tt_session.specs.Changing.{changes_database}
 use Rattle.tt_session.specs.Room.{refusal_in_session}
 use Rattle.tt_session.specs.Repairing.{with_event, unless_refused}
-use Rattle.tt_session.specs.Run.{Turn, turn_by_outcome, turn_by_request, turn_by_value}
+use Rattle.tt_session.specs.Run.{Turn, turn_by_outcome, turn_by_request}
 use Rattle.tt_session.specs.Answering.{turn_of_read, turns_of}
-use Rattle.tt_session.specs.LogLines.{action_in, line_of_entry, lines_of_entries, lines_of_slots, lines_of_database, lines_of_log}
+use Rattle.tt_session.specs.LogLines.{action_in, line_of_entry, lines_of_entries, lines_of_database, lines_of_log}
 use Rattle.tt_session.specs.Logged.{with_line_if, logged_of}
 use Rattle.tt_session.specs.Together.{kept_line}
 use Rattle.tt_session.specs.Restoring.{opened_on, can_be_laid, with_ground, laid_by, laid_by_lines, IsLogOf}
-use Rattle.tt_session.specs.Renewing.{IsStorableAction, IsPrintable}
+use Rattle.tt_session.specs.Sound.{IsSound}
+use Rattle.tt_session.specs.Renewing.{IsStorableAction, IsPrintable, IsReadable}
 use Rattle.tt_session.proofs.LogReadLemmas.{printed_log_opens, printed_ground_is_read, printed_slots_are_read}
 use Rattle.tt_session.proofs.RestoringLemmas.{read-value}
 use Rattle.tt_session.proofs.StepLemmas.{accepted_in_session}
@@ -265,3 +260,41 @@ log-of session p numbered few =
         },
       );
     }
+
+-- the entries from the ground on up to the end
+others-all : (h : List Entry) (ground_slots size end : ℕ) → size ≡ ground_slots → end ≡ length h → take (end - size) (drop size h) ≡ drop ground_slots h
+others-all h ground_slots size end size_is end_is = (λ i. take (end_is i - size_is i) (drop (size_is i) h)) ∙ take_rest h ground_slots
+
+-- the lines that are written are those of the database
+pub lines-of : (f : Forgetting) (most_records size end : ℕ) (line : List ℕ) → line ≡ log_opening_line f.db.catalog f.db.limits.keep most_records f.numbering → size ≡ f.numbering.ground_slots → end ≡ length f.db.history
+    → (([] ++ line ∷ []) ++ lines_of_entries true f.db.catalog (take (size - 0) (drop 0 f.db.history))) ++ lines_of_entries false f.db.catalog (take (end - size) (drop size f.db.history))
+    ≡ lines_of_database f.db f.numbering most_records
+lines-of f most_records size end line line_is size_is end_is =
+    let tables = f.db.catalog in
+    let h : List Entry = f.db.history in
+    let none : size - 0 ≡ size = omega arith in
+    let ground : take (size - 0) h ≡ take f.numbering.ground_slots h = ap (λ n. take n h) (none ∙ size_is) in
+    let rest = others-all h f.numbering.ground_slots size end size_is end_is in
+    λ i. line_is i ∷ (lines_of_entries true tables (ground i) ++ lines_of_entries false tables (rest i))
+
+-- a log that is made for a session which forgets is one of that session
+pub readable : (f : Forgetting) (most_records size end : ℕ) → IsSound f.db f.numbering [] 0 → HasGround f.db f.ground_slots → f.numbering.ground_slots ≡ f.ground_slots
+    → record usual_limits { keep = f.db.limits.keep } ≡ f.db.limits → size ≡ f.numbering.ground_slots → end ≡ length f.db.history → size ≤ max_ground_slots → size ≤ end
+    → All (IsPrintable true) (take (size - 0) (drop 0 f.db.history)) → All (IsPrintable false) (take (end - size) (drop size f.db.history)) → IsReadable f most_records
+readable f most_records size end sound ground same usual size_is end_is few within first others = λ session database numbering records fits.
+    let h : List Entry = f.db.history in
+    let none : size - 0 ≡ size = omega arith in
+    let rest = others-all h f.numbering.ground_slots size end size_is end_is in
+    let loggable : IsLoggable f.db f.numbering.ground_slots = record {
+      catalog = sound.catalog;
+      legal = sound.legal;
+      usual = usual;
+      keep = sound.fits.keep;
+      few = omega (arith, few, size_is);
+      within = omega (arith, within, size_is, end_is);
+      ground = subst (HasGround f.db) (sym same) ground;
+      ground_printable = subst (λ n. All (IsPrintable true) (take n h)) (none ∙ size_is) first;
+      slots_printable = subst (All (IsPrintable false)) rest others;
+    } in
+    log-of session (subst (λ (n : Numbering). IsLoggable session.database n.ground_slots) (sym numbering) (subst (λ d. IsLoggable d f.numbering.ground_slots) (sym database) loggable))
+    (subst IsNumbering (sym numbering) sound.numbered) (subst (λ n. n ≤ max_records) (sym records) fits)

@@ -60,7 +60,7 @@ pub new-append : (session : Session) (first others : List LineRead) → NewLogsA
 new-append session [] others p q = q
 new-append session (read ∷ first) others p q = (p.0, new-append (turn_of_read session read).session first others p.1 q)
 
-not-anew : {A : Type 0} → (b : Bool) → b ≡ false → b ≡ true → A
+pub not-anew : {A : Type 0} → (b : Bool) → b ≡ false → b ≡ true → A
 not-anew b none made = cc
 
 pub new-plain : (session : Session) (reads : List LineRead) → ArePlain session reads → NewLogsAreRead session reads
@@ -76,7 +76,7 @@ all-logged start over kept m n k (inr failed) plain later = inr (omega (arith, f
 module _ (start : Session) (lines : List (List ℕ)) (over kept : List LineRead) (shown : List ℕ) (new : List (List ℕ)) (text : List ℕ) (lines_now : List (List ℕ)) (shown_now : List ℕ)
     (new_is : new ≡ logged_of (turns_of start over).session kept) (text_is : text ≡ (turns_of (turns_of start over).session kept).text) (plain : ArePlain (turns_of start over).session kept)
     (lines_now_are : lines_now ≡ log_after lines start over) (shown_now_is : shown_now ≡ shown ++ (turns_of start over).text) where
-  mid : Session
+  abbrev mid : Session
   mid = (turns_of start over).session
 
   all_text : (turns_of start (over ++ kept)).text ≡ (turns_of start over).text ++ text

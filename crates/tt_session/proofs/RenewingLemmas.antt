@@ -1,14 +1,61 @@
 -- What becomes of a log that is made anew, call by call.
-use Rattle.std.proofs.Common.{◌≡◌, ◌⊎◌, ℕ, ◌<◌, ◌≤◌, List, [], ◌∷◌, ◌++◌, length, take, append-nil, append_assoc, inl, inr, Option, Some, refl, sym, ap, ◌∙◌, subst, arith}
-use Rattle.std.proofs.Math.Seq.{take-nil}
-use Rattle.tt_log.specs.Device.{Left, Now, LeavesOnly, ShowsFirst}
-use Rattle.tt_log.specs.Lines.{logged, joined, IsLine, AreLines, IsJoined}
+use Rattle.std.proofs.Common.{◌≡◌, Bool, ℕ, zero, suc, ◌+◌, ◌-◌, ◌<◌, ◌≤◌, List, [], ◌∷◌, ◌++◌, take, drop, slice_get, All, append-nil, append_assoc, inl, inr, Option, Some, Result, Ok, Err, OnOk, IfErr, refl, sym, ap, ◌∙◌, subst, arith, add-one}
+use Rattle.std.specs.Prelude.{IsErrAnd}
+use Rattle.std.proofs.Math.Seq.{take-nil, take-add}
+use Rattle.std.proofs.lemmas.List.{drop-drop, map-append}
+use Rattle.tt_values.specs.Tables.{Tables}
+use Rattle.tt_db.specs.declared.event.Entry.{Entry}
+use Rattle.tt_db.specs.Database.{nth_item}
+use Rattle.tt_db.proofs.ClosedLemmas.{drop_at_item}
+use Rattle.tt_log.specs.Device.{Left, Now}
+use Rattle.tt_log.specs.Lines.{logged, joined, IsLine, IsJoined}
 use Rattle.tt_log.specs.Log.{IsSettled, IsMaking, Keeps, KeepsEither, KeepsAnswered}
 use Rattle.tt_log.specs.declared.log.Log.{Log}
 use Rattle.tt_log.proofs.LineLemmas.{joined-append, AreLines-append, logged-joined}
 use Rattle.tt_log.proofs.MomentLemmas as moments
 use Rattle.tt_session.specs.OnLog.{Telling}
-use Rattle.tt_session.specs.Renewing.{KeepsLog, TakesLines, LosesLog, IsWriting, KeepsShowing}
+use Rattle.tt_session.specs.LogLines.{line_of_entry, lines_of_entries}
+use Rattle.tt_session.specs.declared.log_renewal.RenewFault.{RenewFault}
+use Rattle.tt_session.specs.declared.log_renewal.RenewFault.TheVariants as faults
+use Rattle.tt_session.specs.Renewing.{FailsToRenew, FailsToWrite, KeepsLog, TakesLines, LosesLog, IsWriting, KeepsShowing}
+
+-- what holds of an error gives what holds of it
+pub fails-then : {A E : Type 0} (F G : E → Type 0) (r : Result A E) → IfErr r F → ((e : E) → F e → G e) → IfErr r G
+fails-then F G (Ok a) p f = tt
+fails-then F G (Err e) p f = f e p
+
+-- the only error that there can be
+pub err_is : {A E : Type 0} (F : E → Type 0) (r : Result A E) (error : E) → IsErrAnd r (λ e. e ≡ error) → F error → IfErr r F
+err_is F (Ok a) error is p = tt
+err_is F (Err e) error is p = subst F (sym is) p
+
+pub ok_with : {A E P : Type 0} (r : Result A E) → P → OnOk r P
+ok_with (Ok a) p = p
+ok_with (Err e) p = tt
+
+-- the items of a list from a place on, up to behind one of them
+pub take-further : {X : Type 0} (xs : List X) (from place : ℕ) (x : X) → from ≤ place → slice_get xs place ≡ Some x → take (place + 1 - from) (drop from xs) ≡ take (place - from) (drop from xs) ++ x ∷ []
+take-further xs from place x behind is =
+    let n : ℕ = place - from in
+    let count : place + 1 - from ≡ n + 1 = omega arith in
+    let here : from + n ≡ place = omega arith in
+    ap (λ k. take k (drop from xs)) count ∙ take-add n 1 (drop from xs)
+    ∙ ap (λ l. take n (drop from xs) ++ take 1 l) (drop-drop n from xs ∙ ap (λ k. drop k xs) here ∙ drop_at_item xs place x is)
+
+pub item-at : {X : Type 0} (xs : List X) (place : ℕ) (o : Option X) (x : X) → o ≡ nth_item xs (place + 1) → o ≡ Some x → slice_get xs place ≡ Some x
+item-at xs place o x found is = ap (nth_item xs) (sym (add-one place)) ∙ sym found ∙ is
+
+-- the lines of the entries from a place on, up to behind one of them
+pub lines-further : (is_ground : Bool) (tables printed : Tables) (h : List Entry) (from place : ℕ) (e : Entry) (line text : List ℕ) → from ≤ place → slice_get h place ≡ Some e
+    → line ≡ text → text ≡ line_of_entry is_ground printed e → printed ≡ tables
+    → lines_of_entries is_ground tables (take (place + 1 - from) (drop from h)) ≡ lines_of_entries is_ground tables (take (place - from) (drop from h)) ++ line ∷ []
+lines-further is_ground tables printed h from place e line text behind at line_is text_is same =
+    ap (lines_of_entries is_ground tables) (take-further h from place e behind at) ∙ map-append (line_of_entry is_ground tables) (take (place - from) (drop from h)) (e ∷ [])
+    ∙ ap (λ l. lines_of_entries is_ground tables (take (place - from) (drop from h)) ++ l ∷ []) (sym (line_is ∙ text_is ∙ ap (λ t. line_of_entry is_ground t e) same))
+
+pub all-one : {X : Type 0} (P : X → Type 0) (x : X) → P x → All P (x ∷ [])
+all-one P x p zero d less = p
+all-one P x p (suc k) d less = absurd (omega arith)
 
 module _ {D : Type 0} (of : Telling D) (may_leave : D → List ℕ → Type 0) where
   -- before the first call
@@ -68,6 +115,19 @@ module _ {D : Type 0} (of : Telling D) (may_leave : D → List ℕ → Type 0) w
     failed = omega (arith, p.failures, q.failed);
   }
 
+  pub fails-behind : (fault : RenewFault) (before mid after : Log D) (lines : List (List ℕ)) → KeepsLog of may_leave before mid → FailsToRenew fault of may_leave mid after lines
+      → FailsToRenew fault of may_leave before after lines
+  fails-behind faults.Memory before mid after lines p q = keeps-trans before mid after p q
+  fails-behind faults.Kept before mid after lines p q = (keeps-trans before mid after p q.0, omega (arith, p.failures, q.1))
+  fails-behind faults.Lost before mid after lines p q = loses-behind before mid after lines p q
+
+  -- the new file isn't written, and is given up
+  pub fails-written : (fault : RenewFault) (before mid after : Log D) → (fault ≡ faults.Memory → ⊥) → FailsToWrite fault of may_leave before mid → KeepsLog of may_leave mid after
+      → KeepsLog of may_leave before after × (of.failures before.device < of.failures after.device)
+  fails-written faults.Memory before mid after other p q = absurd (other refl)
+  fails-written faults.Kept before mid after other p q = (keeps-trans before mid after p.0 q, omega (arith, p.1, q.failures))
+  fails-written faults.Lost before mid after other p q = absurd p
+
   -- ---- the lines of the new file
 
   module _ (new_file : D → List ℕ) where
@@ -94,9 +154,27 @@ module _ {D : Type 0} (of : Telling D) (may_leave : D → List ℕ → Type 0) w
       are_lines = p.are_lines;
     }
 
+    -- further lines are written, or are to follow
+    abbrev pub WritesOn : Log D → Log D → List (List ℕ) → List (List ℕ) → List (List ℕ) → Type 0
+    WritesOn old new pending following more =
+        (before : Log D) (all : List (List ℕ)) → IsWriting of may_leave new_file before old pending all → IsWriting of may_leave new_file before new following (all ++ more)
+
+    pub writes-none : (log : Log D) (pending : List (List ℕ)) → WritesOn log log pending pending []
+    writes-none log pending before all p = subst (λ ls. IsWriting of may_leave new_file before log pending ls) (sym (append-nil all)) p
+
+    pub writes-more : (old mid new : Log D) (pending following last first more both : List (List ℕ)) → both ≡ first ++ more → WritesOn old mid pending following first → WritesOn mid new following last more
+        → WritesOn old new pending last both
+    writes-more old mid new pending following last first more both is p q before all w =
+        subst (λ ls. IsWriting of may_leave new_file before new last ls) (append_assoc all first more ∙ ap (λ ls. all ++ ls) (sym is)) (q before (all ++ first) (p before all w))
+
     -- nothing is written yet
-    pub writing-none : (log : Log D) → KeepsLog of may_leave log log → IsMaking new_file log → new_file log.device ≡ [] → IsWriting of may_leave new_file log log [] []
-    writing-none log keeps making none = record { keeps = keeps; making = making; written = append-nil (new_file log.device) ∙ none; are_lines = tt }
+    pub writing-none : (log : Log D) (pending : List (List ℕ)) → pending ≡ [] → KeepsLog of may_leave log log → IsMaking new_file log → new_file log.device ≡ [] → IsWriting of may_leave new_file log log pending []
+    writing-none log pending none keeps making empty = record {
+      keeps = keeps;
+      making = making;
+      written = ap (λ ls. new_file log.device ++ joined ls) none ∙ append-nil (new_file log.device) ∙ empty;
+      are_lines = tt;
+    }
 
     -- all are written
     pub all-written : (before log : Log D) (all : List (List ℕ)) → IsWriting of may_leave new_file before log [] all → (logged (new_file log.device) ≡ all) × IsJoined (new_file log.device)

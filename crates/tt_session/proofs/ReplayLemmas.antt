@@ -1,5 +1,5 @@
 -- What a session logs is read back: a line makes the same entries again, whatever was only read between, since what becomes of the database depends on the database alone.
-use Rattle.std.proofs.Common.{◌≡◌, ◌⊎◌, ℕ, zero, suc, ◌+◌, ◌<◌, ◌≤◌, ◌==◌, ◌&&◌, Bool, true, false, not, cond, List, [], ◌∷◌, ◌++◌, length, map, take, replicate, append-nil, append_assoc, length-append, Option, None, Some, Result, Ok, Err, inl, inr, refl, sym, ap, ◌∙◌, subst, arith, ne_eqb}
+use Rattle.std.proofs.Common.{◌≡◌, ◌⊎◌, ℕ, zero, suc, ◌+◌, ◌<◌, ◌≤◌, ◌==◌, ◌&&◌, Bool, true, false, not, cond, List, [], ◌∷◌, ◌++◌, length, map, replicate, append-nil, length-append, Option, None, Some, Result, Ok, Err, inl, inr, refl, sym, ap, ◌∙◌, subst, arith, ne_eqb}
 use Rattle.std.specs.Option.{option_map, unwrap_or}
 use Rattle.std.proofs.lemmas.List.{length-replicate}
 use Rattle.serde_json.specs.Data.{Data}
@@ -350,7 +350,7 @@ reopening-follows replayed session again (Err fault) m = inl (m, same-entries (R
 reopening-follows replayed session again (Ok opening) m = go (asks_for opening session.database)
   where
     go : (asks : Bool) → Follows replayed (Restored session) again (reopened session opening asks).session
-    go true = inl (m, same-entries (Restored session) (Open (with_most_records session opening.records)) refl refl)
+    go true = inl ((m.0, m.1, record { database = m.2.database; numbering = m.2.numbering }), same-entries (Restored session) (Open (with_most_records session opening.records)) refl refl)
     go false = inl (m, same-entries (Restored session) (Restored session) refl refl)
 
 -- two open sessions with the same database, whose numbers are told alike
@@ -382,13 +382,13 @@ value-follows replayed (Open session) value m = request-follows replayed session
 lost-follows : (replayed session again : Session) → IsLike replayed session → Follows replayed session again (turn_without_memory session).session
 lost-follows replayed NotOpen again m = inl (m, refl)
 lost-follows replayed (Restored session) again m = inl (m, same-entries (Restored session) (Restored session) refl refl)
-lost-follows replayed (Open session) again m = inl (m, same-entries (Open session) (Open (counted session)) refl refl)
+lost-follows replayed (Open session) again m = inl ((m.0, m.1, record { database = m.2.database; numbering = m.2.numbering }), same-entries (Open session) (Open (counted session)) refl refl)
 
 -- and neither does one for which the log couldn't be made anew
 unlogged-follows : (replayed session again : Session) → IsLike replayed session → Follows replayed session again (turn_without_log session).session
 unlogged-follows replayed NotOpen again m = inl (m, refl)
 unlogged-follows replayed (Restored session) again m = inl (m, same-entries (Restored session) (Restored session) refl refl)
-unlogged-follows replayed (Open session) again m = inl (m, same-entries (Open session) (Open (counted session)) refl refl)
+unlogged-follows replayed (Open session) again m = inl ((m.0, m.1, record { database = m.2.database; numbering = m.2.numbering }), same-entries (Open session) (Open (counted session)) refl refl)
 
 read-follows : (replayed session : Session) (read : LineRead) → IsLike replayed session
     → Follows replayed session (turn_of_read replayed (kept_line read.line)).session (turn_of_read session read).session

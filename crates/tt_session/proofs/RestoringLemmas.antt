@@ -1,5 +1,5 @@
 -- How a session is read back from the lines of a log.
-use Rattle.std.proofs.Common.{◌≡◌, ℕ, ◌+◌, ◌-◌, ◌<◌, ◌==◌, Bool, true, false, cond, List, [], ◌∷◌, ◌++◌, length, take, drop, map, append-nil, append_assoc, length-append, inl, inr, Option, None, Some, option_and_then, Ok, IsErr, codes, refl, sym, ap, ◌∙◌, subst, arith}
+use Rattle.std.proofs.Common.{◌≡◌, ℕ, ◌+◌, ◌-◌, ◌<◌, ◌==◌, ◌&&◌, Bool, true, false, not, cond, List, [], ◌∷◌, ◌++◌, length, take, drop, map, append-nil, append_assoc, length-append, inl, inr, Option, None, Some, is_some, option_and_then, Result, Ok, Err, IsErr, IfOk, OnOk, IfErr, codes, refl, sym, ap, ◌∙◌, subst, arith, ne_eqb}
 use Rattle.std.specs.List.{list_all}
 use Rattle.std.proofs.lemmas.Bool.{and_parts}
 use Rattle.std.proofs.lemmas.List.{map-append, take_rest, take-append-drop}
@@ -18,13 +18,14 @@ use Rattle.tt_requests.specs.declared.log_opening.LogOpening.{LogOpening}
 use Rattle.tt_requests.specs.LogOpening.{log_opening_of}
 use Rattle.tt_requests.specs.GroundAction.{ground_action_of}
 use Rattle.tt_session.specs.Session.{OpenSession}
-use Rattle.tt_session.specs.Run.{Turn, begun, calls_of, turn_by_value}
+use Rattle.tt_session.specs.Run.{Turn, begun, turn_by_value}
 use Rattle.tt_session.specs.Answering.{turn_of_read, turns_of}
 use Rattle.tt_session.specs.Changing.{changes_database}
 use Rattle.tt_session.specs.Logged.{with_line_if, logged_by, logged_of}
 use Rattle.tt_session.specs.Together.{kept_line}
 use Rattle.tt_session.specs.Restoring.{opened_on, with_ground, laid_by, laid_by_lines, LaysGround, BeginsLog, ReadsLog, restored, Restores, IsNoGround, IsNoNext, IsNoLine}
-use Rattle.tt_session.specs.RestoringRun.{IsRestoring, FailsAtLine, FailsIn, IsNextOrNot}
+use Rattle.tt_session.specs.declared.restoring.OpenLog.{OpenLog}
+use Rattle.tt_session.specs.RestoringRun.{IsRestoring, FailsAtLine, FailsIn, IsNextOrNot, OpensBy}
 use Rattle.tt_session.proofs.AnsweringLemmas.{read-long, read-kept, whole_lines_of-joined, whole_lines_of-line}
 use Rattle.tt_session.proofs.LineLemmas.{first_line, rest_of}
 use Rattle.tt_session.proofs.LoggedLemmas.{logged_of-append, none-logged}
@@ -32,14 +33,14 @@ use Rattle.tt_session.proofs.RunningLemmas.{turns-session, cuts-more, cuts-line,
 
 -- ---- lines of a log
 
-pub kept-append : (lines : List (List ℕ)) (line : List ℕ) → map kept_line (lines ++ line ∷ []) ≡ map kept_line lines ++ kept_line line ∷ []
+kept-append : (lines : List (List ℕ)) (line : List ℕ) → map kept_line (lines ++ line ∷ []) ≡ map kept_line lines ++ kept_line line ∷ []
 kept-append lines line = map-append kept_line lines (line ∷ [])
 
 -- the session after lines from a session on
-abbrev pub after_kept : Session → List (List ℕ) → Session
+abbrev after_kept : Session → List (List ℕ) → Session
 after_kept base lines = (turns_of base (map kept_line lines)).session
 
-pub after-push : (base : Session) (lines : List (List ℕ)) (line : List ℕ) → after_kept base (lines ++ line ∷ []) ≡ (turn_of_read (after_kept base lines) (kept_line line)).session
+after-push : (base : Session) (lines : List (List ℕ)) (line : List ℕ) → after_kept base (lines ++ line ∷ []) ≡ (turn_of_read (after_kept base lines) (kept_line line)).session
 after-push base lines line = ap (λ rs. (turns_of base rs).session) (kept-append lines line) ∙ turns-session base (map kept_line lines) (kept_line line ∷ [])
 
 logged-push : (base : Session) (lines : List (List ℕ)) (line : List ℕ) → logged_of base (map kept_line lines) ≡ lines
@@ -62,13 +63,15 @@ reads-push lines session line p made = record {
   session_is = ap (λ s. (turn_of_read s (kept_line line)).session) p.session_is ∙ sym (after-push p.base p.others line);
 }
 
+laid-then : (laid : Option OpenSession) (next : OpenSession) (lines : List (List ℕ)) (line : List ℕ) → option_and_then (λ s. laid_by_lines s lines) laid ≡ Some next
+    → ((s : OpenSession) → laid_by_lines s lines ≡ Some next → laid_by_lines s (lines ++ line ∷ []) ≡ laid_by_lines next (line ∷ []))
+    → option_and_then (λ s. laid_by_lines s (lines ++ line ∷ [])) laid ≡ laid_by_lines next (line ∷ [])
+laid-then None next lines line is by = cc
+laid-then (Some s) next lines line is by = by s is
+
 laid-append : (session next : OpenSession) (lines : List (List ℕ)) (line : List ℕ) → laid_by_lines session lines ≡ Some next → laid_by_lines session (lines ++ line ∷ []) ≡ laid_by_lines next (line ∷ [])
 laid-append session next [] line is = ap (λ o. option_and_then (λ s. laid_by_lines s (line ∷ [])) o) is
-laid-append session next (first ∷ lines) line is = by (laid_by session first) is
-  where
-    by : (laid : Option OpenSession) → option_and_then (λ s. laid_by_lines s lines) laid ≡ Some next → option_and_then (λ s. laid_by_lines s (lines ++ line ∷ [])) laid ≡ laid_by_lines next (line ∷ [])
-    by None h = cc
-    by (Some s) h = laid-append s next lines line h
+laid-append session next (first ∷ lines) line is = laid-then (laid_by session first) next lines line is (λ s h. laid-append s next lines line h)
 
 laid-one : (session next : OpenSession) (line : List ℕ) → laid_by session line ≡ Some next → laid_by_lines session (line ∷ []) ≡ Some next
 laid-one session next line is = ap (λ o. option_and_then (λ s. laid_by_lines s []) o) is
@@ -79,7 +82,7 @@ begins-base lines session left p none =
     (p.lines_are ∙ ap (λ ls. p.first ++ ls) none ∙ append-nil p.first, sym (p.session_is ∙ ap (after_kept p.base) none))
 
 -- a further slot of the ground
-pub reads-lay : (lines : List (List ℕ)) (now next : OpenSession) (line : List ℕ) (left after : ℕ) → ReadsLog lines (Open now) left → left ≡ after + 1 → laid_by now line ≡ Some next
+reads-lay : (lines : List (List ℕ)) (now next : OpenSession) (line : List ℕ) (left after : ℕ) → ReadsLog lines (Open now) left → left ≡ after + 1 → laid_by now line ≡ Some next
     → ReadsLog (lines ++ line ∷ []) (Open next) after
 reads-lay lines now next line left after p left_is laid =
     let none = p.ground_first (omega (arith, left_is)) in
@@ -105,25 +108,13 @@ reads-lay lines now next line left after p left_is laid =
     }
 
 -- the opening of a log with a ground
-pub reads-ground : (line : List ℕ) (opening : LogOpening) → log_opening_of (value_of_line line) ≡ Ok opening → ReadsLog (line ∷ []) (Open (opened_on opening)) opening.numbering.ground_slots
+reads-ground : (line : List ℕ) (opening : LogOpening) → log_opening_of (value_of_line line) ≡ Ok opening → ReadsLog (line ∷ []) (Open (opened_on opening)) opening.numbering.ground_slots
 reads-ground line opening opens = record {
   first = line ∷ [];
   others = [];
   lines_are = refl;
   base = Open (opened_on opening);
-  begins = record { line = line; slots = []; lines_are = refl; opening = opening; opens = opens; count = refl; laid = refl };
-  ground_first = λ less. refl;
-  are_logged = refl;
-  session_is = refl;
-}
-
-pub reads-none : ReadsLog [] NotOpen 0
-reads-none = record {
-  first = [];
-  others = [];
-  lines_are = refl;
-  base = NotOpen;
-  begins = (refl, refl);
+  begins = record { line = line; slots = []; lines_are = refl; opening = opening; opens = opens; count = omega arith; laid = refl };
   ground_first = λ less. refl;
   are_logged = refl;
   session_is = refl;
@@ -216,6 +207,21 @@ fails-at given old p number number_is fails = record {
   fails = fails;
 }
 
+-- the first line
+opens-changes : (session : OpenSession) → changes_database NotOpen (Open session) ≡ true
+opens-changes session = ap (λ b. not (b && (session.numbering.horizon == 0))) (ne_eqb (length session.database.history + 1) 0 (λ e. omega (arith, e)))
+
+opens-log : (line : List ℕ) (log : OpenLog) (left : ℕ) → OpensBy line (Some log) → IsNextOrNot true NotOpen left line (Open log.session) log.ground_slots
+opens-log line log left (inl opened) =
+    inr (inl (record { no_ground = λ s same. absurd (open-closed s (sym same)); after = log.session; is_open = refl; next_is = opened.0; changes = opens-changes log.session; left_is = opened.1 }))
+opens-log line log left (inr ground) = inr (inr ground)
+
+pub opens-next : (line : List ℕ) (opened : Option OpenLog) (log : OpenLog) (before : Option OpenSession) (left : ℕ) (is_open : Bool)
+    → OpensBy line opened → opened ≡ Some log → before ≡ None → is_open ≡ is_some opened → IsNextOrNot is_open (begun before) left line (Open log.session) log.ground_slots
+opens-next line opened log before left is_open opens some none told =
+    subst (λ b. IsNextOrNot b (begun before) left line (Open log.session) log.ground_slots) (sym (told ∙ ap is_some some))
+    (subst (λ o. IsNextOrNot true (begun o) left line (Open log.session) log.ground_slots) (sym none) (opens-log line log left (subst (OpensBy line) some opens)))
+
 -- a line that is too long
 long-value : (line : List ℕ) → is_too_long line ≡ true → value_of_line line ≡ refuse (codes "longer than 16777216 bytes")
 unfolding value_of_line
@@ -235,7 +241,7 @@ fails-long given old p number number_is long =
       no_opening = λ closed. subst (λ v. IsErr (log_opening_of v)) (sym (long-value p.left long)) refl;
     })
 
-pub fails-more : (given more : List ℕ) (fault : RestoreFault) → FailsIn given fault → FailsIn (given ++ more) fault
+fails-more : (given more : List ℕ) (fault : RestoreFault) → FailsIn given fault → FailsIn (given ++ more) fault
 fails-more given more (faults.Line number) p = record {
   front = p.front;
   line = p.line;
@@ -261,7 +267,7 @@ same-if : (b : ℕ) (lines : List (List ℕ)) → log.with_byte_if b lines ≡ w
 same-if b [] = refl
 same-if b (line ∷ lines) = refl
 
-pub same-lines : (bytes : List ℕ) → log.whole_lines_of bytes ≡ whole_lines_of bytes
+same-lines : (bytes : List ℕ) → log.whole_lines_of bytes ≡ whole_lines_of bytes
 same-lines [] = refl
 same-lines (b ∷ bytes) = by (b == 10) (same-lines bytes)
   where
@@ -273,7 +279,7 @@ lines-all : (file given : List ℕ) (run : Restoring) (p : IsRestoring given run
 lines-all file given run p whole =
     ap log.whole_lines_of (sym whole) ∙ same-lines given ∙ ap whole_lines_of p.cuts.parts ∙ whole_lines_of-joined p.lines p.left p.cuts.whole p.cuts.last
 
-pub restores-all : (file given : List ℕ) (run : Restoring) (session : Session) → IsRestoring given run → given ≡ log.text file → run.ground_left ≡ 0 → session ≡ restored (begun run.session)
+restores-all : (file given : List ℕ) (run : Restoring) (session : Session) → IsRestoring given run → given ≡ log.text file → run.ground_left ≡ 0 → session ≡ restored (begun run.session)
     → Restores (log.logged file) session
 restores-all file given run session p whole none session_is = record {
   after = begun run.session;
@@ -282,7 +288,7 @@ restores-all file given run session p whole none session_is = record {
 }
 
 -- some of the ground are still to come behind the last line
-pub no-more-lines : (file given : List ℕ) (run : Restoring) (number : ℕ) → IsRestoring given run → given ≡ log.text file → number ≡ run.count + 1 → 0 < run.ground_left → IsNoLine (log.logged file) number
+no-more-lines : (file given : List ℕ) (run : Restoring) (number : ℕ) → IsRestoring given run → given ≡ log.text file → number ≡ run.count + 1 → 0 < run.ground_left → IsNoLine (log.logged file) number
 no-more-lines file given run number p whole number_is some = record {
   front = p.lines;
   others = [];
@@ -293,6 +299,25 @@ no-more-lines file given run number p whole number_is some = record {
   reads = p.reads;
   fails = some;
 }
+
+line-number : (n m : ℕ) → faults.Line n ≡ faults.Line m → n ≡ m
+line-number n m is = cc
+
+-- nothing is unread once nothing is read into a buffer
+pub given-all : (given unread after buffer whole : List ℕ) (count : ℕ) → given ++ unread ≡ whole → take count buffer ++ after ≡ unread → count ≡ 0 → after ≡ [] → given ≡ whole
+given-all given unread after buffer whole count parts bytes none end =
+    sym (append-nil given) ∙ ap (λ l. given ++ l) ((λ i. take (sym none i) buffer ++ sym end i) ∙ bytes) ∙ parts
+
+-- once all lines are read, with a ground that is whole or not
+pub restores-if : (tells : Type 0) (file given : List ℕ) (run : Restoring) (result : Result Session RestoreFault) → IsRestoring given run → (tells → given ≡ log.text file)
+    → IfOk result (λ session. session ≡ restored (begun run.session)) → OnOk result (run.ground_left ≡ 0) → IfOk result (λ session. tells → Restores (log.logged file) session)
+restores-if tells file given run (Ok session) p whole is none = λ told. restores-all file given run session p (whole told) none is
+restores-if tells file given run (Err fault) p whole is none = tt
+
+pub no-line-if : (tells : Type 0) (file given : List ℕ) (run : Restoring) (result : Result Session RestoreFault) → IsRestoring given run → (tells → given ≡ log.text file)
+    → IfErr result (λ e. (e ≡ faults.Line (run.count + 1)) × (0 < run.ground_left)) → IfErr result (λ e. (n : ℕ) → e ≡ faults.Line n → tells → IsNoLine (log.logged file) n)
+no-line-if tells file given run (Ok session) p whole none = tt
+no-line-if tells file given run (Err fault) p whole none = λ n is told. no-more-lines file given run n p (whole told) (line-number n (run.count + 1) (sym is ∙ none.0)) none.1
 
 whole_lines-front : (front : List (List ℕ)) (line rest : List ℕ) → list_all has_no_feed front ≡ true → has_no_feed line ≡ true
     → whole_lines_of (joined front ++ (line ++ 10 ∷ rest)) ≡ front ++ line ∷ whole_lines_of rest
@@ -316,11 +341,6 @@ no-line file given unread number p whole = record {
   reads = p.reads;
   fails = p.fails;
 }
-
-pub restored-calls : (session : Session) → calls_of (restored session) ≡ calls_of session
-restored-calls NotOpen = refl
-restored-calls (Restored session) = refl
-restored-calls (Open session) = refl
 
 -- ---- bytes that come in pieces
 

@@ -27,12 +27,12 @@ use Rattle.tt_session.specs.Answering.{LineRead, forgets_by, turn_of_read, turns
 use Rattle.tt_session.specs.Changing.{changes_database}
 use Rattle.tt_session.specs.Logged.{logged_by, logged_of, IsPlain, ArePlain, with_lines}
 use Rattle.tt_session.specs.PendingLines.{no_lines}
-use Rattle.tt_session.specs.Together.{kept_line, AnswersFront}
+use Rattle.tt_session.specs.Together.{kept_line, lost_line, unlogged_line, AnswersFront}
 use Rattle.tt_session.specs.Running.{Handing, Stands, Cuts, Serves, Rests, Halts, Takes, StopsIn, AnswersOne, StopsAt, HandsOver, StopsBetween, StandsOn, IsShort, HandsOverShort, StopsInShort}
-use Rattle.tt_session.proofs.AnsweringLemmas.{turns_of-append, joined-append, read-kept, read-unlogged}
+use Rattle.tt_session.proofs.AnsweringLemmas.{turns_of-append, joined-append, read-kept, read-lost, read-unlogged}
 use Rattle.tt_session.proofs.LineLemmas.{feed-more, rest_of}
-use Rattle.tt_session.specs.ForgetRequests.{IsForgetRequest, turn_of_forget, TurnsForget, AsksToForget, AnswersPlain}
-use Rattle.tt_session.proofs.LoggedLemmas.{IsAsFar, with-nil, logged_of-append, none-logged, same-logged, same-next, plain-far, plain-other, plain-append}
+use Rattle.tt_session.specs.ForgetRequests.{IsForgetRequest, turn_of_forget, TurnsForget, Prepares, AsksToForget, AnswersPlain}
+use Rattle.tt_session.proofs.LoggedLemmas.{IsAsFar, with-nil, logged_of-append, none-logged, same-logged, same-next, plain-far, plain-append}
 
 -- ---- lines that are read
 
@@ -42,7 +42,7 @@ turns-session start first others = ap (λ (t : Turn). t.session) (turns_of-appen
 pub turns-text : (start : Session) (first others : List LineRead) → (turns_of start (first ++ others)).text ≡ (turns_of start first).text ++ (turns_of (turns_of start first).session others).text
 turns-text start first others = ap (λ (t : Turn). t.text) (turns_of-append start first others)
 
-one-text : (session : Session) (read : LineRead) → (turns_of session (read ∷ [])).text ≡ (turn_of_read session read).text
+pub one-text : (session : Session) (read : LineRead) → (turns_of session (read ∷ [])).text ≡ (turn_of_read session read).text
 one-text session read = append-nil (turn_of_read session read).text
 
 lines_read-append : (first others : List LineRead) → lines_read (first ++ others) ≡ lines_read first ++ lines_read others
@@ -135,7 +135,7 @@ one-kept handed has_log outlet old new told first start reads bytes has p sessio
       stands-push handed has_log first outlet start reads read old.session old.out.items new.out.items old.workspace.lines new.workspace.lines p session_is
           (done.text ∙ ap (λ (t : Turn). old.out.items ++ t.text) (sym turn))
           (done.lines ∙ ap (λ s. with_lines old.workspace.lines (logged_by old.session s bytes)) new_is)
-          (plain-other old.session read refl done.plain),
+          done.plain,
       session-push start old.session new.session reads read session_is new_is,
     )
 
@@ -185,6 +185,34 @@ stops-short handed stopped has_log before after old mid is_lost turn text told f
     let stands = stands-same handed has_log first before start reads old.out.items mid.out.items old.workspace.lines mid.workspace.lines p out_is lines_are in
     let short = is-short start old.session reads read turn text start_is (told bytes has) refl far text_is in
     (read, refl, λ more. stops first start reads read more stands short)
+
+-- a run that is as it was
+abbrev pub IsAsBefore : Run → Run → Type 0
+IsAsBefore old mid = (mid.session ≡ old.session) × (mid.out.items ≡ old.out.items) × (mid.workspace.lines ≡ old.workspace.lines)
+
+pub answers-same : {O : Type 0} (handed : Handing O) (has_log : Type 0) (before after : O) (old mid new : Run) → mid.line ≡ old.line → ((bytes : List ℕ) → HasBytes old.line bytes → IsAsBefore old mid)
+    → AnswersOne handed has_log before after mid new → AnswersOne handed has_log before after old new
+answers-same handed has_log before after old mid new line same one first start reads bytes has p session_is =
+    let is = same bytes has in
+    one first start reads bytes (subst (λ l. HasBytes l bytes) (sym line) has)
+    (stands-same handed has_log first before start reads old.out.items mid.out.items old.workspace.lines mid.workspace.lines p is.1 is.2) (is.0 ∙ session_is)
+
+pub stops-same : {O : Type 0} (handed stopped : Handing O) (has_log : Type 0) (before after : O) (old mid : Run) → mid.line ≡ old.line → ((bytes : List ℕ) → HasBytes old.line bytes → IsAsBefore old mid)
+    → StopsAt handed stopped has_log before after mid → StopsAt handed stopped has_log before after old
+stops-same handed stopped has_log before after old mid line same stops first start reads bytes has p session_is =
+    let is = same bytes has in
+    stops first start reads bytes (subst (λ l. HasBytes l bytes) (sym line) has)
+    (stands-same handed has_log first before start reads old.out.items mid.out.items old.workspace.lines mid.workspace.lines p is.1 is.2) (is.0 ∙ session_is)
+
+-- the answers that are kept can't be handed over
+pub stops-first : {O : Type 0} (handed stopped : Handing O) (has_log : Type 0) (before after : O) (old mid : Run) → ((bytes : List ℕ) → HasBytes old.line bytes → mid.out.items ≡ old.out.items)
+    → mid.workspace.lines ≡ old.workspace.lines → StopsBetween handed stopped has_log before after mid → StopsAt handed stopped has_log before after old
+stops-first handed stopped has_log before after old mid out lines stops first start reads bytes has p session_is = (
+  kept_line bytes,
+  refl,
+  λ more. subst (λ rs. stopped first after start rs) (sym (append_assoc reads (kept_line bytes ∷ []) more))
+  (stops first start reads (kept_line bytes ∷ more) (stands-same handed has_log first before start reads old.out.items mid.out.items old.workspace.lines mid.workspace.lines p (out bytes has) lines)),
+)
 
 -- ---- a line that asks to forget
 
@@ -236,10 +264,36 @@ is-ready handed has_log first outlet after start reads bytes old mid run f ready
   lines = lines;
 }
 
+pub forget-ready : {O : Type 0} (handed : Handing O) (has_log : Type 0) (before between : O) (old mid run : Run) (f : ForgetRequest) (ready : ReadyToForget) → ((bytes : List ℕ) → HasBytes old.line bytes → AsksToForget old.session bytes f)
+    → ((session : OpenSession) → old.session ≡ Open session → Prepares (counted session) f old.out.items mid.out.items (Some ready))
+    → ((session : OpenSession) → old.session ≡ Open session → mid.session ≡ Open (counted session)) → mid.workspace.lines ≡ old.workspace.lines
+    → HandsOver handed has_log before between mid → run.session ≡ mid.session → run.out.items ≡ [] → run.workspace.lines ≡ no_lines mid.workspace.lines
+    → (first : O) (start : Session) (reads : List LineRead) (bytes : List ℕ) → HasBytes old.line bytes → Stands handed has_log first before start reads old.out.items old.workspace.lines → old.session ≡ (turns_of start reads).session
+    → IsReady handed has_log first between start reads bytes run ready
+forget-ready handed has_log before between old mid run f ready asks prepared counted_is lines over same none cleared first start reads bytes has p session_is =
+    let a = asks bytes has in
+    let prep = prepared a.opened a.session_is in
+    let stands = stands-same handed has_log first before start reads old.out.items mid.out.items old.workspace.lines mid.workspace.lines p prep.0 lines in
+    is-ready handed has_log first before between start reads bytes old mid run f ready a session_is prep.1 (counted_is a.opened a.session_is) same (over first start reads stands) none
+    (λ log. cleared ∙ ap no_lines (stands.lines_are log))
+
 -- a session that forgets something has another database
 forgets-changes : (session : OpenSession) (f : Forgetting) → forgets_nothing (counted session) f ≡ false → changes_database (Open session) (Open (forgotten_by (counted session) f)) ≡ true
 forgets-changes session f is =
     ap not (ap (λ b. b && (f.numbering.horizon == session.numbering.horizon)) (same-next (length f.db.history) (length session.database.history)) ∙ is)
+
+with-memory : (session : OpenSession) (line : List ℕ) → is_passed_over line ≡ false → turn_with_memory (Open session) line ≡ turn_by_value (Open session) (value_of_line line)
+with-memory session line told = rw told refl
+
+-- the line's turn with a log, and the lines that forget
+ready-turn : {O : Type 0} (handed : Handing O) (has_log : Type 0) (first outlet : O) (start : Session) (over : List LineRead) (line : List ℕ) (run : Run) (ready : ReadyToForget) (p : IsReady handed has_log first outlet start over line run ready)
+    → turn_of_read (Open p.session) (kept_line line) ≡ record { text = ready.text.items; session = Open (forgotten_by (counted p.session) ready.forgetting) }
+ready-turn handed has_log first outlet start over line run ready p = read-kept (Open p.session) line ∙ with-memory p.session line p.told ∙ p.turn
+
+ready-forgets : {O : Type 0} (handed : Handing O) (has_log : Type 0) (first outlet : O) (start : Session) (over : List LineRead) (line : List ℕ) (run : Run) (ready : ReadyToForget) (p : IsReady handed has_log first outlet start over line run ready)
+    → forgets_by (Open p.session) line ≡ true
+ready-forgets handed has_log first outlet start over line run ready p =
+    (λ i. p.asks i && changes_database (Open p.session) (p.turn i).session) ∙ forgets-changes p.session ready.forgetting p.anew
 
 pub forgets : {O : Type 0} (handed : Handing O) (has_log : Type 0) (first outlet : O) (start : Session) (over : List LineRead) (line : List ℕ) (run : Run) (ready : ReadyToForget) (most : ℕ) (text refusal : List ℕ)
     → (p : IsReady handed has_log first outlet start over line run ready) → ((session : OpenSession) → run.session ≡ Open session → most ≡ session.most_records) → most ≤ max_records
@@ -247,23 +301,18 @@ pub forgets : {O : Type 0} (handed : Handing O) (has_log : Type 0) (first outlet
 forgets handed has_log first outlet start over line run ready most text refusal p most_is few text_is refusal_is =
     let s = p.session in
     let next = forgotten_by (counted s) ready.forgetting in
-    let value : turn_of_read (Open s) (kept_line line) ≡ record { text = ready.text.items; session = Open next } = read-kept (Open s) line ∙ with-memory s line p.told ∙ p.turn in
-    let changes = forgets-changes s ready.forgetting p.anew in
-    let by_line : forgets_by (Open s) line ≡ true = (λ i. p.asks i && changes_database (Open s) (p.turn i).session) ∙ changes in
+    let value = ready-turn handed has_log first outlet start over line run ready p in
     record {
       session = s;
       session_is = p.before;
       most_is = most_is (counted s) p.counted_is;
       few = few;
       turn = value ∙ ap (λ t. record { text = t; session = Open next }) (sym text_is);
-      anew = (λ i. p.asks i && changes_database (Open s) (value i).session) ∙ changes;
+      anew = (λ i. p.asks i && changes_database (Open s) (value i).session) ∙ forgets-changes s ready.forgetting p.anew;
       refused =
-          read-unlogged (Open s) line p.told by_line
+          read-unlogged (Open s) line p.told (ready-forgets handed has_log first outlet start over line run ready p)
           ∙ ap (λ t. record { text = t; session = Open (counted s) }) (ap (λ x. short_text (shorts.CallWithoutLog (calls_of x))) (sym p.counted_is) ∙ sym refusal_is);
     }
-  where
-    with-memory : (s : OpenSession) (l : List ℕ) → is_passed_over l ≡ false → turn_with_memory (Open s) l ≡ turn_by_value (Open s) (value_of_line l)
-    with-memory s l told = rw told refl
 
 -- after it is answered, with the log made anew or refused
 pub forgets-one : {O : Type 0} (handed : Handing O) (has_log : Type 0) (first before after : O) (start : Session) (over : List LineRead) (line : List ℕ) (old new : Run) (ready : ReadyToForget) (read : LineRead)
@@ -284,6 +333,65 @@ forgets-one handed has_log first before after start over line old new ready read
   },
   session ∙ sym (turns-session start over (read ∷ [])),
 )
+
+-- the answer without memory to a line by which a session would forget something
+pub short-lost : {O : Type 0} (handed : Handing O) (has_log : Type 0) (first outlet : O) (start : Session) (over : List LineRead) (line : List ℕ) (run : Run) (ready : ReadyToForget) (text : List ℕ)
+    → IsReady handed has_log first outlet start over line run ready → text ≡ short_text (shorts.CallOutOfMemory (calls_of run.session)) → IsShort start over (lost_line line) text
+short-lost handed has_log first outlet start over line run ready text p text_is =
+    is-short start (Open p.session) over (lost_line line) (turn_without_memory (Open p.session)) text (sym p.before) (read-lost (Open p.session) line p.told p.short) refl (refl, refl)
+    (text_is ∙ ap (λ s. short_text (shorts.CallOutOfMemory (calls_of s))) p.counted_is)
+
+-- nothing is kept behind what is handed over
+pub stands-ready : {O : Type 0} (handed : Handing O) (has_log : Type 0) (first outlet : O) (start : Session) (over : List LineRead) (out : List ℕ) (lines : Option (List (List ℕ)))
+    → handed first outlet start over → out ≡ [] → (has_log → lines ≡ Some []) → Stands handed has_log first outlet start over out lines
+stands-ready handed has_log first outlet start over out lines given none cleared = record {
+  over = over;
+  kept = [];
+  reads_are = sym (append-nil over);
+  is_handed = given;
+  text_is = none;
+  lines_are = cleared;
+  plain = tt;
+}
+
+-- the session goes on behind the time
+pub forgets-made : {O : Type 0} (handed : Handing O) (has_log : Type 0) (first before after : O) (start : Session) (over : List LineRead) (line : List ℕ) (old new : Run) (ready : ReadyToForget)
+    → IsReady handed has_log first before start over line old ready → handed first after start (over ++ kept_line line ∷ [])
+    → ((session : OpenSession) → old.session ≡ Open session → new.session ≡ Open (forgotten_by session ready.forgetting)) → new.out.items ≡ old.out.items → new.workspace.lines ≡ old.workspace.lines
+    → (r : LineRead) × (r.line ≡ line) × Stands handed has_log first after start (over ++ r ∷ []) new.out.items new.workspace.lines × (new.session ≡ (turns_of start (over ++ r ∷ [])).session)
+forgets-made handed has_log first before after start over line old new ready p given session out lines =
+    forgets-one handed has_log first before after start over line old new ready (kept_line line) p refl given
+    (session (counted p.session) p.counted_is ∙ ap (λ (t : Turn). t.session) (sym (ready-turn handed has_log first before start over line old ready p)) ∙ ap (λ s. (turn_of_read s (kept_line line)).session) (sym p.before))
+    (out ∙ p.out) (λ log. lines ∙ p.lines log)
+
+-- the log couldn't be made anew
+pub forgets-refused : {O : Type 0} (handed : Handing O) (has_log : Type 0) (first before after : O) (start : Session) (over : List LineRead) (line : List ℕ) (old : Run) (ready : ReadyToForget)
+    → IsReady handed has_log first before start over line old ready → handed first after start (over ++ unlogged_line line ∷ [])
+    → (r : LineRead) × (r.line ≡ line) × Stands handed has_log first after start (over ++ r ∷ []) old.out.items old.workspace.lines × (old.session ≡ (turns_of start (over ++ r ∷ [])).session)
+forgets-refused handed has_log first before after start over line old ready p given =
+    forgets-one handed has_log first before after start over line old old ready (unlogged_line line) p refl given
+    (p.counted_is ∙ ap (λ (t : Turn). t.session) (sym (read-unlogged (Open p.session) line p.told (ready-forgets handed has_log first before start over line old ready p))) ∙ ap (λ s. (turn_of_read s (unlogged_line line)).session) (sym p.before))
+    p.out p.lines
+
+-- there was no memory to make it anew
+pub forgets-lost : {O : Type 0} (handed : Handing O) (has_log : Type 0) (first before between after : O) (start : Session) (over : List LineRead) (line : List ℕ) (old new : Run) (ready : ReadyToForget) (text : List ℕ)
+    → IsReady handed has_log first before start over line old ready → handed first between start over → text ≡ short_text (shorts.CallOutOfMemory (calls_of old.session)) → HandsOverShort handed has_log between after old text
+    → new.session ≡ old.session → new.out.items ≡ [] → new.workspace.lines ≡ no_lines old.workspace.lines
+    → (r : LineRead) × (r.line ≡ line) × Stands handed has_log first after start (over ++ r ∷ []) new.out.items new.workspace.lines × (new.session ≡ (turns_of start (over ++ r ∷ [])).session)
+forgets-lost handed has_log first before between after start over line old new ready text p given text_is over_short session out lines =
+    let short = short-lost handed has_log first before start over line old ready text p text_is in
+    let stands = stands-ready handed has_log first between start over old.out.items old.workspace.lines given p.out p.lines in
+    forgets-one handed has_log first before after start over line old new ready (lost_line line) p refl (over_short first start over (lost_line line) stands short)
+    (session ∙ p.counted_is ∙ ap (λ (t : Turn). t.session) (sym (read-lost (Open p.session) line p.told p.short)) ∙ ap (λ s. (turn_of_read s (lost_line line)).session) (sym p.before))
+    out (λ log. lines ∙ ap no_lines (p.lines log))
+
+pub stops-lost : {O : Type 0} (handed stopped : Handing O) (has_log : Type 0) (first before between after : O) (start : Session) (over : List LineRead) (line : List ℕ) (old : Run) (ready : ReadyToForget) (text : List ℕ)
+    → IsReady handed has_log first before start over line old ready → handed first between start over → text ≡ short_text (shorts.CallOutOfMemory (calls_of old.session)) → StopsInShort handed stopped has_log between after old text
+    → (r : LineRead) × (r.line ≡ line) × ((more : List LineRead) → stopped first after start ((over ++ r ∷ []) ++ more))
+stops-lost handed stopped has_log first before between after start over line old ready text p given text_is stops =
+    let short = short-lost handed has_log first before start over line old ready text p text_is in
+    let stands = stands-ready handed has_log first between start over old.out.items old.workspace.lines given p.out p.lines in
+    (lost_line line, refl, λ more. stops first start over (lost_line line) more stands short)
 
 -- ---- whole lines, and the bytes of the next one
 

@@ -224,7 +224,7 @@ pub line-session : (asked : Result Request DocFault) (line : List ℕ) (count : 
 line-session asked line count old new before after kept left p =
     (front-nothing count (Open p.mid) (Open new) (before ++ p.text) after (with_lines kept (logged_by (Open old) (Open p.mid) line)) left p.others).0 ∙ ap (λ (t : Turn). t.session) (sym p.turn)
 
-open-same : (a b : OpenSession) → Open a ≡ Open b → a ≡ b
+pub open-same : (a b : OpenSession) → Open a ≡ Open b → a ≡ b
 open-same a b is = cc
 
 pub line-calls : (asked : Result Request DocFault) (line : List ℕ) (count : ℕ) (old new : OpenSession) (before after : List ℕ) (kept left : Option (List (List ℕ))) → AnswersWith asked line [] count old new before after kept left
@@ -249,7 +249,7 @@ line-plain tables asked line count old new before after kept left same told is o
       text = line-text asked line count old new before after kept left p ∙ ap (λ (t : Turn). before ++ t.text) (sym turn);
       session = line-session asked line count old new before after kept left p ∙ ap (λ (t : Turn). t.session) (sym turn);
       lines = line-logged asked line count old new before after kept left p;
-      plain = ap asks_to_forget (sym asks) ∙ other;
+      plain = plain-other (Open old) (kept_line line) refl (ap asks_to_forget (sym asks) ∙ other);
     }
 
 -- ---- a session that goes ahead

@@ -19,8 +19,8 @@ use Rattle.tt_session.specs.Changes.{forgotten_by}
 use Rattle.tt_session.specs.Commands.{moved_to, unless_moved}
 use Rattle.tt_session.specs.Forgetting.{forget, forgets_nothing}
 use Rattle.tt_session.specs.Run.{Turn, turn_by_outcome, turn_with_memory}
-use Rattle.tt_session.specs.Changing.{line_asks_to_forget}
-use Rattle.tt_session.specs.Logged.{logged_by, with_lines}
+use Rattle.tt_session.specs.Logged.{logged_by, IsPlain, with_lines}
+use Rattle.tt_session.specs.Together.{kept_line}
 
 -- this is what a line asks
 abbrev pub IsForgetRequest : Result Request DocFault → ForgetRequest → Type 0
@@ -60,12 +60,12 @@ pub record AsksToForget (session : Session) (line : List ℕ) (f : ForgetRequest
   pub told : is_passed_over line ≡ false
   pub asks : IsForgetRequest (request_of opened.database.catalog (value_of_line line)) f
 
--- a line that isn't to forget is answered, and kept if it is to be logged
+-- a line that isn't to forget is answered, and kept if it is to be logged: the log isn't made anew for it
 pub record AnswersPlain (old new : Session) (line before after : List ℕ) (kept left : Option (List (List ℕ))) : Type 0 where
   pub text : after ≡ before ++ (turn_with_memory old line).text
   pub session : new ≡ (turn_with_memory old line).session
   pub lines : left ≡ with_lines kept (logged_by old new line)
-  pub plain : line_asks_to_forget old line ≡ false
+  pub plain : IsPlain old (kept_line line)
 
 -- a line that is to forget is returned, and nothing is done yet
 pub record ReturnsRequest (old new : Session) (line before after : List ℕ) (kept left : Option (List (List ℕ))) (f : ForgetRequest) : Type 0 where

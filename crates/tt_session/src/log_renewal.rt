@@ -1,6 +1,6 @@
 //! How a log is made anew, with the lines of a session that has forgotten what lies before a time.
-ghost use Rattle.std.specs.Prelude.{◌≡◌, ◌↔◌, ◌++◌, ◌∷◌, ◌+◌, ◌-◌, ◌<◌, ◌≤◌, [], Some, List, ℕ, All, length, take, drop, slice_get, IfErr, IfOk, IsErrOf, OnOk, OnErr};
-ghost use Rattle.tt_db.specs.declared.event.Entry.{Entry};
+ghost use Rattle.std.specs.Prelude.{◌≡◌, ◌↔◌, ◌++◌, ◌∷◌, ◌+◌, ◌-◌, ◌<◌, ◌≤◌, [], List, ℕ, All, length, take, drop, IsTrue, IfErr, IfOk, IsErrOf, OnOk, OnErr};
+ghost use Rattle.tt_db.specs.Limits.{usual_limits};
 ghost use Rattle.tt_log.specs.Lines.{logged, IsJoined};
 ghost use Rattle.tt_log.specs.Log.{IsSettled, IsMaking};
 ghost use Rattle.tt_session.specs.OnLog.{telling};
@@ -12,9 +12,10 @@ use crate::storable::read_action;
 use crate::workspace::MANY_BYTES;
 use std::alloc::{AllocError, Global};
 use tt_answers::{push_ground_line, push_log_opening, push_slot_line};
-use tt_db::{Db, Event};
+use tt_db::{Db, Entry, Event, Limits};
 use tt_log::{Device, Lines, Log, LogError, RenewError};
 use tt_requests::MAX_GROUND_SLOTS;
+use tt_values::Catalog;
 
 /// Why a log isn't made anew.
 #[derive(Clone, Copy, Debug, PartialEq, Eq)]
@@ -62,9 +63,14 @@ pub(crate) fn make_anew<D: Device>(
     };
     match write_new(alloc, log, forgetting, most_records) {
         Ok(()) => take_new(log),
-        Err(fault) => {
+        Err(RenewFault::Memory) => {
             log.remove_new();
-            Err(fault)
+            Err(RenewFault::Memory)
+        }
+        // What is written beside the log loses nothing of it.
+        Err(_) => {
+            log.remove_new();
+            Err(RenewFault::Kept)
         }
     }
 }
@@ -114,19 +120,19 @@ fn write_new<D: Device>(
     ensures tells { D.tells log.old.device ↔ D.tells log.new.device }
 {
     let db = &forgetting.db;
+    let limits = db.limits();
     let ground_slots = forgetting.numbering.ground_slots();
     let slots = db.events();
-    if ground_slots > u64::from(MAX_GROUND_SLOTS) || ground_slots > slots {
-        // No database has so many slots.
+    if !are_told(limits) || ground_slots > u64::from(MAX_GROUND_SLOTS) || ground_slots > slots {
+        // No database of a session is like that.
         return Err(RenewFault::Memory);
     }
     let mut lines = Lines::new(alloc);
     let mut text = Vec::new(alloc);
-    let keep = db.limits().keep;
     push_log_opening(
         &mut text,
         db.catalog(),
-        keep,
+        limits.keep,
         most_records,
         forgetting.numbering,
     )?;
@@ -134,6 +140,15 @@ fn write_new<D: Device>(
     push_slots(log, &mut lines, &mut text, db, 0, ground_slots, true)?;
     push_slots(log, &mut lines, &mut text, db, ground_slots, slots, false)?;
     write_pending(log, &mut lines)
+}
+
+/// Whether limits are those that the first line of a log tells: the usual ones, but for how many
+/// closed generations are kept.
+fn are_told(limits: Limits) -> bool
+    ensures { IsTrue result → record usual_limits { keep = limits.keep } ≡ limits }
+{
+    let usual = Limits::usual();
+    limits.slots == usual.slots && limits.events == usual.events && limits.edits == usual.edits
 }
 
 /// Adds the lines of the slots of a database from one place of its history up to another.
@@ -171,37 +186,41 @@ fn push_slots<D: Device>(
     ensures tells { D.tells log.old.device ↔ D.tells log.new.device }
 {
     for place in from..to {
-        print_slot(text, db, place, is_ground)?;
+        let Some(entry) = db.entry(place + 1) else {
+            unreachable!();
+        };
+        print_slot(text, db.catalog(), entry, is_ground)?;
         push_line(log, lines, text)?;
     }
     Ok(())
 }
 
-/// Puts the line of a slot of a database, the one at this place of its history, into a text.
-fn print_slot(text: &mut Vec<u8>, db: &Db, place: u64, is_ground: bool) -> Result<(), AllocError>
-    requires { place < length db.now.history }
-    ensures line { OnOk result ((e : Entry) → slice_get db.now.history place ≡ Some e
-        → text.new.items ≡ line_of_entry is_ground db.now.catalog e) }
-    ensures printable { OnOk result ((e : Entry) → slice_get db.now.history place ≡ Some e
-        → IsPrintable is_ground e) }
+/// Puts the line of a slot, by its entry of the history, into a text.
+fn print_slot(
+    text: &mut Vec<u8>,
+    catalog: &Catalog,
+    entry: &Entry,
+    is_ground: bool,
+) -> Result<(), AllocError>
+    ensures line { OnOk result
+        (text.new.items ≡ line_of_entry is_ground catalog.now entry.now) }
+    ensures printable { OnOk result (IsPrintable is_ground entry.now) }
 {
     text.clear();
-    let Some(entry) = db.entry(place + 1) else {
-        unreachable!();
-    };
+    let worker = entry.worker;
     let Event::Write(action) = &entry.event else {
         // A database that has just forgotten has actions alone.
         return Err(AllocError);
     };
     read_action(action.as_slice());
     if is_ground {
-        return push_ground_line(text, db.catalog(), action.as_slice());
+        return push_ground_line(text, catalog, action.as_slice());
     }
-    if entry.worker == 0 {
+    if worker == 0 {
         // Behind the ground no slot is one of it.
         return Err(AllocError);
     }
-    push_slot_line(text, db.catalog(), entry.worker, action.as_slice())
+    push_slot_line(text, catalog, worker, action.as_slice())
 }
 
 /// Adds a line, and writes those that are pending once they are many bytes.

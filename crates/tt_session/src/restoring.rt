@@ -262,8 +262,8 @@ fn lay_line(
     }
 }
 
-/// Answers a line, which isn't passed over, in place. Returns whether it changes the database. Where memory runs out, nothing
-/// is promised of the session.
+/// Answers a line, which isn't passed over, in place. Returns whether it changes the database.
+/// Where memory runs out, nothing is promised of the session.
 fn repeat(
     alloc: Global,
     session: &mut OpenSession,

@@ -1,5 +1,5 @@
 //! A session between a reader and an outlet.
-ghost use Rattle.std.specs.Prelude.{◌≡◌, ◌+◌, ◌-◌, ◌^◌, ◌<◌, ◌≤◌, ◌++◌, ◌∷◌, [], ℕ, List, true, false, length, take, IfOk, IfErr, OnOk, OnErr, IsTrue, MatchOption, Some, None, if◌then◌else◌};
+ghost use Rattle.std.specs.Prelude.{◌≡◌, ◌+◌, ◌-◌, ◌^◌, ◌<◌, ◌≤◌, ◌++◌, ◌∷◌, [], ℕ, List, true, false, length, take, IfOk, IfErr, IfSome, OnOk, OnErr, IsTrue, MatchOption, Some, None, if◌then◌else◌};
 ghost use Rattle.std.specs.Io.{ReadsAtMost};
 ghost use Rattle.std.specs.Io.KnownBytes.{Consumes, IsAtEnd, Keeps};
 ghost use Rattle.tt_requests.specs.Lines.{is_too_long, is_passed_over};
@@ -534,6 +534,8 @@ impl Run {
             self.old.out.items self.new.out.items
             self.old.workspace.lines self.new.workspace.lines asked) }
         ensures calls { calls_of self.new.session ≤ calls_of self.old.session + 1 }
+        ensures returned { IfOk result (λ asked. IfSome asked (λ _.
+            self.new.session ≡ self.old.session)) }
         ensures line { self.new.line ≡ self.old.line }
         ensures text_stays { OnErr result (self.new.out.items ≡ self.old.out.items) }
         ensures session_stays { OnErr result (self.new.session ≡ self.old.session) }

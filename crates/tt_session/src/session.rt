@@ -1,5 +1,5 @@
 //! A session, from its opening on.
-ghost use Rattle.std.specs.Prelude.{◌≡◌, ◌+◌, ◌<◌, ◌≤◌, ◌-◌, ◌^◌, ◌++◌, length, OnOk, OnErr, IfOk};
+ghost use Rattle.std.specs.Prelude.{◌≡◌, ◌+◌, ◌<◌, ◌≤◌, ◌-◌, ◌^◌, ◌++◌, length, OnOk, OnErr, IfOk, IfSome};
 ghost use Rattle.tt_requests.specs.LineValue.{value_of_line};
 ghost use Rattle.tt_requests.specs.Opening.{max_records, opening_of};
 ghost use Rattle.tt_answers.specs.AnswerText.{opening_text};
@@ -87,6 +87,8 @@ impl Session {
         ensures answered { IfOk result (AnswersLine self.old self.new line.now
             out.old.items out.new.items workspace.old.lines workspace.new.lines) }
         ensures calls { calls_of self.new ≤ calls_of self.old + 1 }
+        ensures returned { IfOk result (λ asked. IfSome asked (λ _.
+            self.new ≡ self.old)) }
         ensures text_stays { OnErr result (out.new.items ≡ out.old.items) }
         ensures session_stays { OnErr result (self.new ≡ self.old) }
         ensures lines_stay { OnErr result (workspace.new.lines ≡ workspace.old.lines) }

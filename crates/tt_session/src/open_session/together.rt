@@ -121,6 +121,8 @@ impl OpenSession {
         ensures answered { IfOk result (AnswersLine (Open self.old) (Open self.new) line.now
             out.old.items out.new.items workspace.old.lines workspace.new.lines) }
         ensures calls { OnOk result (self.new.calls ≤ self.old.calls + 1) }
+        ensures returned { IfOk result (λ asked. IfSome asked (λ _.
+            Open self.new ≡ Open self.old)) }
         ensures text_stays { OnErr result (out.new.items ≡ out.old.items) }
         ensures session_stays { OnErr result (self.new ≡ self.old) }
         ensures lines_stay { OnErr result (workspace.new.lines ≡ workspace.old.lines) }

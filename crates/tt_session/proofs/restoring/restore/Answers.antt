@@ -1,8 +1,9 @@
 -- The lines are repeated piece by piece, until there are no more.
-use Rattle.std.proofs.Common.{◌≡◌, ◌++◌, [], take, length-take, append-nil, append_assoc, refl, sym, ap, subst, ◌∙◌, arith}
+use Rattle.std.proofs.Common.{◌≡◌, ◌++◌, [], take, length-take, append_assoc, refl, sym, ap, subst, ◌∙◌, arith}
+use Rattle.tt_log.specs.Lines.{text}
 use Rattle.tt_log.specs.Reading.{unread}
 use Rattle.tt_session.specs.RestoringRun.{FailsIn}
-use Rattle.tt_session.proofs.RestoringLemmas.{restores-all, no-line}
+use Rattle.tt_session.proofs.RestoringLemmas.{given-all, restores-if, no-line-if, no-line}
 use Rattle.tt_session.proofs.restoring.restore.Goals as goal
 
 pub loop-total-init : goal.loop-total-init
@@ -42,14 +43,32 @@ loop-total-preserved g c =
     }
 
 pub returns-then-count-eq0-clause-restores : goal.returns-then-count-eq0-clause-restores
-returns-then-count-eq0-clause-restores g c = λ told.
+returns-then-count-eq0-clause-restores g c =
     let l = c.loop-total in
     let so_far = l.invariant.so_far in
-    let now = subst g.D.Device.tells (sym l.invariant.device) told in
+    let seen = g.D.Device.seen in
     let read = c.in-Ok.ensures in
-    let none = read.end now c.if-count-eq0.true (omega (arith, l.invariant.some, c.read.auto.buffer)) in
-    let left : unread g.D.Device.seen l.log ≡ [] = sym (read.bytes now) ∙ (λ i. take (c.if-count-eq0.true i) c.read.new.buffer ++ none i) in
-    restores-all (g.D.Device.seen c.args.log.now.device) so_far.given l.restoring c.finish.result so_far.restoring (sym (append-nil so_far.given) ∙ ap (λ r. so_far.given ++ r) (sym left) ∙ so_far.parts told) c.finish.ensures
+    let tells = g.D.Device.tells c.args.log.now.device in
+    let whole : tells → so_far.given ≡ text (seen c.args.log.now.device) =
+    λ told.
+    let now = subst g.D.Device.tells (sym l.invariant.device) told in
+    let end = read.end now c.if-count-eq0.true (omega (arith, l.invariant.some, c.read.auto.buffer)) in
+    given-all so_far.given (unread seen l.log) (unread seen c.read.new.self) c.read.new.buffer (text (seen c.args.log.now.device)) c.in-Ok.count (so_far.parts told) (read.bytes now) c.if-count-eq0.true end in
+    restores-if tells (seen c.args.log.now.device) so_far.given l.restoring c.finish.result so_far.restoring whole c.finish.ensures.session c.finish.ensures.whole
+
+pub returns-then-count-eq0-clause-line : goal.returns-then-count-eq0-clause-line
+returns-then-count-eq0-clause-line g c =
+    let l = c.loop-total in
+    let so_far = l.invariant.so_far in
+    let seen = g.D.Device.seen in
+    let read = c.in-Ok.ensures in
+    let tells = g.D.Device.tells c.args.log.now.device in
+    let whole : tells → so_far.given ≡ text (seen c.args.log.now.device) =
+    λ told.
+    let now = subst g.D.Device.tells (sym l.invariant.device) told in
+    let end = read.end now c.if-count-eq0.true (omega (arith, l.invariant.some, c.read.auto.buffer)) in
+    given-all so_far.given (unread seen l.log) (unread seen c.read.new.self) c.read.new.buffer (text (seen c.args.log.now.device)) c.in-Ok.count (so_far.parts told) (read.bytes now) c.if-count-eq0.true end in
+    no-line-if tells (seen c.args.log.now.device) so_far.given l.restoring c.finish.result so_far.restoring whole c.finish.ensures.line
 
 pub returns-in-Err-clause-line : goal.returns-in-Err-clause-line
 returns-in-Err-clause-line g c = λ n is told.

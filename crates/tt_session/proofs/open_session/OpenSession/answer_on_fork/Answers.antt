@@ -21,6 +21,16 @@ returns-in_default-clause-answered c =
     c.args.workspace.now.lines c.log_in_place.new.workspace.lines c.answer_further.new.workspace.lines
     few c.requires.records c.in_ok-ahead.ensures c.clear.ensures.items first.session first.text first.calls first.lines (c.in_ok-taken.ensures.answered old.records) c.in_ok-commit.ensures.session c.in_ok-commit.ensures.text
 
+pub returns-then-asks_to_forget-clause-answered : goal.returns-then-asks_to_forget-clause-answered
+returns-then-asks_to_forget-clause-answered c =
+    let old = c.args.self.now in
+    let few : length old.records ≤ old.most_records = subst (λ (s : OpenSession). length s.records ≤ s.most_records) c.self.view_is c.self.invariant.few_records in
+    let first = c.in_ok-log_in_place.ensures in
+    with-ahead c.args.asked c.args.line.now c.args.behind.now c.in_ok-taken.taken old c.in_ok-ahead.ahead c.log_in_place.new.self c.answer_further.new.self c.commit.new.self
+    c.args.out.now.items c.clear.new.self.items c.log_in_place.new.workspace.text.items c.answer_further.new.workspace.text.items c.commit.new.out.items
+    c.args.workspace.now.lines c.log_in_place.new.workspace.lines c.answer_further.new.workspace.lines
+    few c.requires.records c.in_ok-ahead.ensures c.clear.ensures.items first.session first.text first.calls first.lines (c.in_ok-taken.ensures.answered old.records) c.in_ok-commit.ensures.session c.in_ok-commit.ensures.text
+
 pub log_alone-requires : goal.log_alone-requires
 log_alone-requires c =
     let behind = c.args.behind.now in

@@ -8,6 +8,6 @@ use Rattle.tt_session.proofs.open_session.OpenSession.go_on_behind.Goals as goal
 pub invariant_of-self : goal.invariant_of-self
 invariant_of-self c =
     let s = c.self.inside in
-    let f = c.forgetting.inside in
+    let f = c.db.inside in
     subst (λ (records : List Record). IsSound f.db f.numbering records s.most_records) (sym c.forget_before.ensures)
-    (behind-sound s.db f.db s.numbering f.numbering s.records s.most_records f.time f.ground_slots c.self.invariant c.forgetting.invariant.0)
+    (behind-sound s.db f.db s.numbering f.numbering s.records s.most_records f.time f.ground_slots c.self.invariant c.db.invariant.0)

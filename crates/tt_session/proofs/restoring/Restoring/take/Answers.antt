@@ -26,7 +26,7 @@ loop-from-preserved c =
       count = omega (arith, l.invariant.count, done.count);
       restoring = λ given p.
           subst (λ g. IsRestoring g c.end_line.new.self) (taken-line given bytes l.from end c.in-Some.ensures)
-          (done.ok _ (restoring-more (given ++ take l.from bytes) (take end rest) l.self longer (l.invariant.restoring given p) c.in-Some.ensures.before c.extend-in-loop-from.ensures refl refl));
+          (done.ok _ (restoring-more (given ++ take l.from bytes) (take end rest) l.self longer (l.invariant.restoring given p) c.in-Some.ensures.before c.extend-in-loop-from.ensures refl refl refl));
     }
 
 pub returns-in_default-clause-ok : goal.returns-in_default-clause-ok
@@ -36,7 +36,7 @@ returns-in_default-clause-ok c = λ given p.
     let rest = take (length bytes - l.from) (drop l.from bytes) in
     let longer = record l.self { line = c.extend.new.self } in
     subst (λ g. IsRestoring g longer) (taken-rest given bytes l.from)
-    (restoring-more (given ++ take l.from bytes) rest l.self longer (l.invariant.restoring given p) c.in_default.ensures c.extend.ensures refl refl)
+    (restoring-more (given ++ take l.from bytes) rest l.self longer (l.invariant.restoring given p) c.in_default.ensures c.extend.ensures refl refl refl)
 
 pub returns-clause-ok : goal.returns-clause-ok
 returns-clause-ok c = λ given p.
@@ -52,4 +52,4 @@ returns-in-Err-clause-err c = λ given p.
     let end = c.in-Some.end in
     let longer = record l.self { line = c.extend-in-loop-from.new.self } in
     fails-within given bytes l.from end c.in-Err.fault c.in-Some.ensures
-    (c.in-Err.ensures.err _ (restoring-more (given ++ take l.from bytes) (take end rest) l.self longer (l.invariant.restoring given p) c.in-Some.ensures.before c.extend-in-loop-from.ensures refl refl))
+    (c.in-Err.ensures.err _ (restoring-more (given ++ take l.from bytes) (take end rest) l.self longer (l.invariant.restoring given p) c.in-Some.ensures.before c.extend-in-loop-from.ensures refl refl refl))

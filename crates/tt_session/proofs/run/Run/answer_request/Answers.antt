@@ -1,9 +1,11 @@
--- A line that is passed over, one that is too long, one for which there is memory, and one for which there is none.
-use Rattle.std.proofs.Common.{◌≡◌, true, false, refl, sym, ap, ◌∙◌}
-use Rattle.tt_session.specs.Run.{Turn, turn_of_long_line, turn_without_memory}
-use Rattle.tt_session.proofs.AnsweringLemmas.{read-long, read-lost}
-use Rattle.tt_session.proofs.ResultLemmas.{err_of, and_results}
-use Rattle.tt_session.proofs.RunningLemmas.{one-passed, one-kept, one-short, stops-short, long-as-far, lost-as-far}
+-- A line that is passed over, one that is too long, one for which there is memory, one that asks to forget, and one for which there is no memory.
+use Rattle.std.proofs.Common.{◌≡◌, ◌+◌, ◌<◌, ◌≤◌, true, false, IfSome, refl, sym, ap, subst, ◌∙◌, arith}
+use Rattle.tt_session.specs.Lines.{HasBytes}
+use Rattle.tt_session.specs.Run.{calls_of, turn_of_long_line}
+use Rattle.tt_session.specs.ForgetRequests.{AnswersLine, AsksToForget}
+use Rattle.tt_session.proofs.AnsweringLemmas.{read-long}
+use Rattle.tt_session.proofs.ResultLemmas.{on_ok, err_of, and_results}
+use Rattle.tt_session.proofs.RunningLemmas.{one-passed, one-kept, one-short, stops-short, long-as-far, answers-same, stops-same}
 use Rattle.tt_session.proofs.run.Run.answer_request.Goals as goal
 
 pub returns-then-is_passed_over-clause-ok : goal.returns-then-is_passed_over-clause-ok
@@ -30,39 +32,75 @@ returns-then-is_too_long-clause-err g c =
     (λ bytes has. read-long old.session bytes (sym (c.is_too_long.ensures bytes has) ∙ c.if-is_too_long.true)) (long-as-far old.session) made.ensures.text
     refl refl stops) c.hand_over_short.ensures.err
 
-pub returns-then-answer_with_memory-clause-ok : goal.returns-then-answer_with_memory-clause-ok
-returns-then-answer_with_memory-clause-ok g c =
-    let done = c.if-answer_with_memory.ensures in
-    one-kept _ _ _ c.args.self.now c.answer_with_memory.new.self (λ bytes has.
-    let short = sym (c.is_too_long.ensures bytes has) ∙ c.if-is_too_long.false in
-    (done.session refl bytes has short, done.text refl bytes has short, done.lines refl bytes has short))
-
-pub returns-clause-ok : goal.returns-clause-ok
-returns-clause-ok g c =
+pub returns-in-Ok-None-clause-ok : goal.returns-in-Ok-None-clause-ok
+returns-in-Ok-None-clause-ok g c =
     let old = c.args.self.now in
-    let mid = c.answer_with_memory.new.self in
-    let short = c.hand_over_short-2.ensures in
-    let made = c.answer_without_memory-answer in
-    let tried = c.answer_with_memory.ensures in
-    let none = c.if-answer_with_memory.false in
-    let same = tried.session_stays none in
-    let lost : turn_without_memory mid.session ≡ turn_without_memory old.session = ap turn_without_memory same in
-    and_results c.hand_over_short-2.result short.ok short.out short.lines (λ over out lines.
-    one-short _ _ _ _ old (record mid { session = made.new.self; workspace = c.release.new.self }) c.hand_over_short-2.new.self true (turn_without_memory old.session) _
-    (λ bytes has. read-lost old.session bytes (sym (c.is_passed_over.ensures bytes has) ∙ c.if-is_passed_over.false) (sym (c.is_too_long.ensures bytes has) ∙ c.if-is_too_long.false))
-    (lost-as-far old.session) (made.ensures.text ∙ ap (λ (t : Turn). t.text) lost) (tried.text_stays none) (c.release.ensures ∙ tried.lines_stay none)
-    (short.session ∙ made.ensures.session ∙ ap (λ (t : Turn). t.session) lost) out lines over)
+    let new = c.answer_with_memory.new.self in
+    one-kept _ _ _ old new (λ bytes has.
+    subst (AnswersLine old.session new.session bytes old.out.items new.out.items old.workspace.lines new.workspace.lines) c.in-Ok-None.field-0-is
+    (c.in-Ok-None.ensures.answered bytes has (sym (c.is_too_long.ensures bytes has) ∙ c.if-is_too_long.false)))
 
-pub returns-clause-err : goal.returns-clause-err
-returns-clause-err g c =
+-- the request is returned, and nothing is done yet
+pub answer_to_forget-requires-clause-calls : goal.answer_to_forget-requires-clause-calls
+answer_to_forget-requires-clause-calls g c =
+    let same = subst (λ o. IfSome o (λ _. c.answer_with_memory.new.self.session ≡ c.args.self.now.session)) c.in-Ok-Some.field-0-is c.in-Ok-Some.ensures.returned in
+    omega (arith, ap calls_of same, c.requires.calls)
+
+pub answer_to_forget-requires-clause-asks : goal.answer_to_forget-requires-clause-asks
+answer_to_forget-requires-clause-asks g c = λ bytes has.
     let old = c.args.self.now in
-    let mid = c.answer_with_memory.new.self in
-    let made = c.answer_without_memory-answer in
-    let tried = c.answer_with_memory.ensures in
-    let none = c.if-answer_with_memory.false in
-    let lost : turn_without_memory mid.session ≡ turn_without_memory old.session = ap turn_without_memory (tried.session_stays none) in
+    let new = c.answer_with_memory.new.self in
+    let line = subst (λ l. HasBytes l bytes) c.in-Ok-Some.ensures.line has in
+    let got =
+    subst (AnswersLine old.session new.session bytes old.out.items new.out.items old.workspace.lines new.workspace.lines) c.in-Ok-Some.field-0-is
+    (c.in-Ok-Some.ensures.answered bytes line (sym (c.is_too_long.ensures bytes line) ∙ c.if-is_too_long.false)) in
+    subst (λ s. AsksToForget s bytes c.in-Ok-Some.request) (sym got.session) got.asks
+
+pub returns-in-Ok-Some-clause-ok : goal.returns-in-Ok-Some-clause-ok
+returns-in-Ok-Some-clause-ok g c =
     let O = g.O.Outlet in
-    err_of c.hand_over_short-2.result (λ stops.
-    stops-short O.handed O.stopped O.has_log c.args.outlet.now c.hand_over_short-2.new.outlet old (record mid { session = made.new.self; workspace = c.release.new.self }) true (turn_without_memory old.session) _
-    (λ bytes has. read-lost old.session bytes (sym (c.is_passed_over.ensures bytes has) ∙ c.if-is_passed_over.false) (sym (c.is_too_long.ensures bytes has) ∙ c.if-is_too_long.false))
-    (lost-as-far old.session) (made.ensures.text ∙ ap (λ (t : Turn). t.text) lost) (tried.text_stays none) (c.release.ensures ∙ tried.lines_stay none) stops) c.hand_over_short-2.ensures.err
+    let old = c.args.self.now in
+    let new = c.answer_with_memory.new.self in
+    on_ok c.answer_to_forget.result
+    (answers-same O.handed O.has_log c.args.outlet.now c.answer_to_forget.new.outlet old new c.answer_to_forget.new.self c.in-Ok-Some.ensures.line (λ bytes has.
+    let got =
+    subst (AnswersLine old.session new.session bytes old.out.items new.out.items old.workspace.lines new.workspace.lines) c.in-Ok-Some.field-0-is
+    (c.in-Ok-Some.ensures.answered bytes has (sym (c.is_too_long.ensures bytes has) ∙ c.if-is_too_long.false)) in
+    (got.session, got.text, got.lines))) c.answer_to_forget.ensures.ok
+
+pub returns-in-Ok-Some-clause-err : goal.returns-in-Ok-Some-clause-err
+returns-in-Ok-Some-clause-err g c =
+    let O = g.O.Outlet in
+    let old = c.args.self.now in
+    let new = c.answer_with_memory.new.self in
+    err_of c.answer_to_forget.result
+    (stops-same O.handed O.stopped O.has_log c.args.outlet.now c.answer_to_forget.new.outlet old new c.in-Ok-Some.ensures.line (λ bytes has.
+    let got =
+    subst (AnswersLine old.session new.session bytes old.out.items new.out.items old.workspace.lines new.workspace.lines) c.in-Ok-Some.field-0-is
+    (c.in-Ok-Some.ensures.answered bytes has (sym (c.is_too_long.ensures bytes has) ∙ c.if-is_too_long.false)) in
+    (got.session, got.text, got.lines))) c.answer_to_forget.ensures.err
+
+pub returns-in-Ok-Some-clause-calls : goal.returns-in-Ok-Some-clause-calls
+returns-in-Ok-Some-clause-calls g c =
+    let same = subst (λ o. IfSome o (λ _. c.answer_with_memory.new.self.session ≡ c.args.self.now.session)) c.in-Ok-Some.field-0-is c.in-Ok-Some.ensures.returned in
+    omega (arith, ap calls_of same, c.answer_to_forget.ensures.calls)
+
+-- there is no memory for the line
+pub answer_without_memory-requires-clause-some : goal.answer_without_memory-requires-clause-some
+answer_without_memory-requires-clause-some g c = λ bytes has.
+    let line = subst (λ l. HasBytes l bytes) c.in-Err.ensures.line has in
+    (sym (c.is_too_long.ensures bytes line) ∙ c.if-is_too_long.false, sym (c.is_passed_over.ensures bytes line) ∙ c.if-is_passed_over.false)
+
+pub returns-in-Err-clause-ok : goal.returns-in-Err-clause-ok
+returns-in-Err-clause-ok g c =
+    let O = g.O.Outlet in
+    on_ok c.answer_without_memory.result
+    (answers-same O.handed O.has_log c.args.outlet.now c.answer_without_memory.new.outlet c.args.self.now c.answer_with_memory.new.self c.answer_without_memory.new.self c.in-Err.ensures.line
+    (λ bytes has. (c.in-Err.ensures.session_stays, c.in-Err.ensures.text_stays, c.in-Err.ensures.lines_stay))) c.answer_without_memory.ensures.ok
+
+pub returns-in-Err-clause-err : goal.returns-in-Err-clause-err
+returns-in-Err-clause-err g c =
+    let O = g.O.Outlet in
+    err_of c.answer_without_memory.result
+    (stops-same O.handed O.stopped O.has_log c.args.outlet.now c.answer_without_memory.new.outlet c.args.self.now c.answer_with_memory.new.self c.in-Err.ensures.line
+    (λ bytes has. (c.in-Err.ensures.session_stays, c.in-Err.ensures.text_stays, c.in-Err.ensures.lines_stay))) c.answer_without_memory.ensures.err

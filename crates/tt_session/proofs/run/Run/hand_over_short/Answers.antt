@@ -14,6 +14,7 @@ returns-in-Ok-clause-ok g c = λ first start reads read p short.
     c.in-Ok.ensures.handed first start reads (read ∷ []) (c.in_ok-hand_over.ensures.ok first start reads p) (record {
       text_is = c.as_bytes.ensures.value ∙ c.as_str.ensures.value ∙ c.text-text.ensures ∙ short.text_is;
       lines_are = λ log. c.lines.ensures [] (c.in_ok-hand_over.ensures.lines ∙ ap no_lines (p.lines_are log)) ∙ sym short.not_logged;
+      plain = short.plain;
     })
 
 pub returns-in-Err-clause-err : goal.returns-in-Err-clause-err
@@ -21,4 +22,5 @@ returns-in-Err-clause-err g c = λ first start reads read more p short.
     c.in-Err.ensures.stopped first start reads (read ∷ []) more (c.in_ok-hand_over.ensures.ok first start reads p) (record {
       text_is = c.as_bytes.ensures.value ∙ c.as_str.ensures.value ∙ c.text-text.ensures ∙ short.text_is;
       lines_are = λ log. c.lines.ensures [] (c.in_ok-hand_over.ensures.lines ∙ ap no_lines (p.lines_are log)) ∙ sym short.not_logged;
+      plain = short.plain;
     })
