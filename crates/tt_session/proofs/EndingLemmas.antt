@@ -3,6 +3,7 @@ use Rattle.std.proofs.Common.{◌≡◌, ℕ, ◌+◌, ◌<◌, ◌==◌, Bool, 
 use Rattle.std.proofs.lemmas.Bool.{or_from}
 use Rattle.std.specs.List.{list_any}
 use Rattle.std.proofs.lemmas.List.{map-append}
+use Rattle.std.proofs.KnownBytes.{Appends-nil}
 use Rattle.std.specs.Io.KnownBytes.{Appends, Consumes, IsAtEnd}
 use Rattle.tt_streams.specs.Writing.{AppendsPrefix}
 use Rattle.tt_requests.specs.Lines.{lines_of, whole_lines_of}
@@ -236,6 +237,10 @@ ends-early faults.Read a b unread left p =
     }
 ends-early faults.Write a b unread left p = record { bytes = p.bytes; input = p.input; answers = answers-prefix a b p.reads p.bytes p.lines_are p.is_stopped }
 ends-early faults.Memory a b unread left p = absurd p
+
+-- nothing is written yet
+pub writes-none : (contents : Option (List ℕ)) (start : Session) → Writes contents contents start []
+writes-none contents start = record { all_logged = tt; written = Appends-nil contents }
 
 pub rests-first : {O : Type 0} (handed : Handing O) (has_log : Type 0) (outlet : O) (session : Session) (run : Run) → HasBytes run.line [] → handed outlet outlet session []
     → run.session ≡ session → run.out.items ≡ [] → (has_log → run.workspace.lines ≡ Some []) → Rests handed has_log outlet outlet session [] run

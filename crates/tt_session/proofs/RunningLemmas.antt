@@ -211,7 +211,7 @@ stops-first handed stopped has_log before after old mid out lines stops first st
   kept_line bytes,
   refl,
   λ more. subst (λ rs. stopped first after start rs) (sym (append_assoc reads (kept_line bytes ∷ []) more))
-  (stops first start reads (kept_line bytes ∷ more) (stands-same handed has_log first before start reads old.out.items mid.out.items old.workspace.lines mid.workspace.lines p (out bytes has) lines)),
+      (stops first start reads (kept_line bytes ∷ more) (stands-same handed has_log first before start reads old.out.items mid.out.items old.workspace.lines mid.workspace.lines p (out bytes has) lines)),
 )
 
 -- ---- a line that asks to forget

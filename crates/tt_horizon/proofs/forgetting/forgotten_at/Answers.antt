@@ -22,6 +22,6 @@ returns c =
     size ∙ sym (ap (λ (d : Database). length d.history) is ∙ length-map (ground_of c.args.db.now c.args.time) (entry_of ground_worker)) in
     record {
       forgets = Forgets-made c.args.db.now c.in_ok-next.next c.carry_out_behind.new.next c.args.time c.now-ground_slots.result catalog fits c.events.ensures.legal c.requires.idle c.requires.within
-    c.in_ok-next.ensures.rows c.now-ground_slots.ensures made;
+          c.in_ok-next.ensures.rows c.now-ground_slots.ensures made;
       ground = subst (λ d. HasGround d c.now-ground_slots.result) (sym made) (HasGround-behind c.in_ok-next.next c.now-ground_slots.result (entries_behind c.args.db.now c.args.time) c.in_ok-next.ensures.ground as_long);
     }

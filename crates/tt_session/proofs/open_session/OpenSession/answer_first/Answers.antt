@@ -9,6 +9,10 @@ use Rattle.tt_session.proofs.open_session.OpenSession.answer_first.Goals as goal
 pub returns-in-NotWhole-clause-answered : goal.returns-in-NotWhole-clause-answered
 returns-in-NotWhole-clause-answered c = front-nil c.args.bytes.now (Open c.args.self.now) c.args.out.now.items c.args.workspace.now.lines
 
+-- the line asks to forget
+pub returns-then-asks_to_forget-clause-answered : goal.returns-then-asks_to_forget-clause-answered
+returns-then-asks_to_forget-clause-answered c = front-nil c.args.bytes.now (Open c.args.self.now) c.args.out.now.items c.args.workspace.now.lines
+
 pub returns-in-PassedOver-clause-answered : goal.returns-in-PassedOver-clause-answered
 returns-in-PassedOver-clause-answered c =
     front-passed c.args.bytes.now c.in-PassedOver.len (Open c.args.self.now) c.args.out.now.items c.args.workspace.now.lines

@@ -24,8 +24,7 @@ returns-in-Ok-clause-renewed g c = λ first start over line so_far p.
 pub returns-in-Err-clause-stopped : goal.returns-in-Err-clause-stopped
 returns-in-Err-clause-stopped g c = λ first start over line so_far p.
     let text = c.args.forgotten.now.text.now in
-    let front = prefix-after _ _ _ (turns_of start over).text text so_far.written c.write_text.ensures.prefix in
-    (
+    let front = prefix-after _ _ _ (turns_of start over).text text so_far.written c.write_text.ensures.prefix in (
       kept_line line,
       refl,
       λ more. record {

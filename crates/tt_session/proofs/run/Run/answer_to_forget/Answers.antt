@@ -20,10 +20,12 @@ returns-in_err-hand_over-in-Ok-Some-clause-err g c =
     let O = g.O.Outlet in
     let old = c.args.self.now in
     let out = c.prepare_to_forget.new.out in
-    let prepared = λ session is. subst (Prepares (counted session) c.args.request old.out.items out.items) c.in-Ok-Some.field-0-is (c.in-Ok-Some.ensures.prepared session is) in
     on_err c.from_residual.result
     (stops-first O.handed O.stopped O.has_log c.args.outlet.now c.hand_over.new.outlet old (record old { session = c.prepare_to_forget.new.self; out = out })
-    (λ bytes has. let a = c.requires.asks bytes has in (prepared a.opened a.session_is).0) refl c.in_err-hand_over-in-Ok-Some.ensures.err)
+    (λ bytes has.
+    let a = c.requires.asks bytes has in
+    (subst (Prepares (counted a.opened) c.args.request old.out.items out.items) c.in-Ok-Some.field-0-is (c.in-Ok-Some.ensures.prepared a.opened a.session_is)).0)
+    refl c.in_err-hand_over-in-Ok-Some.ensures.err)
 
 pub returns-in_ok-hand_over-in-Ok-Some-clause-ok : goal.returns-in_ok-hand_over-in-Ok-Some-clause-ok
 returns-in_ok-hand_over-in-Ok-Some-clause-ok g c =
