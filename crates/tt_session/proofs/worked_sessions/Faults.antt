@@ -17,7 +17,7 @@ use Rattle.tt_grammar.specs.Actions as actions
 use Rattle.tt_grammar.specs.Edits.{replacement}
 use Rattle.tt_grammar.specs.TextValue.{value_of_json}
 use Rattle.tt_requests.specs.LineValue.{value_of_line}
-use Rattle.tt_requests.specs.Opening.{members_of_opening}
+use Rattle.tt_requests.specs.Opening.{declaration, members_of_opening}
 use Rattle.tt_requests.specs.Edits.{cancel, replace, edit}
 use Rattle.tt_requests.specs.Reads.{page, read, preview}
 use Rattle.tt_requests.specs.Questions as questions
@@ -79,7 +79,7 @@ answers_faults =
     ∷ []
 
 faults : printed lines_faults ≡ answers (opened ∷ answers_faults)
-unfolding is_utf8 chars encode_utf8 lex content short_escape punctuate word after_number json.value json.items json.members scan_numeral number_of value_of_json value_of_line members_of_opening column table_after condition statements.insert actions.write replacement cancel replace edit page read preview questions.slots questions.span questions.row_named questions.changes questions.changes_asked one_write begin step bare only_true members_of_request row_writes digits
+unfolding is_utf8 chars encode_utf8 lex content short_escape punctuate word after_number json.value json.items json.members scan_numeral number_of value_of_json value_of_line declaration members_of_opening column table_after condition statements.insert actions.write replacement cancel replace edit page read preview questions.slots questions.span questions.row_named questions.changes questions.changes_asked one_write begin step bare only_true members_of_request row_writes digits
 faults = refl
 
 -- openings with a fault, which are not counted, and then one without
@@ -108,7 +108,7 @@ answers_unopened =
     ∷ []
 
 unopened : session_text lines_unopened [] ≡ answers (answers_unopened)
-unfolding is_utf8 chars encode_utf8 lex content short_escape punctuate word after_number json.value json.items json.members scan_numeral number_of value_of_json value_of_line members_of_opening bare only_true members_of_request row_writes digits
+unfolding is_utf8 chars encode_utf8 lex content short_escape punctuate word after_number json.value json.items json.members scan_numeral number_of value_of_json value_of_line declaration members_of_opening bare only_true members_of_request row_writes digits
 unopened = refl
 
 -- no memory for the third line, which is counted; the second would be passed over in any case
@@ -128,5 +128,5 @@ answers_without_memory =
     ∷ []
 
 without_memory : session_text lines_without_memory (2 ∷ 3 ∷ []) ≡ answers (answers_without_memory)
-unfolding is_utf8 chars encode_utf8 lex content short_escape punctuate word after_number json.value json.items json.members scan_numeral number_of value_of_json value_of_line members_of_opening step bare only_true members_of_request row_writes digits
+unfolding is_utf8 chars encode_utf8 lex content short_escape punctuate word after_number json.value json.items json.members scan_numeral number_of value_of_json value_of_line declaration members_of_opening step bare only_true members_of_request row_writes digits
 without_memory = refl

@@ -18,7 +18,7 @@ use Rattle.tt_grammar.specs.Actions as actions
 use Rattle.tt_grammar.specs.Edits.{replacement}
 use Rattle.tt_grammar.specs.TextValue.{value_of_json}
 use Rattle.tt_requests.specs.LineValue.{value_of_line}
-use Rattle.tt_requests.specs.Opening.{members_of_opening}
+use Rattle.tt_requests.specs.Opening.{declaration, members_of_opening}
 use Rattle.tt_requests.specs.Edits.{cancel, replace, edit}
 use Rattle.tt_requests.specs.Reads.{page, read, preview}
 use Rattle.tt_requests.specs.Questions as questions
@@ -86,5 +86,5 @@ answers_replaced_action =
     ∷ []
 
 replaced_action : session_text lines_replaced_action [] ≡ answers (answers_replaced_action)
-unfolding is_utf8 chars encode_utf8 lex content short_escape punctuate word after_number json.value json.items json.members scan_numeral number_of value_of_json value_of_line members_of_opening column table_after condition statements.insert statements.delete actions.action actions.item_of_action actions.write replacement cancel replace edit page read preview questions.slots questions.span questions.row_named questions.changes questions.changes_asked one_write several_writes begin step bare only_true members_of_request row_writes dirty_after reexecuted_count digits
+unfolding is_utf8 chars encode_utf8 lex content short_escape punctuate word after_number json.value json.items json.members scan_numeral number_of value_of_json value_of_line declaration members_of_opening column table_after condition statements.insert statements.delete actions.action actions.item_of_action actions.write replacement cancel replace edit page read preview questions.slots questions.span questions.row_named questions.changes questions.changes_asked one_write several_writes begin step bare only_true members_of_request row_writes dirty_after reexecuted_count digits
 replaced_action = refl
