@@ -176,7 +176,8 @@ pub trait Device {
     /// as it is.
     fn sync_new(&mut self) -> Result<(), DeviceError>
         ensures tells { tells self.old ↔ tells self.new }
-        ensures new_file { tells self.old → OnOk result (new_file self.new ≡ new_file self.old) }
+        ensures new_file { tells self.old → OnOk result
+            (new_file self.new ≡ new_file self.old) }
         ensures durable { tells self.old → OnOk result
             (Only (new_file self.old) (may_leave_new self.new)) }
         ensures seen { tells self.old → seen self.new ≡ seen self.old }

@@ -1,11 +1,14 @@
 -- How a session between a reader and an outlet goes on: the lines that it takes from the bytes read, and whose answers are handed over.
-use Rattle.std.specs.Prelude.{◌≡◌, ℕ, true, List, [], ◌∷◌, ◌++◌, Option, Some}
+use Rattle.std.specs.Prelude.{◌≡◌, ℕ, true, false, List, [], ◌∷◌, ◌++◌, Option, Some}
 use Rattle.std.specs.List.{list_all}
+use Rattle.tt_requests.specs.Lines.{is_too_long}
+use Rattle.tt_session.specs.declared.commands.ForgetRequest.{ForgetRequest}
 use Rattle.tt_session.specs.declared.session.Session.{Session}
 use Rattle.tt_session.specs.declared.run.Run.{Run}
 use Rattle.tt_session.specs.Lines.{HasBytes, has_no_feed, joined}
 use Rattle.tt_session.specs.Answering.{LineRead, turns_of, lines_read}
 use Rattle.tt_session.specs.Logged.{logged_of, ArePlain}
+use Rattle.tt_session.specs.ForgetRequests.{AnswersLine}
 
 -- What an outlet tells: from its state before to that after, the answers to lines that a session reads were handed over.
 abbrev pub Handing : Type 0 → Type 1
@@ -70,6 +73,11 @@ Takes {O} handed has_log before after bytes old new = (first : O) (start : Sessi
 abbrev pub StopsIn : {O : Type 0} → Handing O → Handing O → Type 0 → O → O → List ℕ → Run → Type 0
 StopsIn {O} handed stopped has_log before after bytes old = (first : O) (start : Session) (given : List ℕ) →
     Serves handed has_log first before start given old → Halts stopped first after start (given ++ bytes)
+
+-- there is memory for the line that a run has read: it is answered, or returned if it asks to forget
+abbrev pub AnswersInMemory : Run → Run → Option ForgetRequest → Type 0
+AnswersInMemory old new asked = (bytes : List ℕ) → HasBytes old.line bytes → is_too_long bytes ≡ false →
+    AnswersLine old.session new.session bytes old.out.items new.out.items old.workspace.lines new.workspace.lines asked
 
 -- a run answers a line, with memory or without, and with the log made anew for it or not
 abbrev pub AnswersOne : {O : Type 0} → Handing O → Type 0 → O → O → Run → Run → Type 0

@@ -49,10 +49,12 @@ pub(crate) fn make_anew<D: Device>(
     requires { D.tells log.old.device → IsSettled D.seen D.may_leave log.old }
     ensures ok { OnOk result (D.tells log.old.device → TakesLines
         (telling D.tells D.seen D.shown D.moment D.left_since D.failures) D.may_leave
-        log.old log.new (lines_of_database forgetting.now.db forgetting.now.numbering most_records)) }
+        log.old log.new
+        (lines_of_database forgetting.now.db forgetting.now.numbering most_records)) }
     ensures err { IfErr result (λ fault. D.tells log.old.device → FailsToRenew fault
         (telling D.tells D.seen D.shown D.moment D.left_since D.failures) D.may_leave
-        log.old log.new (lines_of_database forgetting.now.db forgetting.now.numbering most_records)) }
+        log.old log.new
+        (lines_of_database forgetting.now.db forgetting.now.numbering most_records)) }
     ensures readable { OnOk result (IsReadable forgetting.now most_records) }
     ensures readable_lost { IsErrOf result RenewFault.Lost
         → IsReadable forgetting.now most_records }

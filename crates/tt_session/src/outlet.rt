@@ -68,8 +68,8 @@ pub(crate) trait Outlet {
             → AnswersKept has_log start over kept lines.now text.now
             → stopped first self.new start ((over ++ kept) ++ more)) };
 
-    /// Makes the log anew, if there is one, with the lines of a session that has forgotten what lies
-    /// before a time, and only then hands over the answer. All earlier answers are handed over.
+    /// Makes the log anew, if there is one, with the lines of a session that has forgotten what
+    /// lies before a time, and only then hands over the answer. All earlier answers are handed over.
     fn hand_over_anew(
         &mut self,
         alloc: Global,

@@ -7,10 +7,10 @@ ghost use Rattle.tt_session.specs.declared.session.Session.{Session};
 ghost use Rattle.tt_session.specs.Lines.{HasBytes, has_no_feed};
 ghost use Rattle.tt_session.specs.Run.{calls_of};
 ghost use Rattle.tt_session.specs.ShortAnswers.{short_text};
-ghost use Rattle.tt_session.specs.ForgetRequests.{AnswersLine, AsksToForget};
+ghost use Rattle.tt_session.specs.ForgetRequests.{AsksToForget};
 ghost use Rattle.tt_session.specs.Anew.{ForgetsOne, StopsForgetting};
 ghost use Rattle.tt_session.specs.PendingLines.{no_lines};
-ghost use Rattle.tt_session.specs.Running.{Rests, Takes, StopsIn, AnswersOne, StopsAt, HandsOver, StopsBetween, StandsOn, HandsOverShort, StopsInShort, Halts};
+ghost use Rattle.tt_session.specs.Running.{Rests, Takes, StopsIn, AnswersInMemory, AnswersOne, StopsAt, HandsOver, StopsBetween, StandsOn, HandsOverShort, StopsInShort, Halts};
 ghost use Rattle.tt_session.specs.Together.{AnswersFront};
 ghost use Rattle.tt_session.specs.Ends.{AnswersAll, EndsEarly, HandsOverAll, Fails, Ends, StopsLast};
 
@@ -529,10 +529,7 @@ impl Run {
     /// is done for it.
     fn answer_with_memory(&mut self) -> Result<Option<ForgetRequest>, AllocError>
         requires { calls_of self.old.session < 2 ^ 64 - 1 }
-        ensures answered { IfOk result (λ asked. (bytes : List ℕ) → HasBytes self.old.line bytes
-            → is_too_long bytes ≡ false → AnswersLine self.old.session self.new.session bytes
-            self.old.out.items self.new.out.items
-            self.old.workspace.lines self.new.workspace.lines asked) }
+        ensures answered { IfOk result (AnswersInMemory self.old self.new) }
         ensures calls { calls_of self.new.session ≤ calls_of self.old.session + 1 }
         ensures returned { IfOk result (λ asked. IfSome asked (λ _.
             self.new.session ≡ self.old.session)) }

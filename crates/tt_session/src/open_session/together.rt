@@ -2,8 +2,8 @@
 //!
 //! The first of several lines forks the session. The fork goes ahead, changed in place, and the
 //! session catches up with it behind the last line, or before a line that asks for the records of
-//! earlier calls, which a fork hasn't. A request to forget is left for later. Where memory runs out, the fork is dropped, and the session
-//! is as it was before that first line.
+//! earlier calls, which a fork hasn't. A request to forget is left for later. Where memory runs
+//! out, the fork is dropped, and the session is as it was before that first line.
 ghost use Rattle.std.specs.Prelude.{◌≡◌, ◌+◌, ◌-◌, ◌≤◌, ◌<◌, ◌^◌, ◌++◌, true, false, length, drop, List, IfOk, IfSome, OnOk, OnErr};
 ghost use Rattle.tt_session.specs.declared.session.Session.TheVariants.{Open};
 ghost use Rattle.tt_requests.specs.LineValue.{value_of_line};
