@@ -1,7 +1,7 @@
 #!/usr/bin/env python3
 """Hostile use of the built program and libraries: documents that are cut off, the largest document,
 the longest line, the widest object, and memory that runs out at each growth, of a run, a session or
-a call.
+a call, and at some of a session with a log.
 
   tests/hostile.py PROGRAM [SCENARIOS..]
 
@@ -20,6 +20,7 @@ import sys
 import tempfile
 from concurrent.futures import ThreadPoolExecutor
 
+from logs_anew import size_of
 from session_model import Session, is_passed_over, text_of
 from shared_objects import built
 
@@ -27,6 +28,7 @@ ROOT = os.path.dirname(os.path.dirname(os.path.realpath(__file__)))
 SECONDS = 60  # that a run may take
 NOT_JSON = (1, b'', b'timetravel: $: not JSON\n')
 WANT_OF_MEMORY = (3, b'', b'timetravel: want of memory\n')
+UNREADABLE = (1, b'', b'timetravel: cannot read the log\n')
 NO_ANSWER = ('none', b'', b'')  # of a failure that no answer shows
 LONGEST = 16_777_216  # bytes of a document, and of a line
 
@@ -49,6 +51,9 @@ RUN = ['examples/first', 'examples/transfer', 'examples/two_workers', 'examples/
 HELD = ['tests/sessions/incident_in_short', 'tests/sessions/repairs', 'tests/sessions/slots',
         'tests/sessions/closed_generations', 'tests/sessions/texts_and_numbers',
         'tests/sessions/forgetting', 'tests/sessions/forgetting_many_rows']
+
+# Those that are held with a log, too, and in about how many ways each.
+ON_A_LOG, WAYS = ['tests/sessions/forgetting', 'tests/sessions/forgetting_many_rows'], 150
 
 # The status of a scenario that grows where it shouldn't, and of one that keeps a block.
 GREW, KEPT = 90, 91
@@ -290,10 +295,11 @@ class Hostile:
     def sessions(self, library):
         """Whole sessions. A line that meets a refusal is answered by `memory`, and changes nothing.
         Only a growth before the first line, which a session without lines meets too, may end a
-        session."""
+        session. Returns how many growths each has."""
         def ends(_, answer):
             return answer in ((0, b'', b''), WANT_OF_MEMORY)
         before = self.growths(library, ['session'], 'nothing', b'', ends, ends)
+        growths = {}
         for name in HELD:
             document = read(f'{name}.lines')
             lines = document.split(b'\n')
@@ -309,6 +315,76 @@ class Hostile:
             found = self.growths(library, ['session'], name, document, is_lawful(1),
                                  is_lawful(len(lines)))
             self.check(found > before, f'{name}: no growth for its lines is refused', NO_ANSWER)
+            growths[name] = found
+        return growths
+
+    def sessions_on_a_log(self, library, growths):
+        """The same with a log, at some growths alone, so that it takes a minute at most. What was
+        answered is there at the next start, and no more; and no new log is left."""
+        for name in ON_A_LOG:
+            document = read(f'{name}.lines')
+            lines, before = document.split(b'\n'), 0
+            for before, *found in self.each_on_a_log(library, lines[0], b'', 1, False):
+                what = f'session --log of nothing, at growth {before}'
+                self.check_on_a_log(what, lines[0], [], 0, True, *found)
+            every = -(-growths[name] // WAYS)
+            for all_behind, most in ((False, 1), (True, len(lines))):
+                times, lost = 0, []
+                for number, *found in self.each_on_a_log(library, lines[0], document, every,
+                                                         all_behind):
+                    which = f'from growth {number} on' if all_behind else f'at growth {number}'
+                    what = f'session --log of {name}, {which}'
+                    lost += self.check_on_a_log(what, lines[0], lines, most, number <= before,
+                                                *found)
+                    times += 1
+                how = 'with all after them' if all_behind else 'one at a time'
+                told = f'session --log of {name}: {times} growths refused {how}'
+                print(told)
+                is_met = before and any(b'"forget"' in line for line in lost)
+                self.check(is_met, f'{told}, and none of a forgetting', NO_ANSWER)
+
+    def each_on_a_log(self, library, opening, document, every, all_behind):
+        """Sessions on a new file each, in which some growth is refused, or all from it on, until
+        none is met: the number, the answer, whether a new log is left, and what the next start
+        answers to the opening and a request for the status."""
+        numbers = itertools.count(every if all_behind else 1, every)
+
+        def one(number):
+            file = f'{self.folder}/log.{number}'
+            words = ['session', '--log', file]
+            last = 10 ** 12 if all_behind else number
+            was_met, answer = self.refused(library, words, document, number, last, number)
+            is_left = os.path.lexists(f'{file}.new')
+            again = self.run(words, opening + b'\n{"status":true}\n')
+            if os.path.exists(file):
+                os.remove(file)
+            return was_met, answer, is_left, again
+
+        while True:
+            some = list(itertools.islice(numbers, 16))
+            for number, (was_met, *found) in zip(some, self.pool.map(one, some)):
+                if was_met:
+                    yield number, *found
+            if not was_met:
+                return
+
+    def check_on_a_log(self, what, opening, lines, most, may_not_begin, answer, is_left, again):
+        """Checks a session with a log that has met a refusal. Returns its lines that are answered
+        by `memory`; there may be so many at most."""
+        found, (status, output, error) = None, answer
+        if may_not_begin and answer in (WANT_OF_MEMORY, UNREADABLE):
+            found = [], Session(), 0
+        elif status == 0 and error == b'':
+            found = judged(lines, output)
+        is_lawful = found is not None and len(found[0]) <= most
+        self.check(is_lawful, what, answer)
+        self.check(not is_left, f'{what}: a new log is left', answer)
+        if not is_lawful:
+            return []
+        lost, session, logged = found
+        want = (0, told_at_start(opening, session, logged), b'')
+        self.check(again == want, f'{what}: the next start', again)
+        return lost
 
 
 class Untestable(Exception):
@@ -327,20 +403,41 @@ def read(path):
 def answers_lines(lines, output):
     """How many of the lines of a session are answered by `memory`, where the others are answered as
     if these had changed nothing; None where some answer is another one."""
-    session, answers, lost = Session(), output.split(b'\n'), 0
+    found = judged(lines, output)
+    return None if found is None else len(found[0])
+
+
+def judged(lines, output):
+    """The lines of a session that are answered by `memory`, where the others are answered as if
+    these had changed nothing; the session behind them; and how many lines its log would have, but
+    for those of a ground. None where some answer is another one."""
+    session, answers, lost, logged = Session(), output.split(b'\n'), [], 0
     if answers.pop():
         return None
     answers = iter(answers)
     for line in lines:
         if is_passed_over(line):
             continue
-        found, without = next(answers, None), session.without_memory()
+        found, without, size = next(answers, None), session.without_memory(), size_of(session)
         if found == text_of(without).encode():
             session.lose()
-            lost += 1
+            lost.append(line)
         elif found != text_of(session.answer(line)).encode():
             return None
-    return lost if next(answers, None) is None else None
+        elif size_of(session) != size:
+            is_anew = b'"forget"' in line
+            logged = 1 + len(session.asked) - session.ground if is_anew else logged + 1
+    return (lost, session, logged) if next(answers, None) is None else None
+
+
+def told_at_start(opening, session, logged):
+    """What a start on the log of a session answers to its opening and a request for the status."""
+    if session.grammar is None:
+        session, logged = Session(), 1
+        session.answer(opening)
+    status = session.status()
+    answers = status, {'call': logged, **status}
+    return ''.join(text_of(answer) + '\n' for answer in answers).encode()
 
 
 def options_of(name):
@@ -422,7 +519,7 @@ def main():
             hostile.widest()
             library = hostile.library()
             hostile.runs(library)
-            hostile.sessions(library)
+            hostile.sessions_on_a_log(library, hostile.sessions(library))
             hostile.little_memory()
             for scenarios in sys.argv[2:]:
                 hostile.calls(library, os.path.abspath(scenarios))

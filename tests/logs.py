@@ -1,13 +1,15 @@
 #!/usr/bin/env python3
-"""Sessions with a log that are killed, whose file is torn, and whose calls fail; also while they forget,
-and make it anew (tests/logs_anew.py).
+"""Sessions with a log that are killed, whose file is torn, and whose calls fail; also while they
+forget, and make it anew (tests/logs_anew.py).
 
   tests/logs.py PROGRAM [--tears N]
 
-PROGRAM is crates/tt_cli/out/tt_cli. Each check prints a line where it fails, and the status is 1 then.
-The file is torn in 2,000 ways, or in N. What isn't synced is torn, and calls fail, by a shared object
-(tests/tear_unsynced.c) that stands before the C library; where no C compiler builds it, the status is
-1, too. Where no file system can be mounted, a line says which tests are left out. It takes two minutes.
+PROGRAM is crates/tt_cli/out/tt_cli. Each check prints a line where it fails, and the status is 1
+then. The file is torn in 2,000 ways, or in N; a session that forgets is torn in an eighth as many
+ways while it forgets. What isn't synced is torn, and calls fail, by a shared object
+(tests/tear_unsynced.c) that stands before the C library; where no C compiler builds it, the status
+is 1, too. Where no file system can be mounted, a line says which tests are left out. It takes two
+minutes.
 """
 import os
 import random

@@ -34,6 +34,9 @@ FORGETTING = [
     '{"step":3}',
     '{"do":[]}',
     '{"finish":true}',
+    '{"forget":2}',
+    '{"forget":99}',
+    '{"if":1,"forget":3}',
     '{ "worker" : 3, "forget" : 5 }',
     '{"forget":4}',
     '{"select":"acct","where":[],"at":4}',
@@ -51,6 +54,7 @@ ROWS = ['{"do":[{"insert":"acct","row":[1,"ann",0]},{"insert":"acct","row":[2,"b
         '{"do":[{"insert":"acct","row":[3,"eve",0]}]}']
 ONE = '{"time":4,"generation":0,"slots":1}'
 TWO = '{"time":4,"generation":0,"slots":2}'
+LARGEST = '{"time":9223372036854775807,"generation":9223372036854775807,"slots":0}'
 NO_GROUNDS = [
     *([(GROUND % ground, *ROWS), 1] for ground in (
         'null', '[]', '2', '{}', '{"time":4,"slots":2}', '{"time":4,"generation":0}',
@@ -179,6 +183,8 @@ class Anew(Checks):
         self.make_room()
         self.stand_in_the_way()
         self.refuse_grounds()
+        self.open_the_largest_ground()
+        self.keep_records_behind_a_ground()
         self.read_an_old_log()
         self.fill_a_disk_while_forgetting()
         self.forget_in_a_folder_that_is_not_written()
@@ -314,6 +320,30 @@ class Anew(Checks):
         self.check(answers[0] == '{"fault":{"path":"$","cause":"unknown member \\"ground\\""}}',
                    'a ground on standard input', answers)
 
+    def open_the_largest_ground(self):
+        """A ground may have the largest time and generation that fit."""
+        file, most = self.new_file(), 9223372036854775807
+        with open(file, 'w') as it:
+            it.write(text_of([GROUND % LARGEST]))
+        status = (f'"time":{most},"generation":{most},"oldest":{most},"entries":0,"repair":null,'
+                  f'"horizon":{most}}}')
+        want = ['{' + status, '{"call":1,' + status]
+        ended = self.run(file, [OPENING, STATUS])
+        self.check(ended == (0, want, ''), 'the largest ground', ended)
+        self.check(self.logged(file) == [GROUND % LARGEST], 'the largest ground: another log')
+
+    def keep_records_behind_a_ground(self):
+        """The lines of a ground leave no records, and the writes behind it do: behind time 4 the
+        first one has slot 5, and is call 1."""
+        file = self.new_file()
+        with open(file, 'w') as it:
+            it.write(text_of([GROUND % ONE, ROWS[0], '{"insert":"acct","row":[4,"",0]}']))
+        lines = [OPENING, '{"begin":[{"cancel":5}]}', '{"finish":true}', '{"changes":"now"}']
+        status, answers, told = self.run(file, lines)
+        self.check((status, told, answers[3:]) == (0, '', [
+            '{"call":4,"from":1,"changed":[{"call":1,"slot":5,"before":["inserted"],'
+            '"after":"cancelled"}]}']), 'records behind a ground', status, told, answers)
+
     def read_an_old_log(self):
         """A log that has lines that forget, as it was written once: they are carried out again."""
         session, log = Session(), []
@@ -434,7 +464,7 @@ class Anew(Checks):
         self.check(answers == self.expected.answers[:len(answers)], what)
         if os.path.exists(file):    # its name is synced before anything is answered
             self.is_behind(file, self.expected, len(answers), most, what)
-        os.path.exists(file) and os.remove(file)
+            os.remove(file)
 
     def lose_a_name_behind_a_start(self, library):
         """A session is killed between the naming and the sync of the folder. The next one tells what it
@@ -471,7 +501,8 @@ class Anew(Checks):
         given = [(library, calls, first, last, met) for last in (0, 1 << 40)
                  for first in range(1, len(calls) + 1)]
         self.in_threads(self.fail_once, given)
-        for names in (['open new'], ['pwrite new', 'write new'], ['fsync new', 'fdatasync new'], ['rename']):
+        for names in (['open new'], ['fchown new'], ['pwrite new', 'write new'],
+                      ['fsync new', 'fdatasync new'], ['rename']):
             self.check(any((name, 'refused') in met for name in names), f'no {names[0]} fails', sorted(met))
         self.check(('fsync folder', CANNOT_WRITE) in met, 'no sync of a folder fails', sorted(met))
 
@@ -502,8 +533,10 @@ class Anew(Checks):
     def start_while_forgetting(self, library):
         """A second start, behind each call of a session that forgets, finds the log in use; and a start
         that has opened the file before another session makes it anew goes on with the new one."""
-        calls = self.calls_of(library, FORGETTING[:6], self.one_by_one)
-        given = [(library, call) for call in range(calls.index('open new'), len(calls) - 1)]
+        file = self.new_file()
+        self.run(file, FORGETTING[:5])
+        calls = self.calls_again(library, file)
+        given = [(library, call + 1) for call in range(calls.index('open new'), len(calls))]
         self.in_threads(self.start_behind_a_call, given)
         self.start_before_a_naming(library)
 
@@ -531,9 +564,6 @@ class Anew(Checks):
     def start_behind_a_call(self, library, call):
         file, what = self.new_file(), f'a start behind call {call} of a session that forgets'
         self.run(file, FORGETTING[:5])
-        calls = self.calls_again(library, file)
-        if call > len(calls):
-            return
         environment = self.with_calls(library, file, STOP_AT=call)
         with self.stopped(file, [OPENING, FORGETTING[5]], environment) as held:
             before = os.path.lexists(f'{file}.new')

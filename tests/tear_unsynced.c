@@ -1,17 +1,21 @@
-// Fails calls on the file of a log, and tears what wasn't synced: a shared object that is loaded before
-// the C library (LD_PRELOAD), for tests/logs.py. LOG is the path of the log, which is no link. A log that
-// is made anew is first LOG.new, and then takes LOG's place. It counts, from 1, the calls of open on
-// these two and on their folder, of write on these two and on standard output, of pwrite, ftruncate,
-// fsync, fdatasync, pread, statx, flock and fchmod, and of rename and unlink of LOG.new.
+// Fails calls on the file of a log, and tears what wasn't synced: a shared object that is loaded
+// before the C library (LD_PRELOAD), for tests/logs.py. LOG is the path of the log, which is no
+// link. A log that is made anew is first LOG.new, and then takes LOG's place. It counts, from 1,
+// the calls of open on these two and on their folder, of write on these two and on standard output,
+// of pwrite, ftruncate, fsync, fdatasync, pread, statx, flock, fchown and fchmod, and of rename and
+// unlink of LOG.new.
 //   FAIL_FROM, FAIL_TO  the calls of these numbers, but for those of unlink, fail, and do nothing
-//   TEAR_AT, TEAR_SEED  after the call of this number, which is carried out, the process is killed as
-//                       by a power failure: each byte that was written since the last sync is the old
-//                       one or the new one, a length that was changed is any between the two, and a
-//                       name that was given or taken since the folder's last sync is so or not
-//   KILL_AT             after the call of this number the process is killed, and nothing is torn. Where a
-//                       name wasn't synced then, the next process knows (by a file LOG.kept)
+//   TEAR_AT, TEAR_SEED  after the call of this number, which is carried out, the process is killed
+//                       as by a power failure: each byte that was written since the last sync is
+//                       the old one or the new one, a length that was changed is any between the
+//                       two, and a name that was given or taken since the folder's last sync is so
+//                       or not
+//   KILL_AT             after the call of this number the process is killed, and nothing is torn.
+//                       Where a name wasn't synced then, the next process knows (by a file
+//                       LOG.kept)
 //   STOP_AT             after the call of this number the process is stopped, until it is let go on
-//   TRACE               the path of a file that gets a line for each call: its name, and what it is on
+//   TRACE               the path of a file that gets a line for each call: its name, and what it is
+//                       on
 //   KEEP_SYNCED         the path of a file that gets what the log has after each sync
 // It needs no header, so that it can be built where only the kit's clang is there.
 typedef __SIZE_TYPE__ size_t;
@@ -25,9 +29,10 @@ extern void *malloc(size_t);
 extern int access(const char *, int);
 extern int *__errno_location(void);
 
-enum { EIO = 5, SYS_write = 1, SYS_open = 2, SYS_close = 3, SYS_pread = 17, SYS_pwrite = 18, SYS_getpid = 39 };
-enum { SYS_kill = 62, SYS_flock = 73, SYS_fsync = 74, SYS_fdatasync = 75, SYS_ftruncate = 77, SYS_statx = 332 };
-enum { SYS_lseek = 8, SYS_rename = 82, SYS_link = 86, SYS_unlink = 87, SYS_fchmod = 91, SYS_openat = 257 };
+enum { SYS_write = 1, SYS_open = 2, SYS_close = 3, SYS_lseek = 8, SYS_pread = 17, SYS_pwrite = 18 };
+enum { SYS_getpid = 39, SYS_kill = 62, SYS_flock = 73, SYS_fsync = 74, SYS_fdatasync = 75 };
+enum { SYS_ftruncate = 77, SYS_rename = 82, SYS_link = 86, SYS_unlink = 87, SYS_fchmod = 91 };
+enum { SYS_fchown = 93, SYS_openat = 257, SYS_statx = 332, EIO = 5 };
 enum { SEEK_CUR = 1, SEEK_END = 2, SIGKILL = 9, SIGSTOP = 19, AT_FDCWD = -100 };
 enum { O_WRONLY = 01, O_RDWR = 02, O_CREAT = 0100, O_TRUNC = 01000, O_APPEND = 02000 };
 enum { MANY = 4096, PIECE = 65536, FILES = 1024, LONGEST = 4096 };
@@ -40,7 +45,8 @@ static int of[FILES];
 static struct { int of; off_t at; size_t count; unsigned char *old; } written[MANY];
 static int writes;
 static off_t synced_len[] = {-1, -1, -1};  // of a file whose length has changed since
-static int is_made, is_named;              // LOG.new is, or it is LOG, and the folder wasn't synced since
+// LOG.new is, or it is LOG, and the folder wasn't synced since.
+static int is_made, is_named;
 static char log_path[LONGEST], new_path[LONGEST], kept_path[LONGEST], folder_path[LONGEST];
 static long calls, fail_from, fail_to, tear_at, kill_at, stop_at;
 static const char *keep_synced, *trace;
@@ -200,8 +206,12 @@ static int opened(int folder, const char *path, int flags, int mode) {
 
 int open(const char *path, int flags, int mode) { return opened(AT_FDCWD, path, flags, mode); }
 int open64(const char *path, int flags, int mode) { return opened(AT_FDCWD, path, flags, mode); }
-int openat(int folder, const char *path, int flags, int mode) { return opened(folder, path, flags, mode); }
-int openat64(int folder, const char *path, int flags, int mode) { return opened(folder, path, flags, mode); }
+int openat(int folder, const char *path, int flags, int mode) {
+  return opened(folder, path, flags, mode);
+}
+int openat64(int folder, const char *path, int flags, int mode) {
+  return opened(folder, path, flags, mode);
+}
 
 int rename(const char *from, const char *to) {
   int is_log = same(from, new_path) && same(to, log_path);
@@ -267,7 +277,9 @@ ssize_t pwrite(int fd, const void *bytes, size_t count, off_t at) {
 
 int ftruncate(int fd, off_t len) {
   if (fails("ftruncate", kind(fd))) return -1;
-  if (is_log(fd) && synced_len[kind(fd)] < 0) synced_len[kind(fd)] = syscall(SYS_lseek, fd, 0, SEEK_END);
+  if (is_log(fd) && synced_len[kind(fd)] < 0) {
+    synced_len[kind(fd)] = syscall(SYS_lseek, fd, 0, SEEK_END);
+  }
   int done = (int)syscall(SYS_ftruncate, fd, len);
   ends();
   return done;
@@ -313,6 +325,13 @@ int statx(int fd, const char *path, int flags, unsigned mask, void *told) {
 int flock(int fd, int how) {
   if (fails("flock", kind(fd))) return -1;
   int done = (int)syscall(SYS_flock, fd, how);
+  ends();
+  return done;
+}
+
+int fchown(int fd, unsigned owner, unsigned group) {
+  if (fails("fchown", kind(fd))) return -1;
+  int done = (int)syscall(SYS_fchown, fd, owner, group);
   ends();
   return done;
 }

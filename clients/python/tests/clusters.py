@@ -39,6 +39,10 @@ ALL = {"select": "acct", "where": []}
 NOTING = ["sh", "-c", '[ -p /dev/stdin ] && echo $$ > "$0.new" && mv "$0.new" "$0"; exec "$@"']
 
 
+def insert(key: int, balance: int = 10) -> dict[str, Any]:
+    return {"insert": "acct", "row": [key, balance]}
+
+
 def until(condition: Callable[[], bool], what: str, bound: float = BOUND) -> None:
     end = time.monotonic() + bound
     while not condition():

@@ -7,7 +7,7 @@ use std::io;
 use std::io::ErrorKind;
 use tt_log::FilePlace;
 
-/// As often is a file opened that another session puts a new one in the place of.
+/// A file is opened at most this often, where other sessions keep putting a new one in its place.
 const MOST_TRIES: usize = 100;
 
 /// Opens a file to read it. It is `Unreadable` if it can't be.
@@ -20,10 +20,10 @@ pub fn open_to_read(rt: &impl Files<File = File>, path: &str) -> Result<File, Lo
     }
 }
 
-/// Opens a file for reading and writing, or makes it, locks it until it is closed, and puts its name
-/// on the disk. What an earlier session has left of a new file beside it is removed. It is `InUse`
-/// if another process has its lock, and `Unreadable` if any of this fails; what it has stays as it
-/// is.
+/// Opens a file for reading and writing, or makes it, locks it until it is closed, and puts its
+/// name on the disk. What an earlier session has left of a new file beside it is removed. It is
+/// `InUse` if another process has its lock, and `Unreadable` if any of this fails; what it has
+/// stays as it is.
 pub fn open_to_go_on(
     rt: &(impl Files<File = File> + AllocGlobal),
     path: &str,

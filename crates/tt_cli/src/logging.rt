@@ -37,8 +37,8 @@ pub fn answer_on_file<R: Read, W: Write>(
     answer_on_log(rt, reader, device)
 }
 
-/// Goes on with the session whose log a device has: answers the lines of a reader until its end, and
-/// prints the line of its fault, if it has one.
+/// Goes on with the session whose log a device has: answers the lines of a reader until its end,
+/// and prints the line of its fault, if it has one.
 pub fn answer_on_log<R: Read, D: Device + Drop>(
     rt: &(impl Eprint + AllocGlobal),
     reader: &mut R,

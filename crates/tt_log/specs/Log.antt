@@ -1,5 +1,6 @@
 -- A log in a file, and what a crash leaves of it.
 use Rattle.std.specs.Prelude.{◌≡◌, ◌⊎◌, ℕ, ◌≤◌, List, ◌++◌, length, take}
+use Rattle.std.specs.Int.{next_multiple_of}
 use Rattle.tt_log.specs.Lines.{logged, joined, zeros}
 use Rattle.tt_log.specs.Device.{Only, Left, Now}
 use Rattle.tt_log.specs.declared.log.Log.{Log}
@@ -44,3 +45,7 @@ KeepsEither old new shown left = Keeps old shown left ⊎ Keeps new shown left
 -- the log knows how many bytes the new file has
 abbrev pub IsMaking : {D : Type 0} → (D → List ℕ) → Log D → Type 0
 IsMaking new_file log = log.new_end ≡ length (new_file log.device)
+
+-- the length of a file with room behind so many bytes of lines: the least multiple of 1,048,576 bytes that has them
+abbrev pub length_with_room : ℕ → ℕ
+length_with_room end = next_multiple_of end 1048576

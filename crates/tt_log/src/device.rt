@@ -171,9 +171,9 @@ pub trait Device {
         ensures failed { tells self.old
             → CountsFailure (failures self.old) (failures self.new) result };
 
-    /// Puts all bytes of the new file on the disk, and its length: after `Ok` a crash leaves what it
-    /// has. After an error a crash may leave any bytes of it. Whatever comes of it, the file stays
-    /// as it is.
+    /// Puts all bytes of the new file on the disk, and its length: after `Ok` a crash leaves what
+    /// it has. After an error a crash may leave any bytes of it. Whatever comes of it, the file
+    /// stays as it is.
     fn sync_new(&mut self) -> Result<(), DeviceError>
         ensures tells { tells self.old ↔ tells self.new }
         ensures new_file { tells self.old → OnOk result
@@ -189,10 +189,10 @@ pub trait Device {
         ensures failed { tells self.old
             → CountsFailure (failures self.old) (failures self.new) result };
 
-    /// Gives the new file the name of the file, in one step: it is the file that is read and written
-    /// from then on, and the old one is let go. Until its folder is synced a crash leaves the old
-    /// file or the new one, and of the new one what it may leave of its bytes. After an error the
-    /// file has its name, and stays as it is.
+    /// Gives the new file the name of the file, in one step: it is the file that is read and
+    /// written from then on, and the old one is let go. Until its folder is synced a crash leaves
+    /// the old file or the new one, and of the new one what it may leave of its bytes. After an
+    /// error the file has its name, and stays as it is.
     fn rename_new(&mut self) -> Result<(), DeviceError>
         ensures tells { tells self.old ↔ tells self.new }
         ensures named { tells self.old → OnOk result (seen self.new ≡ new_file self.old) }
@@ -210,8 +210,8 @@ pub trait Device {
         ensures failed { tells self.old
             → CountsFailure (failures self.old) (failures self.new) result };
 
-    /// Puts the name of the file on the disk: after `Ok` a crash leaves what it may leave of the file
-    /// that has the name. After an error it leaves what it might have left before.
+    /// Puts the name of the file on the disk: after `Ok` a crash leaves what it may leave of the
+    /// file that has the name. After an error it leaves what it might have left before.
     fn sync_folder(&mut self) -> Result<(), DeviceError>
         ensures tells { tells self.old ↔ tells self.new }
         ensures durable { tells self.old → OnOk result

@@ -6,8 +6,8 @@ use std::io::ErrorKind;
 use std::os::unix::fs::{MetadataExt, OpenOptionsExt, fchown};
 use std::path::PathBuf;
 
-/// The place of a file in its folder, and that of a new file beside it, whose name has `.new` at the
-/// end. It takes all the memory that is needed to make a log anew.
+/// The place of a file in its folder, and that of a new file beside it, whose name has `.new` at
+/// the end. It has both paths, so that making a log anew takes no memory for them.
 #[derive(Drop)]
 pub struct FilePlace {
     path: PathBuf,
@@ -23,14 +23,16 @@ impl FilePlace {
         Ok(FilePlace { path, new_path })
     }
 
-    /// Whether an open file is the one that is there now, and not one that was there before.
+    /// Whether an open file is the one that has the name now, and not one that had it before. The
+    /// error is that of the system, `NotFound` where no file has the name.
     pub fn is_of(&self, files: &impl Files<File = File>, file: &File) -> io::Result<bool> {
         let there = files.symlink_metadata(self.path.as_str())?;
         let opened = file.metadata()?;
         Ok(there.dev() == opened.dev() && there.ino() == opened.ino())
     }
 
-    /// Puts the names of its folder on the disk.
+    /// Puts the names of its folder on the disk. The error is that of the system: the names may
+    /// then be on the disk or not.
     pub fn sync_folder(&self, files: &impl Files<File = File>) -> io::Result<()> {
         let folder = match self.path.as_path().parent() {
             Some(folder) => folder.as_str(),
@@ -42,8 +44,8 @@ impl FilePlace {
             .sync_all()
     }
 
-    /// Removes a new file that was left when its maker was killed. One that is locked stays, as does
-    /// what is no file: the error tells that, or is that of the system.
+    /// Removes a new file that was left when its maker was killed. One that is locked stays, as
+    /// does what is no file: the error tells that, or is that of the system.
     pub fn remove_left(&self, files: &impl Files<File = File>) -> io::Result<()> {
         let new_path = self.new_path.as_str();
         if !files.symlink_metadata(new_path)?.is_file() {

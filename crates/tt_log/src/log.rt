@@ -26,7 +26,7 @@ pub struct Log<D> {
 }
 
 impl<D: Device> Log<D> {
-    ghost use Rattle.tt_log.specs.Log.{IsAtRest, IsSettled, IsMaking, Keeps, KeepsFirst, KeepsAnswered, KeepsEither};
+    ghost use Rattle.tt_log.specs.Log.{IsAtRest, IsSettled, IsMaking, length_with_room, Keeps, KeepsFirst, KeepsAnswered, KeepsEither};
 
     /// A log whose lines end here in a file of this length, with bytes 0 behind them.
     pub(crate) fn new(device: D, end: u64, len: u64) -> Log<D>
@@ -59,7 +59,7 @@ impl<D: Device> Log<D> {
 
     /// Writes lines behind those that are there, and syncs them: after `Ok` a crash leaves them
     /// all. Where there are none, nothing is done. After an error some of the first ones may be
-    /// there, or none.
+    /// there, or none. A file without room for them is made longer at once by room for many.
     pub fn append(&mut self, lines: &Lines) -> Result<(), LogError>
         requires { D.tells self.old.device → IsSettled D.seen D.may_leave self.old }
         ensures tells { D.tells self.old.device ↔ D.tells self.new.device }
@@ -86,6 +86,8 @@ impl<D: Device> Log<D> {
         ensures no_read { IsErrOf result LogError.Read → ⊥ }
         ensures no_hand_over { IsErrOf result LogError.HandOver → ⊥ }
         ensures nothing { lines.now ≡ [] → IsOk result }
+        ensures room { OnOk result ((self.new.len ≡ self.old.len)
+            ⊎ (self.new.len ≡ length_with_room self.new.end)) }
     {
         let bytes = lines.as_bytes();
         if bytes.is_empty() {
@@ -145,8 +147,8 @@ impl<D: Device> Log<D> {
     }
 
     /// Begins to make the log anew: makes an empty new file beside that of the log, which stays as
-    /// it is. Lines are then pushed into the new file, and it is taken or removed, before the log is
-    /// used further. After an error there is no new file to write lines into.
+    /// it is. Lines are then pushed into the new file, and it is taken or removed, before the log
+    /// is used further. After an error there is no new file to write lines into.
     pub fn begin_new(&mut self) -> Result<(), DeviceError>
         requires { D.tells self.old.device → IsSettled D.seen D.may_leave self.old }
         ensures tells { D.tells self.old.device ↔ D.tells self.new.device }
@@ -175,9 +177,9 @@ impl<D: Device> Log<D> {
         Ok(())
     }
 
-    /// Writes lines into the new file, behind those that it has. It is `Write` if the new file can't
-    /// be written, and `Full` if it would be longer than 2^60 bytes. The log stays as it is, and
-    /// after an error the new file is to be removed.
+    /// Writes lines into the new file, behind those that it has. It is `Write` if the new file
+    /// can't be written, and `Full` if it would be longer than 2^60 bytes. The log stays as it is,
+    /// and after an error the new file is to be removed.
     pub fn push_new(&mut self, lines: &Lines) -> Result<(), LogError>
         requires settled { D.tells self.old.device → IsSettled D.seen D.may_leave self.old }
         requires making { D.tells self.old.device → IsMaking D.new_file self.old }
@@ -231,6 +233,8 @@ impl<D: Device> Log<D> {
         ensures shown { D.tells self.old.device
             → D.shown self.new.device ≡ D.shown self.old.device }
 
+        ensures room { OnOk result (self.new.len ≡ length_with_room self.new.end) }
+
         // A crash at any moment of the call leaves the old lines or the new ones, never a mix.
         ensures any_moment { D.tells self.old.device → LeavesOnly D.moment D.left_since
             self.old.device self.new.device (KeepsEither (logged (D.seen self.old.device))
@@ -283,8 +287,8 @@ impl<D: Device> Log<D> {
         self.device.remove_new();
     }
 
-    /// Makes the new file longer by bytes 0, syncs it, and gives it the name of the old one. Returns
-    /// its length. After an error the old one has its name, and is as it was.
+    /// Makes the new file longer by bytes 0, syncs it, and gives it the name of the old one.
+    /// Returns its length. After an error the old one has its name, and is as it was.
     fn name_new(&mut self) -> Result<u64, DeviceError>
         requires settled { D.tells self.old.device → IsSettled D.seen D.may_leave self.old }
         requires making { D.tells self.old.device → IsMaking D.new_file self.old }
@@ -292,6 +296,7 @@ impl<D: Device> Log<D> {
         ensures tells { D.tells self.old.device ↔ D.tells self.new.device }
         ensures new_end { self.new.new_end ≡ self.old.new_end }
         ensures within { IfOk result (λ len. self.new.new_end ≤ len) }
+        ensures room { IfOk result (λ len. len ≡ length_with_room self.new.new_end) }
         ensures len { D.tells self.old.device → IfOk result (λ len.
             len ≡ length (D.seen self.new.device)) }
         ensures at_rest { D.tells self.old.device → OnOk result
@@ -323,7 +328,7 @@ impl<D: Device> Log<D> {
         ensures failed { D.tells self.old.device → OnErr result
             (D.failures self.old.device < D.failures self.new.device) }
     {
-        let len = self.new_end.div_ceil(ROOM_UNIT) * ROOM_UNIT;
+        let len = self.new_end.next_multiple_of(ROOM_UNIT);
         self.device.grow_new(len)?;
         self.device.sync_new()?;
         self.device.rename_new()?;
@@ -335,7 +340,9 @@ impl<D: Device> Log<D> {
     fn make_room(&mut self, count: u64) -> Result<u64, LogError>
         requires { D.tells self.old.device → IsSettled D.seen D.may_leave self.old }
         ensures end { IfOk result (λ end. end ≡ self.new.end + count) }
-        ensures room { OnOk result (self.new.end + count ≤ self.new.len) }
+        ensures within { OnOk result (self.new.end + count ≤ self.new.len) }
+        ensures room { OnOk result ((self.new.len ≡ self.old.len)
+            ⊎ (self.new.len ≡ length_with_room (self.new.end + count))) }
         ensures tells { D.tells self.old.device ↔ D.tells self.new.device }
         ensures settled { D.tells self.old.device → OnOk result
             (IsSettled D.seen D.may_leave self.new) }
@@ -361,7 +368,7 @@ impl<D: Device> Log<D> {
             return Err(LogError::Full);
         }
         let end = self.end + count;
-        let len = end.div_ceil(ROOM_UNIT) * ROOM_UNIT;
+        let len = end.next_multiple_of(ROOM_UNIT);
         self.device.grow(len)?;
         self.device.sync()?;
         self.len = len;

@@ -8,7 +8,8 @@ ghost use Rattle.tt_log.specs.Log.{IsAtRest, Keeps};
 use crate::{Device, LogError};
 
 /// Overwrites by bytes 0 what stands behind the lines of a file, if there are other bytes, and
-/// syncs that. The lines end here, and the file has this length. A crash at any moment leaves the lines.
+/// syncs that. The lines end here, and the file has this length. A crash at any moment leaves the
+/// lines.
 pub(crate) fn clear_rest<D: Device>(
     device: &mut D,
     end: u64,

@@ -1,5 +1,5 @@
 -- What a session on a log has done once the log was made anew for a line, or couldn't be.
-use Rattle.std.proofs.Common.{◌≡◌, ◌⊎◌, ℕ, ◌+◌, ◌<◌, ◌≤◌, true, false, List, [], ◌∷◌, ◌++◌, length, take, append-nil, append_assoc, inl, inr, Option, refl, sym, ap, ◌∙◌, subst, arith}
+use Rattle.std.proofs.Common.{◌≡◌, ℕ, ◌+◌, ◌≤◌, true, List, [], ◌∷◌, ◌++◌, length, take, append-nil, append_assoc, inl, inr, Option, refl, sym, ap, ◌∙◌, subst, arith}
 use Rattle.std.proofs.Math.Seq.{take-append-add, take-length}
 use Rattle.tt_log.specs.Device.{Left, LeavesOnly, ShowsFirst}
 use Rattle.tt_log.specs.Lines.{logged}
@@ -12,7 +12,7 @@ use Rattle.tt_session.specs.Session.{OpenSession, Forgetting, counted}
 use Rattle.tt_session.specs.Changes.{forgotten_by}
 use Rattle.tt_session.specs.Run.{Turn}
 use Rattle.tt_log.specs.declared.log_error.LogError.{LogError}
-use Rattle.tt_session.specs.Answering.{LineRead, turn_of_read, turns_of, AllLogged}
+use Rattle.tt_session.specs.Answering.{LineRead, turn_of_read, turns_of, unlogged_count}
 use Rattle.tt_session.specs.LogLines.{lines_of_database, lines_of_log}
 use Rattle.tt_session.specs.Logged.{makes_log_anew, log_after}
 use Rattle.tt_session.specs.Together.{kept_line, unlogged_line}
@@ -20,7 +20,7 @@ use Rattle.tt_session.specs.Restoring.{IsLogOf, NewLogsAreRead}
 use Rattle.tt_session.specs.OnLog.{Telling, LeavesAnswered, HandedOnLog, StoppedInLog, StoppedInOutput, StoppedOnLog}
 use Rattle.tt_session.specs.Anew.{Forgets}
 use Rattle.tt_session.specs.Renewing.{IsReadable, KeepsLog, LosesLog, KeepsShowing, HandsOverAlone, FailsAlone}
-use Rattle.tt_session.proofs.LoggedLemmas.{IsAsFar, log-append, log-anew, log-far, far-not-anew, logged-all}
+use Rattle.tt_session.proofs.LoggedLemmas.{IsAsFar, log-append, log-anew, log-far, far-not-anew, unlogged-append}
 use Rattle.tt_session.proofs.OnLogLemmas.{leaves-more, leaves-all, new-append, not-anew}
 use Rattle.tt_session.proofs.RunningLemmas.{turns-text, one-text}
 
@@ -129,7 +129,7 @@ module _ {D : Type 0} (of : Telling D) (may_leave : D → List ℕ → Type 0) (
     )
 
     module _ (mid after : Log D) (run : LeavesOnly of.moment of.left_since old mid.device (KeepsEither (logged (of.seen old)) new (of.shown old))) (lines_mid : logged (of.seen mid.device) ≡ new)
-        (shown_mid : of.shown mid.device ≡ of.shown old) (failures : of.failures old ≤ of.failures mid.device) where
+        (shown_mid : of.shown mid.device ≡ of.shown old) (failures : of.failures old + unlogged_count (read ∷ []) ≤ of.failures mid.device) where
       showing : (left : Left) → KeepsShowing (logged (of.seen mid.device)) (of.shown mid.device) text left → KeepsShowing new (of.shown old) text left
       showing left p = record { lines_are = p.lines_are ∙ lines_mid; bytes = p.bytes; shown_is = p.shown_is ∙ ap (λ t. t ++ take p.bytes text) shown_mid }
 
@@ -140,22 +140,15 @@ module _ {D : Type 0} (of : Telling D) (may_leave : D → List ℕ → Type 0) (
           (λ left p. leaves-showing left (showing left p))
 
       -- the text is handed over
-      pub handed-anew : HandsOverAlone of may_leave mid after text → ((read.is_unlogged ≡ false) ⊎ (of.failures old < of.failures mid.device)) → HandedOnLog of first after.device start (over ++ read ∷ [])
-      handed-anew alone why = record {
+      pub handed-anew : HandsOverAlone of may_leave mid after text → HandedOnLog of first after.device start (over ++ read ∷ [])
+      handed-anew alone = record {
         tells = alone.tells;
         lines_are = alone.lines_are ∙ lines_mid ∙ s.lines_are;
         shown_is = shown-all (of.shown after.device) (alone.shown ∙ ap (λ t. t ++ text) shown_mid);
         any_moment = all-moments alone.any_moment;
         new_logs = all-new;
-        all_logged = logged-or h.all_logged why;
-        failures = omega (arith, h.failures, failures, alone.failures);
+        failures = omega (arith, h.failures, failures, alone.failures, unlogged-append over (read ∷ []));
       }
-        where
-          logged-or : AllLogged over ⊎ (of.failures first < of.failures old) → ((read.is_unlogged ≡ false) ⊎ (of.failures old < of.failures mid.device)) → AllLogged (over ++ read ∷ []) ⊎ (of.failures first < of.failures after.device)
-          logged-or (inl all) (inl one) = inl (logged-all over (read ∷ []) all (one, tt))
-          logged-or (inl all) (inr failed) = inr (omega (arith, h.failures, failed, alone.failures))
-          logged-or (inr failed) (inl one) = inr (omega (arith, failed, failures, alone.failures))
-          logged-or (inr failed) (inr again) = inr (omega (arith, failed, failures, alone.failures))
 
       -- the output has failed before it had all of it
       pub stopped-anew : (error : Option LogError) (more : List LineRead) → FailsAlone error of mid after text → StoppedOnLog error of first after.device start ((over ++ read ∷ []) ++ more)
@@ -168,13 +161,13 @@ module _ {D : Type 0} (of : Telling D) (may_leave : D → List ℕ → Type 0) (
             any_moment = all-moments alone.any_moment;
             new_logs = all-new;
             lines_are = alone.lines_are ∙ lines_mid ∙ s.lines_are;
-            failed = omega (arith, h.failures, failures, alone.failed);
+            failed = omega (arith, h.failures, failures, alone.failed, unlogged-append over (read ∷ []));
           } in
           subst (λ e. StoppedOnLog e of first after.device start ((over ++ read ∷ []) ++ more)) (sym alone.error_is) in_output
 
     -- the name of the new file couldn't be synced
-    pub lost-anew : (before after : Log D) (more : List LineRead) → before.device ≡ old → LosesLog of before after new → StoppedInLog of first after.device start ((over ++ read ∷ []) ++ more)
-    lost-anew before after more same loses = record {
+    pub lost-anew : (before after : Log D) (more : List LineRead) → before.device ≡ old → unlogged_count (read ∷ []) ≡ 0 → LosesLog of before after new → StoppedInLog of first after.device start ((over ++ read ∷ []) ++ more)
+    lost-anew before after more same logs loses = record {
       answered = over;
       pending = read ∷ [];
       others = more;
@@ -182,7 +175,8 @@ module _ {D : Type 0} (of : Telling D) (may_leave : D → List ℕ → Type 0) (
       shown_is = loses.shown ∙ ap of.shown same ∙ h.shown_is;
       any_moment = renewed after.device (subst (λ d. LeavesOnly of.moment of.left_since d after.device (KeepsEither (logged (of.seen d)) new (of.shown d))) same loses.any_moment);
       new_logs = all-new;
-      why = inl (omega (arith, h.failures, ap of.failures same, loses.failed));
+      failures = omega (arith, h.failures, ap of.failures same, loses.failed, logs, unlogged-append over (read ∷ []));
+      why = inl (omega (arith, h.failures, ap of.failures same, loses.failed, logs, unlogged-append over (read ∷ [])));
     }
 
   -- the log goes on as it was
@@ -197,10 +191,5 @@ module _ {D : Type 0} (of : Telling D) (may_leave : D → List ℕ → Type 0) (
         leaves-all start lines over shown left (length (turns_of start over).text) (p.lines_are ∙ h.lines_are)
         (p.shown_is ∙ h.shown_is ∙ ap (λ t. shown ++ t) (sym (take-length (turns_of start over).text))));
     new_logs = h.new_logs;
-    all_logged = later h.all_logged;
     failures = omega (arith, h.failures, keeps.failures);
   }
-    where
-      later : AllLogged over ⊎ (of.failures first < of.failures old.device) → AllLogged over ⊎ (of.failures first < of.failures after.device)
-      later (inl all) = inl all
-      later (inr failed) = inr (omega (arith, failed, keeps.failures))

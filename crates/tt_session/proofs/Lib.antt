@@ -24,6 +24,7 @@ pub mod OnLogLemmas
 pub mod ReopeningLemmas
 pub mod RestoringLemmas
 pub mod ReplayLemmas
+pub mod OneWayLemmas
 pub mod LoggedSessionLemmas
 pub mod EndingLemmas
 pub mod RecordLemmas

@@ -1,5 +1,5 @@
 -- The lines of a log that is made anew are read back, and its opening opens no session.
-use Rattle.std.proofs.Common.{◌≡◌, ℕ, ◌+◌, ◌^◌, ◌<◌, ◌≤◌, Bool, true, false, not, nat_lt, ◌||◌, List, [], ◌∷◌, length, filter, Option, None, Some, Result, Ok, Err, Ordering, Less, Equal, Greater, nat_cmp, All, codes, decimal, refl, ap, ◌∙◌, arith, length-append}
+use Rattle.std.proofs.Common.{◌≡◌, ℕ, ◌^◌, ◌<◌, ◌≤◌, Bool, true, false, not, nat_lt, List, [], ◌∷◌, length, filter, Option, None, Some, Result, Ok, Err, Ordering, Less, Equal, Greater, nat_cmp, codes, decimal, refl, ap, ◌∙◌, arith, length-append}
 use Rattle.std.specs.Prelude.{is_err, IsErr}
 use Rattle.std.specs.Bool.{⊤}
 use Rattle.std.specs.Ordering.{match_ordering}
@@ -19,7 +19,6 @@ use Rattle.serde_json.proofs.Numbers.{number_of-decimal}
 use Rattle.tt_numbers.specs.Numbers.{Numbering, number_limit, IsNumbering}
 use Rattle.tt_values.specs.declared.statement.Write.{Write}
 use Rattle.tt_values.specs.Tables.{Tables, IsCatalog}
-use Rattle.tt_values.specs.Check.{action_fault}
 use Rattle.tt_json.specs.Value.{member_names, least, least_unknown}
 use Rattle.tt_grammar.specs.declared.fault.DocFault.{DocFault}
 use Rattle.tt_grammar.specs.Fault.{◌>>=◌, with_path, document_path}
@@ -27,7 +26,7 @@ use Rattle.tt_grammar.specs.Decoder.{count_within}
 use Rattle.tt_grammar.specs.Members.{is_one_of, refuse_member, no_members_but}
 use Rattle.tt_grammar.specs.JsonText.{Member, object_text}
 use Rattle.tt_grammar.specs.WriteText.{action_text}
-use Rattle.tt_grammar.specs.ReadBack.{IsStorable, values_of_write, read_with}
+use Rattle.tt_grammar.specs.ReadBack.{read_with}
 use Rattle.tt_grammar.specs.Actions.{action, writes}
 use Rattle.tt_grammar.specs.Version.{version_of_sessions}
 use Rattle.tt_grammar.specs.Edits.{replacement}
@@ -50,7 +49,7 @@ use Rattle.tt_requests.specs.Questions.{max_worker}
 use Rattle.tt_requests.specs.Requests.{several_writes, members_of_request, request_of}
 use Rattle.tt_requests.proofs.StepBackLemmas.{step, with_path-ok}
 use Rattle.tt_answers.specs.LogText.{ground_members, log_opening_members, log_opening_line, ground_line, slot_line}
-use Rattle.tt_session.specs.LogReadBack.{IsTakenUp, OpensLog, PrintedLogOpens, PrintedGroundIsRead, PrintedSlotsAreRead, OpeningsHaveNoGround}
+use Rattle.tt_session.specs.LogReadBack.{IsTakenUp, PrintedLogOpens, PrintedGroundIsRead, PrintedSlotsAreRead, OpeningsHaveNoGround}
 use Rattle.tt_session.proofs.ReadBackLemmas.{digits-utf8, count-within, line-read}
 
 -- ---- the JSON value of a line that is printed

@@ -134,9 +134,6 @@ record Repeats (session : OpenSession) (entries : List Entry) : Type 0 where
   pub database : next.database ≡ with_entries session.database entries
   pub numbering : next.numbering ≡ session.numbering
 
-after-write : OpenSession → ℕ → List Write → OpenSession
-after-write session worker action = (written (counted session) worker action).session
-
 write-turn : (session : OpenSession) (worker : ℕ) (action : List Write) → refusal_in_session session.database (events.Write action) ≡ None
     → (turn_by_request (counted session) (Ok (record { worker = worker; expected = None; command = commands.Write action }))).session ≡ Open (written (counted session) worker action).session
 write-turn session worker action none =

@@ -1,10 +1,10 @@
 -- Which lines are logged.
-use Rattle.std.proofs.Common.{◌≡◌, ℕ, zero, suc, ◌+◌, ◌≤◌, ◌==◌, Bool, true, false, not, ◌&&◌, List, [], ◌∷◌, ◌++◌, length, take, append-nil, append_assoc, sym, Option, None, Some, refl, ap, ◌∙◌, arith}
+use Rattle.std.proofs.Common.{◌≡◌, ℕ, zero, suc, ◌+◌, ◌≤◌, ◌==◌, Bool, true, false, not, ◌&&◌, List, [], ◌∷◌, ◌++◌, length, take, append-nil, append_assoc, sym, Option, None, Some, if◌then◌else◌, refl, ap, ◌∙◌, arith}
 use Rattle.std.proofs.lemmas.Bool.{eq-eqb, and_right}
 use Rattle.std.proofs.lemmas.Bool.Decides.{nat_tests}
 use Rattle.tt_session.specs.declared.session.Session.{Session}
 use Rattle.tt_session.specs.Changing.{entries_of, horizon_of, changes_database, line_asks_to_forget}
-use Rattle.tt_session.specs.Answering.{LineRead, turn_of_read, turns_of, AllLogged}
+use Rattle.tt_session.specs.Answering.{LineRead, turn_of_read, turns_of, AllLogged, unlogged_count}
 use Rattle.tt_session.specs.LogLines.{lines_of_log}
 use Rattle.tt_session.specs.Logged.{with_line_if, logged_by, logged_of, makes_log_anew, log_next, log_after, IsPlain, ArePlain, with_lines}
 
@@ -80,6 +80,18 @@ plain-logged session (read ∷ reads) p = (p.0.not_unlogged, plain-logged (turn_
 pub logged-all : (first others : List LineRead) → AllLogged first → AllLogged others → AllLogged (first ++ others)
 logged-all [] others p q = q
 logged-all (read ∷ first) others p q = (p.0, logged-all first others p.1 q)
+
+pub unlogged-append : (first others : List LineRead) → unlogged_count (first ++ others) ≡ unlogged_count first + unlogged_count others
+unlogged-append [] others = let none : unlogged_count [] ≡ 0 = refl in omega (arith, none)
+unlogged-append (read ∷ first) others =
+    let rest = unlogged-append first others in omega (arith, rest)
+
+-- none of those is unlogged for which the log isn't made anew
+pub plain-unlogged : (session : Session) (reads : List LineRead) → ArePlain session reads → unlogged_count reads ≡ 0
+plain-unlogged session [] p = refl
+plain-unlogged session (read ∷ reads) p =
+    let one : ◌≡◌ {A = ℕ} (if read.is_unlogged then 1 else 0) 0 = ap (λ b. if b then 1 else 0) p.0.not_unlogged in
+    let rest = plain-unlogged (turn_of_read session read).session reads p.1 in omega (arith, one, rest)
 
 -- ---- the log after lines
 

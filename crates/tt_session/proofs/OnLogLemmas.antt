@@ -1,5 +1,5 @@
 -- What a crash leaves of a session whose lines are logged.
-use Rattle.std.proofs.Common.{◌≡◌, ◌⊎◌, ℕ, ◌+◌, ◌<◌, ◌≤◌, ◌^◌, Bool, true, false, List, [], ◌∷◌, ◌++◌, length, take, append-nil, append_assoc, length-append, inl, inr, Option, Result, Err, refl, sym, ap, ◌∙◌, subst, arith}
+use Rattle.std.proofs.Common.{◌≡◌, ℕ, ◌+◌, ◌≤◌, ◌^◌, Bool, true, false, List, [], ◌∷◌, ◌++◌, length, take, append-nil, append_assoc, length-append, inl, inr, Option, Result, Err, refl, sym, ap, ◌∙◌, subst, arith}
 use Rattle.std.proofs.Math.Seq.{take-append-add, take-length}
 use Rattle.tt_log.specs.Device.{Left, Now, Only, ShowsFirst}
 use Rattle.tt_log.specs.Lines.{logged, joined}
@@ -10,12 +10,12 @@ use Rattle.tt_log.proofs.LineLemmas.{joined-append}
 use Rattle.tt_log.proofs.MomentLemmas as moments
 use Rattle.tt_session.specs.declared.session.Session.{Session}
 use Rattle.tt_session.specs.Run.{Turn}
-use Rattle.tt_session.specs.Answering.{LineRead, turn_of_read, turns_of, AllLogged}
+use Rattle.tt_session.specs.Answering.{LineRead, turn_of_read, turns_of, unlogged_count}
 use Rattle.tt_session.specs.Logged.{logged_of, makes_log_anew, log_after, ArePlain}
 use Rattle.tt_session.specs.Restoring.{NewLogsAreRead}
 use Rattle.tt_session.specs.OnLog.{LeavesAnswered, Telling, HandedOnLog, StoppedOnLog, IsFull}
 use Rattle.tt_session.proofs.AnsweringLemmas.{turns_of-append}
-use Rattle.tt_session.proofs.LoggedLemmas.{log-append, log-plain, plain-front, plain-logged, logged-all, Front, front-of}
+use Rattle.tt_session.proofs.LoggedLemmas.{log-append, log-plain, plain-front, unlogged-append, plain-unlogged, Front, front-of}
 
 -- nothing was read
 pub leaves-none : (start : Session) (lines : List (List ℕ)) (shown : List ℕ) (left : Left) → logged left.file ≡ lines → left.shown ≡ shown → LeavesAnswered start lines [] shown left
@@ -67,10 +67,11 @@ pub new-plain : (session : Session) (reads : List LineRead) → ArePlain session
 new-plain session [] p = tt
 new-plain session (read ∷ reads) p = (not-anew (makes_log_anew session read) p.0.not_anew, new-plain (turn_of_read session read).session reads p.1)
 
--- none were refused for want of a log, or the device has failed
-pub all-logged : (start : Session) (over kept : List LineRead) (m n k : ℕ) → AllLogged over ⊎ (m < n) → ArePlain (turns_of start over).session kept → n ≤ k → AllLogged (over ++ kept) ⊎ (m < k)
-all-logged start over kept m n k (inl all) plain later = inl (logged-all over kept all (plain-logged (turns_of start over).session kept plain))
-all-logged start over kept m n k (inr failed) plain later = inr (omega (arith, failed, later))
+-- behind further lines as many are unlogged as before
+pub unlogged-kept : (start : Session) (over kept : List LineRead) → ArePlain (turns_of start over).session kept → unlogged_count (over ++ kept) ≡ unlogged_count over
+unlogged-kept start over kept plain =
+    let more = unlogged-append over kept in
+    let none = plain-unlogged (turns_of start over).session kept plain in omega (arith, more, none)
 
 -- the answers that are kept are handed over
 module _ (start : Session) (lines : List (List ℕ)) (over kept : List LineRead) (shown : List ℕ) (new : List (List ℕ)) (text : List ℕ) (lines_now : List (List ℕ)) (shown_now : List ℕ)
@@ -153,7 +154,6 @@ handed-none of may_leave device start told durable only_now = record {
       let now = only_now left since in
       leaves-none start (logged (of.seen device)) (of.shown device) left (ap logged (durable left.file now.0)) now.1);
   new_logs = tt;
-  all_logged = inl tt;
   failures = omega arith;
 }
 

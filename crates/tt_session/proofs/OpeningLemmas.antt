@@ -1,25 +1,22 @@
 -- The tables of an opening are a catalog, and it keeps no more than openings may.
-use Rattle.std.proofs.Common.{◌≡◌, ℕ, suc, ◌≤◌, Bool, true, false, nat_lt, ◌||◌, List, [], ◌∷◌, ◌++◌, IsTrue, Option, None, Some, Result, Ok, codes, refl, sym, ap, subst, ◌∙◌, arith}
-use Rattle.std.specs.Option.{unwrap_or}
+use Rattle.std.proofs.Common.{◌≡◌, ℕ, suc, ◌≤◌, List, [], ◌∷◌, ◌++◌, IsTrue, Option, None, Some, Result, Ok, codes, refl, sym, ap, subst, ◌∙◌, arith}
 use Rattle.std.proofs.lemmas.List.Elements.{All-nil}
-use Rattle.std.proofs.lemmas.Bool.{ltb-false}
 use Rattle.serde_json.specs.Data.{Data}
-use Rattle.serde_json.specs.Find.{get}
 use Rattle.tt_values.specs.declared.table.TableDef.{TableDef}
 use Rattle.tt_values.specs.declared.catalog.CatalogError.{CatalogError}
 use Rattle.tt_values.specs.Tables.{Tables, is_name, IsTable, IsCatalog}
 use Rattle.tt_values.specs.Catalog.{table_fault}
 use Rattle.tt_values.proofs.LawProofs.{catalogs_grow}
 use Rattle.tt_grammar.specs.declared.fault.DocFault.{DocFault}
-use Rattle.tt_grammar.specs.Fault.{◌>>=◌, with_path, member_path, item_path, document_path}
-use Rattle.tt_grammar.specs.Decoder.{object, text, array, member, optional, read_optional, within, count, count_within}
+use Rattle.tt_grammar.specs.Fault.{◌>>=◌, with_path, item_path, document_path}
+use Rattle.tt_grammar.specs.Decoder.{object, text, array, member}
 use Rattle.tt_grammar.specs.Arrays.{fold_items, array_of}
 use Rattle.tt_grammar.specs.Causes.{judge, cause_of_catalog}
 use Rattle.tt_grammar.specs.Members.{is_one_of, no_members_but}
 use Rattle.tt_grammar.specs.Tables.{column, with_table, table_after, catalog}
 use Rattle.tt_requests.specs.declared.opening.Opening.{Opening}
 use Rattle.tt_requests.proofs.BoundLemmas.{is_declared}
-use Rattle.tt_requests.proofs.StepBackLemmas.{ok_same, step, with_path-ok, choice-ok, member-ok}
+use Rattle.tt_requests.proofs.StepBackLemmas.{ok_same, step, with_path-ok, member-ok}
 use Rattle.tt_db.specs.Database.{Database}
 use Rattle.tt_answers.specs.declared.answer.Status.{Status}
 use Rattle.tt_answers.specs.declared.answer.Answer.TheVariants as answers

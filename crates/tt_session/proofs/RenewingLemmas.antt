@@ -1,5 +1,5 @@
 -- What becomes of a log that is made anew, call by call.
-use Rattle.std.proofs.Common.{◌≡◌, Bool, ℕ, zero, suc, ◌+◌, ◌-◌, ◌<◌, ◌≤◌, List, [], ◌∷◌, ◌++◌, take, drop, slice_get, All, append-nil, append_assoc, inl, inr, Option, Some, Result, Ok, Err, OnOk, IfErr, refl, sym, ap, ◌∙◌, subst, arith, add-one}
+use Rattle.std.proofs.Common.{◌≡◌, Bool, ℕ, zero, suc, ◌+◌, ◌-◌, ◌≤◌, List, [], ◌∷◌, ◌++◌, take, drop, slice_get, All, append-nil, append_assoc, inl, inr, Option, Some, Result, Ok, Err, OnOk, IfErr, refl, sym, ap, ◌∙◌, subst, arith, add-one}
 use Rattle.std.specs.Prelude.{IsErrAnd}
 use Rattle.std.proofs.Math.Seq.{take-nil, take-add}
 use Rattle.std.proofs.lemmas.List.{drop-drop, map-append}
@@ -17,7 +17,7 @@ use Rattle.tt_session.specs.OnLog.{Telling}
 use Rattle.tt_session.specs.LogLines.{line_of_entry, lines_of_entries}
 use Rattle.tt_session.specs.declared.log_renewal.RenewFault.{RenewFault}
 use Rattle.tt_session.specs.declared.log_renewal.RenewFault.TheVariants as faults
-use Rattle.tt_session.specs.Renewing.{FailsToRenew, FailsToWrite, KeepsLog, TakesLines, LosesLog, IsWriting, KeepsShowing}
+use Rattle.tt_session.specs.Renewing.{FailsToRenew, KeepsLog, TakesLines, LosesLog, IsWriting, KeepsShowing}
 
 -- what holds of an error gives what holds of it
 pub fails-then : {A E : Type 0} (F G : E → Type 0) (r : Result A E) → IfErr r F → ((e : E) → F e → G e) → IfErr r G
@@ -121,13 +121,6 @@ module _ {D : Type 0} (of : Telling D) (may_leave : D → List ℕ → Type 0) w
   fails-behind faults.Kept before mid after lines p q = (keeps-trans before mid after p q.0, omega (arith, p.failures, q.1))
   fails-behind faults.Lost before mid after lines p q = loses-behind before mid after lines p q
 
-  -- the new file isn't written, and is given up
-  pub fails-written : (fault : RenewFault) (before mid after : Log D) → (fault ≡ faults.Memory → ⊥) → FailsToWrite fault of may_leave before mid → KeepsLog of may_leave mid after
-      → KeepsLog of may_leave before after × (of.failures before.device < of.failures after.device)
-  fails-written faults.Memory before mid after other p q = absurd (other refl)
-  fails-written faults.Kept before mid after other p q = (keeps-trans before mid after p.0 q, omega (arith, p.1, q.failures))
-  fails-written faults.Lost before mid after other p q = absurd p
-
   -- ---- the lines of the new file
 
   module _ (new_file : D → List ℕ) where
@@ -158,9 +151,6 @@ module _ {D : Type 0} (of : Telling D) (may_leave : D → List ℕ → Type 0) w
     abbrev pub WritesOn : Log D → Log D → List (List ℕ) → List (List ℕ) → List (List ℕ) → Type 0
     WritesOn old new pending following more =
         (before : Log D) (all : List (List ℕ)) → IsWriting of may_leave new_file before old pending all → IsWriting of may_leave new_file before new following (all ++ more)
-
-    pub writes-none : (log : Log D) (pending : List (List ℕ)) → WritesOn log log pending pending []
-    writes-none log pending before all p = subst (λ ls. IsWriting of may_leave new_file before log pending ls) (sym (append-nil all)) p
 
     pub writes-more : (old mid new : Log D) (pending following last first more both : List (List ℕ)) → both ≡ first ++ more → WritesOn old mid pending following first → WritesOn mid new following last more
         → WritesOn old new pending last both

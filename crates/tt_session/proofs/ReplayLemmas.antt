@@ -48,6 +48,7 @@ use Rattle.tt_session.specs.Room.{refusal_in_session}
 use Rattle.tt_session.specs.Run.{Turn, turn_by_opening, turn_by_outcome, turn_by_reopening, turn_by_request, turn_by_value, turn_without_memory}
 use Rattle.tt_session.specs.Session.{OpenSession, Forgetting, state_in, counted, opened}
 use Rattle.tt_session.specs.Together.{kept_line}
+use Rattle.tt_session.proofs.TogetherLemmas.{open-same}
 use Rattle.tt_session.proofs.LoggedLemmas.{same-entries, same-next}
 use Rattle.tt_session.proofs.RestoringLemmas.{reads-push, read-value}
 
@@ -291,9 +292,6 @@ carried-stays session worker (commands.Forget time) reads = cc
 request-stays : (session : OpenSession) (asked : Result Request DocFault) → asks_read_only asked ≡ true → request_base session asked ≡ base_of session
 request-stays session (Err fault) reads = refl
 request-stays session (Ok request) reads = moved-stays (base_of session) (moved_to session.numbering (now_in session.database) request.expected) _ (carried-stays session request.worker request.command reads)
-
-open-same : (a b : OpenSession) → Open a ≡ Open b → a ≡ b
-open-same a b is = cc
 
 reads-base : (session next : OpenSession) (asked : Result Request DocFault) → Open next ≡ (turn_by_request session asked).session → asks_read_only asked ≡ true → base_of next ≡ base_of session
 reads-base session next asked is reads =

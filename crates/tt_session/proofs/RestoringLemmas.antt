@@ -77,7 +77,7 @@ laid-one : (session next : OpenSession) (line : List ℕ) → laid_by session li
 laid-one session next line is = ap (λ o. option_and_then (λ s. laid_by_lines s []) o) is
 
 -- what a log begins with, where nothing is behind the ground
-begins-base : (lines : List (List ℕ)) (session : Session) (left : ℕ) (p : ReadsLog lines session left) → p.others ≡ [] → (lines ≡ p.first) × (p.base ≡ session)
+pub begins-base : (lines : List (List ℕ)) (session : Session) (left : ℕ) (p : ReadsLog lines session left) → p.others ≡ [] → (lines ≡ p.first) × (p.base ≡ session)
 begins-base lines session left p none =
     (p.lines_are ∙ ap (λ ls. p.first ++ ls) none ∙ append-nil p.first, sym (p.session_is ∙ ap (after_kept p.base) none))
 

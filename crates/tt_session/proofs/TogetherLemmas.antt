@@ -227,11 +227,6 @@ line-session asked line count old new before after kept left p =
 pub open-same : (a b : OpenSession) → Open a ≡ Open b → a ≡ b
 open-same a b is = cc
 
-pub line-calls : (asked : Result Request DocFault) (line : List ℕ) (count : ℕ) (old new : OpenSession) (before after : List ℕ) (kept left : Option (List (List ℕ))) → AnswersWith asked line [] count old new before after kept left
-    → new.calls ≡ old.calls + 1
-line-calls asked line count old new before after kept left p =
-    ap (λ (s : OpenSession). s.calls) (open-same new p.mid (front-nothing count (Open p.mid) (Open new) (before ++ p.text) after (with_lines kept (logged_by (Open old) (Open p.mid) line)) left p.others).0) ∙ p.calls
-
 pub line-logged : (asked : Result Request DocFault) (line : List ℕ) (count : ℕ) (old new : OpenSession) (before after : List ℕ) (kept left : Option (List (List ℕ)))
     → AnswersWith asked line [] count old new before after kept left → left ≡ with_lines kept (logged_by (Open old) (Open new) line)
 line-logged asked line count old new before after kept left p =

@@ -1,5 +1,5 @@
 -- Lines that are read, and how a session answers them: with or without memory for each, and whether its log could be made anew.
-use Rattle.std.specs.Prelude.{◌≡◌, ℕ, ◌&&◌, not, Bool, false, List, [], ◌∷◌, ◌++◌, map, if◌then◌else◌}
+use Rattle.std.specs.Prelude.{◌≡◌, ℕ, ◌+◌, ◌&&◌, not, Bool, false, List, [], ◌∷◌, ◌++◌, map, if◌then◌else◌}
 use Rattle.tt_requests.specs.Lines.{is_too_long, is_passed_over}
 use Rattle.tt_requests.specs.LineValue.{value_of_line}
 use Rattle.tt_answers.specs.declared.answer.Refusal.TheVariants as refusals
@@ -49,3 +49,8 @@ lines_read reads = map (λ (r : LineRead). r.line) reads
 abbrev pub AllLogged : List LineRead → Type 0
 AllLogged [] = Unit {0}
 AllLogged (read ∷ reads) = (read.is_unlogged ≡ false) × AllLogged reads
+
+-- how many of the lines were refused since the log couldn't be made anew for them
+abbrev pub unlogged_count : List LineRead → ℕ
+unlogged_count [] = 0
+unlogged_count (read ∷ reads) = (if read.is_unlogged then 1 else 0) + unlogged_count reads

@@ -22,7 +22,7 @@ pub record Begins {D : Type 0} (of : Telling D) (may_leave : D → List ℕ → 
   pub shown_is : of.shown begun ≡ of.shown before
   pub failures : of.failures before ≤ of.failures begun
 
--- A session was read back, and has gone on: the answers to these lines were handed over, and those lines of them that change the database were logged before.
+-- A session was read back, and has gone on: the answers to these lines were handed over, and before each of them its log was the one after the line that it answers.
 pub record GoesOnLog {D : Type 0} (of : Telling D) (may_leave : D → List ℕ → Type 0) (before after : D) (reads : List LineRead) : Type 0 where
   pub start : Session
   pub begun : D

@@ -1,11 +1,11 @@
 -- How a session goes on whose lines are logged, and what a crash leaves of it.
-use Rattle.std.specs.Prelude.{◌≡◌, ◌⊎◌, ℕ, ◌<◌, ◌≤◌, ◌^◌, List, ◌++◌, length, take, Option, Some}
+use Rattle.std.specs.Prelude.{◌≡◌, ◌⊎◌, ℕ, ◌+◌, ◌<◌, ◌≤◌, ◌^◌, List, ◌++◌, length, take, Option, Some}
 use Rattle.tt_log.specs.Device.{Left, LeavesOnly, ShowsFirst}
 use Rattle.tt_log.specs.declared.log_error.LogError.{LogError}
 use Rattle.tt_log.specs.declared.log_error.LogError.TheVariants as errors
 use Rattle.tt_log.specs.Lines.{logged, joined}
 use Rattle.tt_session.specs.declared.session.Session.{Session}
-use Rattle.tt_session.specs.Answering.{LineRead, turns_of, AllLogged}
+use Rattle.tt_session.specs.Answering.{LineRead, turns_of, unlogged_count}
 use Rattle.tt_session.specs.Logged.{log_after}
 use Rattle.tt_session.specs.Restoring.{NewLogsAreRead}
 
@@ -32,15 +32,14 @@ abbrev pub telling : {D : Type 0} → (D → Type 0) → (D → List ℕ) → (D
 telling tells seen shown moment left_since failures =
     record { tells = tells; seen = seen; shown = shown; moment = moment; left_since = left_since; failures = failures }
 
--- Since a device was like this, the answers to lines that a session read were handed over, and its log is the one after these lines. Where it couldn't be made anew, the device has failed.
+-- Since a device was like this, the answers to lines that a session read were handed over, and its log is the one after these lines. The device has failed each time that it couldn't be made anew.
 pub record HandedOnLog {D : Type 0} (of : Telling D) (before after : D) (start : Session) (reads : List LineRead) : Type 0 where
   pub tells : of.tells after
   pub lines_are : logged (of.seen after) ≡ log_after (logged (of.seen before)) start reads
   pub shown_is : of.shown after ≡ of.shown before ++ (turns_of start reads).text
   pub any_moment : LeavesOnly of.moment of.left_since before after (LeavesAnswered start (logged (of.seen before)) reads (of.shown before))
   pub new_logs : NewLogsAreRead start reads
-  pub all_logged : AllLogged reads ⊎ (of.failures before < of.failures after)
-  pub failures : of.failures before ≤ of.failures after
+  pub failures : of.failures before + unlogged_count reads ≤ of.failures after
 
 -- these lines don't fit into a log
 abbrev pub IsFull : List (List ℕ) → Type 0
@@ -55,7 +54,8 @@ pub record StoppedInLog {D : Type 0} (of : Telling D) (before after : D) (start 
   pub shown_is : of.shown after ≡ of.shown before ++ (turns_of start answered).text
   pub any_moment : LeavesOnly of.moment of.left_since before after (LeavesAnswered start (logged (of.seen before)) (answered ++ pending) (of.shown before))
   pub new_logs : NewLogsAreRead start (answered ++ pending)
-  pub why : (of.failures before < of.failures after) ⊎ IsFull (log_after (logged (of.seen before)) start (answered ++ pending))
+  pub failures : of.failures before + unlogged_count (answered ++ pending) ≤ of.failures after
+  pub why : (of.failures before + unlogged_count (answered ++ pending) < of.failures after) ⊎ IsFull (log_after (logged (of.seen before)) start (answered ++ pending))
 
 -- The output has failed while it was handed the answers to the first lines read: the log is the one after these lines.
 pub record StoppedInOutput {D : Type 0} (of : Telling D) (before after : D) (start : Session) (reads : List LineRead) : Type 0 where
@@ -66,7 +66,7 @@ pub record StoppedInOutput {D : Type 0} (of : Telling D) (before after : D) (sta
   pub any_moment : LeavesOnly of.moment of.left_since before after (LeavesAnswered start (logged (of.seen before)) answered (of.shown before))
   pub new_logs : NewLogsAreRead start answered
   pub lines_are : logged (of.seen after) ≡ log_after (logged (of.seen before)) start answered
-  pub failed : of.failures before < of.failures after
+  pub failed : of.failures before + unlogged_count answered < of.failures after
 
 -- answers couldn't be handed over, and this is why
 abbrev pub StoppedOnLog : {D : Type 0} → Option LogError → Telling D → D → D → Session → List LineRead → Type 0

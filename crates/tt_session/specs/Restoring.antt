@@ -144,3 +144,8 @@ NewLogsAreRead session (read ∷ reads) =
 abbrev pub LogsAreReadBack : Type 0
 LogsAreReadBack = (lines : List (List ℕ)) (start : Session) (front others : List LineRead) → Restores lines start → NewLogsAreRead start (front ++ others) →
     IsLogOf (log_after lines start front) (turns_of start front).session
+
+-- lines are read back in one way, if they are those of a log: they make one session, and none of them is refused
+abbrev pub LogsAreReadInOneWay : Type 0
+LogsAreReadInOneWay = (lines : List (List ℕ)) (session : Session) → ReadsLog lines session 0 →
+    ((other : Session) (left : ℕ) → ReadsLog lines other left → (other ≡ session) × (left ≡ 0)) × ((number : ℕ) → IsNoLine lines number → ⊥)

@@ -6,7 +6,7 @@ ghost use Rattle.tt_session.specs.ReadBack.{PrintedWritesReplace, PrintedActions
 ghost use Rattle.tt_session.specs.ReadBack.{PrintedTablesOpen};
 ghost use Rattle.tt_session.specs.LogReadBack.{PrintedLogOpens, PrintedGroundIsRead};
 ghost use Rattle.tt_session.specs.LogReadBack.{PrintedSlotsAreRead, OpeningsHaveNoGround};
-ghost use Rattle.tt_session.specs.Restoring.{LogsAreReadBack};
+ghost use Rattle.tt_session.specs.Restoring.{LogsAreReadBack, LogsAreReadInOneWay};
 
 /// A repair that is under way can be finished, with none of its steps refused, and can be given up:
 /// where the history is legal (`Db::events` tells so) and has room for the end of the repair (as
@@ -42,6 +42,13 @@ pub fn other_errors_answer_no_line()
 /// make the database that the session had behind these lines, with its numbers told alike.
 pub fn logs_are_read_back()
     ensures { LogsAreReadBack }
+{}
+
+/// A log is read back in one way: the lines of a log make one session, and no line of them is
+/// refused as none. So the next session on a log begins with the one that
+/// [`logs_are_read_back`] tells of.
+pub fn logs_are_read_in_one_way()
+    ensures { LogsAreReadInOneWay }
 {}
 
 /// Once the repair under way has done all slots, `next` tells the changes that `now` tells right

@@ -1,5 +1,5 @@
 //! How a log is made anew, with the lines of a session that has forgotten what lies before a time.
-ghost use Rattle.std.specs.Prelude.{◌≡◌, ◌↔◌, ◌++◌, ◌∷◌, ◌+◌, ◌-◌, ◌<◌, ◌≤◌, [], List, ℕ, All, length, take, drop, IsTrue, IfErr, IfOk, IsErrOf, OnOk, OnErr};
+ghost use Rattle.std.specs.Prelude.{◌≡◌, ◌↔◌, ◌++◌, ◌∷◌, ◌+◌, ◌-◌, ◌<◌, ◌≤◌, [], List, ℕ, All, length, take, drop, IsTrue, IfErr, IsErrOf, OnOk};
 ghost use Rattle.tt_db.specs.Limits.{usual_limits};
 ghost use Rattle.tt_log.specs.Lines.{logged, IsJoined};
 ghost use Rattle.tt_log.specs.Log.{IsSettled, IsMaking};
@@ -69,7 +69,7 @@ pub(crate) fn make_anew<D: Device>(
             log.remove_new();
             Err(RenewFault::Memory)
         }
-        // What is written beside the log loses nothing of it.
+        // `write_new` names no file, so it is never `Lost`.
         Err(_) => {
             log.remove_new();
             Err(RenewFault::Kept)

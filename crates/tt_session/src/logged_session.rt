@@ -21,26 +21,32 @@ pub enum LoggedFault {
     /// The reader failed, or was interrupted too often. The lines that were read to their ends are
     /// answered.
     Read,
-    /// Not all answers could be handed over. The lines that they answer are logged.
+    /// Not all answers could be handed over. The log is the one after the lines that they answer.
     Write,
-    /// There was no memory to begin with, or to read the log back. Nothing was read but the log, and
-    /// the file is as it was.
+    /// There was no memory to begin with, or to read the log back. Nothing was read but the log,
+    /// and the file is as it was.
     Memory,
     /// The log can't be read. Nothing else was read, and the file is as it was.
     LogRead,
-    /// This line of the log, counted from 1, is none that a session logs: the file is no log, or
-    /// one of a session with other limits. The file is as it was.
+    /// This line of the log, counted from 1, is none that a session logs, or isn't there while rows
+    /// of the log's ground are still to come: the file is no log, or one of a session with other
+    /// limits. The file is as it was.
     LogLine(u64),
-    /// The log can't be written, or would be longer than 2^60 bytes. The lines that weren't
-    /// answered may be logged or not; the next session on the log tells.
+    /// The log can't be written, or would be longer than 2^60 bytes; or it was made anew, and its
+    /// new name can't be synced. The lines that weren't answered may be logged or not; the next
+    /// session on the log tells.
     LogWrite,
 }
 
 /// A session on a log: reads back what the log has, and then answers the lines of a reader, one
-/// after another, until its end. Before an answer is handed over, each line up to the one that it
-/// answers is on the disk, if it opens the session or changes its database; so after a
-/// crash at any moment the next session on the log has all that was answered. Where the log has
-/// lines, the first line of the reader opens the session again.
+/// after another, until its end. Before an answer is handed over, what the line changes is on the
+/// disk; so after a crash at any moment the next session on the log has all that was answered.
+/// Where the log has lines, the first line of the reader opens the session again.
+///
+/// A line that opens the session or changes its database is written behind those that the log has.
+/// One that forgets makes the log anew: the lines of what the database then has take the place of
+/// those before, and a crash on the way leaves the one log or the other, whole. Where the new one
+/// can't be made, the request is refused, and the log goes on as it was.
 ///
 /// Returns the device, which isn't to be used again after a fault of the log.
 pub fn run_logged_session<R: Read, D: Device>(

@@ -1,5 +1,5 @@
 //! Where the answers of a session go.
-ghost use Rattle.std.specs.Prelude.{◌≡◌, ◌++◌, ℕ, List, IfOk, OnOk, OnErr};
+ghost use Rattle.std.specs.Prelude.{◌++◌, ℕ, List, IfOk, OnOk, OnErr};
 ghost use Rattle.tt_session.specs.declared.session.Session.{Session};
 ghost use Rattle.tt_session.specs.Answering.{LineRead};
 ghost use Rattle.tt_session.specs.Running.{AnswersKept};
@@ -69,7 +69,8 @@ pub(crate) trait Outlet {
             → stopped first self.new start ((over ++ kept) ++ more)) };
 
     /// Makes the log anew, if there is one, with the lines of a session that has forgotten what
-    /// lies before a time, and only then hands over the answer. All earlier answers are handed over.
+    /// lies before a time, and only then hands over the answer. All earlier answers are handed
+    /// over.
     fn hand_over_anew(
         &mut self,
         alloc: Global,

@@ -197,8 +197,8 @@ impl Restoring {
     }
 }
 
-/// Reads the next line of a log in place. Returns whether it can be the
-/// next one. Where memory runs out, nothing is promised of the session.
+/// Reads the next line of a log in place. Returns whether it can be the next one. Where memory runs
+/// out, nothing is promised of the session.
 fn read_next(
     alloc: Global,
     session: &mut Option<OpenSession>,

@@ -1,10 +1,10 @@
 //! A session between a reader and an outlet.
-ghost use Rattle.std.specs.Prelude.{◌≡◌, ◌+◌, ◌-◌, ◌^◌, ◌<◌, ◌≤◌, ◌++◌, ◌∷◌, [], ℕ, List, true, false, length, take, IfOk, IfErr, IfSome, OnOk, OnErr, IsTrue, MatchOption, Some, None, if◌then◌else◌};
+ghost use Rattle.std.specs.Prelude.{◌≡◌, ◌+◌, ◌-◌, ◌^◌, ◌<◌, ◌≤◌, ◌++◌, ◌∷◌, [], ℕ, List, false, length, take, IfOk, IfErr, IfSome, OnOk, OnErr, Some, None, if◌then◌else◌};
 ghost use Rattle.std.specs.Io.{ReadsAtMost};
 ghost use Rattle.std.specs.Io.KnownBytes.{Consumes, IsAtEnd, Keeps};
 ghost use Rattle.tt_requests.specs.Lines.{is_too_long, is_passed_over};
 ghost use Rattle.tt_session.specs.declared.session.Session.{Session};
-ghost use Rattle.tt_session.specs.Lines.{HasBytes, has_no_feed};
+ghost use Rattle.tt_session.specs.Lines.{HasBytes};
 ghost use Rattle.tt_session.specs.Run.{calls_of};
 ghost use Rattle.tt_session.specs.ShortAnswers.{short_text};
 ghost use Rattle.tt_session.specs.ForgetRequests.{AsksToForget};
@@ -605,7 +605,8 @@ impl Run {
         self.hand_over(outlet)
     }
 
-    /// Hands over the answers that aren't handed over yet, and logs the lines that are to be logged.
+    /// Hands over the answers that aren't handed over yet, and logs the lines that are to be
+    /// logged.
     fn hand_over<O: Outlet>(&mut self, outlet: &mut O) -> Result<(), SessionFault>
         requires { O.is_ready outlet.old }
         ensures ready { OnOk result (O.is_ready outlet.new) }

@@ -1,6 +1,6 @@
 //! That an action in memory has only values that are printed and read back: integers of 64 bits
-//! and texts in UTF-8. What is here reads the values, and does nothing else: for the proofs of those
-//! who print them.
+//! and texts in UTF-8. What is here reads the values, and does nothing else: for the proofs of
+//! those who print them.
 ghost use Rattle.std.specs.Prelude.{All};
 ghost use Rattle.tt_grammar.specs.ReadBack.{IsStorable, value_of_change, values_of_write};
 ghost use Rattle.tt_session.specs.Renewing.{IsStorableAction};

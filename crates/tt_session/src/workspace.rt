@@ -6,8 +6,8 @@ use std::alloc::{AllocError, Global};
 use std::mem;
 use tt_json::Scratch;
 
-/// As many bytes of answers, and of lines to log with them, are handed over before a further line is
-/// answered.
+/// As many bytes of answers, and of lines to log with them, are handed over before a further line
+/// is answered.
 pub(crate) const MANY_BYTES: usize = 1_048_576;
 
 /// Whether enough bytes of answers and of lines to log are kept to hand them over.

@@ -2,7 +2,6 @@
 ghost use Rattle.std.specs.Prelude.{◌≡◌, ◌++◌, ◌+◌, ◌-◌, ◌<◌, ◌^◌, IfOk, OnOk, OnErr};
 ghost use Rattle.tt_session.specs.declared.session.Session.TheVariants.{Open};
 ghost use Rattle.tt_session.specs.Session.{counted};
-ghost use Rattle.tt_session.specs.Changes.{forgotten_by};
 ghost use Rattle.tt_session.specs.ForgetRequests.{turn_of_forget, TurnsForget, Prepares};
 
 use super::OpenSession;

@@ -6,14 +6,10 @@
 //! out, the fork is dropped, and the session is as it was before that first line.
 ghost use Rattle.std.specs.Prelude.{◌≡◌, ◌+◌, ◌-◌, ◌≤◌, ◌<◌, ◌^◌, ◌++◌, true, false, length, drop, List, IfOk, IfSome, OnOk, OnErr};
 ghost use Rattle.tt_session.specs.declared.session.Session.TheVariants.{Open};
-ghost use Rattle.tt_requests.specs.LineValue.{value_of_line};
-ghost use Rattle.tt_requests.specs.Requests.{request_of};
-ghost use Rattle.tt_session.specs.Session.{counted, with_earlier_records};
+ghost use Rattle.tt_session.specs.Session.{with_earlier_records};
 ghost use Rattle.tt_requests.specs.Lines.{is_passed_over};
 ghost use Rattle.tt_session.specs.Commands.{asks_for_records, asks_to_forget};
 ghost use Rattle.tt_session.specs.ForgetRequests.{AnswersLine};
-ghost use Rattle.tt_session.specs.Run.{turn_by_request};
-ghost use Rattle.tt_session.specs.Logged.{logged_by, with_lines};
 ghost use Rattle.tt_session.specs.Together.{AnswersFront, AnswersWith, BeginsWithLine, Grows};
 
 use super::OpenSession;

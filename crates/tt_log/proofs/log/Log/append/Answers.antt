@@ -70,7 +70,7 @@ returns-clause-settled g c = λ told.
     let is = IsJoined-joined bytes c.args.lines.now c.as_bytes-bytes.ensures.lines c.as_bytes-bytes.ensures.bytes in
     let seen = c.in_ok-sync.ensures.seen told_2 ∙ c.in_ok-write_at.ensures.written told_1 in
     let at_end = c.make_room.new.self.end in
-    let fits : at_end + length bytes ≤ length file = omega (arith, c.in_ok-end.ensures.room, s.len) in
+    let fits : at_end + length bytes ≤ length file = omega (arith, c.in_ok-end.ensures.within, s.len) in
     record {
       at_rest = subst IsAtRest (sym seen) (at_rest-written file bytes at_end s.at_rest s.end is);
       end = c.in_ok-end.ensures.end ∙ end-written file bytes at_end s.at_rest s.end is ∙ ap (λ (f : List ℕ). length (joined (logged f))) (sym seen);
@@ -81,7 +81,7 @@ returns-clause-settled g c = λ told.
 pub write_at-requires-clause-within : goal.write_at-requires-clause-within
 write_at-requires-clause-within g c = λ told_1.
     let s = c.in_ok-end.ensures.settled (c.make_room.ensures.tells.1 told_1) in
-    omega (arith, c.in_ok-end.ensures.room, s.len)
+    omega (arith, c.in_ok-end.ensures.within, s.len)
 
 pub write_at-requires-clause-length : goal.write_at-requires-clause-length
 write_at-requires-clause-length g c = λ told_1.

@@ -1,15 +1,15 @@
 -- The lines are logged behind those that are there, and then the text is handed over.
-use Rattle.std.proofs.Common.{◌≡◌, ◌≢◌, ◌⊎◌, ◌<◌, ◌++◌, Some, inl, inr, refl, ◌∙◌, arith}
+use Rattle.std.proofs.Common.{◌≡◌, ◌≢◌, ◌⊎◌, ◌+◌, ◌<◌, ◌++◌, Some, inl, inr, refl, ◌∙◌, arith}
 use Rattle.tt_log.specs.Lines.{logged}
 use Rattle.tt_log.specs.declared.log_error.LogError.{LogError}
 use Rattle.tt_log.specs.declared.log_error.LogError.TheVariants as errors
 use Rattle.tt_log.specs.Log.{KeepsAnswered}
 use Rattle.tt_log.proofs.MomentLemmas as moments
-use Rattle.tt_session.specs.Answering.{turns_of}
+use Rattle.tt_session.specs.Answering.{turns_of, unlogged_count}
 use Rattle.tt_session.specs.Logged.{log_after}
 use Rattle.tt_session.specs.OnLog.{telling, LeavesAnswered, StoppedInLog, StoppedOnLog, IsFull}
 use Rattle.tt_session.proofs.ResultLemmas.{at_err}
-use Rattle.tt_session.proofs.OnLogLemmas.{leaves-more, leaves-shown, shown-all, shown-first, lines-all, full-stopped, why-stopped, new-append, new-plain, all-logged}
+use Rattle.tt_session.proofs.OnLogLemmas.{leaves-more, leaves-shown, shown-all, shown-first, lines-all, full-stopped, why-stopped, new-append, new-plain, unlogged-kept}
 use Rattle.tt_session.proofs.log_outlet.LogOutletOutlet.hand_over.Goals as goal
 
 pub returns-in-Ok-clause-handed : goal.returns-in-Ok-clause-handed
@@ -36,8 +36,7 @@ returns-in-Ok-clause-handed g c = λ first start over kept so_far is told.
           (λ left p.
           leaves-shown start lines over kept shown c.args.lines.now c.args.text.now (logged (D.seen old)) (D.shown old) (is.lines_are tt) is.text_is is.plain h.lines_are h.shown_is left p);
       new_logs = new-append start over kept h.new_logs (new-plain (turns_of start over).session kept is.plain);
-      all_logged = all-logged start over kept _ _ _ h.all_logged is.plain (done.failures h.tells);
-      failures = omega (arith, h.failures, done.failures h.tells);
+      failures = omega (arith, h.failures, done.failures h.tells, unlogged-kept start over kept is.plain);
     }
 
 pub returns-in-Err-clause-stopped : goal.returns-in-Err-clause-stopped
@@ -59,7 +58,8 @@ returns-in-Err-clause-stopped g c = λ first start over kept more so_far is told
     (λ left p.
     leaves-shown start lines over kept shown c.args.lines.now c.args.text.now now (D.shown old) (is.lines_are tt) is.text_is is.plain h.lines_are h.shown_is left p) in
     let new_logs = new-append start over kept h.new_logs (new-plain (turns_of start over).session kept is.plain) in
-    let in_log : D.shown new ≡ D.shown old → (D.failures begun < D.failures new) ⊎ IsFull (log_after lines start (over ++ kept)) → StoppedInLog of begun new start ((over ++ kept) ++ more) = λ unshown why. record {
+    let unlogged = unlogged-kept start over kept is.plain in
+    let in_log : D.shown new ≡ D.shown old → (D.failures begun + unlogged_count (over ++ kept) < D.failures new) ⊎ IsFull (log_after lines start (over ++ kept)) → StoppedInLog of begun new start ((over ++ kept) ++ more) = λ unshown why. record {
       answered = over;
       pending = kept;
       others = more;
@@ -67,11 +67,12 @@ returns-in-Err-clause-stopped g c = λ first start over kept more so_far is told
       shown_is = unshown ∙ h.shown_is;
       any_moment = moment;
       new_logs = new_logs;
+      failures = omega (arith, h.failures, done.failures h.tells, unlogged);
       why = why;
     } in
     let unless_output = λ (e : LogError). e ≢ errors.HandOver → D.shown new ≡ D.shown old in
     why-stopped c.hand_over.result c.in-Err.error (λ e. StoppedOnLog (Some e) of begun new start ((over ++ kept) ++ more)) c.in-Err.is
-    (λ e. in_log (at_err unless_output c.hand_over.result errors.Write e (done.unshown h.tells) (λ same. cc)) (inl (omega (arith, h.failures, done.write h.tells e))))
+    (λ e. in_log (at_err unless_output c.hand_over.result errors.Write e (done.unshown h.tells) (λ same. cc)) (inl (omega (arith, h.failures, done.write h.tells e, unlogged))))
     (λ e. record {
       answered = over ++ kept;
       others = more;
@@ -80,6 +81,6 @@ returns-in-Err-clause-stopped g c = λ first start over kept more so_far is told
       any_moment = moment;
       new_logs = new_logs;
       lines_are = done.all_logged h.tells e ∙ all;
-      failed = omega (arith, h.failures, done.hand_over h.tells e);
+      failed = omega (arith, h.failures, done.hand_over h.tells e, unlogged);
     })
     (λ e. in_log (at_err unless_output c.hand_over.result errors.Full e (done.unshown h.tells) (λ same. cc)) (inr (full-stopped start lines (over ++ kept) now c.args.lines.now c.args.self.now.log.end all (c.requires h.tells).end (done.full e)))) done.no_read

@@ -1,5 +1,5 @@
 -- The log is made anew, and then the answer is handed over; or it goes on as it was, and the refusal is handed over or nothing.
-use Rattle.std.proofs.Common.{List, ℕ, Err, inl, inr, refl, ap, ◌∙◌, subst}
+use Rattle.std.proofs.Common.{List, ℕ, Err, inl, refl, ap, arith, ◌∙◌, subst}
 use Rattle.tt_log.specs.Lines.{logged}
 use Rattle.tt_log.specs.Log.{Keeps, KeepsEither}
 use Rattle.tt_log.proofs.MomentLemmas as moments
@@ -29,7 +29,7 @@ returns-in_err-hand_over_alone-in-Ok-clause-stopped g c =
           let took = c.in-Ok.ensures.ok h.tells in
           stopped-anew of D.may_leave first.log.device start over old.device h (kept_line line) (lines_of_database f.db f.numbering most) text
           (step-anew of D.may_leave first.log.device start over line f most text refusal p c.in-Ok.ensures.readable) c.make_anew.new.log c.hand_over_alone.new.self.log took.any_moment took.lines_are took.shown
-          took.failures c.hand_over_alone.new.self.error more (c.in_err-hand_over_alone-in-Ok.ensures.err took.tells),
+          (omega (arith, took.failures)) c.hand_over_alone.new.self.error more (c.in_err-hand_over_alone-in-Ok.ensures.err took.tells),
     ))
 
 pub returns-in_err-hand_over_alone-in-Err-Kept-clause-stopped : goal.returns-in_err-hand_over_alone-in-Err-Kept-clause-stopped
@@ -55,7 +55,7 @@ returns-in_err-hand_over_alone-in-Err-Kept-clause-stopped g c =
           stopped-anew of D.may_leave first.log.device start over old.device h (unlogged_line line) new refusal (step-refused of D.may_leave first.log.device start over line f most text refusal p) mid
           c.hand_over_alone-in-Err-Kept.new.self.log
           (moments.weaker D.moment D.left_since old.device mid.device (Keeps lines (D.shown old.device)) (KeepsEither lines new (D.shown old.device)) keeps.any_moment (λ left q. inl q))
-          (ap logged keeps.seen ∙ h.lines_are) keeps.shown keeps.failures c.hand_over_alone-in-Err-Kept.new.self.error more (c.in_err-hand_over_alone-in-Err-Kept.ensures.err keeps.tells),
+          (ap logged keeps.seen ∙ h.lines_are) keeps.shown (omega (arith, kept.1)) c.hand_over_alone-in-Err-Kept.new.self.error more (c.in_err-hand_over_alone-in-Err-Kept.ensures.err keeps.tells),
     ))
 
 pub returns-in_ok-hand_over_alone-in-Ok-clause-renewed : goal.returns-in_ok-hand_over_alone-in-Ok-clause-renewed
@@ -70,8 +70,8 @@ returns-in_ok-hand_over_alone-in-Ok-clause-renewed g c = λ first start over lin
     let h = so_far told in
     let took = c.in-Ok.ensures.ok h.tells in
     handed-anew of D.may_leave first.log.device start over old.device h (kept_line line) (lines_of_database f.db f.numbering most) text
-    (step-anew of D.may_leave first.log.device start over line f most text refusal p c.in-Ok.ensures.readable) c.make_anew.new.log c.hand_over_alone.new.self.log took.any_moment took.lines_are took.shown took.failures
-    (c.in_ok-hand_over_alone-in-Ok.ensures.ok took.tells) (inl refl)
+    (step-anew of D.may_leave first.log.device start over line f most text refusal p c.in-Ok.ensures.readable) c.make_anew.new.log c.hand_over_alone.new.self.log took.any_moment took.lines_are took.shown (omega (arith, took.failures))
+    (c.in_ok-hand_over_alone-in-Ok.ensures.ok took.tells)
 
 pub returns-in_ok-hand_over_alone-in-Err-Kept-clause-renewed : goal.returns-in_ok-hand_over_alone-in-Err-Kept-clause-renewed
 returns-in_ok-hand_over_alone-in-Err-Kept-clause-renewed g c = λ first start over line so_far p told.
@@ -92,7 +92,7 @@ returns-in_ok-hand_over_alone-in-Err-Kept-clause-renewed g c = λ first start ov
     handed-anew of D.may_leave first.log.device start over old.device h (unlogged_line line) new refusal (step-refused of D.may_leave first.log.device start over line f most text refusal p) mid
     c.hand_over_alone-in-Err-Kept.new.self.log
     (moments.weaker D.moment D.left_since old.device mid.device (Keeps lines (D.shown old.device)) (KeepsEither lines new (D.shown old.device)) keeps.any_moment (λ left q. inl q))
-    (ap logged keeps.seen ∙ h.lines_are) keeps.shown keeps.failures (c.in_ok-hand_over_alone-in-Err-Kept.ensures.ok keeps.tells) (inr kept.1)
+    (ap logged keeps.seen ∙ h.lines_are) keeps.shown (omega (arith, kept.1)) (c.in_ok-hand_over_alone-in-Err-Kept.ensures.ok keeps.tells)
 
 pub returns-in-Err-Memory-clause-renewed : goal.returns-in-Err-Memory-clause-renewed
 returns-in-Err-Memory-clause-renewed g c = λ first start over line so_far p told.
@@ -121,6 +121,6 @@ returns-in-Err-Lost-clause-stopped g c = λ first start over line so_far p. (
       let h = so_far told in
       lost-anew of D.may_leave first.log.device start over old.device h (kept_line line) (lines_of_database f.db f.numbering most) text
       (step-anew of D.may_leave first.log.device start over line f most text refusal p (c.make_anew.ensures.readable_lost (c.in-Err-Lost.is ∙ ap Err c.in-Err-Lost.field-0-is))) old
-      c.make_anew.new.log more refl
+      c.make_anew.new.log more refl refl
       (subst (λ fault. FailsToRenew fault of D.may_leave old c.make_anew.new.log (lines_of_database f.db f.numbering most)) c.in-Err-Lost.field-0-is (c.in-Err-Lost.ensures.err h.tells)),
 )

@@ -1,5 +1,5 @@
 -- The request is refused or nothing is left to forget, or the log is made anew behind all answers that are kept, or there is no memory.
-use Rattle.std.proofs.Common.{◌≡◌, refl, subst, Some, None}
+use Rattle.std.proofs.Common.{refl, subst}
 use Rattle.tt_session.specs.ForgetRequests.{Prepares}
 use Rattle.tt_session.specs.Session.{counted}
 use Rattle.tt_session.proofs.ResultLemmas.{on_ok, on_err, err_of}

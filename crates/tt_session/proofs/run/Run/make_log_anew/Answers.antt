@@ -1,5 +1,5 @@
 -- The log is made anew, or it is refused, or there is no memory for it, or the outlet fails.
-use Rattle.std.proofs.Common.{◌≡◌, refl, sym, ap, subst, ◌∙◌}
+use Rattle.std.proofs.Common.{refl, sym, ap, subst, ◌∙◌}
 use Rattle.tt_session.specs.declared.short_answer.ShortAnswer.TheVariants as shorts
 use Rattle.tt_session.specs.ShortAnswers.{short_text}
 use Rattle.tt_session.specs.Anew.{Forgets, Renews}
