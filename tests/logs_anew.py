@@ -233,9 +233,11 @@ class Anew(Checks):
             os.chmod(file, 0o640)
         os.symlink(file, link)
         os.mkdir(f'{link}.new')    # which is in nobody's way
-        before = os.stat(file)
-        self.check(self.run(link, FORGETTING)[1] == self.expected.answers, 'a log behind a link')
-        after = os.stat(file)
+        # While it is open, no new file has its number.
+        with open(file) as old:
+            before = os.stat(old.fileno())
+            self.check(self.run(link, FORGETTING)[1] == self.expected.answers, 'a log behind a link')
+            after = os.stat(file)
         self.check(os.readlink(link) == file and os.listdir(folder) == ['file'], 'a link that is one no more')
         self.check(after.st_ino != before.st_ino and after.st_mode == before.st_mode
                    and (after.st_uid, after.st_gid) == (before.st_uid, before.st_gid),
