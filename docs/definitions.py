@@ -50,8 +50,11 @@ PARTS = [
         ('tt_values', 'Content', 'RowsByKey Content empty_content row_at with_row_at RowWrite'
          ' with_row_write up_to content_at',
          'The rows of all tables at a time are what the row writes up to it leave, one after another'),
-        ('tt_values', 'Value', 'is_same', 'When two values are the same'),
-        ('tt_values', 'Matches', 'is_value holds matches', 'Which rows a condition matches'),
+        ('tt_values', 'Value', 'is_same is_less', 'When two values are the same, and when one is less'),
+        ('tt_values', 'Comparison', 'compares is_equality',
+         'How the value of a row compares with that of a condition'),
+        ('tt_values', 'Matches', 'is_compared holds equates matches',
+         'Which rows conditions match, and which conditions are equalities'),
         ('tt_values', 'Change', 'column_of value_plus value_after changed_value changed_values changed',
          'What an update makes of a row'),
         ('tt_values', 'Effect', 'matching_rows table_of effect_on effect reply_on reply_of answer_of',
@@ -93,7 +96,8 @@ PARTS = [
     ('What a repair re-executes. `Db::apply` and `advance` carry the law, and tell of each step '
      'whether its slot was due.', [
         ('tt_parts', 'Partitions', 'is_partition_column parts_from parts_of key_partition'
-         ' is_partition_position partition_of equated_partitions partitions_read is_same_partition'
+         ' is_partition_position partition_of equates_partition equated_partitions partitions_read'
+         ' is_same_partition'
          ' is_partition_in',
          'The partitions that a row lies in, and those that a write reads'),
         ('tt_parts', 'Dirty', 'DirtySet nothing_dirty is_row_in is_table_in has_row has_row_of'
@@ -130,7 +134,8 @@ PARTS = [
          'At the end the history has the entries of each worker, and no others'),
     ]),
     ('A whole repair, and the program: `repair` of `tt_repair`, `changes` and `changes_next` of `tt_records`, '
-     '`run_alone` of `tt_workload`, `run_workers` of `tt_workers`, `carry_out_words` of `tt_cli`.', [
+     '`run_alone` of `tt_workload`, `run_workers` of `tt_workers`, `carry_out_words` of `tt_cli`; and what the '
+     'versions of documents and sessions mean, by laws of `tt_grammar` and `tt_requests`.', [
         ('tt_repair', 'Growth', 'GrewBy IsMergedAt IsWrite',
          'A worker\'s entries, merged with those of others'),
         ('tt_repair', 'Repairing', 'entry_by begun_steps HasRepaired',
@@ -142,6 +147,15 @@ PARTS = [
          'What holds of the report of a run in threads, and its text'),
         ('tt_cli', 'CarryingOut', 'AskFor EndsBy RunsWords PrintsUsage CarriesOut',
          'What the program has done when it ends'),
+        ('tt_grammar', 'Conditions', 'has_comparisons parts_of_condition condition_on condition',
+         'A condition, as a version reads it'),
+        ('tt_grammar', 'SessionVersion', 'grammar_of newest_of_sessions',
+         'By which version of the grammar the requests of a session are read'),
+        ('tt_grammar', 'NewestVersion', 'ReadsTheSame NewestVersionReadsTheSame',
+         'What has no fault in a version is read as the same by the newest one'),
+        ('tt_requests', 'NewestVersion', 'RequestsReadTheSame', 'The same of the requests of a session'),
+        ('tt_session', 'Restoring', 'as_newest repeated repeated_all',
+         'A line of a log is read as of the newest version, whatever the version of the session'),
     ]),
 ]
 

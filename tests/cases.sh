@@ -155,38 +155,42 @@ blocks_of_session() {
     /^```/ { inside = !inside; is_wanted = inside && substr($0, 4) == kind; next } is_wanted' "$2"
 }
 
-# Prints the lines of a file of faults, each with a tab and a line of a session, or, where a second
-# argument is given, their answers; calls are then counted from it, unless it is 0.
-faulty_lines() {
-  awk -v call="${2-none}" '
+# Prints the lines of files of faults, each with a tab and a line of a session, or their answers:
+# calls are then counted from the number that stands before the files, unless it is 0.
+faulty_lines() (
+  cd tests/sessions || return
+  awk -v call="$1" '
     /^(#|$)/ { next }
     {
       cut = index($0, "\t")
-      if (call == "none") { print substr($0, cut + 1); next }
+      if (call == "lines") { print substr($0, cut + 1); next }
       fault = substr($0, 1, cut - 1)
       path = substr(fault, 1, index(fault, ": ") - 1)
       cause = substr(fault, index(fault, ": ") + 2)
       gsub(/["\\]/, "\\\\&", cause)
       printf "{%s\"fault\":{\"path\":\"%s\",\"cause\":\"%s\"}}\n", \
         call ? "\"call\":" call++ "," : "", path, cause
-    }' "tests/sessions/$1"
-}
+    }' "${@:2}"
+)
 
 # Openings and requests with a fault each, of which none opens a session or changes anything.
 OPENED='{"time":0,"generation":0,"oldest":0,"entries":0,"repair":null}'
 collect_faulty_lines() {
-  local opening status count text
-  opening='{"version":2,"tables":['"$1"']}'
+  local version opening status files count text
   status='{"status":true}'
-  { faulty_lines faulty_openings 0; echo "$OPENED"; echo '{"call":1,'"${OPENED:1}"; } >"$cases/report"
-  reports "$cases/report" session < <(faulty_lines faulty_openings; echo "$opening"; echo "$status")
-  count=$(faulty_lines faulty_requests | wc -l)
-  {
-    echo "$OPENED"
-    faulty_lines faulty_requests 1
-    echo '{"call":'$((count + 1))','"${OPENED:1}"
-  } >"$cases/report"
-  reports "$cases/report" session < <(echo "$opening"; faulty_lines faulty_requests; echo "$status")
+  for version in 3 2; do
+    opening='{"version":'$version',"tables":['"$1"']}'
+    { faulty_lines 0 faulty_openings; echo "$OPENED"; echo '{"call":1,'"${OPENED:1}"; } >"$cases/report"
+    reports "$cases/report" session < <(faulty_lines lines faulty_openings; echo "$opening"; echo "$status")
+    files=(faulty_requests "faulty_requests_in_version_$version")
+    count=$(faulty_lines lines "${files[@]}" | wc -l)
+    {
+      echo "$OPENED"
+      faulty_lines 1 "${files[@]}"
+      echo '{"call":'$((count + 1))','"${OPENED:1}"
+    } >"$cases/report"
+    reports "$cases/report" session < <(echo "$opening"; faulty_lines lines "${files[@]}"; echo "$status")
+  done
 
   # Bytes that are no text or no white space of JSON, before the session is open and then.
   text=$cases/odd
@@ -345,6 +349,8 @@ refuses_last_items() {
     [long_row]="$wide"'"insert":"wide","row":['"$(copies 0 30 '#')"'"31",'"$(copies 32 998 '#')"
     [where]="$wide"'"select":"wide","where":['"$(copies 0 30 '["c#",#]')"
     [long_where]="$wide"'"select":"wide","where":['"$(copies 0 998 '["c0",#]')"
+    [compared]="${wide/2/3}"'"select":"wide","where":['"$(copies 0 30 '["c#","<=",#]')"
+    [long_compared]="${wide/2/3}"'"select":"wide","where":['"$(copies 0 998 '["c0","!=",#]')"
     [change]="$wide"'"update":"wide","where":[],"change":['"$(copies 1 30 '["set","c#",#]')"
     [long_change]="$wide"'"update":"wide","where":[],"change":['"$(copies 1 999 '["add","c1",#]')"
     [tables]='{"version":2,"workers":1,"calls":[],"tables":['"$(
@@ -366,6 +372,7 @@ collect_faulty_documents() {
   collect_faulty_lines "$accounts"
   refuses_each tables '{"version":1,"workers":1,"calls":[],"tables":[' ']}'
   refuses_each calls '{"version":1,"workers":1,"tables":['"$accounts"'],"calls":[' ']}'
+  refuses_each calls_in_version_3 '{"version":3,"workers":1,"tables":['"$accounts"'],"calls":[' ']}'
   calls='{"worker":1,"insert":"acct","row":[1,"ann",10]},{"worker":1,"select":"acct","where":[]},{"worker":1,"update":"acct","change":[["add","bal",1]],"where":[["id",1]]},{"worker":1,"preview":"acct","where":[]}'
   refuses_each repairs '{"version":1,"workers":1,"tables":['"$accounts"'],"calls":['"$calls"'],"repair":' '}'
   calls='{"worker":1,"insert":"acct","row":[1,"ann",10]},{"worker":1,"preview":"acct","where":[]},{"worker":1,"do":[]}'

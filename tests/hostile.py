@@ -38,18 +38,21 @@ SMALL = ['examples/first', 'examples/empty', 'examples/transfer',
          'tests/reports/write_to_a_row_under_repair',
          'tests/reports/escapes_in_a_row',
          'tests/reports/cancelled_insert_frees_its_key',
-         'tests/reports/action_in_place_of_each_kind_of_write']
+         'tests/reports/action_in_place_of_each_kind_of_write',
+         'tests/reports/withdrawal_needs_a_balance']
 
 # Those that are run with too little memory, with the options of NAME.options. Where it is known
 # which reports may come in threads (`reports_in_threads`), they are run so, too.
 RUN = ['examples/first', 'examples/transfer', 'examples/two_workers', 'examples/incident',
        'examples/intruder', 'examples/branches', 'tests/reports/closed_generation',
        'tests/reports/closed_generation_of_one_worker',
-       'tests/reports/closed_without_a_repair']
+       'tests/reports/closed_without_a_repair', 'tests/reports/rows_that_compare',
+       'tests/reports/comparison_fixes_no_key']
 
 # Sessions that are held with too little memory.
 HELD = ['tests/sessions/incident_in_short', 'tests/sessions/repairs', 'tests/sessions/slots',
         'tests/sessions/closed_generations', 'tests/sessions/texts_and_numbers',
+        'tests/sessions/comparisons',
         'tests/sessions/forgetting', 'tests/sessions/forgetting_many_rows']
 
 # Those that are held with a log, too, and in about how many ways each.
@@ -478,7 +481,7 @@ def report_of_order(document, order):
 
     def answer(request):
         return session.answer(json.dumps(request).encode())
-    answer({'version': 2, 'tables': document['tables']})
+    answer({'version': 3, 'tables': document['tables']})
     for at in order:
         call = document['calls'][at]
         lines[at] = f'call {at + 1} worker {call["worker"]} {told(answer(call))}'

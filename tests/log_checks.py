@@ -1,12 +1,14 @@
 """What the tests of sessions with a log have in common: see tests/logs.py."""
 import itertools
 import os
+import signal
 import subprocess
 import sys
 import threading
 
 OPENING = ('{"version":2,"tables":[{"name":"acct","columns":[{"name":"id","kind":"int"},'
            '{"name":"owner","kind":"text","partition":true},{"name":"bal","kind":"int"}]}]}')
+NEWER = OPENING.replace('"version":2', '"version":3')
 WIDE = '{"insert":"acct","row":[%d,"' + 'x' * 1000 + '",0]}'
 CANNOT_READ = 'timetravel: cannot read the log\n'
 CANNOT_WRITE = 'timetravel: cannot write the log\n'
@@ -75,6 +77,17 @@ class Checks:
                 pass
             told = held.stderr.read().decode()
         return held.returncode, answers, told
+
+    def killed(self, file, lines):
+        """The answers of a session that is killed once it has answered these lines."""
+        with subprocess.Popen(self.session(file), stdin=subprocess.PIPE, stdout=subprocess.PIPE) as held:
+            answers = []
+            for line in lines:
+                held.stdin.write(line.encode() + b'\n')
+                held.stdin.flush()
+                answers.append(held.stdout.readline().decode()[:-1])
+            held.send_signal(signal.SIGKILL)
+        return answers
 
     def with_calls(self, library, file, **settings):
         """The variables of a session whose calls on a file go through tests/tear_unsynced.c."""

@@ -11,15 +11,15 @@ ways while it forgets. What isn't synced is torn, and calls fail, by a shared ob
 is 1, too. Where no file system can be mounted, a line says which tests are left out. It takes two
 minutes.
 """
+import json
 import os
 import random
-import signal
 import subprocess
 import sys
 import tempfile
 from concurrent.futures import ThreadPoolExecutor
 
-from log_checks import CANNOT_ANSWER, CANNOT_READ, CANNOT_WRITE, IN_USE, OPENING, WIDE, text_of
+from log_checks import CANNOT_ANSWER, CANNOT_READ, CANNOT_WRITE, IN_USE, NEWER, OPENING, WIDE, text_of
 from logs_anew import Anew
 from shared_objects import built
 
@@ -51,6 +51,10 @@ mount -o remount,size=16m "$2" &&
   "$1" log "$2/log" >"$3/logged" &&
   "$1" session --log "$2/log" <"$3/questions" >"$3/after"
 """
+COMPARED = '{"update":"acct","change":[["add","bal",-40]],"where":[["id",1],["bal",">=",40]]}'
+# With an opening of either version, what is answered to a comparison in a select.
+ANSWERED = {NEWER: {'time': 2, 'rows': [[1, 'ann', 60]]},
+            OPENING: {'fault': {'path': '$.where[0]', 'cause': 'wrong type'}}}
 QUESTIONS = ['{"slots":[1,9]}', '{"status":true}', '{"select":"acct","where":[]}']
 
 
@@ -78,13 +82,7 @@ class Logs(Anew):
     def kill_at_each_answer(self):
         for count in range(1, len(LINES) + 1):
             file = self.new_file()
-            with subprocess.Popen(self.session(file), stdin=subprocess.PIPE,
-                                  stdout=subprocess.PIPE) as held:
-                for line in LINES[:count]:
-                    held.stdin.write(line.encode() + b'\n')
-                    held.stdin.flush()
-                    held.stdout.readline()
-                held.send_signal(signal.SIGKILL)
+            self.killed(file, LINES[:count])
             what = f'killed after answer {count}'
             self.has_answered(file, count, what)
             self.check(len(self.logged(file)) == sum(IS_LOGGED[:count]), f'{what}: other lines')
@@ -93,6 +91,9 @@ class Logs(Anew):
     def refuse_files(self):
         file = self.new_file()
         for text, number in [('{"version":2}\n', 1), ('acct 3 rows\n', 1),
+                             *((text_of([OPENING.replace(':2', version), LINES[1]]), 1)
+                               for version in (':1', ':4', ':"2"')),
+                             (text_of([OPENING, LINES[1], COMPARED.replace('>=', '=>')]), 3),
                              (text_of([OPENING, '{"status":true}']), 2),
                              (text_of([OPENING, '', LINES[1]]), 2)]:
             with open(file, 'w') as it:
@@ -117,6 +118,34 @@ class Logs(Anew):
             shown = subprocess.run([self.program, 'log', path], capture_output=True, timeout=60)
             self.check((shown.returncode, shown.stdout, shown.stderr)
                        == (1, b'', CANNOT_READ.encode()), 'no file to look at', path)
+
+    def open_in_both_versions(self):
+        """A log goes on with a session of another version than the one before. Its lines are read all
+        the same, and each session answers by its own version."""
+        for openings in ((OPENING, NEWER), (NEWER, NEWER)):
+            file = self.new_file()
+            lines = [openings[0], LINES[1], COMPARED]
+            answers = self.killed(file, lines[:2])
+            self.check(answers[1] == '{"call":1,"slot":1,"replies":["inserted"]}', 'a log of two versions',
+                       answers)
+            answers = self.killed(file, [openings[1], COMPARED])
+            self.check(json.loads(answers[0])['time'] == 1
+                       and answers[1] == '{"call":2,"slot":2,"replies":[{"updated":1}]}',
+                       'a log that is opened in version 3', answers)
+            for opening, wanted in ANSWERED.items():
+                given = [opening, '{"select":"acct","where":[["bal","<",99]]}', '{"slots":[2,2]}',
+                         '{"tables":true}']
+                status, answers, told = self.run(file, given)
+                self.check((status, told) == (0, ''), 'a log of two versions: a start', status, told)
+                opened, selected, slots, tables = map(json.loads, answers)
+                self.check(opened['time'] == 2 and selected == {'call': 3, **wanted},
+                           'a log of two versions: a comparison', opened, selected)
+                self.check([slot['do'] for slot in slots['slots']] == [[json.loads(COMPARED)]],
+                           'a log of two versions: its slots', slots)
+                self.check(tables['version'] == json.loads(opening)['version'],
+                           'a log of two versions: the version', tables)
+                self.check(self.logged(file) == lines, 'a log of two versions: other lines')
+            self.is_shown(file, 'a log of two versions', False)
 
     def hold_twice(self):
         file = self.new_file()
@@ -233,6 +262,7 @@ def main(words):
         logs = Logs(words[1], folder)
         logs.kill_at_each_answer()
         logs.refuse_files()
+        logs.open_in_both_versions()
         logs.hold_twice()
         logs.grow_no_further()
         logs.fill_a_disk()

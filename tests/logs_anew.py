@@ -14,7 +14,7 @@ import sys
 from concurrent.futures import ThreadPoolExecutor
 from contextlib import contextmanager
 
-from log_checks import CANNOT_ANSWER, CANNOT_READ, CANNOT_WRITE, IN_USE, OPENING, WIDE, Checks, text_of
+from log_checks import CANNOT_ANSWER, CANNOT_READ, CANNOT_WRITE, IN_USE, NEWER, OPENING, WIDE, Checks, text_of
 from session_model import Session
 from session_model import text_of as json_of
 
@@ -179,6 +179,7 @@ class Anew(Checks):
         self.expected_of = {}
         self.expected = self.expected_without([])
         self.forget_and_go_on()
+        self.forget_in_both_versions()
         self.forget_behind_a_link()
         self.make_room()
         self.stand_in_the_way()
@@ -224,6 +225,31 @@ class Anew(Checks):
             self.check(json.loads(answer) == {**json.loads(self.expected.answers[place - 1]),
                                               'call': json.loads(answer)['call']}, 'one line a start', line)
             self.is_behind(file, self.expected, place, place, 'one line a start')
+
+    def forget_in_both_versions(self):
+        """A log that is made anew tells the version of the session that has done it, and keeps
+        comparisons in either."""
+        where = [['id', 1], ['bal', '>=', 8]]
+        compared = {'update': 'acct', 'change': [['add', 'bal', -8]], 'where': where}
+        slot = json_of({'worker': 1, 'do': [compared]})
+        file = self.new_file()
+        self.killed(file, [OPENING, '{"insert":"acct","row":[1,"ann",30]}'])
+        self.killed(file, [NEWER, json_of(compared), json_of(compared)])
+        for time, (opening, balance) in enumerate(((NEWER, 30), (OPENING, 22)), 1):
+            answers = self.killed(file, [opening, '{"forget":%d}' % time])
+            self.check(json.loads(answers[1]).get('horizon') == time,
+                       'a log of two versions forgets', answers)
+            first, *lines = self.logged(file)
+            self.check(json.loads(first)['version'] == json.loads(opening)['version'],
+                       'a log of two versions that is made anew: its version', first)
+            self.check(lines == [json_of({'do': [{'insert': 'acct', 'row': [1, 'ann', balance]}]}),
+                                 *[slot] * (3 - time)],
+                       'a log of two versions that is made anew: its lines', lines)
+            for again in OPENING, NEWER:
+                opened, selected = map(json.loads, self.run(file, [again, QUESTIONS[2]])[1])
+                self.check((opened['time'], opened['horizon']) == (3, time)
+                           and selected['rows'] == [[1, 'ann', 14]],
+                           'a log of two versions that was made anew', opened, selected)
 
     def forget_behind_a_link(self):
         """A link stays one, and the file keeps its permissions."""

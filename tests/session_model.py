@@ -9,6 +9,7 @@ It has memory for everything, and knows nothing of the limits of slots and entri
 tests/hostile.py tell it of each line that was answered by `memory` (`Session.lose`).
 """
 import json
+import operator
 import random
 import re
 import sys
@@ -20,6 +21,9 @@ WRITES = ['insert', 'update', 'delete']
 KINDS = ['insert', 'update', 'delete', 'select', 'preview', 'do', 'begin', 'step', 'finish',
          'abort', 'status', 'slots', 'changes', 'tables', 'forget']
 MOST_WRITES = 16  # of an action
+COMPARISONS = {'=': operator.eq, '!=': operator.ne, '<': operator.lt, '<=': operator.le,
+               '>': operator.gt, '>=': operator.ge}
+SIGNS = list(COMPARISONS)
 
 
 class Fault(Exception):
@@ -240,20 +244,20 @@ def tables_of(path, value):
 
 def opening_of(value):
     opening = Members('$', value)
-    opening.take('version', lambda path, value: a_count(path, value, 2, 2))
+    version = opening.take('version', lambda path, value: a_count(path, value, 2, 3))
     tables = opening.take('tables', tables_of)
     keep = opening.perhaps('keep', lambda path, value: a_count(path, value, 0, 16), 4)
     records = opening.perhaps('records', lambda path, value: a_count(path, value, 0, 1_000_000),
                               100_000)
     opening.end()
-    return tables, keep, records
+    return version, tables, keep, records
 
 
 class Grammar:
-    """The grammar of requests over declared tables."""
+    """The grammar of requests over declared tables, in a version."""
 
-    def __init__(self, tables):
-        self.tables = tables
+    def __init__(self, version, tables):
+        self.version, self.tables = version, tables
 
     def table(self, path, value):
         for table in self.tables:
@@ -271,9 +275,14 @@ class Grammar:
 
     def where(self, table):
         def one(path, value):
-            if not isinstance(value, list) or len(value) != 2:
+            most = 2 if self.version == 2 else 3
+            if not isinstance(value, list) or not 2 <= len(value) <= most:
                 raise wrong(path)
-            return [self.column(table)(f'{path}[0]', value[0]), a_value(f'{path}[1]', value[1])]
+            name = self.column(table)(f'{path}[0]', value[0])
+            if len(value) == 3 and a_text(f'{path}[1]', value[1]) not in SIGNS:
+                raise out_of_range(f'{path}[1]')
+            found = a_value(f'{path}[{len(value) - 1}]', value[-1])
+            return [name, found] if value[1:-1] in ([], ['=']) else [name, value[1], found]
         return lambda path, value: items(path, value, one)
 
     def change(self, table):
@@ -304,7 +313,8 @@ class Grammar:
         row = statement.get('row', [])
         changes, where = statement.get('change', []), statement.get('where', [])
         pairs = list(zip(kinds, row)) if 'row' in statement else []
-        pairs += [(name, value) for _, name, value in changes] + where
+        pairs += [(name, value) for _, name, value in changes]
+        pairs += [(condition[0], condition[-1]) for condition in where]
         changed = [name for _, name, _ in changes]
         for cause, is_met in [
                 ('value of the wrong kind',
@@ -437,7 +447,15 @@ def ground_of(tables, content):
 
 def is_match(table, where, row):
     names = [column['name'] for column in table['columns']]
-    return all(row[names.index(name)] == value for name, value in where)
+    return all(holds(row[names.index(condition[0])], *condition[1:]) for condition in where)
+
+
+def holds(found, *condition):
+    """Whether a condition holds of what is found in its column: it is a value, or a sign and a value."""
+    *sign, value = condition
+    if isinstance(value, str):
+        found, value = found.encode(), value.encode()
+    return COMPARISONS[sign[0] if sign else '='](found, value)
 
 
 def carried_out(tables, action, content):
@@ -536,7 +554,8 @@ class Repair:
         if 'insert' in write:
             reads = [(name, first, write['row'][0])]
         else:
-            reads = [(name, column, value) for column, value in write['where'] if column in split]
+            equalities = [condition for condition in write['where'] if len(condition) == 2]
+            reads = [(name, column, value) for column, value in equalities if column in split]
         if any(column == first and (name, value) in self.rows for _, column, value in reads):
             return True
         if not reads:
@@ -582,10 +601,10 @@ class Session:
 
     def answer_opening(self, line):
         try:
-            self.tables, self.keep, self.most_records = opening_of(value_of(line))
+            self.version, self.tables, self.keep, self.most_records = opening_of(value_of(line))
         except Fault as fault:
             return {'fault': {'path': fault.path, 'cause': fault.cause}}
-        self.grammar = Grammar(self.tables)
+        self.grammar = Grammar(self.version, self.tables)
         self.generations, self.repair, self.entries = [Generation(self.tables)], None, 0
         self.workers, self.asked, self.records = [], [], []
         return self.status()
@@ -747,7 +766,8 @@ class Session:
         return self.status()
 
     def do_tables(self, asked):
-        return {'version': 2, 'tables': self.tables, 'keep': self.keep, 'records': self.most_records}
+        return {'version': self.version, 'tables': self.tables, 'keep': self.keep,
+                'records': self.most_records}
 
     def do_slots(self, asked):
         current, found = self.current(), []
@@ -798,6 +818,7 @@ class Random:
         self.time = self.horizon = 0  # the horizon is perhaps less
         self.forgets = self.one_of(0, 1, 1, 3) if forgets is None else forgets
         self.has_many_rows = self.one_of(False, False, True)
+        self.version = self.one_of(2, 3)
 
     def most(self, few, many):
         return many if self.has_many_rows else few
@@ -814,13 +835,34 @@ class Random:
     def where(self):
         conditions = [['id', self.key()], ['owner', self.owner()], ['bal', self.one_of(0, 5)],
                       ['kind', self.one_of(1, 2)]]
-        return self.random.sample(conditions, self.one_of(*[self.most(0, 1)] * 2, 1, 1, 1, 2))
+        found = self.random.sample(conditions, self.one_of(*[self.most(0, 1)] * 2, 1, 1, 1, 2))
+        return self.compared(found + self.more_conditions(found))
+
+    def more_conditions(self, found):
+        """Now and then one more on the same column, in a version that compares."""
+        if self.version == 2 or not found or self.one_of(True, True, True, False):
+            return []
+        return [[found[0][0], self.owner() if found[0][0] == 'owner' else self.key()]]
+
+    def compared(self, where):
+        """In version 3 half of the conditions compare."""
+        if self.version == 2:
+            return where
+        return [[name, self.one_of(*SIGNS), value] if self.one_of(True, False) else [name, value]
+                for name, value in where]
+
+    def perhaps_faulty(self, where):
+        if not where or self.one_of(*[True] * 15, False):
+            return where
+        name, value = where[0][0], where[0][-1]
+        return [self.one_of([name, '==', value], [name, '<', None], [name, 7, value], [name, '>'],
+                            [name, '<', value, value], [name, '<', value]), *where[1:]]
 
     def write(self):
         kind = self.one_of(*['insert'] * self.most(2, 9), 'update', 'update', 'update', 'delete')
         table = self.one_of('acct', 'acct', 'acct', 'note')
         if table == 'note':
-            where = self.one_of([], [['n', self.key()]])
+            where = self.compared(self.one_of([], [['n', self.key()]]))
             return {'insert': {'insert': 'note', 'row': [self.key()]},
                     'update': {'update': 'note', 'change': [], 'where': where},
                     'delete': {'delete': 'note', 'where': where}}[kind]
@@ -866,8 +908,8 @@ class Random:
                            'changes', 'changes', 'tables', 'fault', *['forget'] * self.forgets)
         table, where = 'acct', self.where()
         if self.one_of(*[False] * 5, True):
-            table, where = 'note', self.one_of([], [['n', self.key()]])
-        first = self.some_time()
+            table, where = 'note', self.compared(self.one_of([], [['n', self.key()]]))
+        where, first = self.perhaps_faulty(where), self.some_time()
         if kind == 'write':
             self.time += 1
             return self.action()
@@ -898,8 +940,9 @@ class Random:
         acct = [{'name': 'id', 'kind': 'int'}, {'name': 'owner', 'kind': 'text',
                 'partition': flags[0]}, {'name': 'bal', 'kind': 'int'},
                 {'name': 'kind', 'kind': 'int', 'partition': flags[1]}]
-        yield {'version': 2, 'tables': [{'name': 'acct', 'columns': acct},
-                                        {'name': 'note', 'columns': [{'name': 'n', 'kind': 'int'}]}],
+        note = [{'name': 'n', 'kind': 'int'}]
+        yield {'version': self.version,
+               'tables': [{'name': 'acct', 'columns': acct}, {'name': 'note', 'columns': note}],
                'keep': self.one_of(0, 1, 4), 'records': self.one_of(0, 3, 100_000)}
         for _ in range(count):
             time = self.time

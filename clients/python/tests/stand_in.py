@@ -22,7 +22,7 @@ ACCT = Table("acct", [
 ACCT_LINE = ('{"name":"acct","columns":[{"name":"id","kind":"int","partition":false},'
              '{"name":"owner","kind":"text","partition":true},'
              '{"name":"bal","kind":"int","partition":false}]}')
-OPENING = '{"version":2,"tables":[' + ACCT_LINE + ']}'
+OPENING = '{"version":3,"tables":[' + ACCT_LINE + ']}'
 OPENED = '{"time":0,"generation":0,"oldest":0,"entries":0,"repair":null}'
 INSERTED = '{"call":%d,"slot":%d,"replies":["inserted"]}'
 

@@ -18,7 +18,8 @@ from timetravel import (
     AnotherOpening, ChangedSelect, ChangedWrite, Changes, Closed, EditedTwice, Error, Fault, Forgotten, Full,
     Later, LogFailed, Lost, Moved, NoAnswer, NoGeneration, NoSlot, NotRepairing, NotStarted, OutOfMemory,
     Previewed, Progress, Refused, Repairing, Reply, Selected, Session, Slot, Slots, Status, Stepped, Switched,
-    Tables, Written, cancel, delete, do, insert, preview, replace, select, update)
+    Tables, Written, above, at_least, at_most, below, cancel, delete, do, insert, is_not, preview, replace,
+    select, update)
 
 from stand_in import ACCT, ACCT_LINE, INSERTED, OPENING, PROGRAM, Case, StandInCase, told
 
@@ -100,8 +101,8 @@ CONVERSATION: list[tuple[Any, str, str, Any]] = [
      Selected(20, 4, [[1, "ann", 11]], False)),
     (lambda s: s.tables(),
      '{"tables":true}',
-     '{"call":21,"version":2,"tables":[' + ACCT_LINE + '],"keep":4,"records":100000}',
-     Tables(21, 2, [ACCT], 4, 100000)),
+     '{"call":21,"version":3,"tables":[' + ACCT_LINE + '],"keep":4,"records":100000}',
+     Tables(21, 3, [ACCT], 4, 100000)),
     (lambda s: s.status(),
      '{"status":true}',
      '{"call":22,"time":4,"generation":1,"oldest":0,"entries":9,"repair":null}',
@@ -188,6 +189,26 @@ CONVERSATION: list[tuple[Any, str, str, Any]] = [
      '{"status":true}',
      '{"call":44,"time":6,"generation":1,"oldest":1,"entries":5,"repair":null,"horizon":2}',
      Status(44, 6, 1, 1, 5, None, 2)),
+    # Conditions that compare.
+    (lambda s: s.update("acct", where={"id": 1, "bal": at_least(11)}, add={"bal": -11}),
+     '{"update":"acct","change":[["add","bal",-11]],"where":[["id",1],["bal",">=",11]]}',
+     '{"call":45,"slot":7,"replies":[{"updated":1}]}', Written(45, 7, [Reply("updated", 1)])),
+    (lambda s: s.select("acct", [("id", above(0)), ("id", below(2)), ("owner", is_not("bob"))]),
+     '{"select":"acct","where":[["id",">",0],["id","<",2],["owner","!=","bob"]]}',
+     '{"call":46,"time":7,"rows":[[1,"ann",0]]}', Selected(46, 7, [[1, "ann", 0]])),
+    (lambda s: s.delete("acct", [("bal", above(0)), ("bal", at_most(9))]),
+     '{"delete":"acct","where":[["bal",">",0],["bal","<=",9]]}',
+     '{"call":47,"slot":8,"replies":[{"deleted":0}]}', Written(47, 8, [Reply("deleted", 0)])),
+    (lambda s: s.slots(7, 7),
+     '{"slots":[7,7]}',
+     '{"call":48,"time":8,"slots":[{"slot":7,"worker":1,"do":[{"update":"acct","change":[["add","bal",-11]],'
+     '"where":[["id",1],["bal",">=",11]]}],"replies":[{"updated":1}]}]}',
+     Slots(48, 8, [Slot(7, 1, [update("acct", where={"id": 1, "bal": at_least(11)}, add={"bal": -11})],
+                        [Reply("updated", 1)])])),
+    (lambda s: s.select("acct", [("id", "==", 1)]),
+     '{"select":"acct","where":[["id","==",1]]}',
+     '{"call":49,"fault":{"path":"$.where[0][1]","cause":"out of range"}}',
+     (Fault, {"path": "$.where[0][1]", "cause": "out of range"})),
 ]
 
 
@@ -218,7 +239,7 @@ class StandIn(Conversation, StandInCase):
         plain = {"name": "note", "columns": [{"name": "k", "kind": "int"}]}
         with self.open(told(), tables=[plain, ACCT], keep=0, records=7):
             pass
-        self.assertEqual(self.lines(), ['{"version":2,"tables":[{"name":"note","columns":'
+        self.assertEqual(self.lines(), ['{"version":3,"tables":[{"name":"note","columns":'
                                         '[{"name":"k","kind":"int"}]},' + ACCT_LINE + '],'
                                         '"keep":0,"records":7}'])
 

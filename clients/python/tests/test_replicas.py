@@ -67,7 +67,7 @@ class ReplicaTest(WithEtcd):
         first, second = self.replica("a"), self.replica("b")
         clients = [self.client(replica, None) for replica in (first, second)]
         self.assertEqual(clients[0].ask({"join": True}), {"refused": "not open"})
-        self.assertEqual(clients[0].ask({"version": 3}), {"fault": {"path": "$.version",
+        self.assertEqual(clients[0].ask({"version": 4}), {"fault": {"path": "$.version",
                                                                     "cause": "out of range"}})
         for client in clients:
             client.send(OPENING)
@@ -75,7 +75,8 @@ class ReplicaTest(WithEtcd):
         other = {**OPENING, "keep": 2}
         self.assertEqual(self.client(second, other).opened, {"refused": "another opening"})
         self.assertEqual(self.client(second, {"join": True}).opened, EMPTY)
-        self.assertEqual(self.client(second, {**OPENING, "records": 5}).opened, EMPTY)
+        for further in ({**OPENING, "records": 5}, {**OPENING, "version": 3}):
+            self.assertEqual(self.client(second, further).opened, EMPTY)
         openings = [line for line in self.cluster.lines() if b"version" in line]
         self.assertEqual(openings, [json.dumps(OPENING).encode()])
 

@@ -12,7 +12,8 @@ from typing import Any
 import timetravel
 from timetravel import (
     ChangedSelect, Column, Fault, Full, Lost, Moved, NoAnswer, NotConnected, NotStarted, Refused, Row, Table,
-    Value, cancel, delete, do, errors, insert, replace, update)
+    Value, above, at_least, at_most, below, cancel, delete, do, errors, insert, is_not, preview, replace,
+    select, update)
 
 from stand_in import Case, StandInCase, told
 
@@ -144,6 +145,63 @@ class Updates(StandInCase):
                     lambda: change("acct", {"bal": 0}, {"id": 1}),
                     lambda: change("acct", [("set", "bal", 0)], {}, set={"bal": 0})):
             self.assertRaises(TypeError, bad)
+
+
+class Comparisons(StandInCase):
+
+    def test_each_of_them(self) -> None:
+        for compare, sign in ((is_not, "!="), (below, "<"), (at_most, "<="), (above, ">"), (at_least, ">=")):
+            for column, value in (("bal", -5), ("owner", "ann")):
+                where = [[column, sign, value]]
+                each: list[Any] = [
+                    {column: compare(value)}, [(column, compare(value))], [[column, compare(value)]],
+                    [(column, sign, value)], where, iter([(column, compare(value))])]
+                for given in each:
+                    self.assertEqual(delete("acct", given), {"delete": "acct", "where": where})
+
+    def test_beside_equalities(self) -> None:
+        wanted = [["id", 1], ["bal", ">=", 8]]
+        where: dict[str, Any] = {"id": 1, "bal": at_least(8)}
+        self.assertEqual(update("acct", where=where, add={"bal": -8})["where"], wanted)
+        self.assertEqual(update("acct", where, add={"bal": -8})["where"], wanted)
+        self.assertEqual(update("acct", [("add", "bal", -8)], where)["where"], wanted)
+        self.assertEqual(select("acct", where)["where"], wanted)
+        self.assertEqual(preview("acct", where)["where"], wanted)
+
+    def test_of_one_column(self) -> None:
+        where = [("id", above(1)), ("id", below(9)), ("id", is_not(5))]
+        self.assertEqual(delete("acct", where)["where"], [["id", ">", 1], ["id", "<", 9], ["id", "!=", 5]])
+
+    def test_their_lines(self) -> None:
+        with self.open(told(WRITTEN % (1, 1), ANSWER % 2, '{"call":3,"done":0,"left":1,"rerun":0}',
+                            '{"call":4,"done":0,"rows":[]}')) as session:
+            session.delete("acct", {"bal": below(-(2 ** 63) + 1)})
+            list(session.pages("acct", [("id", at_least(1)), ("id", at_most(2))], at=1, generation=0))
+            session.begin([replace(1, update("acct", {"owner": is_not("b\n")}, set={"bal": 0}))])
+            session.preview("acct", {"owner": above("")})
+        self.assertEqual(self.lines()[1:], [
+            '{"delete":"acct","where":[["bal","<",-9223372036854775807]]}',
+            '{"select":"acct","where":[["id",">=",1],["id","<=",2]],"at":1,"in":0,"most":1000}',
+            '{"begin":[{"replace":1,"by":{"update":"acct","change":[["set","bal",0]],'
+            '"where":[["owner","!=","b\\n"]]}}]}',
+            '{"preview":"acct","where":[["owner",">",""]]}'])
+
+    def test_what_cannot_be_compared(self) -> None:
+        bad: Any = None
+        compared: Any = below(1)
+        with self.open(told(WRITTEN % (1, 1))) as session:
+            with self.assertRaisesRegex(TypeError, r"where\[0\]\[2\]"):
+                session.delete("acct", {"bal": below(bad)})
+            with self.assertRaisesRegex(ValueError, r"where\[0\]\[2\]"):
+                session.delete("acct", {"bal": below(2 ** 63)})
+            with self.assertRaisesRegex(TypeError, "Compared"):
+                session.insert("acct", [1, "ann", compared])
+            session.delete("acct", {})    # None of these was sent.
+        self.assertEqual(len(self.lines()), 2)
+
+    def test_copies(self) -> None:
+        compared = pickle.loads(pickle.dumps(at_least("b")))
+        self.assertEqual((compared, compared.how, compared.value), (at_least("b"), ">=", "b"))
 
 
 class Errors(Case):

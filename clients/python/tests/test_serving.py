@@ -228,11 +228,13 @@ class Parts(unittest.TestCase):
                 b'{"name":"b","kind":"text","partition":true}]}]}',
                 b' {"keep":4,"records":7,"tables":[{"columns":[{"kind":"int","name":"a","partition":false},'
                 b'{"name":"\\u0062","partition":true,"kind":"text"}],"name":"t"}],"version":2}\r']
+        same.append(same[0].replace(b'"version":2', b'"version":3'))
         for line in same:
             self.assertEqual(understood(strictly(line)), opening)
         version = b'"version":2'
         for old, new in ((version, version + b"," + version), (version, b'"version":2.0'),
-                         (version, b'"version":1'), (version, version + b',"keep":-0'),
+                         (version, b'"version":1'), (version, b'"version":4'),
+                         (version, version + b',"keep":-0'),
                          (version, version + b',"keep":true'), (version, version + b',"keep":17'),
                          (version, version + b',"keep":null'), (version, version + b',"records":1000001'),
                          (version, version + b',"more":1'), (b"true", b"1"), (b'"kind":"int"', b'"kind":1'),
@@ -371,7 +373,7 @@ class Serving(unittest.TestCase):
         first.ask(insert(1))
         columns = [{"kind": "int", "name": "id", "partition": False}, *TABLES[0]["columns"][1:]]
         spelt = {"records": 5, "keep": 4, "tables": [{"columns": columns, "name": "acct"}], "version": 2}
-        for opening in (OPENING, spelt, {"join": True}):
+        for opening in (OPENING, spelt, {**OPENING, "version": 3}, {"join": True}):
             client = server.client(opening)
             self.assertEqual(client.opened, {**EMPTY, "time": 1, "entries": 1})
             self.assertEqual(client.ask(ALL)["rows"], [[1, "ann", 10]])

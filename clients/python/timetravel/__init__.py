@@ -35,7 +35,8 @@ from .errors import (
     LogFailed, Lost, Moved, NoAnswer, NoGeneration, NoSlot, NotConnected, NotRepairing, NotStarted,
     OutOfMemory, Refused, Repairing)
 from .requests import (
-    Change, Edit, NewRow, Where, Write, cancel, delete, do, insert, preview, replace, select, update)
+    Change, Compared, Edit, NewRow, Where, Write, above, at_least, at_most, below, cancel, delete, do, insert,
+    is_not, preview, replace, select, update)
 from .session import Session
 from .tables import Column, Row, Table, Value
 
@@ -43,9 +44,9 @@ __version__ = "0.1.0"
 
 __all__ = [
     "AnotherOpening", "Answer", "Change", "ChangedSelect", "ChangedWrite", "Changes", "Closed", "Column",
-    "Disconnected", "Edit", "EditedTwice", "Ended", "Error", "Fault", "Forgotten", "Forked", "Full", "Later",
-    "LogFailed", "Lost", "Moved", "NewRow", "NoAnswer", "NoGeneration", "NoSlot", "NotConnected",
-    "NotRepairing", "NotStarted", "OutOfMemory", "Previewed", "Progress", "Refused", "Repairing", "Reply",
-    "Row", "Selected", "Session", "Slot", "Slots", "Status", "Stepped", "Switched", "Table", "Tables",
-    "Value", "Where", "Write", "Written", "aio", "cancel", "delete", "do", "insert", "preview", "replace",
-    "select", "update"]
+    "Compared", "Disconnected", "Edit", "EditedTwice", "Ended", "Error", "Fault", "Forgotten", "Forked",
+    "Full", "Later", "LogFailed", "Lost", "Moved", "NewRow", "NoAnswer", "NoGeneration", "NoSlot",
+    "NotConnected", "NotRepairing", "NotStarted", "OutOfMemory", "Previewed", "Progress", "Refused",
+    "Repairing", "Reply", "Row", "Selected", "Session", "Slot", "Slots", "Status", "Stepped", "Switched",
+    "Table", "Tables", "Value", "Where", "Write", "Written", "above", "aio", "at_least", "at_most", "below",
+    "cancel", "delete", "do", "insert", "is_not", "preview", "replace", "select", "update"]

@@ -61,7 +61,7 @@ def understood(value: Any) -> Opening | None:
     """What an opening says, or `None` where it has a fault or might have one."""
     try:
         members = _members(value, {"version", "tables"}, {"keep", "records"})
-        if _number(members["version"], 2) != 2 or _number(members.get("records", 0), _MOST_RECORDS) < 0:
+        if _number(members["version"], 3) < 2 or _number(members.get("records", 0), _MOST_RECORDS) < 0:
             return None
         tables = tuple(_table(table) for table in _list(members["tables"]))
         return Opening(tables, _number(members.get("keep", _KEEP), _MOST_KEEP))

@@ -18,7 +18,7 @@ class Opening:
     def __init__(self, tables: Iterable[Table | Mapping[str, Any]], keep: int | None,
                  records: int | None, reads: str | None = None) -> None:
         declared = [asdict(table) if isinstance(table, Table) else dict(table) for table in tables]
-        members: dict[str, object] = {"version": 2, "tables": declared}
+        members: dict[str, object] = {"version": 3, "tables": declared}
         if keep is not None:
             members["keep"] = keep
         if records is not None:

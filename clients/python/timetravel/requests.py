@@ -5,12 +5,23 @@ from __future__ import annotations
 
 import json
 from collections.abc import Callable, Iterable, Iterator, Mapping, Sequence
+from dataclasses import dataclass
 from typing import Any, Literal, TypedDict, Union, overload
 
 from .tables import Row, Value
 
-Pair = Union[tuple[str, Value], list[Value]]    # a column and the value it has
-Where = Union[Mapping[str, Value], Sequence[Pair], Iterator[Pair]]
+
+@dataclass(frozen=True)
+class Compared:
+    """How a column compares with a value: `is_not`, `below`, `at_most`, `above` and `at_least` make it."""
+    how: Literal["=", "!=", "<", "<=", ">", ">="]
+    value: Value
+
+
+Condition = Union[Value, Compared]    # a plain value is the one that a column has
+# A column and its condition; or, as answers have it, a column, how it compares, and with what.
+Pair = Union[tuple[str, Condition], tuple[str, str, Value], list[Value], list[Condition]]
+Where = Union[Mapping[str, Condition], Sequence[Pair], Iterator[Pair]]
 Change = tuple[Literal["set", "add"], str, Value]
 NewRow = Union[Sequence[Value], Mapping[str, Value]]    # in the columns' order, or by their names
 
@@ -23,7 +34,7 @@ class Write(TypedDict, total=False):
     update: str
     delete: str
     change: list[list[Value]]    # a list of a Change
-    where: list[list[Value]]    # a list of a column and its value
+    where: list[list[Value]]    # a list of a column, perhaps how it compares, and a value
 
 
 class DoRequest(TypedDict):
@@ -155,7 +166,9 @@ def update(table: str, change: Any = None, where: Any = None, *, set: Mapping[st
         update("acct", {"id": 1}, set={"owner": "ann"}, add={"bal": -5})
         update("acct", [("set", "owner", "ann"), ("add", "bal", -5)], {"id": 1})
 
-    `where` is empty for every row. Raises `TypeError` where it or the changes are missing.
+    `where` is empty for every row. It is a dict of columns, or a list of pairs, in which a column may stand
+    twice; each column has to have the value, or to compare so (`at_least` and its like). Raises `TypeError`
+    where it or the changes are missing.
     """
     if set is not None or add is not None:
         if change is not None and where is not None:
@@ -168,6 +181,43 @@ def update(table: str, change: Any = None, where: Any = None, *, set: Mapping[st
     if isinstance(change, Mapping):
         raise TypeError("the changes of an update are a list; a dict is for set= or add=")
     return {"update": table, "change": [list(each) for each in change], "where": pairs(where)}
+
+
+def is_not(value: Value) -> Compared:
+    """The condition that a column has another value, in a `where`.
+
+        delete("acct", {"owner": is_not("ann")})
+    """
+    return Compared("!=", value)
+
+
+def below(value: Value) -> Compared:
+    """The condition that a column has a value less than this one, in a `where`.
+
+    Numbers compare as numbers, and texts by their bytes in UTF-8.
+    """
+    return Compared("<", value)
+
+
+def at_most(value: Value) -> Compared:
+    """The condition that a column has this value or one that is less, in a `where`."""
+    return Compared("<=", value)
+
+
+def above(value: Value) -> Compared:
+    """The condition that a column has a value greater than this one, in a `where`.
+
+        select("acct", [("id", above(1)), ("id", below(9))])
+    """
+    return Compared(">", value)
+
+
+def at_least(value: Value) -> Compared:
+    """The condition that a column has this value or one that is greater, in a `where`.
+
+        update("acct", where={"id": 1, "bal": at_least(8)}, add={"bal": -8})
+    """
+    return Compared(">=", value)
 
 
 def delete(table: str, where: Where) -> Write:
@@ -229,8 +279,15 @@ def slots(first: int, last: int, of: int | None, row: tuple[str, int] | None) ->
 def pairs(where: Where) -> list[list[Value]]:
     """The conditions as a line has them."""
     if type(where) is dict or isinstance(where, Mapping):
-        return [list(pair) for pair in where.items()]
-    return [list(pair) for pair in where]
+        return [_condition(pair) for pair in where.items()]
+    return [_condition(pair) for pair in where]
+
+
+def _condition(pair: Iterable[Any]) -> list[Value]:
+    condition = list(pair)
+    if condition and type(condition[-1]) is Compared:
+        condition[-1:] = condition[-1].how, condition[-1].value
+    return condition
 
 
 # Lines

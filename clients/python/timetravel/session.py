@@ -191,6 +191,7 @@ class Session:
 
             session.update("acct", {"id": 1}, set={"owner": "ann"}, add={"bal": -5})
             session.update("acct", [("set", "owner", "ann"), ("add", "bal", -5)], {"id": 1})
+            session.update("acct", {"id": 1, "bal": at_least(5)}, add={"bal": -5})
 
         Raises `TypeError` where `where` or the changes are missing, `Full`, and what any request does.
         """
@@ -221,6 +222,9 @@ class Session:
                timeout: float | None = None) -> Selected:
         """The rows that match: now or at a time; of the current generation or of one that is kept;
         those with a key greater than `after`, and of these the first `most`.
+
+            session.select("acct", {"owner": "ann", "bal": below(0)})
+            session.select("acct", [("id", above(1)), ("id", below(9))])
 
         Raises `Later`, `Forgotten`, `NoGeneration`, and what any request does.
         """

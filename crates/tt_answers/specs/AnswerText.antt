@@ -7,6 +7,8 @@ use Rattle.tt_values.specs.declared.statement.Write.{Write}
 use Rattle.tt_values.specs.declared.reply.Reply.{Reply}
 use Rattle.tt_values.specs.declared.reply.Reply.TheVariants as replies
 use Rattle.tt_values.specs.Tables.{Tables}
+use Rattle.tt_grammar.specs.declared.session_version.SessionVersion.{SessionVersion}
+use Rattle.tt_grammar.specs.SessionVersion.{number_of_version}
 use Rattle.tt_generations.specs.declared.progress.Progress.{Progress}
 use Rattle.tt_records.specs.declared.record.What.{What}
 use Rattle.tt_records.specs.declared.record.What.TheVariants as whats
@@ -123,10 +125,10 @@ change_members numbering entry =
 abbrev pub change_text : Numbering → ChangeEntry → List ℕ
 change_text numbering entry = object_text (change_members numbering entry)
 
--- the tables, how many closed generations are kept, and how many records
-abbrev pub declared_members : Tables → ℕ → ℕ → List Member
-declared_members tables keep records =
-    number_member (codes "version") 2
+-- the version of the session, the tables, how many closed generations are kept, and how many records
+abbrev pub declared_members : SessionVersion → Tables → ℕ → ℕ → List Member
+declared_members version tables keep records =
+    number_member (codes "version") (number_of_version version)
     ∷ (codes "tables", tables_text tables)
     ∷ number_member (codes "keep") keep
     ∷ number_member (codes "records") records
@@ -164,7 +166,7 @@ answer_members tables numbering (answers.Repairing progress) = progress_members 
 answer_members tables numbering (answers.Finished generation slots rerun) = finished_members numbering generation slots rerun
 answer_members tables numbering (answers.Slots time entries) = slots_members tables numbering time entries
 answer_members tables numbering (answers.Changes first entries) = changes_members numbering first entries
-answer_members tables numbering (answers.Declared keep records) = declared_members tables keep records
+answer_members tables numbering (answers.Declared version keep records) = declared_members version tables keep records
 answer_members tables numbering (answers.Faulty fault) = fault_members fault
 answer_members tables numbering (answers.Refused refusal) = refusal_members numbering refusal
 answer_members tables numbering answers.OutOfMemory = out_of_memory

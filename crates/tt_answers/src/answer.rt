@@ -2,7 +2,7 @@
 ghost use Rattle.std.specs.Prelude.{◌≡◌};
 
 use tt_db::{DbError, Progress, ReadError, Slot};
-use tt_grammar::DocFault;
+use tt_grammar::{DocFault, SessionVersion};
 use tt_numbers::ToldTime;
 use tt_records::{Changed, What};
 use tt_values::{Items, Reply, Row, Write};
@@ -22,7 +22,8 @@ pub enum Refusal {
     Forgotten,
     /// The log couldn't be made anew.
     Log,
-    /// An opening asks for other tables than a log has, or for another number of closed generations.
+    /// An opening asks for other tables than a log has, or for another number of closed
+    /// generations.
     AnotherOpening,
 }
 
@@ -118,9 +119,10 @@ pub enum Answer {
         from: u64,
         changes: Items<ChangeEntry>,
     },
-    /// The tables of the database, how many closed generations it keeps, and how many records are
-    /// kept.
+    /// The version of the session, the tables of the database, how many closed generations it
+    /// keeps, and how many records are kept.
     Declared {
+        version: SessionVersion,
         keep: u32,
         records: u32,
     },

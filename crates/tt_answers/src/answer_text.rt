@@ -14,7 +14,7 @@ use crate::slot_text::{push_changes, push_slots};
 use crate::told_text::{push_told_generation, push_told_time};
 use std::alloc::{AllocError, Global};
 use tt_db::Progress;
-use tt_grammar::{push_flag, push_labelled, push_tables};
+use tt_grammar::{SessionVersion, push_flag, push_labelled, push_tables};
 use tt_numbers::{Numbering, ToldTime};
 use tt_values::{Catalog, Reply};
 
@@ -88,7 +88,11 @@ fn push_answer(
         Answer::Changes { from, changes } => {
             push_changes_from(out, numbering, *from, changes.as_slice())
         }
-        Answer::Declared { keep, records } => push_declared(out, catalog, *keep, *records),
+        Answer::Declared {
+            version,
+            keep,
+            records,
+        } => push_declared(out, *version, catalog, *keep, *records),
         Answer::Faulty(fault) => push_fault(out, fault),
         Answer::Refused(refusal) => push_refusal(out, numbering, *refusal),
         Answer::OutOfMemory => push_out_of_memory(out),
@@ -263,17 +267,18 @@ fn push_changes_from(
     Ok(())
 }
 
-/// Pushes the tables, and how much is kept.
+/// Pushes the version of a session, its tables, and how much is kept.
 pub(crate) fn push_declared(
     out: &mut Vec<u8>,
+    version: SessionVersion,
     catalog: &Catalog,
     keep: u32,
     records: u32,
 ) -> Result<(), AllocError>
     ensures { OnOk result (out.new.items ≡ out.old.items
-        ++ members_text (declared_members catalog.now keep records)) }
+        ++ members_text (declared_members version catalog.now keep records)) }
 {
-    push_labelled(out, b"\"version\":", 2)?;
+    push_labelled(out, b"\"version\":", version.number())?;
     out.extend_from_slice(b",\"tables\":")?;
     push_tables(out, catalog)?;
     push_labelled(out, b",\"keep\":", u64::from(keep))?;

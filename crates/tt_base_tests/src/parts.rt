@@ -8,7 +8,7 @@ use std::alloc::Global;
 use std::process::Abort;
 use std::sync::Arc;
 use tt_parts::{Dirty, Partition, Reads};
-use tt_values::{Catalog, Column, Equal, Items, Row, TableDef, Value, Write};
+use tt_values::{Catalog, Column, Comparison, Equal, Items, Row, TableDef, Value, Write};
 
 /// A value as a case writes it down.
 #[derive(Clone, Copy, Debug)]
@@ -62,13 +62,37 @@ fn partition_reads(rt: &impl Abort, alloc: Global, plains: &[PlainPartition]) ->
     Reads::Equated(partitions(rt, alloc, plains))
 }
 
+/// The comparisons that are no equalities.
+const NO_EQUALITIES: [Comparison; 5] = [
+    Comparison::IsNot,
+    Comparison::Below,
+    Comparison::AtMost,
+    Comparison::Above,
+    Comparison::AtLeast,
+];
+
+/// A delete by equalities.
 fn delete(rt: &impl Abort, alloc: Global, table: u16, pairs: &[(u16, Plain)]) -> Write
+    ensures { HasKey result }
+{
+    delete_by(rt, alloc, table, Comparison::Is, pairs)
+}
+
+/// A delete by comparisons of one kind.
+fn delete_by(
+    rt: &impl Abort,
+    alloc: Global,
+    table: u16,
+    how: Comparison,
+    pairs: &[(u16, Plain)],
+) -> Write
     ensures { HasKey result }
 {
     let mut equals = Vec::new(alloc);
     for (column, plain) in pairs {
         let equal = Equal {
             column: *column,
+            how,
             value: value(rt, alloc, *plain),
         };
         equals.push(equal).expect(rt, "memory");

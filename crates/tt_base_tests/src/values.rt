@@ -2,6 +2,7 @@ ghost use Rattle.std.specs.Prelude.{◌≡◌, IsSome};
 ghost use Rattle.tt_values.specs.Row.{first_int};
 
 mod calls;
+mod comparisons;
 mod printed;
 
 use std::alloc::Global;

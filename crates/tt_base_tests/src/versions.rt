@@ -1,7 +1,7 @@
 use crate::same::same;
 use std::alloc::Global;
 use std::process::Abort;
-use tt_values::{Equal, Few, Row, Value};
+use tt_values::{Comparison, Equal, Few, Row, Value};
 use tt_versions::{Side, Table};
 
 const A: i64 = 1;
@@ -253,4 +253,107 @@ fn many_rows_are_switched(rt: HostRuntime) {
     let mut table = many_rows(&rt, rt.alloc());
     table.switch().expect(&rt, "memory");
     expect_many(&rt, &table);
+}
+
+/// Keys with both bounds, by rising key, and their tags.
+const TAGGED: [(i64, i64); 8] = [
+    (i64::MIN, A),
+    (-9_223_372_036_854_775_807, B),
+    (-2, C),
+    (-1, A),
+    (0, B),
+    (1, C),
+    (9_223_372_036_854_775_806, A),
+    (i64::MAX, B),
+];
+
+const BOUNDS: [i64; 7] = [
+    i64::MIN,
+    -9_223_372_036_854_775_807,
+    -3,
+    0,
+    2,
+    9_223_372_036_854_775_806,
+    i64::MAX,
+];
+
+const ALL_COMPARISONS: [Comparison; 6] = [
+    Comparison::Is,
+    Comparison::IsNot,
+    Comparison::Below,
+    Comparison::AtMost,
+    Comparison::Above,
+    Comparison::AtLeast,
+];
+
+/// The keys with their tags, which are indexed. Keys below 0 are split, and have tag a on the next
+/// side; all rows are written at time 2.
+fn tagged(rt: &impl Abort, alloc: Global) -> Table {
+    let mut table = Table::with_columns(alloc, &[1]).expect(rt, "memory");
+    for (key, tag) in TAGGED {
+        if key < 0 {
+            table.split_row_back(key, 1).expect(rt, "memory");
+            let next = row(rt, alloc, key, A);
+            table = table.next_written(key, next, 2).expect(rt, "memory");
+        }
+        let rows = one_row(rt, alloc, key, tag);
+        table.write_all(rows, 2).expect(rt, "memory");
+    }
+    table
+}
+
+/// Whether a number of a row compares so with another one.
+fn compares(how: Comparison, number: i64, other: i64) -> bool {
+    match how {
+        Comparison::Is => number == other,
+        Comparison::IsNot => number != other,
+        Comparison::Below => number < other,
+        Comparison::AtMost => number <= other,
+        Comparison::Above => number > other,
+        Comparison::AtLeast => number >= other,
+    }
+}
+
+/// A comparison of a column with a number.
+type Compared = (u16, Comparison, i64);
+
+fn is_met(case: Compared, key: i64, tag: i64) -> bool {
+    let (column, how, bound) = case;
+    compares(how, if column == 0 { key } else { tag }, bound)
+}
+
+/// The rows that meet both comparisons are those that are left of all rows.
+fn expect_compared(rt: &impl Abort, table: &Table, side: Side, cases: (Compared, Compared)) {
+    let (first, second) = cases;
+    let equals = [
+        Equal::int(first.0, first.2).with(first.1),
+        Equal::int(second.0, second.2).with(second.1),
+    ];
+    let rows = table.rows_matching(&equals, 2, side).expect(rt, "memory");
+    let mut place: usize = 0;
+    for (key, row) in &table.rows_at(2, side).expect(rt, "memory") {
+        let tag = tag(Some(*row));
+        if is_met(first, *key, tag) && is_met(second, *key, tag) {
+            let found = rows.get(place);
+            assert_eq!(rt; found, Some(&(*key, *row)), "{cases:?} {side:?}");
+            place = place.saturating_add(1);
+        }
+    }
+    assert_eq!(rt; rows.len(), place, "{cases:?} {side:?}");
+}
+
+#[test]
+fn rows_are_found_within_ranges_of_keys(rt: HostRuntime) {
+    let table = tagged(&rt, rt.alloc());
+    for how in ALL_COMPARISONS {
+        for bound in BOUNDS {
+            for other in ALL_COMPARISONS {
+                for second in [(0, other, -1), (0, other, i64::MAX), (1, other, B)] {
+                    let cases = ((0, how, bound), second);
+                    expect_compared(&rt, &table, Side::Current, cases);
+                    expect_compared(&rt, &table, Side::Next, cases);
+                }
+            }
+        }
+    }
 }

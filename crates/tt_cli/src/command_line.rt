@@ -20,7 +20,7 @@ const DOCUMENT: &str =
     r#"The workload is a JSON document on standard input. It declares tables and lists the calls
 that workers make, in order:
 
-  {"version":2,
+  {"version":3,
    "tables":[{"name":"acct","columns":[
      {"name":"id","kind":"int"},
      {"name":"owner","kind":"text","partition":true},
@@ -37,6 +37,7 @@ that workers make, in order:
        {"insert":"acct","row":[2,"bob",20]}]}],
    "repair":{"edits":[{"cancel":2}]}}
 
+A condition is [COLUMN,VALUE], or [COLUMN,HOW,VALUE] with one of = != < <= > >= as HOW, in quotes.
 The second select reads the rows as they were at time 1, after the first write. The last call makes
 two writes as one action: they take one slot and one time. The repair has one edit, which cancels
 call 2, the update. An edit is {"cancel":N} or {"replace":N,"by":WRITE}, where WRITE is an insert,
@@ -54,7 +55,7 @@ const LINES: &str =
     r#"Standard input is JSON, one text a line. The first line opens a database; each further line is a
 request, and is answered by one line on standard output before another is waited for:
 
-  {"version":2,"tables":[{"name":"acct","columns":[{"name":"id","kind":"int"},{"name":"bal","kind":"int"}]}]}
+  {"version":3,"tables":[{"name":"acct","columns":[{"name":"id","kind":"int"},{"name":"bal","kind":"int"}]}]}
   {"insert":"acct","row":[1,100]}
   {"update":"acct","change":[["set","bal",0]],"where":[]}
   {"select":"acct","where":[["id",1]]}

@@ -130,32 +130,32 @@ insert-ok tables context v write e =
     let done = checked-ok statement write (write_fault tables statement) known.rest in
     subst (λ w. write_fault tables w ≡ None) done.0 done.1
 
-update-ok : (tables : Tables) (context : Context) (v : Data) (write : Write) → update tables context v ≡ Ok write → write_fault tables write ≡ None
+update-ok : (version : Version) (tables : Tables) (context : Context) (v : Data) (write : Write) → update version tables context v ≡ Ok write → write_fault tables write ≡ None
 unfolding update
-update-ok tables context v write e =
+update-ok version tables context v write e =
     let table = step (member (codes "update") (table_named tables) v) _ write e in
     let changes = step (member (codes "change") (array_of (change tables table.value)) v) _ write table.rest in
-    let equals = step (member (codes "where") (array_of (condition tables table.value)) v) _ write changes.rest in
+    let equals = step (member (codes "where") (array_of (condition version tables table.value)) v) _ write changes.rest in
     let known = step (no_members_at context (codes "change" ∷ codes "update" ∷ codes "where" ∷ []) v) _ write equals.rest in
     let statement : Write = Update table.value changes.value equals.value in
     let done = checked-ok statement write (write_fault tables statement) known.rest in
     subst (λ w. write_fault tables w ≡ None) done.0 done.1
 
-delete-ok : (tables : Tables) (context : Context) (v : Data) (write : Write) → delete tables context v ≡ Ok write → write_fault tables write ≡ None
+delete-ok : (version : Version) (tables : Tables) (context : Context) (v : Data) (write : Write) → delete version tables context v ≡ Ok write → write_fault tables write ≡ None
 unfolding delete
-delete-ok tables context v write e =
+delete-ok version tables context v write e =
     let table = step (member (codes "delete") (table_named tables) v) _ write e in
-    let equals = step (member (codes "where") (array_of (condition tables table.value)) v) _ write table.rest in
+    let equals = step (member (codes "where") (array_of (condition version tables table.value)) v) _ write table.rest in
     let known = step (no_members_at context (codes "delete" ∷ codes "where" ∷ []) v) _ write equals.rest in
     let statement : Write = Delete table.value equals.value in
     let done = checked-ok statement write (write_fault tables statement) known.rest in
     subst (λ w. write_fault tables w ≡ None) done.0 done.1
 
-select-ok : (tables : Tables) (v : Data) (a : Ask) → select tables v ≡ Ok a → ask_fault tables a ≡ None
+select-ok : (version : Version) (tables : Tables) (v : Data) (a : Ask) → select version tables v ≡ Ok a → ask_fault tables a ≡ None
 unfolding select
-select-ok tables v a e =
+select-ok version tables v a e =
     let table = step (member (codes "select") (table_named tables) v) _ a e in
-    let equals = step (member (codes "where") (array_of (condition tables table.value)) v) _ a table.rest in
+    let equals = step (member (codes "where") (array_of (condition version tables table.value)) v) _ a table.rest in
     let at = step (optional (codes "at") count v) _ a equals.rest in
     let known = step (no_members_but (is_one_of (codes "at" ∷ codes "select" ∷ codes "where" ∷ codes "worker" ∷ [])) v) _ a at.rest in
     let statement : Select = record { table = table.value; equals = equals.value } in
@@ -164,11 +164,11 @@ select-ok tables v a e =
     let none : select_fault tables checked.value ≡ None = subst (λ s. select_fault tables s ≡ None) done.0 done.1 in
     subst (λ b. ask_fault tables b ≡ None) (ok_same checked.rest) none
 
-preview-ok : (tables : Tables) (v : Data) (a : Ask) → preview tables v ≡ Ok a → ask_fault tables a ≡ None
+preview-ok : (version : Version) (tables : Tables) (v : Data) (a : Ask) → preview version tables v ≡ Ok a → ask_fault tables a ≡ None
 unfolding preview
-preview-ok tables v a e =
+preview-ok version tables v a e =
     let table = step (member (codes "preview") (table_named tables) v) _ a e in
-    let equals = step (member (codes "where") (array_of (condition tables table.value)) v) _ a table.rest in
+    let equals = step (member (codes "where") (array_of (condition version tables table.value)) v) _ a table.rest in
     let known = step (no_members_but (is_one_of (codes "preview" ∷ codes "where" ∷ codes "worker" ∷ [])) v) _ a equals.rest in
     let statement : Select = record { table = table.value; equals = equals.value } in
     let checked = step (checked_statement statement (select_fault tables statement)) _ a known.rest in
@@ -187,30 +187,30 @@ some-ok tables r o sound e =
     let write = step r _ o e in
     subst (IsAccepted tables) (ok_same write.rest) (sound write.value write.is)
 
-write-ok_by_kind : (tables : Tables) (context : Context) (v : Data) (first second third : Bool) (o : Option Write)
+write-ok_by_kind : (version : Version) (tables : Tables) (context : Context) (v : Data) (first second third : Bool) (o : Option Write)
     → cond first (insert tables context v >>= λ write. Ok (Some write))
-    (cond second (update tables context v >>= λ write. Ok (Some write))
-    (cond third (delete tables context v >>= λ write. Ok (Some write)) (Ok None))) ≡ Ok o
+    (cond second (update version tables context v >>= λ write. Ok (Some write))
+    (cond third (delete version tables context v >>= λ write. Ok (Some write)) (Ok None))) ≡ Ok o
     → IsAccepted tables o
-write-ok_by_kind tables context v true second third o e = some-ok tables (insert tables context v) o (insert-ok tables context v) e
-write-ok_by_kind tables context v false true third o e = some-ok tables (update tables context v) o (update-ok tables context v) e
-write-ok_by_kind tables context v false false true o e = some-ok tables (delete tables context v) o (delete-ok tables context v) e
-write-ok_by_kind tables context v false false false o e = subst (IsAccepted tables) (ok_same e) tt
+write-ok_by_kind version tables context v true second third o e = some-ok tables (insert tables context v) o (insert-ok tables context v) e
+write-ok_by_kind version tables context v false true third o e = some-ok tables (update version tables context v) o (update-ok version tables context v) e
+write-ok_by_kind version tables context v false false true o e = some-ok tables (delete version tables context v) o (delete-ok version tables context v) e
+write-ok_by_kind version tables context v false false false o e = subst (IsAccepted tables) (ok_same e) tt
 
-write-ok : (tables : Tables) (context : Context) (v : Data) (o : Option Write) → write tables context v ≡ Ok o → IsAccepted tables o
+write-ok : (version : Version) (tables : Tables) (context : Context) (v : Data) (o : Option Write) → write version tables context v ≡ Ok o → IsAccepted tables o
 unfolding write
-write-ok tables context v o e = write-ok_by_kind tables context v (has (codes "insert") v) (has (codes "update") v) (has (codes "delete") v) o e
+write-ok version tables context v o e = write-ok_by_kind version tables context v (has (codes "insert") v) (has (codes "update") v) (has (codes "delete") v) o e
 
 or_refuse-ok : (tables : Tables) (cause : List ℕ) (o : Option Write) (w : Write) → IsAccepted tables o → or_refuse cause o ≡ Ok w → write_fault tables w ≡ None
 or_refuse-ok tables cause None w h e = cc
 or_refuse-ok tables cause (Some x) w h e = subst (λ w. write_fault tables w ≡ None) (ok_same e) h
 
-item_of_action-ok : (tables : Tables) (v : Data) (w : Write) → item_of_action tables v ≡ Ok w → write_fault tables w ≡ None
+item_of_action-ok : (version : Version) (tables : Tables) (v : Data) (w : Write) → item_of_action version tables v ≡ Ok w → write_fault tables w ≡ None
 unfolding item_of_action
-item_of_action-ok tables v w e =
+item_of_action-ok version tables v w e =
     let members = step (object v) _ w e in
-    let read = step (write tables contexts.Nested v) _ w members.rest in
-    or_refuse-ok tables _ read.value w (write-ok tables contexts.Nested v read.value read.is) read.rest
+    let read = step (write version tables contexts.Nested v) _ w members.rest in
+    or_refuse-ok tables _ read.value w (write-ok version tables contexts.Nested v read.value read.is) read.rest
 
 -- an action of writes without faults, of which there are few, has no fault
 first_write_fault-none : (tables : Tables) (ws : List Write) → AllByRecursion (λ w. write_fault tables w ≡ None) ws → first_write_fault tables ws ≡ None
@@ -231,21 +231,21 @@ length-each decode i (d ∷ ds) xs e =
     let rest = step (each decode (suc i) ds) _ xs first.rest in
     ap length (sym (ok_same rest.rest)) ∙ ap suc (length-each decode (suc i) ds rest.value rest.is)
 
-writes-ok : (tables : Tables) (v : Data) (ws : List Write) → writes tables v ≡ Ok ws → action_fault tables ws ≡ None
-writes-ok tables v ws e =
+writes-ok : (version : Version) (tables : Tables) (v : Data) (ws : List Write) → writes version tables v ≡ Ok ws → action_fault tables ws ≡ None
+writes-ok version tables v ws e =
     let items = step (array v) _ ws e in
     let limit = step (within_limit max_writes items.value) _ ws items.rest in
-    let same_length = length-each (item_of_action tables) 0 items.value ws limit.rest in
+    let same_length = length-each (item_of_action version tables) 0 items.value ws limit.rest in
     let few = ap (nat_lt max_writes) same_length ∙ within_limit-ok _ _ limit.is in
-    action_fault-none tables ws few (each-ok (λ w. write_fault tables w ≡ None) (item_of_action tables) (item_of_action-ok tables) 0 items.value ws limit.rest)
+    action_fault-none tables ws few (each-ok (λ w. write_fault tables w ≡ None) (item_of_action version tables) (item_of_action-ok version tables) 0 items.value ws limit.rest)
 
-action-ok : (tables : Tables) (context : Context) (v : Data) (ws : List Write) → action tables context v ≡ Ok ws → action_fault tables ws ≡ None
+action-ok : (version : Version) (tables : Tables) (context : Context) (v : Data) (ws : List Write) → action version tables context v ≡ Ok ws → action_fault tables ws ≡ None
 unfolding action
-action-ok tables context v ws e =
-    let items = step (member (codes "do") (writes tables) v) _ ws e in
+action-ok version tables context v ws e =
+    let items = step (member (codes "do") (writes version tables) v) _ ws e in
     let known = step (no_members_at context (codes "do" ∷ []) v) _ ws items.rest in
-    let read = member-ok (codes "do") (writes tables) v items.value items.is in
-    subst (λ ws. action_fault tables ws ≡ None) (ok_same known.rest) (writes-ok tables read.value items.value read.is)
+    let read = member-ok (codes "do") (writes version tables) v items.value items.is in
+    subst (λ ws. action_fault tables ws ≡ None) (ok_same known.rest) (writes-ok version tables read.value items.value read.is)
 
 -- what a call asks for has no fault
 do-ok : (tables : Tables) (r : Result (List Write) DocFault) (a : Ask) → ((ws : List Write) → r ≡ Ok ws → action_fault tables ws ≡ None)
@@ -254,13 +254,13 @@ do-ok tables r a sound e =
     let action = step r _ a e in
     subst (λ b. ask_fault tables b ≡ None) (ok_same action.rest) (sound action.value action.is)
 
-other_ask-ok_by_kind : (tables : Tables) (v : Data) (first second third : Bool) (a : Ask) (cause : List ℕ)
-    → cond first (select tables v) (cond second (preview tables v) (cond third (action tables contexts.Call v >>= λ action. Ok (asks.Write action)) (refuse cause))) ≡ Ok a
+other_ask-ok_by_kind : (version : Version) (tables : Tables) (v : Data) (first second third : Bool) (a : Ask) (cause : List ℕ)
+    → cond first (select version tables v) (cond second (preview version tables v) (cond third (action version tables contexts.Call v >>= λ action. Ok (asks.Write action)) (refuse cause))) ≡ Ok a
     → ask_fault tables a ≡ None
-other_ask-ok_by_kind tables v true second third a cause e = select-ok tables v a e
-other_ask-ok_by_kind tables v false true third a cause e = preview-ok tables v a e
-other_ask-ok_by_kind tables v false false true a cause e = do-ok tables (action tables contexts.Call v) a (action-ok tables contexts.Call v) e
-other_ask-ok_by_kind tables v false false false a cause e = cc
+other_ask-ok_by_kind version tables v true second third a cause e = select-ok version tables v a e
+other_ask-ok_by_kind version tables v false true third a cause e = preview-ok version tables v a e
+other_ask-ok_by_kind version tables v false false true a cause e = do-ok tables (action version tables contexts.Call v) a (action-ok version tables contexts.Call v) e
+other_ask-ok_by_kind version tables v false false false a cause e = cc
 
 action_of_one-none : (tables : Tables) (w : Write) → write_fault tables w ≡ None → action_fault tables (w ∷ []) ≡ None
 action_of_one-none tables w h = action_fault-none tables (w ∷ []) refl (h, tt)
@@ -268,13 +268,13 @@ action_of_one-none tables w h = action_fault-none tables (w ∷ []) refl (h, tt)
 ask_by-ok : (version : Version) (tables : Tables) (v : Data) (o : Option Write) (a : Ask) → IsAccepted tables o → ask_by version tables v o ≡ Ok a → ask_fault tables a ≡ None
 ask_by-ok version tables v (Some w) a h e = subst (λ b. ask_fault tables b ≡ None) (ok_same e) (action_of_one-none tables w h)
 ask_by-ok version tables v None a h e =
-    other_ask-ok_by_kind tables v (has (codes "select") v) (has (codes "preview") v) (has_action version v) a (no_kind version) e
+    other_ask-ok_by_kind version tables v (has (codes "select") v) (has (codes "preview") v) (has_action version v) a (no_kind version) e
 
 ask-ok : (version : Version) (tables : Tables) (v : Data) (a : Ask) → ask version tables v ≡ Ok a → ask_fault tables a ≡ None
 unfolding ask
 ask-ok version tables v a e =
-    let read = step (write tables contexts.Call v) _ a e in
-    ask_by-ok version tables v read.value a (write-ok tables contexts.Call v read.value read.is) read.rest
+    let read = step (write version tables contexts.Call v) _ a e in
+    ask_by-ok version tables v read.value a (write-ok version tables contexts.Call v read.value read.is) read.rest
 
 call-ok : (version : Version) (tables : Tables) (workers : ℕ) (v : Data) (c : Call) → call version tables workers v ≡ Ok c → IsValidCall tables workers c
 unfolding call
@@ -301,21 +301,21 @@ calls-ok version tables workers v cs e =
     }
 
 -- the action of a replacement has no fault
-replacement_by_kind-ok : (tables : Tables) (v : Data) (first : Bool) (ws : List Write) (cause : List ℕ)
-    → cond first (action tables contexts.Nested v) (refuse cause) ≡ Ok ws → action_fault tables ws ≡ None
-replacement_by_kind-ok tables v true ws cause e = action-ok tables contexts.Nested v ws e
-replacement_by_kind-ok tables v false ws cause e = cc
+replacement_by_kind-ok : (version : Version) (tables : Tables) (v : Data) (first : Bool) (ws : List Write) (cause : List ℕ)
+    → cond first (action version tables contexts.Nested v) (refuse cause) ≡ Ok ws → action_fault tables ws ≡ None
+replacement_by_kind-ok version tables v true ws cause e = action-ok version tables contexts.Nested v ws e
+replacement_by_kind-ok version tables v false ws cause e = cc
 
 replacement_by-ok : (version : Version) (tables : Tables) (v : Data) (o : Option Write) (ws : List Write) → IsAccepted tables o → replacement_by version tables v o ≡ Ok ws → action_fault tables ws ≡ None
 replacement_by-ok version tables v (Some w) ws h e = subst (λ ws. action_fault tables ws ≡ None) (ok_same e) (action_of_one-none tables w h)
-replacement_by-ok version tables v None ws h e = replacement_by_kind-ok tables v (has_action version v) ws (no_kind_of_write version) e
+replacement_by-ok version tables v None ws h e = replacement_by_kind-ok version tables v (has_action version v) ws (no_kind_of_write version) e
 
 replacement-ok : (version : Version) (tables : Tables) (v : Data) (ws : List Write) → replacement version tables v ≡ Ok ws → action_fault tables ws ≡ None
 unfolding replacement
 replacement-ok version tables v ws e =
     let members = step (object v) _ ws e in
-    let read = step (write tables contexts.Nested v) _ ws members.rest in
-    replacement_by-ok version tables v read.value ws (write-ok tables contexts.Nested v read.value read.is) read.rest
+    let read = step (write version tables contexts.Nested v) _ ws members.rest in
+    replacement_by-ok version tables v read.value ws (write-ok version tables contexts.Nested v read.value read.is) read.rest
 
 -- an edit names one of the calls, and its action has no fault
 record IsSound (tables : Tables) (calls : ℕ) (e : Edit) : Type 0 where

@@ -24,20 +24,21 @@ max_calls = 100000
 abbrev pub no_kind : Version → List ℕ
 no_kind versions.One = codes "missing one of insert, update, delete, select, preview"
 no_kind versions.Two = codes "missing one of insert, update, delete, select, preview, do"
+no_kind versions.Three = codes "missing one of insert, update, delete, select, preview, do"
 
 -- what a call asks for: its write, if it has one, as an action of one; or else its select; or else its preview; or else its action
 abbrev pub ask_by : Version → Tables → Data → Option Write → Result Ask DocFault
 ask_by version tables v (Some write) = Ok (asks.Write (write ∷ []))
 ask_by version tables v None =
-    if has (codes "select") v then select tables v else (
-    if has (codes "preview") v then preview tables v else (
-    if has_action version v then (action tables contexts.Call v >>= λ action. Ok (asks.Write action)) else
+    if has (codes "select") v then select version tables v else (
+    if has (codes "preview") v then preview version tables v else (
+    if has_action version v then (action version tables contexts.Call v >>= λ action. Ok (asks.Write action)) else
     refuse (no_kind version)))
 
--- what a call asks for, by the first of the kinds that it has: insert, update, delete, select, preview, and in version 2 do
+-- what a call asks for, by the first of the kinds that it has: insert, update, delete, select, preview, and from version 2 on do
 unfoldable pub ask : Version → Tables → Data → Result Ask DocFault
 ask version tables v = do
-  write ← write tables contexts.Call v
+  write ← write version tables contexts.Call v
   ask_by version tables v write
 
 -- a call: its worker, and what it asks for

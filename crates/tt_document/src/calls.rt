@@ -77,7 +77,7 @@ fn ask<V: JsonValue>(
 ) -> Result<Ask, DocFault>
     ensures { Gives result (ask version catalog.now (V.json value.now)) }
 {
-    match write(alloc, catalog, Context::Call, value)? {
+    match write(alloc, version, catalog, Context::Call, value)? {
         Some(write) => {
             let action = action_of_one(alloc, write)?;
             Ok(Ask::Write(action))
@@ -95,15 +95,15 @@ fn ask_without_write<V: JsonValue>(
     ensures { Gives result (ask_by version catalog.now (V.json value.now) None) }
 {
     if has(value, "select") {
-        let read = select(alloc, catalog, value)?;
+        let read = select(alloc, version, catalog, value)?;
         return Ok(read);
     }
     if has(value, "preview") {
-        let preview = preview(alloc, catalog, value)?;
+        let preview = preview(alloc, version, catalog, value)?;
         return Ok(preview);
     }
     if has_action(version, value) {
-        let action = action(alloc, catalog, Context::Call, value)?;
+        let action = action(alloc, version, catalog, Context::Call, value)?;
         return Ok(Ask::Write(action));
     }
     Err(DocFault::here(alloc, no_kind(version)))
@@ -114,6 +114,7 @@ fn no_kind(version: Version) -> &'static str
 {
     match version {
         Version::One => "missing one of insert, update, delete, select, preview",
-        Version::Two => "missing one of insert, update, delete, select, preview, do",
+        Version::Two | Version::Three =>
+            "missing one of insert, update, delete, select, preview, do",
     }
 }

@@ -6,7 +6,8 @@ use crate::document::Ask;
 use std::alloc::Global;
 use tt_grammar::DocFault;
 use tt_grammar::decoding::{
-    AnyCountDecoder, TableNameDecoder, checked_select, conditions, member, no_members_but, optional,
+    AnyCountDecoder, TableNameDecoder, Version, checked_select, conditions, member, no_members_but,
+    optional,
 };
 use tt_json::JsonValue;
 use tt_values::{Catalog, Select};
@@ -15,13 +16,14 @@ use tt_values::{Catalog, Select};
 #[tactic(auto, unfolding(crate::specs::Reads::select))]
 pub(crate) fn select<V: JsonValue>(
     alloc: Global,
+    version: Version,
     catalog: &Catalog,
     value: &V,
 ) -> Result<Ask, DocFault>
-    ensures { Gives result (select catalog.now (V.json value.now)) }
+    ensures { Gives result (select version catalog.now (V.json value.now)) }
 {
     let table = member(alloc, value, "select", &TableNameDecoder { catalog })?;
-    let equals = conditions(alloc, catalog, table, value)?;
+    let equals = conditions(alloc, version, catalog, table, value)?;
     let at = optional(alloc, value, "at", &AnyCountDecoder)?;
     no_members_but(alloc, value, &["at", "select", "where", "worker"])?;
     let select = checked_select(alloc, catalog, Select { table, equals })?;
@@ -32,13 +34,14 @@ pub(crate) fn select<V: JsonValue>(
 #[tactic(auto, unfolding(crate::specs::Reads::preview))]
 pub(crate) fn preview<V: JsonValue>(
     alloc: Global,
+    version: Version,
     catalog: &Catalog,
     value: &V,
 ) -> Result<Ask, DocFault>
-    ensures { Gives result (preview catalog.now (V.json value.now)) }
+    ensures { Gives result (preview version catalog.now (V.json value.now)) }
 {
     let table = member(alloc, value, "preview", &TableNameDecoder { catalog })?;
-    let equals = conditions(alloc, catalog, table, value)?;
+    let equals = conditions(alloc, version, catalog, table, value)?;
     no_members_but(alloc, value, &["preview", "where", "worker"])?;
     let select = checked_select(alloc, catalog, Select { table, equals })?;
     Ok(Ask::Preview(select))

@@ -51,11 +51,13 @@ fn names_dirty_row(dirty: &Dirty, write: &Write) -> bool
     }
 }
 
-/// Whether one of the equalities is on the first column, with the key of a dirty row.
+/// Whether one of the conditions is an equality on the first column, with the key of a dirty row.
 fn have_dirty_key(dirty: &Dirty, table: u16, equals: &[Equal]) -> bool
     ensures { result ≡ list_any (has_dirty_key dirty.now.dirty table) equals.now }
 {
-    equals.iter().any(|equal| equal.column == 0 && is_dirty_key(dirty, table, &equal.value))
+    equals.iter().any(|equal| {
+        equal.equates() && equal.column == 0 && is_dirty_key(dirty, table, &equal.value)
+    })
 }
 
 /// Whether a value is the key of a dirty row.

@@ -17,7 +17,7 @@ use Rattle.tt_grammar.specs.Fault.{◌>>=◌}
 use Rattle.tt_grammar.specs.Arrays.{each, array_of}
 use Rattle.tt_grammar.specs.Actions.{write, item_of_action, writes, action}
 use Rattle.tt_grammar.specs.Edits.{replacement}
-use Rattle.tt_grammar.specs.Version.{version_of_sessions}
+use Rattle.tt_grammar.specs.Version.{newest_version}
 use Rattle.tt_grammar.specs.JsonText.{Member, object_text}
 use Rattle.tt_grammar.specs.WriteText.{write_text, action_text}
 use Rattle.tt_grammar.specs.ReadBack.{IsStorable, values_of_write, ActionsAreReadBack}
@@ -50,16 +50,16 @@ abbrev pub data_of_action : Tables → List Write → Data
 data_of_action tables ws = spec.array (meanings (data_of_write tables) ws)
 
 pub action-back : (tables : Tables) (ws : List Write) → IsCatalog tables → action_fault tables ws ≡ None → All (λ w. All IsStorable (values_of_write w)) ws
-    → IsReadBack 4 (json_of_action tables ws) (action_text tables ws) (data_of_action tables ws) (writes tables) ws
+    → IsReadBack 4 (json_of_action tables ws) (action_text tables ws) (data_of_action tables ws) (writes newest_version tables) ws
 action-back tables ws catalog sound storable =
     let parts = few_writes (nat_lt max_writes (length ws)) (first_write_fault tables ws) sound in
     let items = every-both (λ w. write_fault tables w ≡ None) (λ w. All IsStorable (values_of_write w)) _ ws (λ w none all. write-back tables w catalog none all)
     (no_write_fault tables ws parts.1) (every _ ws storable) in
-    let back = array-back 3 (json_of_write tables) (write_text tables) (data_of_write tables) (item_of_action tables) ws items in
+    let back = array-back 3 (json_of_write tables) (write_text tables) (data_of_write tables) (item_of_action newest_version tables) ws items in
     let ds : List Data = list_of (meanings (data_of_write tables) ws) in
     let few : nat_lt max_writes (length ds) ≡ false = ap (nat_lt max_writes) (length-meanings (data_of_write tables) ws) ∙ parts.0 in
-    let within : (within_limit max_writes ds >>= λ _. each (item_of_action tables) 0 ds) ≡ Ok ws = rw few back.decoded in
-    also-back 4 (json_of_action tables ws) (action_text tables ws) (data_of_action tables ws) (array_of (item_of_action tables)) ws (writes tables) ws back within
+    let within : (within_limit max_writes ds >>= λ _. each (item_of_action newest_version tables) 0 ds) ≡ Ok ws = rw few back.decoded in
+    also-back 4 (json_of_action tables ws) (action_text tables ws) (data_of_action tables ws) (array_of (item_of_action newest_version tables)) ws (writes newest_version tables) ws back within
 
 -- ---- an action under `do`
 
@@ -69,8 +69,8 @@ do_tree tables ws = json.object (json.member (codes "do") (json_of_action tables
 abbrev pub do_data : Tables → List Write → Data
 do_data tables ws = spec.object (member (codes "do") (data_of_action tables ws) no_members)
 
-pub do-back : (tables : Tables) (ws : List Write) → IsReadBack 4 (json_of_action tables ws) (action_text tables ws) (data_of_action tables ws) (writes tables) ws
-    → IsReadBack 5 (do_tree tables ws) (object_text ((codes "do", action_text tables ws) ∷ [])) (do_data tables ws) (replacement version_of_sessions tables) ws
+pub do-back : (tables : Tables) (ws : List Write) → IsReadBack 4 (json_of_action tables ws) (action_text tables ws) (data_of_action tables ws) (writes newest_version tables) ws
+    → IsReadBack 5 (do_tree tables ws) (object_text ((codes "do", action_text tables ws) ∷ [])) (do_data tables ws) (replacement newest_version tables) ws
 unfolding replacement write action
 do-back tables ws back =
     let ms : List Member = (codes "do", action_text tables ws) ∷ [] in
@@ -88,6 +88,6 @@ do-back tables ws back =
 pub actions_are_read_back : ActionsAreReadBack
 actions_are_read_back tables ws catalog sound storable =
     let back = action-back tables ws catalog sound storable in (
-      read-back 4 (json_of_action tables ws) (action_text tables ws) (data_of_action tables ws) (writes tables) ws back (omega arith),
-      read-back 5 (do_tree tables ws) (object_text ((codes "do", action_text tables ws) ∷ [])) (do_data tables ws) (replacement version_of_sessions tables) ws (do-back tables ws back) (omega arith),
+      read-back 4 (json_of_action tables ws) (action_text tables ws) (data_of_action tables ws) (writes newest_version tables) ws back (omega arith),
+      read-back 5 (do_tree tables ws) (object_text ((codes "do", action_text tables ws) ∷ [])) (do_data tables ws) (replacement newest_version tables) ws (do-back tables ws back) (omega arith),
     )

@@ -16,6 +16,8 @@ use Rattle.tt_values.specs.declared.table.Column.{Column}
 use Rattle.tt_values.specs.declared.table.TableDef.{TableDef}
 use Rattle.tt_values.specs.declared.statement.Change.{Change}
 use Rattle.tt_values.specs.declared.statement.Change.TheVariants.{Set, Add}
+use Rattle.tt_values.specs.declared.comparison.Comparison.{Comparison}
+use Rattle.tt_values.specs.declared.comparison.Comparison.TheVariants.{Is, IsNot, Below, AtMost, Above, AtLeast}
 use Rattle.tt_values.specs.declared.statement.Equal.{Equal}
 use Rattle.tt_values.specs.declared.statement.Write.{Write}
 use Rattle.tt_values.specs.declared.statement.Write.TheVariants.{Insert, Update, Delete}
@@ -26,10 +28,12 @@ use Rattle.tt_values.specs.Check.{row_tests, equals_tests, update_tests, has_lon
 use Rattle.tt_values.specs.Tables.{Tables, IsTable, IsCatalog, is_name}
 use Rattle.tt_grammar.specs.Quoting.{letter_of, hex_digit, escape_by, escape, quoted}
 use Rattle.tt_grammar.specs.Printing.{value_text, row_text}
+use Rattle.tt_grammar.specs.Comparisons.{before_value}
 use Rattle.tt_grammar.specs.JsonText.{further_item, items_text, array_text, flag_text}
 use Rattle.tt_grammar.specs.WriteText.{table_name, column_name, column_change_text, equal_text, write_text, action_text, kind_name, column_text, table_text, tables_text}
 use Rattle.tt_grammar.specs.ReadBack.{IsStorable, value_of_change, values_of_equals, values_of_write}
 use Rattle.tt_grammar.proofs.EveryLemmas.{Every, every, every-map, every-mapped, every-left, every-right, every-both, every-then, every-fails, every-holds, every-at}
+use Rattle.tt_grammar.proofs.PieceLemmas.{condition-pieces}
 use Rattle.tt_grammar.proofs.Utf8Lemmas.{short-name}
 use Rattle.tt_grammar.proofs.StatementReadLemmas.{IsNamed}
 use Rattle.tt_grammar.proofs.WriteReadLemmas.{row-is_array, no_fault, on_table, all_are_columns, table-named, columns-named}
@@ -80,13 +84,23 @@ pub length-array_of : {X : Type 0} → (text : X → List ℕ) (bound n : ℕ) (
 length-array_of text bound n xs h few =
     length-array bound n (map text xs) (every-mapped (λ item. length item ≤ bound) text xs h) (subst (λ k. k ≤ n) (sym (length-map xs text)) few)
 
--- ---- equalities and changes
+-- ---- conditions and changes
+
+length-before_value : (how : Comparison) → length (before_value how) ≤ 6
+length-before_value Is = omega arith
+length-before_value IsNot = omega arith
+length-before_value Below = omega arith
+length-before_value AtMost = omega arith
+length-before_value Above = omega arith
+length-before_value AtLeast = omega arith
 
 pub length-equal : (tables : Tables) (table : ℕ) (q : Equal) → IsNamed tables table q.column → IsStorable q.value → is_long_text q.value ≡ false → length (equal_text tables table q) ≤ 6600
 length-equal tables table q named storable short =
     let name = length-name (column_name tables table q.column) named.short in
+    let before = length-before_value q.how in
     let operand = length-value q.value storable short in
-    simp length-append (omega (arith, length-append {A = ℕ}))
+    subst (λ text. length text ≤ 6600) (sym (condition-pieces q.how (quoted (column_name tables table q.column)) (value_text q.value)))
+    (simp length-append (omega (arith, length-append {A = ℕ})))
 
 length-change : (tables : Tables) (table : ℕ) (c : Change) → IsNamed tables table (column_of c) → IsStorable (value_of_change c) → is_long_change c ≡ false
     → length (column_change_text tables table c) ≤ 6600

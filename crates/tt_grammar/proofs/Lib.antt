@@ -14,5 +14,6 @@ pub mod StatementReadLemmas
 pub mod WriteReadLemmas
 pub mod ActionReadLemmas
 pub mod TableReadLemmas
+pub mod NewestVersionLemmas
 pub mod LengthLemmas
 pub mod worked_texts

@@ -29,7 +29,7 @@ use Rattle.tt_grammar.specs.Changes.{change}
 use Rattle.tt_grammar.specs.Statements.{insert, update, delete}
 use Rattle.tt_grammar.specs.Actions.{write, item_of_action}
 use Rattle.tt_grammar.specs.Edits.{replacement_by, replacement}
-use Rattle.tt_grammar.specs.Version.{version_of_sessions}
+use Rattle.tt_grammar.specs.Version.{newest_version}
 use Rattle.tt_grammar.proofs.QuotingLemmas.{IsUtf8-quoted}
 use Rattle.tt_grammar.specs.Printing.{value_text, further_value, values_text, row_text}
 use Rattle.tt_grammar.specs.JsonText.{further_item, items_text, array_text}
@@ -134,7 +134,7 @@ data_of_write tables (Delete table equals) =
 
 -- a write is printed as JSON that is read as the same write
 abbrev pub IsWriteBack : Tables → Write → Type 0
-IsWriteBack tables w = IsReadBack 3 (json_of_write tables w) (write_text tables w) (data_of_write tables w) (item_of_action tables) w
+IsWriteBack tables w = IsReadBack 3 (json_of_write tables w) (write_text tables w) (data_of_write tables w) (item_of_action newest_version tables) w
 
 insert-back : (tables : Tables) (table : ℕ) (row : Row) → IsCatalog tables → write_fault tables (Insert table row) ≡ None → Every IsStorable row.values
     → IsWriteBack tables (Insert table row)
@@ -159,9 +159,9 @@ insert-back tables table row catalog sound storable =
 
 equals-back : (tables : Tables) (table : ℕ) (t : List ℕ × TableDef) (equals : List Equal) → IsCatalog tables → slice_get tables table ≡ Some t
     → has_no_column t.1.columns equals ≡ false → Every (λ q. IsStorable q.value) equals
-    → IsReadBack 2 (equals_tree tables table equals) (array_text (map (equal_text tables table) equals)) (equals_data tables table equals) (array_of (condition tables table)) equals
+    → IsReadBack 2 (equals_tree tables table equals) (array_text (map (equal_text tables table) equals)) (equals_data tables table equals) (array_of (condition newest_version tables table)) equals
 equals-back tables table t equals catalog e here storable =
-    array-back 1 (json_of_equal tables table) (equal_text tables table) (data_of_equal tables table) (condition tables table) equals
+    array-back 1 (json_of_equal tables table) (equal_text tables table) (data_of_equal tables table) (condition newest_version tables table) equals
     (every-both _ _ _ equals (equal-back tables table) (columns-named tables table t (λ q. q.column) equals catalog e here) storable)
 
 changes-back : (tables : Tables) (table : ℕ) (t : List ℕ × TableDef) (changes : List Change) → IsCatalog tables → slice_get tables table ≡ Some t
@@ -229,22 +229,22 @@ write-back tables (Delete table equals) catalog sound storable =
 -- ---- what replaces an action
 
 replaced : (tables : Tables) (d : Data) (cause : List ℕ) (o : Result ⊤ DocFault) (r : Result (Option Write) DocFault) (w : Write) → (o >>= λ _. r >>= or_refuse cause) ≡ Ok w
-    → (o >>= λ _. r >>= replacement_by version_of_sessions tables d) ≡ Ok (w ∷ [])
+    → (o >>= λ _. r >>= replacement_by newest_version tables d) ≡ Ok (w ∷ [])
 replaced tables d cause (Err fault) r w e = cc
 replaced tables d cause (Ok u) (Err fault) w e = cc
 replaced tables d cause (Ok u) (Ok None) w e = cc
 replaced tables d cause (Ok u) (Ok (Some v)) w e = let same : v ≡ w = cc in ap (λ x. Ok (x ∷ [])) same
 
 -- an item of an action, alone, replaces an action
-item-replaces : (tables : Tables) (d : Data) (w : Write) → item_of_action tables d ≡ Ok w → replacement version_of_sessions tables d ≡ Ok (w ∷ [])
+item-replaces : (tables : Tables) (d : Data) (w : Write) → item_of_action newest_version tables d ≡ Ok w → replacement newest_version tables d ≡ Ok (w ∷ [])
 unfolding item_of_action replacement
 item-replaces tables d w e = replaced tables d _ _ _ w e
 
 pub replacing-back : (tables : Tables) (w : Write) → IsWriteBack tables w
-    → IsReadBack 3 (json_of_write tables w) (write_text tables w) (data_of_write tables w) (replacement version_of_sessions tables) (w ∷ [])
+    → IsReadBack 3 (json_of_write tables w) (write_text tables w) (data_of_write tables w) (replacement newest_version tables) (w ∷ [])
 replacing-back tables w back =
     let d : Data = data_of_write tables w in
-    also-back 3 (json_of_write tables w) (write_text tables w) d (item_of_action tables) w (replacement version_of_sessions tables) (w ∷ []) back (item-replaces tables d w back.decoded)
+    also-back 3 (json_of_write tables w) (write_text tables w) d (item_of_action newest_version tables) w (replacement newest_version tables) (w ∷ []) back (item-replaces tables d w back.decoded)
 
 -- a write that can be carried out is read back
 pub writes_are_read_back : WritesAreReadBack
@@ -252,6 +252,6 @@ writes_are_read_back tables w catalog sound storable =
     let j = json_of_write tables w in
     let d = data_of_write tables w in
     let back = write-back tables w catalog sound storable in (
-      read-back 3 j (write_text tables w) d (item_of_action tables) w back (omega arith),
-      read-back 3 j (write_text tables w) d (replacement version_of_sessions tables) (w ∷ []) (replacing-back tables w back) (omega arith),
+      read-back 3 j (write_text tables w) d (item_of_action newest_version tables) w back (omega arith),
+      read-back 3 j (write_text tables w) d (replacement newest_version tables) (w ∷ []) (replacing-back tables w back) (omega arith),
     )

@@ -1,2 +1,3 @@
 pub mod Accounts
 mod ReadingBack
+mod Conditions

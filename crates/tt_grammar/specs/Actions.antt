@@ -15,31 +15,31 @@ use Rattle.tt_grammar.specs.declared.version.Version.TheVariants as versions
 use Rattle.tt_grammar.specs.Statements.{no_members_at, insert, update, delete}
 
 -- the write of an object, by the first of the members insert, update and delete that it has; or None, where it has none of them
-unfoldable pub write : Tables → Context → Data → Result (Option Write) DocFault
-write tables context v =
+unfoldable pub write : Version → Tables → Context → Data → Result (Option Write) DocFault
+write version tables context v =
     if has (codes "insert") v then (insert tables context v >>= λ write. Ok (Some write)) else (
-    if has (codes "update") v then (update tables context v >>= λ write. Ok (Some write)) else (
-    if has (codes "delete") v then (delete tables context v >>= λ write. Ok (Some write)) else
+    if has (codes "update") v then (update version tables context v >>= λ write. Ok (Some write)) else (
+    if has (codes "delete") v then (delete version tables context v >>= λ write. Ok (Some write)) else
     Ok None))
 
 -- an item of an action: a write without a worker
-unfoldable pub item_of_action : Tables → Data → Result Write DocFault
-item_of_action tables v = do
+unfoldable pub item_of_action : Version → Tables → Data → Result Write DocFault
+item_of_action version tables v = do
   _ ← object v
-  write ← write tables contexts.Nested v
+  write ← write version tables contexts.Nested v
   or_refuse (codes "missing one of insert, update, delete") write
 
 -- the writes of an action, or the fault that there are too many
-abbrev pub writes : Tables → Data → Result (List Write) DocFault
-writes tables v = do
+abbrev pub writes : Version → Tables → Data → Result (List Write) DocFault
+writes version tables v = do
   ds ← array v
   _ ← within_limit max_writes ds
-  each (item_of_action tables) 0 ds
+  each (item_of_action version tables) 0 ds
 
 -- the action of an object: the writes of its member do
-unfoldable pub action : Tables → Context → Data → Result (List Write) DocFault
-action tables context v = do
-  writes ← member (codes "do") (writes tables) v
+unfoldable pub action : Version → Tables → Context → Data → Result (List Write) DocFault
+action version tables context v = do
+  writes ← member (codes "do") (writes version tables) v
   _ ← no_members_at context (codes "do" ∷ []) v
   Ok writes
 
@@ -47,3 +47,4 @@ action tables context v = do
 abbrev pub has_action : Version → Data → Bool
 has_action versions.One v = false
 has_action versions.Two v = has (codes "do") v
+has_action versions.Three v = has (codes "do") v

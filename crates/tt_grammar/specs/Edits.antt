@@ -19,15 +19,16 @@ max_edits = 10000
 abbrev pub no_kind_of_write : Version → List ℕ
 no_kind_of_write versions.One = codes "missing one of insert, update, delete"
 no_kind_of_write versions.Two = codes "missing one of insert, update, delete, do"
+no_kind_of_write versions.Three = codes "missing one of insert, update, delete, do"
 
 -- the action that replaces another: its write, if it has one, as an action of one; or else its action
 abbrev pub replacement_by : Version → Tables → Data → Option Write → Result (List Write) DocFault
 replacement_by version tables v (Some write) = Ok (write ∷ [])
-replacement_by version tables v None = if has_action version v then action tables contexts.Nested v else refuse (no_kind_of_write version)
+replacement_by version tables v None = if has_action version v then action version tables contexts.Nested v else refuse (no_kind_of_write version)
 
--- the action that replaces another, by the first of the kinds that its object has: insert, update, delete, and in version 2 do
+-- the action that replaces another, by the first of the kinds that its object has: insert, update, delete, and from version 2 on do
 unfoldable pub replacement : Version → Tables → Data → Result (List Write) DocFault
 replacement version tables v = do
   _ ← object v
-  write ← write tables contexts.Nested v
+  write ← write version tables contexts.Nested v
   replacement_by version tables v write

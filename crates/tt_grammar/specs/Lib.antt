@@ -7,12 +7,15 @@ pub mod RepeatedMembers
 pub mod TextValue
 pub mod Causes
 pub mod Tables
+pub mod Comparisons
 pub mod Conditions
 pub mod Changes
 pub mod Statements
 pub mod Actions
 pub mod Version
+pub mod SessionVersion
 pub mod Edits
+pub mod NewestVersion
 pub mod Printing
 pub mod JsonText
 pub mod WriteText

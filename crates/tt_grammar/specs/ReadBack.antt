@@ -17,7 +17,7 @@ use Rattle.tt_grammar.specs.TextValue.{json_of_bytes, value_of_found}
 use Rattle.tt_grammar.specs.Actions.{item_of_action, writes}
 use Rattle.tt_grammar.specs.Edits.{replacement}
 use Rattle.tt_grammar.specs.Tables.{catalog}
-use Rattle.tt_grammar.specs.Version.{version_of_sessions}
+use Rattle.tt_grammar.specs.Version.{newest_version}
 use Rattle.tt_grammar.specs.JsonText.{object_text}
 use Rattle.tt_grammar.specs.WriteText.{write_text, action_text, tables_text}
 
@@ -31,7 +31,7 @@ abbrev pub value_of_change : Change → Value
 value_of_change (Set column value) = value
 value_of_change (Add column by) = values.Int by
 
--- the values of equalities
+-- the values of conditions
 abbrev pub values_of_equals : List Equal → List Value
 values_of_equals equals = map (λ q. q.value) equals
 
@@ -45,19 +45,19 @@ values_of_write (Delete table equals) = values_of_equals equals
 abbrev pub read_with : {T : Type 0} → (Data → Result T DocFault) → List ℕ → Result T DocFault
 read_with decode bytes = value_of_found (json_of_bytes bytes) >>= decode
 
--- a write that can be carried out is printed as JSON that is read as the same write in an action, and as the action of this write
--- where another action is to be replaced
+-- a write that can be carried out is printed as JSON that the newest version reads as the same write in an action, and as the action
+-- of this write where another action is to be replaced
 abbrev pub WritesAreReadBack : Type 0
 WritesAreReadBack = (tables : Tables) (w : Write) → IsCatalog tables → write_fault tables w ≡ None → All IsStorable (values_of_write w) →
-    (read_with (item_of_action tables) (write_text tables w) ≡ Ok w)
-    × (read_with (replacement version_of_sessions tables) (write_text tables w) ≡ Ok (w ∷ []))
+    (read_with (item_of_action newest_version tables) (write_text tables w) ≡ Ok w)
+    × (read_with (replacement newest_version tables) (write_text tables w) ≡ Ok (w ∷ []))
 
--- an action that can be carried out is printed as JSON that is read as the same writes, and as this action where it stands under
--- `do` and another action is to be replaced
+-- an action that can be carried out is printed as JSON that the newest version reads as the same writes, and as this action where it
+-- stands under `do` and another action is to be replaced
 abbrev pub ActionsAreReadBack : Type 0
 ActionsAreReadBack = (tables : Tables) (ws : List Write) → IsCatalog tables → action_fault tables ws ≡ None → All (λ w. All IsStorable (values_of_write w)) ws →
-    (read_with (writes tables) (action_text tables ws) ≡ Ok ws)
-    × (read_with (replacement version_of_sessions tables) (object_text ((codes "do", action_text tables ws) ∷ [])) ≡ Ok ws)
+    (read_with (writes newest_version tables) (action_text tables ws) ≡ Ok ws)
+    × (read_with (replacement newest_version tables) (object_text ((codes "do", action_text tables ws) ∷ [])) ≡ Ok ws)
 
 -- a catalog is printed as JSON that is read as the same tables
 abbrev pub TablesAreReadBack : Type 0

@@ -10,6 +10,7 @@ use Rattle.tt_values.specs.Check.{write_fault}
 use Rattle.tt_grammar.specs.declared.fault.DocFault.{DocFault}
 use Rattle.tt_grammar.specs.declared.statements.Context.{Context}
 use Rattle.tt_grammar.specs.declared.statements.Context.TheVariants as contexts
+use Rattle.tt_grammar.specs.declared.version.Version.{Version}
 use Rattle.tt_grammar.specs.Fault.{◌>>=◌}
 use Rattle.tt_grammar.specs.Decoder.{member}
 use Rattle.tt_grammar.specs.Arrays.{array_of}
@@ -25,8 +26,8 @@ checked_statement statement fault = do
   Ok statement
 
 -- the conditions of a statement on a table
-abbrev pub conditions : Tables → ℕ → Data → Result (List Equal) DocFault
-conditions tables table v = member (codes "where") (array_of (condition tables table)) v
+abbrev pub conditions : Version → Tables → ℕ → Data → Result (List Equal) DocFault
+conditions version tables table v = member (codes "where") (array_of (condition version tables table)) v
 
 -- an object of a write has only members of these names, and in a call its worker, and in a request its worker and the time that it expects
 abbrev pub no_members_at : Context → List (List ℕ) → Data → Result ⊤ DocFault
@@ -54,20 +55,20 @@ insert tables context v = do
   checked_statement statement (write_fault tables statement)
 
 -- an update: the table, the changes, and the conditions
-unfoldable pub update : Tables → Context → Data → Result Write DocFault
-update tables context v = do
+unfoldable pub update : Version → Tables → Context → Data → Result Write DocFault
+update version tables context v = do
   table ← member (codes "update") (table_named tables) v
   changes ← member (codes "change") (array_of (change tables table)) v
-  equals ← conditions tables table v
+  equals ← conditions version tables table v
   _ ← no_members_at context (codes "change" ∷ codes "update" ∷ codes "where" ∷ []) v
   let statement : Write = Update table changes equals
   checked_statement statement (write_fault tables statement)
 
 -- a delete: the table, and the conditions
-unfoldable pub delete : Tables → Context → Data → Result Write DocFault
-delete tables context v = do
+unfoldable pub delete : Version → Tables → Context → Data → Result Write DocFault
+delete version tables context v = do
   table ← member (codes "delete") (table_named tables) v
-  equals ← conditions tables table v
+  equals ← conditions version tables table v
   _ ← no_members_at context (codes "delete" ∷ codes "where" ∷ []) v
   let statement : Write = Delete table equals
   checked_statement statement (write_fault tables statement)

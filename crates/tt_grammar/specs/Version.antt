@@ -1,4 +1,5 @@
--- The versions of documents. Version 2 is version 1 with another kind of call, do.
+-- The versions of documents and sessions. Version 2 is version 1 with another kind of call, do. Version 3 is version 2 with
+-- conditions that compare.
 use Rattle.std.specs.Prelude.{ℕ, ◌==◌, Option, Some, None, if◌then◌else◌, Result, codes}
 use Rattle.serde_json.specs.Data.{Data}
 use Rattle.tt_grammar.specs.declared.version.Version.{Version}
@@ -9,7 +10,10 @@ use Rattle.tt_grammar.specs.Decoder.{count}
 
 -- a version, by its number
 abbrev pub version_numbered : ℕ → Option Version
-version_numbered n = if n == 1 then Some versions.One else (if n == 2 then Some versions.Two else None)
+version_numbered n =
+    if n == 1 then Some versions.One else (
+    if n == 2 then Some versions.Two else (
+    if n == 3 then Some versions.Three else None))
 
 -- the version of a document
 abbrev pub version : Data → Result Version DocFault
@@ -17,6 +21,6 @@ version v = do
   n ← count v
   or_refuse (codes "out of range") (version_numbered n)
 
--- the version whose statements the commands of a session are
-abbrev pub version_of_sessions : Version
-version_of_sessions = versions.Two
+-- the newest version, which what is printed is read back in
+abbrev pub newest_version : Version
+newest_version = versions.Three

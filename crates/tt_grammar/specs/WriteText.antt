@@ -14,6 +14,7 @@ use Rattle.tt_values.specs.declared.statement.Write.TheVariants.{Insert, Update,
 use Rattle.tt_values.specs.Tables.{Tables, columns_at}
 use Rattle.tt_grammar.specs.Quoting.{quoted}
 use Rattle.tt_grammar.specs.Printing.{value_text, row_text}
+use Rattle.tt_grammar.specs.Comparisons.{items_of_condition}
 use Rattle.tt_grammar.specs.JsonText.{Member, array_text, object_text, flag_text}
 
 -- the name of the table at a position, which is empty where there is no table
@@ -35,15 +36,16 @@ column_change_text tables table (Set column value) =
 column_change_text tables table (Add column by) =
     array_text (quoted (codes "add") ∷ quoted (column_name tables table column) ∷ signed_decimal by ∷ [])
 
--- an equality: the column, and its value
+-- a condition: the column, how it compares unless it is an equality, and its value
 abbrev pub equal_text : Tables → ℕ → Equal → List ℕ
-equal_text tables table equal = array_text (quoted (column_name tables table equal.column) ∷ value_text equal.value ∷ [])
+equal_text tables table equal =
+    array_text (items_of_condition equal.how (quoted (column_name tables table equal.column)) (value_text equal.value))
 
--- the equalities of a write
+-- the conditions of a write
 abbrev pub equals_member : Tables → ℕ → List Equal → Member
 equals_member tables table equals = (codes "where", array_text (map (equal_text tables table) equals))
 
--- the members of a write: its table, then its row, or its changes and its equalities
+-- the members of a write: its table, then its row, or its changes and its conditions
 abbrev pub write_members : Tables → Write → List Member
 write_members tables (Insert table row) = (codes "insert", quoted (table_name tables table)) ∷ (codes "row", row_text row) ∷ []
 write_members tables (Update table changes equals) =

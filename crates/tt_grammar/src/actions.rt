@@ -20,22 +20,23 @@ const NO_KIND: &str = "missing one of insert, update, delete";
 #[tactic(auto, unfolding(crate::specs::Actions::write))]
 pub fn write<V: JsonValue>(
     alloc: Global,
+    version: Version,
     catalog: &Catalog,
     context: Context,
     value: &V,
 ) -> Result<Option<Write>, DocFault>
-    ensures { Gives result (write catalog.now context (V.json value.now)) }
+    ensures { Gives result (write version catalog.now context (V.json value.now)) }
 {
     if has(value, "insert") {
         let write = insert(alloc, catalog, context, value)?;
         return Ok(Some(write));
     }
     if has(value, "update") {
-        let write = update(alloc, catalog, context, value)?;
+        let write = update(alloc, version, catalog, context, value)?;
         return Ok(Some(write));
     }
     if has(value, "delete") {
-        let write = delete(alloc, catalog, context, value)?;
+        let write = delete(alloc, version, catalog, context, value)?;
         return Ok(Some(write));
     }
     Ok(None)
@@ -53,13 +54,14 @@ pub fn action_of_one(alloc: Global, write: Write) -> Result<Items<Write>, AllocE
 #[tactic(auto, unfolding(crate::specs::Actions::action))]
 pub fn action<V: JsonValue>(
     alloc: Global,
+    version: Version,
     catalog: &Catalog,
     context: Context,
     value: &V,
 ) -> Result<Items<Write>, DocFault>
-    ensures { Gives result (action catalog.now context (V.json value.now)) }
+    ensures { Gives result (action version catalog.now context (V.json value.now)) }
 {
-    let writes = member(alloc, value, "do", &WritesDecoder { catalog })?;
+    let writes = member(alloc, value, "do", &WritesDecoder { version, catalog })?;
     no_members_but_do(alloc, context, value)?;
     Ok(writes)
 }
@@ -84,20 +86,21 @@ pub fn has_action<V: JsonValue>(version: Version, object: &V) -> bool
 {
     match version {
         Version::One => false,
-        Version::Two => has(object, "do"),
+        Version::Two | Version::Three => has(object, "do"),
     }
 }
 
 /// The writes of an action, at most [`MAX_WRITES`].
 #[derive(Drop)]
 struct WritesDecoder<'a> {
+    version: Version,
     catalog: &'a Catalog,
 }
 
 impl Decoder for WritesDecoder<'_> {
     type Output = Items<Write>;
 
-    ghost meaning = { λ r. writes r.catalog.now };
+    ghost meaning = { λ r. writes r.version r.catalog.now };
 
     fn decode<V: JsonValue>(&self, alloc: Global, value: &V) -> Result<Items<Write>, DocFault> {
         let items = array(alloc, value)?;
@@ -105,6 +108,7 @@ impl Decoder for WritesDecoder<'_> {
             return Err(DocFault::here(alloc, OUT_OF_RANGE));
         }
         let decoder = WriteDecoder {
+            version: self.version,
             catalog: self.catalog,
         };
         decode_items::<_, V>(alloc, &decoder, items)
@@ -114,18 +118,19 @@ impl Decoder for WritesDecoder<'_> {
 /// A write that is an item of an action.
 #[derive(Drop)]
 struct WriteDecoder<'a> {
+    version: Version,
     catalog: &'a Catalog,
 }
 
 impl Decoder for WriteDecoder<'_> {
     type Output = Write;
 
-    ghost meaning = { λ r. item_of_action r.catalog.now };
+    ghost meaning = { λ r. item_of_action r.version r.catalog.now };
 
     #[tactic(auto, unfolding(crate::specs::Actions::item_of_action))]
     fn decode<V: JsonValue>(&self, alloc: Global, value: &V) -> Result<Write, DocFault> {
         object(alloc, value)?;
-        match write(alloc, self.catalog, Context::Nested, value)? {
+        match write(alloc, self.version, self.catalog, Context::Nested, value)? {
             Some(write) => Ok(write),
             None => Err(DocFault::here(alloc, NO_KIND)),
         }

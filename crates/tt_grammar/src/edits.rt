@@ -15,7 +15,7 @@ use tt_values::{Catalog, Items, Write};
 /// The action that replaces the one of a call, or of a slot.
 #[derive(Drop)]
 pub struct ReplacementDecoder<'a> {
-    /// Which kinds of write there are.
+    /// Which kinds of write and of condition there are.
     pub version: Version,
     /// The tables.
     pub catalog: &'a Catalog,
@@ -29,7 +29,7 @@ impl Decoder for ReplacementDecoder<'_> {
     #[tactic(auto, unfolding(crate::specs::Edits::replacement))]
     fn decode<V: JsonValue>(&self, alloc: Global, value: &V) -> Result<Items<Write>, DocFault> {
         object(alloc, value)?;
-        match write(alloc, self.catalog, Context::Nested, value)? {
+        match write(alloc, self.version, self.catalog, Context::Nested, value)? {
             Some(write) => {
                 let action = action_of_one(alloc, write)?;
                 Ok(action)
@@ -48,7 +48,7 @@ fn replacement_without_write<V: JsonValue>(
     ensures { Gives result (replacement_by version catalog.now (V.json value.now) None) }
 {
     if has_action(version, value) {
-        let action = action(alloc, catalog, Context::Nested, value)?;
+        let action = action(alloc, version, catalog, Context::Nested, value)?;
         return Ok(action);
     }
     Err(DocFault::here(alloc, no_kind_of_write(version)))
@@ -59,6 +59,6 @@ fn no_kind_of_write(version: Version) -> &'static str
 {
     match version {
         Version::One => "missing one of insert, update, delete",
-        Version::Two => "missing one of insert, update, delete, do",
+        Version::Two | Version::Three => "missing one of insert, update, delete, do",
     }
 }

@@ -18,6 +18,7 @@ use crate::conditions::{ConditionDecoder, TableNameDecoder, ValueDecoder};
 use crate::decoder::{found_member, member};
 use crate::fault::DocFault;
 use crate::members::no_unknown_member;
+use crate::version::Version;
 use std::alloc::Global;
 use tt_json::{Found, JsonValue};
 use tt_values::{Catalog, Equal, Items, Row, Select, Write, check, check_select};
@@ -57,11 +58,12 @@ pub fn insert<V: JsonValue>(
 #[tactic(auto, unfolding(crate::specs::Statements::update))]
 pub fn update<V: JsonValue>(
     alloc: Global,
+    version: Version,
     catalog: &Catalog,
     context: Context,
     value: &V,
 ) -> Result<Write, DocFault>
-    ensures { Gives result (update catalog.now context (V.json value.now)) }
+    ensures { Gives result (update version catalog.now context (V.json value.now)) }
 {
     let found = find_in_update(context, value);
     let table = found_member(alloc, found.first, "update", &TableNameDecoder { catalog })?;
@@ -69,7 +71,7 @@ pub fn update<V: JsonValue>(
         decoder: ChangeDecoder { catalog, table },
     };
     let changes = member(alloc, value, "change", &decoder)?;
-    let equals = found_conditions(alloc, catalog, table, found.second)?;
+    let equals = found_conditions(alloc, version, catalog, table, found.second)?;
     no_unknown_member(alloc, found.unknown)?;
     let write = Write::Update {
         table,
@@ -83,15 +85,16 @@ pub fn update<V: JsonValue>(
 #[tactic(auto, unfolding(crate::specs::Statements::delete))]
 pub fn delete<V: JsonValue>(
     alloc: Global,
+    version: Version,
     catalog: &Catalog,
     context: Context,
     value: &V,
 ) -> Result<Write, DocFault>
-    ensures { Gives result (delete catalog.now context (V.json value.now)) }
+    ensures { Gives result (delete version catalog.now context (V.json value.now)) }
 {
     let found = find_in(context, value, "delete", "where");
     let table = found_member(alloc, found.first, "delete", &TableNameDecoder { catalog })?;
-    let equals = found_conditions(alloc, catalog, table, found.second)?;
+    let equals = found_conditions(alloc, version, catalog, table, found.second)?;
     no_unknown_member(alloc, found.unknown)?;
     checked_write(alloc, catalog, Write::Delete { table, equals })
 }
@@ -148,28 +151,34 @@ fn find_in_update<V: JsonValue>(context: Context, value: &V) -> Found<'_, V>
 /// The conditions of a statement on a table, from its member `where`.
 pub fn conditions<V: JsonValue>(
     alloc: Global,
+    version: Version,
     catalog: &Catalog,
     table: u16,
     statement: &V,
 ) -> Result<Items<Equal>, DocFault>
-    ensures { Gives result (conditions catalog.now table (V.json statement.now)) }
+    ensures { Gives result (conditions version catalog.now table (V.json statement.now)) }
 {
-    found_conditions(alloc, catalog, table, statement.get("where"))
+    found_conditions(alloc, version, catalog, table, statement.get("where"))
 }
 
 /// As [`conditions`], once the member has been looked for.
 fn found_conditions<V: JsonValue>(
     alloc: Global,
+    version: Version,
     catalog: &Catalog,
     table: u16,
     found: Option<V>,
 ) -> Result<Items<Equal>, DocFault>
     ensures { Gives result
-        (read_member (codes "where") (array_of (condition catalog.now table))
+        (read_member (codes "where") (array_of (condition version catalog.now table))
         (option_map V.json found)) }
 {
     let decoder = ArrayDecoder {
-        decoder: ConditionDecoder { catalog, table },
+        decoder: ConditionDecoder {
+            version,
+            catalog,
+            table,
+        },
     };
     let equals = found_member(alloc, found, "where", &decoder)?;
     Ok(equals)

@@ -7,11 +7,13 @@ use crate::fault::DocFault;
 use std::alloc::Global;
 use tt_json::JsonValue;
 
-/// The version of a document. Version 2 is version 1 with another kind of call, `do`.
-#[derive(Clone, Copy)]
+/// The version of a document or of a session. Version 2 is version 1 with another kind of call,
+/// `do`. Version 3 is version 2 with conditions that compare.
+#[derive(Clone, Copy, Debug)]
 pub enum Version {
     One,
     Two,
+    Three,
 }
 
 /// The version of a document, by its number.
@@ -38,6 +40,7 @@ fn version_numbered(number: u64) -> Option<Version>
     match number {
         1 => Some(Version::One),
         2 => Some(Version::Two),
+        3 => Some(Version::Three),
         _ => None,
     }
 }

@@ -6,6 +6,7 @@ ghost use Rattle.tt_grammar.specs.Quoting.{quoted};
 ghost use Rattle.tt_grammar.specs.JsonText.{further_item, array_text, text_or_null};
 ghost use Rattle.tt_grammar.specs.WriteText.{table_name, column_name, column_change_text, equal_text, write_text, action_text};
 
+use crate::comparisons::before_value;
 use crate::json_text::push_named;
 use crate::printing::{push_int, push_row, push_value};
 use std::alloc::AllocError;
@@ -264,7 +265,7 @@ fn push_add(
     Ok(())
 }
 
-/// Pushes the equalities of a write as an array.
+/// Pushes the conditions of a write as an array.
 fn push_equals(
     out: &mut Vec<u8>,
     catalog: &Catalog,
@@ -284,7 +285,7 @@ fn push_equals(
     Ok(())
 }
 
-/// Pushes further equalities, each behind a comma.
+/// Pushes further conditions, each behind a comma.
 fn push_further_equals(
     out: &mut Vec<u8>,
     catalog: &Catalog,
@@ -301,7 +302,7 @@ fn push_further_equals(
     Ok(())
 }
 
-/// Pushes an equality.
+/// Pushes a condition.
 fn push_equal(
     out: &mut Vec<u8>,
     catalog: &Catalog,
@@ -312,7 +313,7 @@ fn push_equal(
         ≡ out.old.items ++ equal_text catalog.now table equal.now) }
 {
     push_column_name(out, b"[", catalog, table, equal.column)?;
-    out.push(b',')?;
+    out.extend_from_slice(before_value(equal.how))?;
     push_value(out, &equal.value)?;
     out.push(b']')?;
     Ok(())

@@ -10,6 +10,11 @@ const OPENING: &str =
     r#"{"version":2,"tables":[{"name":"acct","columns":[{"name":"id","kind":"int"},{"name":"owner","kind":"text","partition":true}]}]}
 "#;
 
+/// The same opening in version 3.
+const NEWER: &str =
+    r#"{"version":3,"tables":[{"name":"acct","columns":[{"name":"id","kind":"int"},{"name":"owner","kind":"text","partition":true}]}]}
+"#;
+
 /// Lines that change the database, the opening first.
 const LOGGED: [&str; 7] = [
     OPENING,
@@ -268,6 +273,84 @@ fn another_opening_is_refused(rt: HostRuntime) {
     assert!(&rt; lines_in(&rt, alloc, &file).as_str() == all.as_str());
 }
 
+/// An update by a comparison, and a select by one.
+const COMPARED: &str =
+    "{\"update\":\"acct\",\"change\":[[\"set\",\"owner\",\"eve\"]],\"where\":[[\"id\",\">\",1]]}\n";
+
+const SELECTED: &str = "{\"select\":\"acct\",\"where\":[[\"owner\",\"!=\",\"ann\"]]}\n";
+
+/// What sessions of both versions answer on a log of four lines.
+const BY_VERSION: [(&str, &str); 2] = [
+    (
+        NEWER,
+        "{\"time\":3,\"generation\":0,\"oldest\":0,\"entries\":3,\"repair\":null}\n{\"call\":4,\"time\":3,\"rows\":[[2,\"eve\"]]}\n",
+    ),
+    (
+        OPENING,
+        "{\"time\":3,\"generation\":0,\"oldest\":0,\"entries\":3,\"repair\":null}\n{\"call\":4,\"fault\":{\"path\":\"$.where[0]\",\"cause\":\"wrong type\"}}\n",
+    ),
+];
+
+/// A log goes on with a session of another version than the one before: its lines are read all the
+/// same, and each session answers by its own version.
+#[test]
+fn a_log_is_opened_in_both_versions(rt: HostRuntime) {
+    let alloc = rt.alloc();
+    for first in [OPENING, NEWER] {
+        let begun = joined(&rt, alloc, &[first, LOGGED[1], LOGGED[2]]);
+        let file = hold(&rt, alloc, Disk::new(&rt, alloc, b""), begun.as_str());
+        let given = joined(&rt, alloc, &[NEWER, COMPARED]);
+        let file = Disk::new(&rt, alloc, file.latest.as_slice());
+        let file = hold(&rt, alloc, file, given.as_str());
+        let lines = joined(&rt, alloc, &[begun.as_str(), COMPARED]);
+        for (opening, want) in BY_VERSION {
+            let given = joined(&rt, alloc, &[opening, SELECTED]);
+            let again = Disk::new(&rt, alloc, file.latest.as_slice());
+            let again = hold(&rt, alloc, again, given.as_str());
+            let shown = std::str::from_utf8(again.shown.as_slice()).expect(&rt, "text");
+            same(&rt, &shown, &want);
+            assert!(&rt; lines_in(&rt, alloc, &again).as_str() == lines.as_str());
+        }
+    }
+}
+
+/// The first line of a log that a session of each version has made anew, and the line behind its
+/// ground.
+const ANEW: [(&str, &str); 2] = [
+    (NEWER, "{\"version\":3,\"tables\":"),
+    (OPENING, "{\"version\":2,\"tables\":"),
+];
+
+const BEHIND_THE_GROUND: &str =
+    "{\"worker\":1,\"do\":[{\"update\":\"acct\",\"change\":[[\"set\",\"owner\",\"eve\"]],\"where\":[[\"id\",\">\",1]]}]}\n";
+
+/// A log that is made anew tells the version of the session that has done it, and keeps comparisons
+/// in either.
+#[test]
+fn a_log_that_is_made_anew_tells_the_version(rt: HostRuntime) {
+    let alloc = rt.alloc();
+    let begun = joined(&rt, alloc, &[NEWER, LOGGED[1], LOGGED[2], COMPARED]);
+    for (opening, first) in ANEW {
+        let given = joined(&rt, alloc, &[opening, "{\"forget\":2}\n"]);
+        let file = Disk::new(&rt, alloc, begun.as_bytes());
+        let file = hold(&rt, alloc, file, given.as_str());
+        let lines = lines_in(&rt, alloc, &file);
+        assert!(&rt; lines.as_bytes().starts_with(first.as_bytes()), "{lines}");
+        assert!(&rt;
+            lines.as_bytes().ends_with(BEHIND_THE_GROUND.as_bytes()),
+            "{lines}"
+        );
+        for (again, _) in ANEW {
+            let file = Disk::new(&rt, alloc, file.latest.as_slice());
+            let file = hold(&rt, alloc, file, again);
+            let shown = std::str::from_utf8(file.shown.as_slice()).expect(&rt, "text");
+            let want =
+                "{\"time\":3,\"generation\":0,\"oldest\":0,\"entries\":2,\"repair\":null,\"horizon\":2}\n";
+            same(&rt, &shown, &want);
+        }
+    }
+}
+
 /// A file that is no log, or whose line makes no entry, is refused and stays as it was.
 #[test]
 fn other_files_are_refused(rt: HostRuntime) {
@@ -276,6 +359,8 @@ fn other_files_are_refused(rt: HostRuntime) {
     let files = [
         (1, joined(&rt, alloc, &["{\"version\":2}\n"])),
         (1, joined(&rt, alloc, &["\n", OPENING])),
+        (1, joined(&rt, alloc, &["{\"version\":1,\"tables\":[]}\n"])),
+        (1, joined(&rt, alloc, &["{\"version\":4,\"tables\":[]}\n"])),
         (2, joined(&rt, alloc, &[OPENING, "\n", first])),
         (2, joined(&rt, alloc, &[OPENING, OPENING])),
         (

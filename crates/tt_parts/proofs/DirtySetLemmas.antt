@@ -9,7 +9,7 @@ use Rattle.tt_parts.specs.declared.partition.Reads.TheVariants.{All, Equated}
 use Rattle.tt_values.specs.declared.row_id.RowId.{RowId}
 use Rattle.tt_values.specs.declared.table.Column.{Column}
 use Rattle.tt_values.specs.declared.statement.Equal.{Equal}
-use Rattle.tt_parts.specs.Partitions.{key_partition, is_partition_position, partition_of, equated_partitions, is_same_partition, is_partition_in}
+use Rattle.tt_parts.specs.Partitions.{key_partition, equates_partition, partition_of, equated_partitions, is_same_partition, is_partition_in}
 use Rattle.tt_parts.specs.Dirty.{DirtySet, is_row_in, is_table_in, has_row_of, has_other_partition, is_clear, SameRows, SamePartitions, parts_if}
 use Rattle.tt_parts.specs.Laws.{SameMembersWithRow, ClearDependsOnMembers, ReadsDecideClear}
 
@@ -85,43 +85,43 @@ reads_decide_clear D table (p ∷ ps) = refl
 
 -- the partitions of the equalities, one by one
 any_equated : (test : Partition → Bool) (table : ℕ) (columns : List Column) (qs : List Equal) →
-    list_any test (equated_partitions table columns qs) ≡ list_any (λ q. is_partition_position columns q.column && test (partition_of table q)) qs
+    list_any test (equated_partitions table columns qs) ≡ list_any (λ q. equates_partition columns q && test (partition_of table q)) qs
 any_equated test table columns [] = refl
-any_equated test table columns (q ∷ qs) = by (is_partition_position columns q.column) (any_equated test table columns qs)
+any_equated test table columns (q ∷ qs) = by (equates_partition columns q) (any_equated test table columns qs)
   where
-    by : (b : Bool) → list_any test (equated_partitions table columns qs) ≡ list_any (λ q. is_partition_position columns q.column && test (partition_of table q)) qs
-        → list_any test (map (partition_of table) (if b then q ∷ filter (λ q. is_partition_position columns q.column) qs else filter (λ q. is_partition_position columns q.column) qs))
-        ≡ ((b && test (partition_of table q)) || list_any (λ q. is_partition_position columns q.column && test (partition_of table q)) qs)
+    by : (b : Bool) → list_any test (equated_partitions table columns qs) ≡ list_any (λ q. equates_partition columns q && test (partition_of table q)) qs
+        → list_any test (map (partition_of table) (if b then q ∷ filter (equates_partition columns) qs else filter (equates_partition columns) qs))
+        ≡ ((b && test (partition_of table q)) || list_any (λ q. equates_partition columns q && test (partition_of table q)) qs)
     by true same = ap (λ b. test (partition_of table q) || b) same
     by false same = same
 
 -- where an equality is on a partition column, one partition that isn't dirty makes the statement clear
-pub clear_where_equated : (D : DirtySet) (table : ℕ) (columns : List Column) (qs : List Equal) → list_any (λ q. is_partition_position columns q.column) qs ≡ true →
-    is_clear D table (equated_partitions table columns qs) ≡ list_any (λ q. is_partition_position columns q.column && not (is_partition_in D.partitions (partition_of table q))) qs
+pub clear_where_equated : (D : DirtySet) (table : ℕ) (columns : List Column) (qs : List Equal) → list_any (equates_partition columns) qs ≡ true →
+    is_clear D table (equated_partitions table columns qs) ≡ list_any (λ q. equates_partition columns q && not (is_partition_in D.partitions (partition_of table q))) qs
 clear_where_equated D table columns qs some = by (equated_partitions table columns qs) (any_equated (λ p. true) table columns qs ∙ always qs ∙ some) ∙ any_equated (λ p. not (is_partition_in D.partitions p)) table columns qs
   where
     both : (b : Bool) → (b && true) ≡ b
     both true = refl
     both false = refl
 
-    always : (rs : List Equal) → list_any (λ q. is_partition_position columns q.column && true) rs ≡ list_any (λ q. is_partition_position columns q.column) rs
+    always : (rs : List Equal) → list_any (λ q. equates_partition columns q && true) rs ≡ list_any (equates_partition columns) rs
     always [] = refl
-    always (r ∷ rs) = λ i. both (is_partition_position columns r.column) i || always rs i
+    always (r ∷ rs) = λ i. both (equates_partition columns r) i || always rs i
 
     by : (ps : List Partition) → list_any (λ p. true) ps ≡ true → is_clear D table ps ≡ has_other_partition D.partitions ps
     by [] e = cc
     by (p ∷ ps) e = refl
 
 -- where none is, the statement reads the whole table
-pub clear_where_none : (D : DirtySet) (table : ℕ) (columns : List Column) (qs : List Equal) → list_any (λ q. is_partition_position columns q.column) qs ≡ false →
+pub clear_where_none : (D : DirtySet) (table : ℕ) (columns : List Column) (qs : List Equal) → list_any (equates_partition columns) qs ≡ false →
     is_clear D table (equated_partitions table columns qs) ≡ not (has_row_of D table)
 clear_where_none D table columns qs none = ap (is_clear D table) (no_partitions qs none)
   where
-    no_partitions : (rs : List Equal) → list_any (λ q. is_partition_position columns q.column) rs ≡ false → equated_partitions table columns rs ≡ []
+    no_partitions : (rs : List Equal) → list_any (equates_partition columns) rs ≡ false → equated_partitions table columns rs ≡ []
     no_partitions [] e = refl
-    no_partitions (r ∷ rs) e = by (is_partition_position columns r.column) e (no_partitions rs)
+    no_partitions (r ∷ rs) e = by (equates_partition columns r) e (no_partitions rs)
       where
-        by : (b : Bool) → (b || list_any (λ q. is_partition_position columns q.column) rs) ≡ false → (list_any (λ q. is_partition_position columns q.column) rs ≡ false → equated_partitions table columns rs ≡ [])
-            → map (partition_of table) (if b then r ∷ filter (λ q. is_partition_position columns q.column) rs else filter (λ q. is_partition_position columns q.column) rs) ≡ []
+        by : (b : Bool) → (b || list_any (equates_partition columns) rs) ≡ false → (list_any (equates_partition columns) rs ≡ false → equated_partitions table columns rs ≡ [])
+            → map (partition_of table) (if b then r ∷ filter (equates_partition columns) rs else filter (equates_partition columns) rs) ≡ []
         by true h rest = cc
         by false h rest = rest h

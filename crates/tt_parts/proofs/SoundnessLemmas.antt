@@ -16,10 +16,13 @@ use Rattle.tt_values.specs.declared.statement.Write.{Write}
 use Rattle.tt_values.specs.declared.statement.Write.TheVariants.{Insert, Update, Delete}
 use Rattle.tt_values.specs.Value.{is_same}
 use Rattle.tt_values.specs.Row.{first_int, key_of}
-use Rattle.tt_values.specs.Matches.{is_value}
+use Rattle.tt_values.specs.declared.comparison.Comparison.{Comparison}
+use Rattle.tt_values.specs.declared.comparison.Comparison.TheVariants.{Is, IsNot, Below, AtMost, Above, AtLeast}
+use Rattle.tt_values.specs.Comparison.{is_equality}
+use Rattle.tt_values.specs.Matches.{is_compared, holds, equates}
 use Rattle.tt_values.specs.Check.{HasKey}
 use Rattle.tt_parts.specs.declared.partition.Partition.{Partition}
-use Rattle.tt_parts.specs.Partitions.{is_partition_column, parts_from, parts_of, key_partition, is_partition_position, partition_of, equated_partitions, reads_or_all, reads_of, is_same_partition, is_partition_in}
+use Rattle.tt_parts.specs.Partitions.{is_partition_column, parts_from, parts_of, key_partition, equates_partition, partition_of, equated_partitions, reads_or_all, reads_of, is_same_partition, is_partition_in}
 use Rattle.tt_parts.specs.Soundness.{LiesIn, CoversMatches}
 use Rattle.tt_parts.specs.Laws.{SamePartitionsAreEqual, EachPartitionIsInItsList, MatchedRowsLieInEquatedPartitions, RowsLieInTheirKeyPartition}
 
@@ -70,7 +73,7 @@ each_partition_is_in_its_list (p ∷ ps) =
 
 -- a row lies in the partition of the value that it has in a partition column
 lies_in_part : (table first i position : ℕ) (cs : List Column) (vs : List Value) (v : Value) → position ≡ first + i →
-    option_map_or (is_partition_column position) (slice_get cs i) false ≡ true → is_value v (slice_get vs i) ≡ true →
+    option_map_or (is_partition_column position) (slice_get cs i) false ≡ true → is_compared Is v (slice_get vs i) ≡ true →
     is_partition_in (parts_from table first cs vs) (record { table = table; column = position; value = v }) ≡ true
 lies_in_part table first i position [] vs v e parts has = cc
 lies_in_part table first i position (c ∷ cs) [] v e parts has = cc
@@ -83,23 +86,37 @@ lies_in_part table first (suc i) position (c ∷ cs) (w ∷ vs) v e parts has =
     has_others (is_partition_column first c) (record { table = table; column = first; value = w }) _ (parts_from table (suc first) cs vs)
     (lies_in_part table (suc first) i position cs vs v (omega (arith, e)) parts has)
 
+is_the_same : (how : Comparison) → is_equality how ≡ true → how ≡ Is
+is_the_same Is h = refl
+is_the_same IsNot h = cc
+is_the_same Below h = cc
+is_the_same AtMost h = cc
+is_the_same Above h = cc
+is_the_same AtLeast h = cc
+
+-- an equality holds where the value is the same
+holds-equality : (q : Equal) (row : Row) → equates q ≡ true → holds q row ≡ true → is_compared Is q.value (slice_get row.values q.column) ≡ true
+holds-equality q row equality h = subst (λ how. is_compared how q.value (slice_get row.values q.column) ≡ true) (is_the_same q.how equality) h
+
 pub matched_rows_lie_in_equated_partitions : MatchedRowsLieInEquatedPartitions
 matched_rows_lie_in_equated_partitions table columns row [] h = refl
 matched_rows_lie_in_equated_partitions table columns row (q ∷ qs) h =
-    by (is_partition_position columns q.column) refl (matched_rows_lie_in_equated_partitions table columns row qs (and_parts _ _ h).1)
+    by (equates_partition columns q) refl (matched_rows_lie_in_equated_partitions table columns row qs (and_parts _ _ h).1)
   where
     has : Partition → Bool
     has = is_partition_in (parts_of table columns row)
 
     others : List Equal
-    others = filter (λ d. is_partition_position columns d.column) qs
+    others = filter (equates_partition columns) qs
 
-    by : (b : Bool) → is_partition_position columns q.column ≡ b → list_all has (equated_partitions table columns qs) ≡ true → list_all has (map (partition_of table) (cond b (q ∷ others) others)) ≡ true
-    by true parts rest = and_from _ _ (lies_in_part table 0 q.column q.column columns row.values q.value (omega arith) parts (and_parts _ _ h).0) rest
+    by : (b : Bool) → equates_partition columns q ≡ b → list_all has (equated_partitions table columns qs) ≡ true → list_all has (map (partition_of table) (cond b (q ∷ others) others)) ≡ true
+    by true parts rest =
+        let equality = (and_parts _ _ parts).0 in
+        and_from _ _ (lies_in_part table 0 q.column q.column columns row.values q.value (omega arith) (and_parts _ _ parts).1 (holds-equality q row equality (and_parts _ _ h).0)) rest
     by false parts rest = rest
 
 -- the first value of a row with a key is the key
-first_value : (vs : List Value) (key : ℤ) → first_int vs ≡ Some key → is_value (values.Int key) (slice_get vs 0) ≡ true
+first_value : (vs : List Value) (key : ℤ) → first_int vs ≡ Some key → is_compared Is (values.Int key) (slice_get vs 0) ≡ true
 first_value [] key h = cc
 first_value (values.Int n ∷ vs) key h = (Decides-int_eq key n).1 cc
 first_value (values.Text t ∷ vs) key h = cc

@@ -11,6 +11,7 @@ use Rattle.tt_values.specs.declared.statement.Write.{Write}
 use Rattle.tt_values.specs.declared.statement.Write.TheVariants.{Insert, Update, Delete}
 use Rattle.tt_values.specs.Value.{is_same}
 use Rattle.tt_values.specs.Row.{key_of}
+use Rattle.tt_values.specs.Matches.{equates}
 use Rattle.tt_values.specs.Effect.{table_of}
 use Rattle.tt_parts.specs.declared.partition.Partition.{Partition}
 use Rattle.tt_parts.specs.declared.partition.Reads.{Reads}
@@ -45,13 +46,17 @@ key_partition table key = record { table = table; column = 0; value = values.Int
 abbrev pub is_partition_position : List Column → ℕ → Bool
 is_partition_position columns i = option_map_or (is_partition_column i) (slice_get columns i) false
 
+-- whether a condition fixes the value of a partition column: only an equality does
+abbrev pub equates_partition : List Column → Equal → Bool
+equates_partition columns q = equates q && is_partition_position columns q.column
+
 -- the partition of an equality
 abbrev pub partition_of : ℕ → Equal → Partition
 partition_of table q = record { table = table; column = q.column; value = q.value }
 
--- the partitions of equalities: one for each equality on a partition column, in their order
+-- the partitions that conditions equate: one for each equality on a partition column, in their order
 abbrev pub equated_partitions : ℕ → List Column → List Equal → List Partition
-equated_partitions table columns qs = map (partition_of table) (filter (λ q. is_partition_position columns q.column) qs)
+equated_partitions table columns qs = map (partition_of table) (filter (equates_partition columns) qs)
 
 -- the partitions that a write reads: those of its equalities, or of the key that it inserts
 abbrev pub partitions_read : List Column → Write → List Partition

@@ -2,13 +2,13 @@
 ghost use Rattle.std.specs.Prelude.{◌≡◌, ℕ, ◌≤◌, ◌^◌, ◌&&◌, not, ◌∷◌, ◌++◌, length, OnOk, IsTrue};
 ghost use Rattle.std.specs.List.{list_any};
 ghost use Rattle.std.specs.Option.{option_copied};
-ghost use Rattle.tt_parts.specs.Partitions.{key_partition, part_at, parts_of, is_partition_position, partition_of, is_partition_in};
+ghost use Rattle.tt_parts.specs.Partitions.{key_partition, part_at, parts_of, equates_partition, partition_of, is_partition_in};
 ghost use Rattle.tt_parts.specs.Dirty.{has_other_partition, parts_if, SamePartitions};
 
 use crate::dirty_partitions::DirtyPartitions;
 use crate::partition::Partition;
 use crate::parts::is_partition_column;
-use crate::statement_reads::is_partition_position;
+use crate::statement_reads::equates_partition;
 use std::alloc::{AllocError, Global};
 use tt_values::{Column, Equal, Row, Same, TableDef, Value};
 
@@ -196,27 +196,25 @@ fn ensure_member(
     members.add(alloc, partition)
 }
 
-/// Whether one of the equalities is on a partition column.
+/// Whether one of the conditions is an equality on a partition column.
 pub(crate) fn reads_partition(columns: &[Column], equals: &[Equal]) -> bool
-    ensures { result ≡ list_any (λ q. is_partition_position columns.now q.column) equals.now }
+    ensures { result ≡ list_any (equates_partition columns.now) equals.now }
 {
-    equals
-        .iter()
-        .any(|equal| is_partition_position(columns, equal.column))
+    equals.iter().any(|equal| equates_partition(columns, equal))
 }
 
-/// Whether the partition of one of the equalities isn't a member.
+/// Whether the partition of one of these equalities isn't a member.
 pub(crate) fn has_other_equated(
     members: &DirtyPartitions,
     table: u16,
     columns: &[Column],
     equals: &[Equal],
 ) -> bool
-    ensures { result ≡ list_any (λ q. is_partition_position columns.now q.column
+    ensures { result ≡ list_any (λ q. equates_partition columns.now q
         && not (is_partition_in members.now (partition_of table q))) equals.now }
 {
     equals.iter().any(|equal| {
-        is_partition_position(columns, equal.column)
+        equates_partition(columns, equal)
             && !members.has_value_in(table, equal.column, &equal.value)
     })
 }

@@ -1,6 +1,6 @@
 ghost use Rattle.std.specs.Prelude.{◌≡◌, IfOk};
 ghost use Rattle.tt_values.specs.Check.{HasKey};
-ghost use Rattle.tt_parts.specs.Partitions.{is_partition_position, equated_partitions, partitions_read, reads_or_all, reads_of};
+ghost use Rattle.tt_parts.specs.Partitions.{equates_partition, is_partition_position, equated_partitions, partitions_read, reads_or_all, reads_of};
 ghost use Rattle.tt_parts.specs.Soundness.{CoversMatches};
 
 use crate::partition::{Partition, Reads};
@@ -72,7 +72,7 @@ fn equated_partitions(
     let columns = def.columns.as_slice();
     let mut partitions = Few::new(alloc);
     for equal in equals {
-        if is_partition_position(columns, equal.column) {
+        if equates_partition(columns, equal) {
             partitions.push(Partition {
                 table,
                 column: equal.column,
@@ -83,8 +83,15 @@ fn equated_partitions(
     Ok(partitions)
 }
 
+/// Whether the condition is an equality on a partition column.
+pub(crate) fn equates_partition(columns: &[Column], equal: &Equal) -> bool
+    ensures { result ≡ equates_partition columns.now equal.now }
+{
+    equal.equates() && is_partition_position(columns, equal.column)
+}
+
 /// Whether there is a column at the position, and it is a partition column.
-pub(crate) fn is_partition_position(columns: &[Column], position: u16) -> bool
+fn is_partition_position(columns: &[Column], position: u16) -> bool
     ensures { result ≡ is_partition_position columns.now position }
 {
     match columns.get(usize::from(position)) {

@@ -6,6 +6,7 @@ use Rattle.tt_values.specs.declared.value.Value.TheVariants as values
 use Rattle.tt_values.specs.declared.statement.Write.{Write}
 use Rattle.tt_values.specs.declared.statement.Write.TheVariants.{Insert, Update, Delete}
 use Rattle.tt_values.specs.Row.{key_of}
+use Rattle.tt_values.specs.Matches.{equates}
 use Rattle.tt_values.specs.Tables.{Tables}
 use Rattle.tt_values.specs.Action.{rows_of_action}
 use Rattle.tt_values.specs.Content.{Content, row_at}
@@ -26,8 +27,8 @@ module _ (tables : Tables) (C D : DirtySet) (same : SameMembers C D) where
 
   same_named : (w : Write) → names_dirty_row C w ≡ names_dirty_row D w
   same_named (Insert table row) = same.rows table (key_of row)
-  same_named (Update table cs qs) = λ i. list_any (λ q. (q.column == 0) && same_dirty_key table q.value i) qs
-  same_named (Delete table qs) = λ i. list_any (λ q. (q.column == 0) && same_dirty_key table q.value i) qs
+  same_named (Update table cs qs) = λ i. list_any (λ q. equates q && (q.column == 0) && same_dirty_key table q.value i) qs
+  same_named (Delete table qs) = λ i. list_any (λ q. equates q && (q.column == 0) && same_dirty_key table q.value i) qs
 
   same_clear : (table : ℕ) (ps : List Partition) → is_clear C table ps ≡ is_clear D table ps
   same_clear table ps =

@@ -8,6 +8,7 @@ use Rattle.tt_values.specs.declared.statement.Equal.{Equal}
 use Rattle.tt_values.specs.declared.statement.Write.{Write}
 use Rattle.tt_values.specs.declared.statement.Write.TheVariants.{Insert, Update, Delete}
 use Rattle.tt_values.specs.Row.{key_of}
+use Rattle.tt_values.specs.Matches.{equates}
 use Rattle.tt_values.specs.Tables.{Tables}
 use Rattle.tt_values.specs.Content.{Content, content_at, row_at}
 use Rattle.tt_values.specs.Effect.{matching_rows, table_of}
@@ -33,9 +34,9 @@ abbrev pub is_dirty_key : DirtySet → ℕ → Value → Bool
 is_dirty_key D table (values.Int key) = has_row D table key
 is_dirty_key D table (values.Text t) = false
 
--- whether an equality is on the first column, with the key of a dirty row
+-- whether a condition is an equality on the first column, with the key of a dirty row
 abbrev pub has_dirty_key : DirtySet → ℕ → Equal → Bool
-has_dirty_key D table q = (q.column == 0) && is_dirty_key D table q.value
+has_dirty_key D table q = equates q && (q.column == 0) && is_dirty_key D table q.value
 
 -- whether a write names a dirty row by its key: it inserts that key, or has an equality with it
 abbrev pub names_dirty_row : DirtySet → Write → Bool

@@ -53,20 +53,20 @@ insert-accepted tables context v w e =
     let known = step (no_members_at context (codes "insert" ∷ codes "row" ∷ []) v) _ w values.rest in
     checked-accepted tables (Insert table.value (record { values = values.value })) w known.rest
 
-pub update-accepted : (tables : Tables) (context : Context) (v : Data) (w : Write) → update tables context v ≡ Ok w → Accepts tables w
+pub update-accepted : (version : Version) (tables : Tables) (context : Context) (v : Data) (w : Write) → update version tables context v ≡ Ok w → Accepts tables w
 unfolding update
-update-accepted tables context v w e =
+update-accepted version tables context v w e =
     let table = step (member (codes "update") (table_named tables) v) _ w e in
     let changes = step (member (codes "change") (array_of (change tables table.value)) v) _ w table.rest in
-    let equals = step (conditions tables table.value v) _ w changes.rest in
+    let equals = step (conditions version tables table.value v) _ w changes.rest in
     let known = step (no_members_at context (codes "change" ∷ codes "update" ∷ codes "where" ∷ []) v) _ w equals.rest in
     checked-accepted tables (Update table.value changes.value equals.value) w known.rest
 
-pub delete-accepted : (tables : Tables) (context : Context) (v : Data) (w : Write) → delete tables context v ≡ Ok w → Accepts tables w
+pub delete-accepted : (version : Version) (tables : Tables) (context : Context) (v : Data) (w : Write) → delete version tables context v ≡ Ok w → Accepts tables w
 unfolding delete
-delete-accepted tables context v w e =
+delete-accepted version tables context v w e =
     let table = step (member (codes "delete") (table_named tables) v) _ w e in
-    let equals = step (conditions tables table.value v) _ w table.rest in
+    let equals = step (conditions version tables table.value v) _ w table.rest in
     let known = step (no_members_at context (codes "delete" ∷ codes "where" ∷ []) v) _ w equals.rest in
     checked-accepted tables (Delete table.value equals.value) w known.rest
 
@@ -76,12 +76,12 @@ some-accepted tables reading found accepted e =
     let read = step reading (λ w. Ok (Some w)) found e in
     subst (λ o. IfSome o (Accepts tables)) (ok_same read.rest) (accepted read.value read.is)
 
-write-accepted : (tables : Tables) (context : Context) (v : Data) (found : Option Write) → write tables context v ≡ Ok found → IfSome found (Accepts tables)
+write-accepted : (version : Version) (tables : Tables) (context : Context) (v : Data) (found : Option Write) → write version tables context v ≡ Ok found → IfSome found (Accepts tables)
 unfolding write
-write-accepted tables context v found e =
+write-accepted version tables context v found e =
     either-ok (has (codes "insert") v) _ _ found e (some-accepted tables (insert tables context v) found (insert-accepted tables context v)) (λ no_insert.
-    either-ok (has (codes "update") v) _ _ found no_insert (some-accepted tables (update tables context v) found (update-accepted tables context v)) (λ no_update.
-    either-ok (has (codes "delete") v) _ _ found no_update (some-accepted tables (delete tables context v) found (delete-accepted tables context v)) (λ no_delete.
+    either-ok (has (codes "update") v) _ _ found no_insert (some-accepted tables (update version tables context v) found (update-accepted version tables context v)) (λ no_update.
+    either-ok (has (codes "delete") v) _ _ found no_update (some-accepted tables (delete version tables context v) found (delete-accepted version tables context v)) (λ no_delete.
     subst (λ o. IfSome o (Accepts tables)) (ok_same no_delete) tt)))
 
 -- ---- an action
@@ -96,28 +96,28 @@ accepted_action tables ws few all = ap (λ (b : Bool). if b then Some errors.Too
 pub one_write-accepted : (tables : Tables) (w : Write) → Accepts tables w → action_fault tables (w ∷ []) ≡ None
 one_write-accepted tables w accepted = accepted_action tables (w ∷ []) refl (accepted, tt)
 
-item-accepted : (tables : Tables) (v : Data) (w : Write) → item_of_action tables v ≡ Ok w → Accepts tables w
+item-accepted : (version : Version) (tables : Tables) (v : Data) (w : Write) → item_of_action version tables v ≡ Ok w → Accepts tables w
 unfolding item_of_action
-item-accepted tables v w e =
+item-accepted version tables v w e =
     let is_object = step (object v) _ w e in
-    let found = step (write tables contexts.Nested v) _ w is_object.rest in
+    let found = step (write version tables contexts.Nested v) _ w is_object.rest in
     subst (λ o. IfSome o (Accepts tables)) (or_refuse-ok (codes "missing one of insert, update, delete") found.value w found.rest)
-    (write-accepted tables contexts.Nested v found.value found.is)
+    (write-accepted version tables contexts.Nested v found.value found.is)
 
-writes-accepted : (tables : Tables) (v : Data) (ws : List Write) → writes tables v ≡ Ok ws → action_fault tables ws ≡ None
-writes-accepted tables v ws e =
+writes-accepted : (version : Version) (tables : Tables) (v : Data) (ws : List Write) → writes version tables v ≡ Ok ws → action_fault tables ws ≡ None
+writes-accepted version tables v ws e =
     let items = step (array v) _ ws e in
     let within = step (within_limit max_writes items.value) _ ws items.rest in
-    let read = each-ok (Accepts tables) (item_of_action tables) (item-accepted tables) 0 items.value ws within.rest in
+    let read = each-ok (Accepts tables) (item_of_action version tables) (item-accepted version tables) 0 items.value ws within.rest in
     accepted_action tables ws (ap (nat_lt max_writes) read.as_many ∙ within_limit-ok max_writes items.value within.value within.is) read.all
 
-pub action-accepted : (tables : Tables) (context : Context) (v : Data) (ws : List Write) → action tables context v ≡ Ok ws → action_fault tables ws ≡ None
+pub action-accepted : (version : Version) (tables : Tables) (context : Context) (v : Data) (ws : List Write) → action version tables context v ≡ Ok ws → action_fault tables ws ≡ None
 unfolding action
-action-accepted tables context v ws e =
-    let read = step (member (codes "do") (writes tables) v) _ ws e in
+action-accepted version tables context v ws e =
+    let read = step (member (codes "do") (writes version tables) v) _ ws e in
     let known = step (no_members_at context (codes "do" ∷ []) v) _ ws read.rest in
-    let source = member-ok (codes "do") (writes tables) v read.value read.is in
-    subst (λ ws. action_fault tables ws ≡ None) (ok_same known.rest) (writes-accepted tables source.value read.value source.is)
+    let source = member-ok (codes "do") (writes version tables) v read.value read.is in
+    subst (λ ws. action_fault tables ws ≡ None) (ok_same known.rest) (writes-accepted version tables source.value read.value source.is)
 
 -- ---- an action that replaces another
 
@@ -125,11 +125,11 @@ replacement_by-accepted : (version : Version) (tables : Tables) (v : Data) (foun
     → replacement_by version tables v found ≡ Ok ws → action_fault tables ws ≡ None
 replacement_by-accepted version tables v (Some w) ws accepted e = subst (λ ws. action_fault tables ws ≡ None) (ok_same e) (one_write-accepted tables w accepted)
 replacement_by-accepted version tables v None ws accepted e =
-    either-ok (has_action version v) _ _ ws e (action-accepted tables contexts.Nested v ws) (λ refused. cc)
+    either-ok (has_action version v) _ _ ws e (action-accepted version tables contexts.Nested v ws) (λ refused. cc)
 
 pub replacement-accepted : (version : Version) (tables : Tables) (v : Data) (ws : List Write) → replacement version tables v ≡ Ok ws → action_fault tables ws ≡ None
 unfolding replacement
 replacement-accepted version tables v ws e =
     let is_object = step (object v) _ ws e in
-    let found = step (write tables contexts.Nested v) _ ws is_object.rest in
-    replacement_by-accepted version tables v found.value ws (write-accepted tables contexts.Nested v found.value found.is) found.rest
+    let found = step (write version tables contexts.Nested v) _ ws is_object.rest in
+    replacement_by-accepted version tables v found.value ws (write-accepted version tables contexts.Nested v found.value found.is) found.rest

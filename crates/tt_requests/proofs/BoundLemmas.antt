@@ -1,15 +1,16 @@
 -- What is read within bounds is within them.
-use Rattle.std.proofs.Common.{◌≡◌, ℕ, ◌≤◌, ◌<◌, Bool, true, false, nat_lt, ◌||◌, List, Option, None, Some, Ok, Err, codes, refl, subst, arith}
+use Rattle.std.proofs.Common.{◌≡◌, ℕ, ◌≤◌, Bool, true, false, nat_lt, ◌||◌, List, Option, None, Some, Ok, codes, subst, arith}
 use Rattle.std.specs.Option.{unwrap_or}
-use Rattle.std.proofs.lemmas.Bool.{ltb-false, ltb-true}
+use Rattle.std.proofs.lemmas.Bool.{ltb-false}
 use Rattle.serde_json.specs.Data.{Data}
 use Rattle.serde_json.specs.Find.{get}
-use Rattle.tt_grammar.specs.Fault.{◌>>=◌, with_path, member_path}
+use Rattle.tt_grammar.specs.Fault.{with_path, member_path}
 use Rattle.tt_grammar.specs.Decoder.{object, member, optional, read_optional, within, count, count_within}
+use Rattle.tt_grammar.specs.SessionVersion.{session_version}
 use Rattle.tt_grammar.specs.Tables.{catalog}
 use Rattle.tt_requests.specs.declared.opening.Opening.{Opening}
 use Rattle.tt_requests.specs.Opening.{max_keep, usual_keep, max_records, usual_records, declaration}
-use Rattle.tt_requests.proofs.StepBackLemmas.{ok_same, step, with_path-ok, choice-ok, member-ok}
+use Rattle.tt_requests.proofs.StepBackLemmas.{ok_same, step, with_path-ok, choice-ok}
 
 second : (x y : Bool) → (x || y) ≡ false → y ≡ false
 second true y e = cc
@@ -43,7 +44,7 @@ pub is_declared : (v : Data) (opening : Opening) → declaration v ≡ Ok openin
 unfolding declaration
 is_declared v opening e =
     let read = step (object v) _ opening e in
-    let version = step (member (codes "version") (count_within 2 2) v) _ opening read.rest in
+    let version = step (member (codes "version") session_version v) _ opening read.rest in
     let tables = step (member (codes "tables") catalog v) _ opening version.rest in
     let keep = step (optional (codes "keep") (count_within 0 max_keep) v) _ opening tables.rest in
     let records = step (optional (codes "records") (count_within 0 max_records) v) _ opening keep.rest in

@@ -12,7 +12,7 @@ use Rattle.tt_repair_laws.specs.declared.edit.Edit.{Edit}
 use Rattle.tt_repair_laws.specs.Edits.{HasNoFault}
 use Rattle.tt_grammar.specs.declared.fault.DocFault.{DocFault}
 use Rattle.tt_grammar.specs.declared.statements.Context.TheVariants as contexts
-use Rattle.tt_grammar.specs.declared.version.Version.TheVariants as versions
+use Rattle.tt_grammar.specs.declared.version.Version.{Version}
 use Rattle.tt_grammar.specs.Fault.{◌>>=◌, document_path}
 use Rattle.tt_grammar.specs.Decoder.{object, array, within_limit, text, count, count_within, has, member, optional}
 use Rattle.tt_grammar.specs.Members.{is_one_of, no_members_but}
@@ -42,27 +42,27 @@ cancel-judged tables v asked e =
     let known = step (no_members_but (is_one_of (codes "cancel" ∷ [])) v) _ asked slot.rest in
     subst (HasNoFault tables) (ok_same known.rest) tt
 
-replace-judged : (tables : Tables) (v : Data) (asked : Edit) → replace tables v ≡ Ok asked → HasNoFault tables asked
+replace-judged : (version : Version) (tables : Tables) (v : Data) (asked : Edit) → replace version tables v ≡ Ok asked → HasNoFault tables asked
 unfolding replace
-replace-judged tables v asked e =
+replace-judged version tables v asked e =
     let slot = step (member (codes "replace") count v) _ asked e in
-    let by = step (member (codes "by") (replacement versions.Two tables) v) _ asked slot.rest in
+    let by = step (member (codes "by") (replacement version tables) v) _ asked slot.rest in
     let known = step (no_members_but (is_one_of (codes "by" ∷ codes "replace" ∷ [])) v) _ asked by.rest in
-    let source = member-ok (codes "by") (replacement versions.Two tables) v by.value by.is in
-    subst (HasNoFault tables) (ok_same known.rest) (replacement-accepted versions.Two tables source.value by.value source.is)
+    let source = member-ok (codes "by") (replacement version tables) v by.value by.is in
+    subst (HasNoFault tables) (ok_same known.rest) (replacement-accepted version tables source.value by.value source.is)
 
-edit-judged : (tables : Tables) (v : Data) (asked : Edit) → edit tables v ≡ Ok asked → HasNoFault tables asked
+edit-judged : (version : Version) (tables : Tables) (v : Data) (asked : Edit) → edit version tables v ≡ Ok asked → HasNoFault tables asked
 unfolding edit
-edit-judged tables v asked e =
+edit-judged version tables v asked e =
     let is_object = step (object v) _ asked e in
     either-ok (has (codes "cancel") v) _ _ asked is_object.rest (cancel-judged tables v asked) (λ no_cancel.
-    either-ok (has (codes "replace") v) _ _ asked no_cancel (replace-judged tables v asked) (λ no_replace. cc))
+    either-ok (has (codes "replace") v) _ _ asked no_cancel (replace-judged version tables v asked) (λ no_replace. cc))
 
-edits-judged : (tables : Tables) (v : Data) (asked : List Edit) → edits tables v ≡ Ok asked → AreJudgedEdits tables asked
-edits-judged tables v asked e =
+edits-judged : (version : Version) (tables : Tables) (v : Data) (asked : List Edit) → edits version tables v ≡ Ok asked → AreJudgedEdits tables asked
+edits-judged version tables v asked e =
     let items = step (array v) _ asked e in
     let within = step (within_limit max_edits items.value) _ asked items.rest in
-    let each = each-ok (HasNoFault tables) (edit tables) (edit-judged tables) 0 items.value asked within.rest in
+    let each = each-ok (HasNoFault tables) (edit version tables) (edit-judged version tables) 0 items.value asked within.rest in
     let few : length items.value ≤ max_edits = ltb-false max_edits (length items.value) (within_limit-ok max_edits items.value within.value within.is) in
     record {
       accepted = All-from_recursion (HasNoFault tables) asked each.all;
@@ -92,23 +92,23 @@ one_write-judged tables reading asked accepted e =
 insert-judged : (tables : Tables) → Judges tables (λ v. one_write (insert tables contexts.Request v))
 insert-judged tables v asked e = one_write-judged tables (insert tables contexts.Request v) asked (insert-accepted tables contexts.Request v) e
 
-update-judged : (tables : Tables) → Judges tables (λ v. one_write (update tables contexts.Request v))
-update-judged tables v asked e = one_write-judged tables (update tables contexts.Request v) asked (update-accepted tables contexts.Request v) e
+update-judged : (version : Version) (tables : Tables) → Judges tables (λ v. one_write (update version tables contexts.Request v))
+update-judged version tables v asked e = one_write-judged tables (update version tables contexts.Request v) asked (update-accepted version tables contexts.Request v) e
 
-delete-judged : (tables : Tables) → Judges tables (λ v. one_write (delete tables contexts.Request v))
-delete-judged tables v asked e = one_write-judged tables (delete tables contexts.Request v) asked (delete-accepted tables contexts.Request v) e
+delete-judged : (version : Version) (tables : Tables) → Judges tables (λ v. one_write (delete version tables contexts.Request v))
+delete-judged version tables v asked e = one_write-judged tables (delete version tables contexts.Request v) asked (delete-accepted version tables contexts.Request v) e
 
-several_writes-judged : (tables : Tables) → Judges tables (several_writes tables)
+several_writes-judged : (version : Version) (tables : Tables) → Judges tables (several_writes version tables)
 unfolding several_writes
-several_writes-judged tables v asked e =
-    let writes = step (action tables contexts.Request v) _ asked e in
-    subst (IsJudged tables) (ok_same writes.rest) (action-accepted tables contexts.Request v writes.value writes.is)
+several_writes-judged version tables v asked e =
+    let writes = step (action version tables contexts.Request v) _ asked e in
+    subst (IsJudged tables) (ok_same writes.rest) (action-accepted version tables contexts.Request v writes.value writes.is)
 
-read-judged : (tables : Tables) → Judges tables (read tables)
+read-judged : (version : Version) (tables : Tables) → Judges tables (read version tables)
 unfolding read
-read-judged tables v asked e =
+read-judged version tables v asked e =
     let table = step (member (codes "select") (table_named tables) v) _ asked e in
-    let equals = step (conditions tables table.value v) _ asked table.rest in
+    let equals = step (conditions version tables table.value v) _ asked table.rest in
     let time = step (optional (codes "at") told_time v) _ asked equals.rest in
     let generation = step (optional (codes "in") told_generation v) _ asked time.rest in
     let wanted = step (page v) _ asked generation.rest in
@@ -117,24 +117,24 @@ read-judged tables v asked e =
     let select = step (checked_statement statement (select_fault tables statement)) _ asked known.rest in
     subst (IsJudged tables) (ok_same select.rest) (select-accepted tables statement select.value select.is)
 
-preview-judged : (tables : Tables) → Judges tables (preview tables)
+preview-judged : (version : Version) (tables : Tables) → Judges tables (preview version tables)
 unfolding preview
-preview-judged tables v asked e =
+preview-judged version tables v asked e =
     let table = step (member (codes "preview") (table_named tables) v) _ asked e in
-    let equals = step (conditions tables table.value v) _ asked table.rest in
+    let equals = step (conditions version tables table.value v) _ asked table.rest in
     let wanted = step (page v) _ asked equals.rest in
     let known = step (no_members_at contexts.Request (codes "after" ∷ codes "most" ∷ codes "preview" ∷ codes "where" ∷ []) v) _ asked wanted.rest in
     let statement : Select = record { table = table.value; equals = equals.value } in
     let select = step (checked_statement statement (select_fault tables statement)) _ asked known.rest in
     subst (IsJudged tables) (ok_same select.rest) (select-accepted tables statement select.value select.is)
 
-begin-judged : (tables : Tables) → Judges tables (begin tables)
+begin-judged : (version : Version) (tables : Tables) → Judges tables (begin version tables)
 unfolding begin
-begin-judged tables v asked e =
-    let read = step (member (codes "begin") (edits tables) v) _ asked e in
+begin-judged version tables v asked e =
+    let read = step (member (codes "begin") (edits version tables) v) _ asked e in
     let known = step (no_members_at contexts.Request (codes "begin" ∷ []) v) _ asked read.rest in
-    let source = member-ok (codes "begin") (edits tables) v read.value read.is in
-    subst (IsJudged tables) (ok_same known.rest) (edits-judged tables source.value read.value source.is)
+    let source = member-ok (codes "begin") (edits version tables) v read.value read.is in
+    subst (IsJudged tables) (ok_same known.rest) (edits-judged version tables source.value read.value source.is)
 
 step-judged : (tables : Tables) → Judges tables requests.step
 unfolding requests.step
@@ -197,13 +197,13 @@ by_first_kind-judged tables [] all v asked e = cc
 by_first_kind-judged tables (kind ∷ others) all v asked e =
     either-ok (has kind.0 v) _ _ asked e (all.0 v asked) (by_first_kind-judged tables others all.1 v asked)
 
-statement_kinds-judged : (tables : Tables) → AllByRecursion (JudgesKind tables) (statement_kinds tables)
-statement_kinds-judged tables =
-    (insert-judged tables, (update-judged tables, (delete-judged tables, (read-judged tables, (preview-judged tables, (several_writes-judged tables, tt))))))
+statement_kinds-judged : (version : Version) (tables : Tables) → AllByRecursion (JudgesKind tables) (statement_kinds version tables)
+statement_kinds-judged version tables =
+    (insert-judged tables, (update-judged version tables, (delete-judged version tables, (read-judged version tables, (preview-judged version tables, (several_writes-judged version tables, tt))))))
 
-repair_kinds-judged : (tables : Tables) → AllByRecursion (JudgesKind tables) (repair_kinds tables)
-repair_kinds-judged tables =
-    (begin-judged tables, (step-judged tables, (bare-judged tables (codes "finish") commands.Finish tt, (bare-judged tables (codes "abort") commands.Abort tt, tt))))
+repair_kinds-judged : (version : Version) (tables : Tables) → AllByRecursion (JudgesKind tables) (repair_kinds version tables)
+repair_kinds-judged version tables =
+    (begin-judged version tables, (step-judged tables, (bare-judged tables (codes "finish") commands.Finish tt, (bare-judged tables (codes "abort") commands.Abort tt, tt))))
 
 question_kinds-judged : (tables : Tables) → AllByRecursion (JudgesKind tables) (question_kinds tables)
 question_kinds-judged tables =
@@ -213,22 +213,22 @@ all-append : {X : Type 0} (P : X → Type 0) (xs ys : List X) → AllByRecursion
 all-append P [] ys first second = second
 all-append P (x ∷ xs) ys first second = (first.0, all-append P xs ys first.1 second)
 
-command-judged : (tables : Tables) → Judges tables (command tables)
-command-judged tables =
-    let later = all-append (JudgesKind tables) (repair_kinds tables) (question_kinds tables) (repair_kinds-judged tables) (question_kinds-judged tables) in
-    by_first_kind-judged tables (statement_kinds tables ++ (repair_kinds tables ++ question_kinds tables))
-    (all-append (JudgesKind tables) (statement_kinds tables) (repair_kinds tables ++ question_kinds tables) (statement_kinds-judged tables) later)
+command-judged : (version : Version) (tables : Tables) → Judges tables (command version tables)
+command-judged version tables =
+    let later = all-append (JudgesKind tables) (repair_kinds version tables) (question_kinds tables) (repair_kinds-judged version tables) (question_kinds-judged tables) in
+    by_first_kind-judged tables (statement_kinds version tables ++ (repair_kinds version tables ++ question_kinds tables))
+    (all-append (JudgesKind tables) (statement_kinds version tables) (repair_kinds version tables ++ question_kinds tables) (statement_kinds-judged version tables) later)
 
-members-judged : (tables : Tables) (v : Data) (request : Request) → members_of_request tables v ≡ Ok request → IsJudged tables request.command
+members-judged : (version : Version) (tables : Tables) (v : Data) (request : Request) → members_of_request version tables v ≡ Ok request → IsJudged tables request.command
 unfolding members_of_request
-members-judged tables v request e =
+members-judged version tables v request e =
     let is_object = step (object v) _ request e in
     let worker = step (optional (codes "worker") worker_number v) _ request is_object.rest in
     let expected = step (optional (codes "if") told_time v) _ request worker.rest in
-    let asked = step (command tables v) _ request expected.rest in
-    subst (λ (r : Request). IsJudged tables r.command) (ok_same asked.rest) (command-judged tables v asked.value asked.is)
+    let asked = step (command version tables v) _ request expected.rest in
+    subst (λ (r : Request). IsJudged tables r.command) (ok_same asked.rest) (command-judged version tables v asked.value asked.is)
 
 pub requests_are_judged : RequestsAreJudged
-requests_are_judged tables value request e =
-    let v = step value (members_of_request tables) request (with_path-ok document_path (value >>= members_of_request tables) request e) in
-    members-judged tables v.value request v.rest
+requests_are_judged version tables value request e =
+    let v = step value (members_of_request version tables) request (with_path-ok document_path (value >>= members_of_request version tables) request e) in
+    members-judged version tables v.value request v.rest

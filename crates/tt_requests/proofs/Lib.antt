@@ -4,4 +4,6 @@ pub mod BoundLemmas
 pub mod LogOpeningLemmas
 pub mod AcceptedLemmas
 pub mod LawProofs
+pub mod NewestVersionLemmas
 mod worked_lines
+mod worked_versions

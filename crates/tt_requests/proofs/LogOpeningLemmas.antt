@@ -5,7 +5,7 @@ use Rattle.std.proofs.lemmas.Bool.{ltb-false, ltb-true}
 use Rattle.serde_json.specs.Data.{Data}
 use Rattle.tt_numbers.specs.Numbers.{Numbering, number_limit, IsNumbering}
 use Rattle.tt_grammar.specs.declared.fault.DocFault.{DocFault}
-use Rattle.tt_grammar.specs.Fault.{◌>>=◌, refuse, Gives, with_path, document_path}
+use Rattle.tt_grammar.specs.Fault.{◌>>=◌, refuse, Gives, document_path}
 use Rattle.tt_grammar.specs.Decoder.{object, count, count_within, member}
 use Rattle.tt_grammar.specs.Members.{is_one_of, no_members_but}
 use Rattle.tt_requests.specs.declared.log_opening.LogOpening.{LogOpening}

@@ -10,6 +10,8 @@ use Rattle.json.specs.Word.{word, after_number}
 use Rattle.serde_json.specs.Read.{number_of}
 use Rattle.tt_json.specs.Text.{json_of_text}
 use Rattle.tt_grammar.specs.declared.fault.DocFault.TheVariants.{At}
+use Rattle.tt_grammar.specs.declared.session_version.SessionVersion.TheVariants as session_versions
+use Rattle.tt_grammar.specs.declared.version.Version.TheVariants.{Two}
 use Rattle.tt_grammar.specs.TextValue.{value_of_json}
 use Rattle.tt_requests.specs.declared.request.Command.TheVariants as commands
 use Rattle.tt_requests.specs.Lines.{lines_of, whole_lines_of, is_passed_over}
@@ -49,24 +51,24 @@ unfolding lex content short_escape punctuate word after_number json.value json.i
 no_json = (refl, refl)
 
 -- {"forget":1}, with its time as it is told
-forget_read : request_of [] (value_of_line (codes "{\"forget\":1}")) ≡ Ok (record { worker = 1; expected = None; command = commands.Forget (record { number = 1 }) })
+forget_read : request_of Two [] (value_of_line (codes "{\"forget\":1}")) ≡ Ok (record { worker = 1; expected = None; command = commands.Forget (record { number = 1 }) })
 unfolding is_utf8 chars encode_utf8 lex content short_escape punctuate word after_number json.value json.items json.members scan_numeral number_of value_of_json value_of_line forget members_of_request
 forget_read = refl
 
 -- a time below zero
-forget_below_zero : request_of [] (value_of_line (codes "{\"forget\":-1}")) ≡ Err (At (codes "$.forget") (codes "wrong type"))
+forget_below_zero : request_of Two [] (value_of_line (codes "{\"forget\":-1}")) ≡ Err (At (codes "$.forget") (codes "wrong type"))
 unfolding is_utf8 chars encode_utf8 lex content short_escape punctuate word after_number json.value json.items json.members scan_numeral number_of value_of_json value_of_line forget members_of_request
 forget_below_zero = refl
 
 -- a status, in which forget is an unknown member
-status_and_forget : request_of [] (value_of_line (codes "{\"status\":true,\"forget\":1}")) ≡ Err (At (codes "$") (codes "unknown member \"forget\""))
+status_and_forget : request_of Two [] (value_of_line (codes "{\"status\":true,\"forget\":1}")) ≡ Err (At (codes "$") (codes "unknown member \"forget\""))
 unfolding is_utf8 chars encode_utf8 lex content short_escape punctuate word after_number json.value json.items json.members scan_numeral number_of value_of_json value_of_line bare only_true members_of_request
 status_and_forget = refl
 
 -- the opening of a log without tables
 log_opening_read : log_opening_of (value_of_line (codes "{\"version\":2,\"tables\":[],\"ground\":{\"time\":7,\"generation\":1,\"slots\":2}}"))
     ≡ Ok (record {
-      opening = record { catalog = []; keep = 4; records = 100000 };
+      opening = record { version = session_versions.Two; catalog = []; keep = 4; records = 100000 };
       numbering = record { horizon = 7; ground_slots = 2; generations = 1 };
     })
 unfolding is_utf8 chars encode_utf8 lex content short_escape punctuate word after_number json.value json.items json.members scan_numeral number_of value_of_json value_of_line declaration ground_numbering members_of_log_opening

@@ -8,12 +8,13 @@ use Rattle.tt_grammar.specs.declared.statements.Context.TheVariants as contexts
 use Rattle.tt_grammar.specs.Fault.{◌>>=◌, with_path, document_path}
 use Rattle.tt_grammar.specs.Decoder.{object}
 use Rattle.tt_grammar.specs.Actions.{action}
+use Rattle.tt_grammar.specs.Version.{newest_version}
 
--- the action of an object that has the member do alone
+-- the action of an object that has the member do alone, as the newest version reads it, whatever the version of the log
 abbrev pub members_of_ground_action : Tables → Data → Result (List Write) DocFault
 members_of_ground_action tables v = do
   _ ← object v
-  action tables contexts.Nested v
+  action newest_version tables contexts.Nested v
 
 -- the meaning of a JSON value, or of none: an action, or its first fault with the path from the root
 abbrev pub ground_action_of : Tables → Result Data DocFault → Result (List Write) DocFault

@@ -6,6 +6,7 @@ use Rattle.tt_values.specs.Check.{action_fault, select_fault}
 use Rattle.tt_repair_laws.specs.declared.edit.Edit.{Edit}
 use Rattle.tt_repair_laws.specs.Edits.{HasNoFault}
 use Rattle.tt_grammar.specs.declared.fault.DocFault.{DocFault}
+use Rattle.tt_grammar.specs.declared.version.Version.{Version}
 use Rattle.tt_grammar.specs.Edits.{max_edits}
 use Rattle.tt_requests.specs.declared.request.Command.{Command}
 use Rattle.tt_requests.specs.declared.request.Command.TheVariants as commands
@@ -25,6 +26,6 @@ IsJudged tables (commands.Preview select page) = select_fault tables select ≡ 
 IsJudged tables (commands.Begin told) = AreJudgedEdits tables told.edits
 IsJudged tables command = Unit {0}
 
--- what a request asks for has been judged, whatever the JSON value that it is read from
+-- what a request asks for has been judged, whatever the version and the JSON value that it is read from
 abbrev pub RequestsAreJudged : Type 0
-RequestsAreJudged = (tables : Tables) (value : Result Data DocFault) (request : Request) → request_of tables value ≡ Ok request → IsJudged tables request.command
+RequestsAreJudged = (version : Version) (tables : Tables) (value : Result Data DocFault) (request : Request) → request_of version tables value ≡ Ok request → IsJudged tables request.command

@@ -9,3 +9,4 @@ pub mod Requests
 pub mod LogOpening
 pub mod GroundAction
 pub mod Judged
+pub mod NewestVersion

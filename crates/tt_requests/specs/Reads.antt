@@ -6,6 +6,7 @@ use Rattle.tt_values.specs.Tables.{Tables}
 use Rattle.tt_values.specs.Check.{select_fault}
 use Rattle.tt_grammar.specs.declared.fault.DocFault.{DocFault}
 use Rattle.tt_grammar.specs.declared.statements.Context.TheVariants as contexts
+use Rattle.tt_grammar.specs.declared.version.Version.{Version}
 use Rattle.tt_grammar.specs.Fault.{◌>>=◌}
 use Rattle.tt_grammar.specs.Decoder.{int, count_within, member, optional}
 use Rattle.tt_grammar.specs.Conditions.{table_named}
@@ -27,10 +28,10 @@ page v = do
   Ok (record { after = after; most = most })
 
 -- a select: the table, the conditions, the time, the generation, and the page
-unfoldable pub read : Tables → Data → Result Command DocFault
-read tables v = do
+unfoldable pub read : Version → Tables → Data → Result Command DocFault
+read version tables v = do
   table ← member (codes "select") (table_named tables) v
-  equals ← conditions tables table v
+  equals ← conditions version tables table v
   at ← optional (codes "at") told_time v
   generation ← optional (codes "in") told_generation v
   page ← page v
@@ -40,10 +41,10 @@ read tables v = do
   Ok (commands.Read select at generation page)
 
 -- a select of the next generation: the table, the conditions, and the page
-unfoldable pub preview : Tables → Data → Result Command DocFault
-preview tables v = do
+unfoldable pub preview : Version → Tables → Data → Result Command DocFault
+preview version tables v = do
   table ← member (codes "preview") (table_named tables) v
-  equals ← conditions tables table v
+  equals ← conditions version tables table v
   page ← page v
   _ ← no_members_at contexts.Request (codes "after" ∷ codes "most" ∷ codes "preview" ∷ codes "where" ∷ []) v
   let statement : Select = record { table = table; equals = equals }

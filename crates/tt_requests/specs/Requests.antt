@@ -1,12 +1,13 @@
--- The meaning of a request: its worker, the current time for which it is meant, and its command; or its first fault. The members are
--- judged in the order in which they are named here, each one wholly before the next; then an unknown member, the least by its bytes;
--- then the statement as a whole.
+-- The meaning of a request, as of the version of its session: its worker, the current time for which it is meant, and its command;
+-- or its first fault. The members are judged in the order in which they are named here, each one wholly before the next; then an
+-- unknown member, the least by its bytes; then the statement as a whole.
 use Rattle.std.specs.Prelude.{ℕ, List, [], ◌∷◌, ◌++◌, unwrap_or, if◌then◌else◌, Result, Ok, codes, ⊤}
 use Rattle.serde_json.specs.Data.{Data}
 use Rattle.tt_values.specs.declared.statement.Write.{Write}
 use Rattle.tt_values.specs.Tables.{Tables}
 use Rattle.tt_grammar.specs.declared.fault.DocFault.{DocFault}
 use Rattle.tt_grammar.specs.declared.statements.Context.TheVariants as contexts
+use Rattle.tt_grammar.specs.declared.version.Version.{Version}
 use Rattle.tt_grammar.specs.Fault.{◌>>=◌, refuse, with_path, document_path}
 use Rattle.tt_grammar.specs.Decoder.{object, flag, count_within, has, member, optional}
 use Rattle.tt_grammar.specs.Statements.{no_members_at, insert, update, delete}
@@ -26,15 +27,15 @@ one_write reading = do
   Ok (commands.Write (write ∷ []))
 
 -- an action of several writes
-unfoldable pub several_writes : Tables → Data → Result Command DocFault
-several_writes tables v = do
-  action ← action tables contexts.Request v
+unfoldable pub several_writes : Version → Tables → Data → Result Command DocFault
+several_writes version tables v = do
+  action ← action version tables contexts.Request v
   Ok (commands.Write action)
 
 -- the beginning of a repair: its edits
-unfoldable pub begin : Tables → Data → Result Command DocFault
-begin tables v = do
-  edits ← member (codes "begin") (edits tables) v
+unfoldable pub begin : Version → Tables → Data → Result Command DocFault
+begin version tables v = do
+  edits ← member (codes "begin") (edits version tables) v
   _ ← no_members_at contexts.Request (codes "begin" ∷ []) v
   Ok (commands.Begin (record { edits = edits }))
 
@@ -70,20 +71,20 @@ bare name command v = do
   Ok command
 
 -- the statements, each by the member that names it, and its meaning
-abbrev pub statement_kinds : Tables → List (List ℕ × (Data → Result Command DocFault))
-statement_kinds tables =
+abbrev pub statement_kinds : Version → Tables → List (List ℕ × (Data → Result Command DocFault))
+statement_kinds version tables =
     (codes "insert", λ v. one_write (insert tables contexts.Request v))
-    ∷ (codes "update", λ v. one_write (update tables contexts.Request v))
-    ∷ (codes "delete", λ v. one_write (delete tables contexts.Request v))
-    ∷ (codes "select", read tables)
-    ∷ (codes "preview", preview tables)
-    ∷ (codes "do", several_writes tables)
+    ∷ (codes "update", λ v. one_write (update version tables contexts.Request v))
+    ∷ (codes "delete", λ v. one_write (delete version tables contexts.Request v))
+    ∷ (codes "select", read version tables)
+    ∷ (codes "preview", preview version tables)
+    ∷ (codes "do", several_writes version tables)
     ∷ []
 
 -- the commands of a repair
-abbrev pub repair_kinds : Tables → List (List ℕ × (Data → Result Command DocFault))
-repair_kinds tables =
-    (codes "begin", begin tables)
+abbrev pub repair_kinds : Version → Tables → List (List ℕ × (Data → Result Command DocFault))
+repair_kinds version tables =
+    (codes "begin", begin version tables)
     ∷ (codes "step", step)
     ∷ (codes "finish", bare (codes "finish") commands.Finish)
     ∷ (codes "abort", bare (codes "abort") commands.Abort)
@@ -109,22 +110,22 @@ by_first_kind [] v = refuse no_kind
 by_first_kind (kind ∷ others) v = if has kind.0 v then kind.1 v else by_first_kind others v
 
 -- the command of an object, by the first of its kinds
-abbrev pub command : Tables → Data → Result Command DocFault
-command tables v = by_first_kind (statement_kinds tables ++ (repair_kinds tables ++ question_kinds tables)) v
+abbrev pub command : Version → Tables → Data → Result Command DocFault
+command version tables v = by_first_kind (statement_kinds version tables ++ (repair_kinds version tables ++ question_kinds tables)) v
 
 -- the worker whose number is left out
 abbrev pub usual_worker : ℕ
 usual_worker = 1
 
 -- a request: its worker, the time that it expects, and its command. The first two may be left out
-unfoldable pub members_of_request : Tables → Data → Result Request DocFault
-members_of_request tables v = do
+unfoldable pub members_of_request : Version → Tables → Data → Result Request DocFault
+members_of_request version tables v = do
   _ ← object v
   worker ← optional (codes "worker") worker_number v
   expected ← optional (codes "if") told_time v
-  command ← command tables v
+  command ← command version tables v
   Ok (record { worker = unwrap_or worker usual_worker; expected = expected; command = command })
 
 -- the meaning of a JSON value, or of none: a request, or its first fault with the path from the root
-abbrev pub request_of : Tables → Result Data DocFault → Result Request DocFault
-request_of tables value = with_path document_path (value >>= members_of_request tables)
+abbrev pub request_of : Version → Tables → Result Data DocFault → Result Request DocFault
+request_of version tables value = with_path document_path (value >>= members_of_request version tables)

@@ -12,8 +12,8 @@ use crate::told::ToldTimeDecoder;
 use std::alloc::Global;
 use tt_grammar::DocFault;
 use tt_grammar::decoding::{
-    Context, CountDecoder, Decoder, FlagDecoder, OUT_OF_RANGE, action, delete, has, insert, member,
-    no_members_but, update,
+    Context, CountDecoder, Decoder, FlagDecoder, OUT_OF_RANGE, Version, action, delete, has,
+    insert, member, no_members_but, update,
 };
 use tt_json::JsonValue;
 use tt_values::{Catalog, Items, Write};
@@ -30,46 +30,48 @@ const STEPS: CountDecoder = CountDecoder {
 #[tactic(auto, unfolding(crate::specs::Requests::one_write))]
 pub(crate) fn command<V: JsonValue>(
     alloc: Global,
+    version: Version,
     catalog: &Catalog,
     value: &V,
 ) -> Result<Command, DocFault>
-    ensures { Gives result (command catalog.now (V.json value.now)) }
+    ensures { Gives result (command version catalog.now (V.json value.now)) }
 {
     if has(value, "insert") {
         let write = insert(alloc, catalog, Context::Request, value)?;
         return one_write(alloc, write);
     }
     if has(value, "update") {
-        let write = update(alloc, catalog, Context::Request, value)?;
+        let write = update(alloc, version, catalog, Context::Request, value)?;
         return one_write(alloc, write);
     }
     if has(value, "delete") {
-        let write = delete(alloc, catalog, Context::Request, value)?;
+        let write = delete(alloc, version, catalog, Context::Request, value)?;
         return one_write(alloc, write);
     }
     if has(value, "select") {
-        return read(alloc, catalog, value);
+        return read(alloc, version, catalog, value);
     }
     if has(value, "preview") {
-        return preview(alloc, catalog, value);
+        return preview(alloc, version, catalog, value);
     }
     if has(value, "do") {
-        return several_writes(alloc, catalog, value);
+        return several_writes(alloc, version, catalog, value);
     }
-    repair_or_question(alloc, catalog, value)
+    repair_or_question(alloc, version, catalog, value)
 }
 
 fn repair_or_question<V: JsonValue>(
     alloc: Global,
+    version: Version,
     catalog: &Catalog,
     value: &V,
 ) -> Result<Command, DocFault>
     ensures { Gives result
-        (by_first_kind (repair_kinds catalog.now ++ question_kinds catalog.now)
+        (by_first_kind (repair_kinds version catalog.now ++ question_kinds catalog.now)
         (V.json value.now)) }
 {
     if has(value, "begin") {
-        return begin(alloc, catalog, value);
+        return begin(alloc, version, catalog, value);
     }
     if has(value, "step") {
         return step(alloc, value);
@@ -117,20 +119,26 @@ fn one_write(alloc: Global, write: Write) -> Result<Command, DocFault>
 #[tactic(auto, unfolding(crate::specs::Requests::several_writes))]
 fn several_writes<V: JsonValue>(
     alloc: Global,
+    version: Version,
     catalog: &Catalog,
     value: &V,
 ) -> Result<Command, DocFault>
-    ensures { Gives result (several_writes catalog.now (V.json value.now)) }
+    ensures { Gives result (several_writes version catalog.now (V.json value.now)) }
 {
-    let action = action(alloc, catalog, Context::Request, value)?;
+    let action = action(alloc, version, catalog, Context::Request, value)?;
     Ok(Command::Write(action))
 }
 
 #[tactic(auto, unfolding(crate::specs::Requests::begin))]
-fn begin<V: JsonValue>(alloc: Global, catalog: &Catalog, value: &V) -> Result<Command, DocFault>
-    ensures { Gives result (begin catalog.now (V.json value.now)) }
+fn begin<V: JsonValue>(
+    alloc: Global,
+    version: Version,
+    catalog: &Catalog,
+    value: &V,
+) -> Result<Command, DocFault>
+    ensures { Gives result (begin version catalog.now (V.json value.now)) }
 {
-    let edits = member(alloc, value, "begin", &EditsDecoder { catalog })?;
+    let edits = member(alloc, value, "begin", &EditsDecoder { version, catalog })?;
     no_members_but(alloc, value, &["if", "worker", "begin"])?;
     Ok(Command::Begin(ToldEdits { edits }))
 }

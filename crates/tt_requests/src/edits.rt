@@ -17,13 +17,14 @@ const NO_KIND: &str = "missing one of cancel, replace";
 /// The edits of slots, at most [`MAX_EDITS`].
 #[derive(Drop)]
 pub(crate) struct EditsDecoder<'a> {
+    pub(crate) version: Version,
     pub(crate) catalog: &'a Catalog,
 }
 
 impl Decoder for EditsDecoder<'_> {
     type Output = Items<Edit>;
 
-    ghost meaning = { λ r. edits r.catalog.now };
+    ghost meaning = { λ r. edits r.version r.catalog.now };
 
     fn decode<V: JsonValue>(&self, alloc: Global, value: &V) -> Result<Items<Edit>, DocFault> {
         let items = array(alloc, value)?;
@@ -31,6 +32,7 @@ impl Decoder for EditsDecoder<'_> {
             return Err(DocFault::here(alloc, OUT_OF_RANGE));
         }
         let decoder = EditDecoder {
+            version: self.version,
             catalog: self.catalog,
         };
         decode_items::<_, V>(alloc, &decoder, items)
@@ -40,13 +42,14 @@ impl Decoder for EditsDecoder<'_> {
 /// An edit, by the first of its kinds that's there.
 #[derive(Drop)]
 struct EditDecoder<'a> {
+    version: Version,
     catalog: &'a Catalog,
 }
 
 impl Decoder for EditDecoder<'_> {
     type Output = Edit;
 
-    ghost meaning = { λ r. edit r.catalog.now };
+    ghost meaning = { λ r. edit r.version r.catalog.now };
 
     #[tactic(auto, unfolding(crate::specs::Edits::edit))]
     fn decode<V: JsonValue>(&self, alloc: Global, value: &V) -> Result<Edit, DocFault> {
@@ -56,7 +59,7 @@ impl Decoder for EditDecoder<'_> {
             return Ok(edit);
         }
         if has(value, "replace") {
-            let edit = replace(alloc, self.catalog, value)?;
+            let edit = replace(alloc, self.version, self.catalog, value)?;
             return Ok(edit);
         }
         Err(DocFault::here(alloc, NO_KIND))
@@ -73,15 +76,16 @@ fn cancel<V: JsonValue>(alloc: Global, value: &V) -> Result<Edit, DocFault>
 }
 
 #[tactic(auto, unfolding(crate::specs::Edits::replace))]
-fn replace<V: JsonValue>(alloc: Global, catalog: &Catalog, value: &V) -> Result<Edit, DocFault>
-    ensures { Gives result (replace catalog.now (V.json value.now)) }
+fn replace<V: JsonValue>(
+    alloc: Global,
+    version: Version,
+    catalog: &Catalog,
+    value: &V,
+) -> Result<Edit, DocFault>
+    ensures { Gives result (replace version catalog.now (V.json value.now)) }
 {
     let slot = member(alloc, value, "replace", &AnyCountDecoder)?;
-    let decoder = ReplacementDecoder {
-        version: Version::Two,
-        catalog,
-    };
-    let action = member(alloc, value, "by", &decoder)?;
+    let action = member(alloc, value, "by", &ReplacementDecoder { version, catalog })?;
     no_members_but(alloc, value, &["by", "replace"])?;
     Ok(Edit::Replace(slot, action))
 }

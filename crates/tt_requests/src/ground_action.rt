@@ -7,14 +7,15 @@ ghost use Rattle.tt_requests.specs.GroundAction.{members_of_ground_action, groun
 use crate::line_value::parse_line;
 use std::alloc::Global;
 use tt_grammar::DocFault;
-use tt_grammar::decoding::{Context, action, object};
+use tt_grammar::decoding::{Context, Version, action, object};
 use tt_json::{JsonValue, Scratch, root};
 use tt_values::{Catalog, Items, Write};
 
 /// The action of a slot of the ground that a line spells, for a database with these tables, or its
 /// first fault: that the line is too long; or else that it isn't JSON; or else that an object names
-/// a member twice; or else the one of its JSON value. Memory can run out before the fault is met.
-/// What `scratch` held doesn't matter. It grows to the longest line.
+/// a member twice; or else the one of its JSON value. It is read as of the newest version, whatever
+/// the version of the log. Memory can run out before the fault is met. What `scratch` held doesn't
+/// matter. It grows to the longest line.
 pub fn ground_action_from_line(
     alloc: Global,
     catalog: &Catalog,
@@ -51,5 +52,5 @@ fn from_members<V: JsonValue>(
     ensures { Gives result (members_of_ground_action catalog.now (V.json value.now)) }
 {
     object(alloc, value)?;
-    action(alloc, catalog, Context::Nested, value)
+    action(alloc, Version::Three, catalog, Context::Nested, value)
 }

@@ -8,8 +8,8 @@ use crate::told::{ToldGenerationDecoder, ToldTimeDecoder};
 use std::alloc::Global;
 use tt_grammar::DocFault;
 use tt_grammar::decoding::{
-    CountDecoder, IntDecoder, TableNameDecoder, checked_select, conditions, member, no_members_but,
-    optional,
+    CountDecoder, IntDecoder, TableNameDecoder, Version, checked_select, conditions, member,
+    no_members_but, optional,
 };
 use tt_json::JsonValue;
 use tt_values::{Catalog, Select};
@@ -23,13 +23,14 @@ const MOST: CountDecoder = CountDecoder {
 #[tactic(auto, unfolding(crate::specs::Reads::read))]
 pub(crate) fn read<V: JsonValue>(
     alloc: Global,
+    version: Version,
     catalog: &Catalog,
     value: &V,
 ) -> Result<Command, DocFault>
-    ensures { Gives result (read catalog.now (V.json value.now)) }
+    ensures { Gives result (read version catalog.now (V.json value.now)) }
 {
     let table = member(alloc, value, "select", &TableNameDecoder { catalog })?;
-    let equals = conditions(alloc, catalog, table, value)?;
+    let equals = conditions(alloc, version, catalog, table, value)?;
     let at = optional(alloc, value, "at", &ToldTimeDecoder)?;
     let generation = optional(alloc, value, "in", &ToldGenerationDecoder)?;
     let page = page(alloc, value)?;
@@ -53,13 +54,14 @@ pub(crate) fn read<V: JsonValue>(
 #[tactic(auto, unfolding(crate::specs::Reads::preview))]
 pub(crate) fn preview<V: JsonValue>(
     alloc: Global,
+    version: Version,
     catalog: &Catalog,
     value: &V,
 ) -> Result<Command, DocFault>
-    ensures { Gives result (preview catalog.now (V.json value.now)) }
+    ensures { Gives result (preview version catalog.now (V.json value.now)) }
 {
     let table = member(alloc, value, "preview", &TableNameDecoder { catalog })?;
-    let equals = conditions(alloc, catalog, table, value)?;
+    let equals = conditions(alloc, version, catalog, table, value)?;
     let page = page(alloc, value)?;
     no_members_but(
         alloc,

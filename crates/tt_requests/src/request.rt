@@ -9,7 +9,7 @@ use crate::questions::WORKER;
 use crate::told::ToldTimeDecoder;
 use std::alloc::Global;
 use tt_grammar::DocFault;
-use tt_grammar::decoding::{object, optional};
+use tt_grammar::decoding::{Version, object, optional};
 use tt_json::{JsonValue, Scratch, root};
 use tt_numbers::{ToldGeneration, ToldTime};
 use tt_repair_laws::Edit;
@@ -94,37 +94,49 @@ pub struct Page {
 impl Request {
     ghost use Rattle.tt_requests.specs.LineValue.{value_of_line};
 
-    /// The request that a line spells to a database with these tables, or its first fault: that the
-    /// line is too long; or else that it isn't JSON; or else that an object names a member twice;
-    /// or else the one of its JSON value. Memory can run out before the fault is met.
-    pub fn from_line(alloc: Global, catalog: &Catalog, line: &[u8]) -> Result<Request, DocFault>
-        ensures { Gives result (request_of catalog.now (value_of_line line.now)) }
+    /// The request that a line spells in a session of this version, to a database with these
+    /// tables, or its first fault: that the line is too long; or else that it isn't JSON; or else
+    /// that an object names a member twice; or else the one of its JSON value. Memory can run out
+    /// before the fault is met.
+    pub fn from_line(
+        alloc: Global,
+        version: Version,
+        catalog: &Catalog,
+        line: &[u8],
+    ) -> Result<Request, DocFault>
+        ensures { Gives result (request_of version catalog.now (value_of_line line.now)) }
     {
         let mut scratch = Scratch::new(alloc);
-        Request::from_line_with(alloc, catalog, line, &mut scratch)
+        Request::from_line_with(alloc, version, catalog, line, &mut scratch)
     }
 
     /// As [`from_line`](Request::from_line), for a caller that keeps `scratch` from line to line.
     /// What it held doesn't matter. It grows to the longest line.
     pub fn from_line_with(
         alloc: Global,
+        version: Version,
         catalog: &Catalog,
         line: &[u8],
         scratch: &mut Scratch,
     ) -> Result<Request, DocFault>
-        ensures { Gives result (request_of catalog.now (value_of_line line.now)) }
+        ensures { Gives result (request_of version catalog.now (value_of_line line.now)) }
     {
         match parse_line(alloc, line, scratch) {
-            Ok(tape) => from_json(alloc, catalog, &root(&tape)),
+            Ok(tape) => from_json(alloc, version, catalog, &root(&tape)),
             Err(fault) => Err(fault.in_document(alloc)),
         }
     }
 }
 
-fn from_json<V: JsonValue>(alloc: Global, catalog: &Catalog, value: &V) -> Result<Request, DocFault>
-    ensures { Gives result (request_of catalog.now (Ok (V.json value.now))) }
+fn from_json<V: JsonValue>(
+    alloc: Global,
+    version: Version,
+    catalog: &Catalog,
+    value: &V,
+) -> Result<Request, DocFault>
+    ensures { Gives result (request_of version catalog.now (Ok (V.json value.now))) }
 {
-    match from_members(alloc, catalog, value) {
+    match from_members(alloc, version, catalog, value) {
         Ok(request) => Ok(request),
         Err(fault) => Err(fault.in_document(alloc)),
     }
@@ -134,15 +146,16 @@ fn from_json<V: JsonValue>(alloc: Global, catalog: &Catalog, value: &V) -> Resul
 #[tactic(auto, unfolding(crate::specs::Requests::members_of_request))]
 fn from_members<V: JsonValue>(
     alloc: Global,
+    version: Version,
     catalog: &Catalog,
     value: &V,
 ) -> Result<Request, DocFault>
-    ensures { Gives result (members_of_request catalog.now (V.json value.now)) }
+    ensures { Gives result (members_of_request version catalog.now (V.json value.now)) }
 {
     object(alloc, value)?;
     let worker = optional(alloc, value, "worker", &WORKER)?;
     let expected = optional(alloc, value, "if", &ToldTimeDecoder)?;
-    let command = command(alloc, catalog, value)?;
+    let command = command(alloc, version, catalog, value)?;
     Ok(Request {
         worker: worker.unwrap_or(USUAL_WORKER),
         expected,

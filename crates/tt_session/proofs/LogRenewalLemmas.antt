@@ -1,5 +1,5 @@
 -- The lines of a log that is made anew are read back: they make the same database again.
-use Rattle.std.proofs.Common.{◌≡◌, ℕ, ◌+◌, ◌-◌, ◌≤◌, ◌==◌, ◌&&◌, true, false, not, List, [], ◌∷◌, ◌++◌, map, length, take, drop, append-nil, append_assoc, length-append, Option, None, Some, option_and_then, is_none, Ok, All, refl, sym, ap, ◌∙◌, subst, arith, ne_eqb}
+use Rattle.std.proofs.Common.{◌≡◌, ℕ, ◌+◌, ◌-◌, ◌≤◌, ◌==◌, ◌&&◌, true, false, not, List, [], ◌∷◌, ◌++◌, length, take, drop, append-nil, append_assoc, length-append, Option, None, Some, option_and_then, is_none, Ok, All, refl, sym, ap, ◌∙◌, subst, arith, ne_eqb}
 use Rattle.std.specs.Option.{option_map}
 use Rattle.std.specs.List.{list_all}
 use Rattle.std.proofs.lemmas.Bool.{and_parts}
@@ -23,23 +23,22 @@ use Rattle.tt_horizon.specs.Grounds.{inserts_alone, is_inserted, is_of_ground, A
 use Rattle.tt_horizon.specs.Laying.{with_entries}
 use Rattle.tt_grammar.proofs.EveryLemmas.{Every, every}
 use Rattle.tt_numbers.specs.Numbers.{Numbering, IsNumbering}
+use Rattle.tt_grammar.specs.SessionVersion.{newest_of_sessions}
 use Rattle.tt_requests.specs.declared.request.Command.TheVariants as commands
 use Rattle.tt_requests.specs.declared.log_opening.LogOpening.{LogOpening}
 use Rattle.tt_requests.specs.Opening.{max_keep, max_records}
 use Rattle.tt_requests.specs.LogOpening.{max_ground_slots}
 use Rattle.tt_answers.specs.LogText.{log_opening_line, ground_line, slot_line}
 use Rattle.tt_session.specs.declared.session.Session.TheVariants.{Open}
+use Rattle.tt_session.specs.declared.terms.Terms.{Terms}
 use Rattle.tt_session.specs.Session.{OpenSession, Forgetting, counted, with_database}
 use Rattle.tt_session.specs.Commands.{written}
 use Rattle.tt_session.specs.Changing.{changes_database}
 use Rattle.tt_session.specs.Room.{refusal_in_session}
 use Rattle.tt_session.specs.Repairing.{with_event, unless_refused}
 use Rattle.tt_session.specs.Run.{Turn, turn_by_outcome, turn_by_request}
-use Rattle.tt_session.specs.Answering.{turn_of_read, turns_of}
 use Rattle.tt_session.specs.LogLines.{action_in, line_of_entry, lines_of_entries, lines_of_database, lines_of_log}
-use Rattle.tt_session.specs.Logged.{with_line_if, logged_of}
-use Rattle.tt_session.specs.Together.{kept_line}
-use Rattle.tt_session.specs.Restoring.{opened_on, can_be_laid, with_ground, laid_by, laid_by_lines, IsLogOf}
+use Rattle.tt_session.specs.Restoring.{opened_on, can_be_laid, with_ground, laid_by, laid_by_lines, repeated, repeated_all, AllChange, IsLogOf}
 use Rattle.tt_session.specs.Sound.{IsSound}
 use Rattle.tt_session.specs.Renewing.{IsStorableAction, IsPrintable, IsReadable}
 use Rattle.tt_session.proofs.LogReadLemmas.{printed_log_opens, printed_ground_is_read, printed_slots_are_read}
@@ -129,8 +128,8 @@ lays-all session (e ∷ entries) catalog idle ground printable =
 
 record Repeats (session : OpenSession) (entries : List Entry) : Type 0 where
   pub next : OpenSession
-  pub logged : logged_of (Open session) (map kept_line (lines_of_entries false session.database.catalog entries)) ≡ lines_of_entries false session.database.catalog entries
-  pub session_is : (turns_of (Open session) (map kept_line (lines_of_entries false session.database.catalog entries))).session ≡ Open next
+  pub all_change : AllChange (Open session) (lines_of_entries false session.database.catalog entries)
+  pub session_is : repeated_all (Open session) (lines_of_entries false session.database.catalog entries) ≡ Open next
   pub database : next.database ≡ with_entries session.database entries
   pub numbering : next.numbering ≡ session.numbering
 
@@ -150,7 +149,7 @@ repeats-all : (session : OpenSession) (entries : List Entry) → IsCatalog sessi
     → IsLegalFrom session.database.catalog session.database.limits (state_of session.database) entries → Every (IsPrintable false) entries → Repeats session entries
 repeats-all session [] catalog idle legal printable = record {
   next = session;
-  logged = refl;
+  all_change = tt;
   session_is = refl;
   database = with_entries-none session.database;
   numbering = refl;
@@ -165,22 +164,21 @@ repeats-all session (e ∷ entries) catalog idle legal printable =
     let some : 1 ≤ worker = omega (arith, p.worker refl) in
     let read = printed_slots_are_read db.catalog worker action catalog some p.worker_fits (no-fault db action none) p.storable in
     let line : List ℕ = slot_line db.catalog worker action in
-    let next : OpenSession = (written (counted session) worker action).session in
-    let turn : (turn_of_read (Open session) (kept_line line)).session ≡ Open next =
-    ap (λ (t : Turn). t.session) (read-value (Open session) line read.1.not_passed_over) ∙ ap (λ r. (turn_by_request (counted session) r).session) read.0
-    ∙ write-turn session worker action (accepted db action idle none) in
-    let changes : changes_database (Open session) (turn_of_read (Open session) (kept_line line)).session ≡ true =
-    ap (changes_database (Open session)) turn ∙ write-changes session worker action in
+    let newest : OpenSession = record session { version = newest_of_sessions } in
+    let next : OpenSession = (written (counted newest) worker action).session in
+    let turn : repeated (Open session) line ≡ Open next =
+    ap (λ (t : Turn). t.session) (read-value (Open newest) line read.1.not_passed_over) ∙ ap (λ r. (turn_by_request (counted newest) r).session) read.0
+    ∙ write-turn newest worker action (accepted db action idle none) in
+    let changes : changes_database (Open session) (repeated (Open session) line) ≡ true =
+    ap (changes_database (Open session)) turn ∙ write-changes newest worker action in
     let state : next_state db.limits (state_of db) e.event ≡ state_of next.database =
     ap (next_state db.limits (state_of db)) event_is ∙ sym (state-push db worker action) in
     let rest = repeats-all next entries catalog (idle-push db worker action idle) (subst (λ S. IsLegalFrom db.catalog db.limits S entries) state legal.1) printable.1 in
     let lines : List (List ℕ) = lines_of_entries false db.catalog entries in
     record {
       next = rest.next;
-      logged =
-          (λ i. with_line_if (changes i) line (logged_of (turn i) (map kept_line lines)))
-          ∙ ap (λ ls. line ∷ ls) rest.logged;
-      session_is = ap (λ s. (turns_of s (map kept_line lines)).session) turn ∙ rest.session_is;
+      all_change = (changes, subst (λ s. AllChange s lines) (sym turn) rest.all_change);
+      session_is = ap (λ s. repeated_all s lines) turn ∙ rest.session_is;
       database = rest.database ∙ with_entries-push db (record { worker = worker; event = events.Write action }) entries ∙ ap (λ d. with_entries db (d ∷ entries)) (sym p.is);
       numbering = rest.numbering;
     }
@@ -212,9 +210,9 @@ log-of session p numbered few =
     let size = session.numbering.ground_slots in
     let first = take size db.history in
     let others = drop size db.history in
-    let log : LogOpening = record { opening = record { catalog = db.catalog; keep = db.limits.keep; records = session.most_records }; numbering = session.numbering } in
-    let line : List ℕ = log_opening_line db.catalog db.limits.keep session.most_records session.numbering in
-    let opens = printed_log_opens db.catalog db.limits.keep session.most_records session.numbering p.catalog p.keep few numbered p.few in
+    let log : LogOpening = record { opening = record { version = session.version; catalog = db.catalog; keep = db.limits.keep; records = session.most_records }; numbering = session.numbering } in
+    let line : List ℕ = log_opening_line session.version db.catalog db.limits.keep session.most_records session.numbering in
+    let opens = printed_log_opens session.version db.catalog db.limits.keep session.most_records session.numbering p.catalog p.keep few numbered p.few in
     let start : OpenSession = opened_on log in
     let begun : start.database ≡ emptied db = ap (λ l. record { catalog = db.catalog; limits = l; history = [] }) p.usual in
     let lays = lays-all start first p.catalog refl (subst (λ d. AreGround d first) (sym begun) p.ground) (every (IsPrintable true) first p.ground_printable) in
@@ -245,8 +243,8 @@ log-of session p numbered few =
           laid = lays.laid;
         };
         ground_first = λ less. absurd (omega (arith, less));
-        are_logged = subst (λ t. logged_of (Open base) (map kept_line (lines_of_entries false t others)) ≡ lines_of_entries false t others) tables repeats.logged;
-        session_is = sym (subst (λ t. (turns_of (Open base) (map kept_line (lines_of_entries false t others))).session ≡ Open repeats.next) tables repeats.session_is);
+        all_change = subst (λ t. AllChange (Open base) (lines_of_entries false t others)) tables repeats.all_change;
+        session_is = sym (subst (λ t. repeated_all (Open base) (lines_of_entries false t others) ≡ Open repeats.next) tables repeats.session_is);
       };
       alike = (
         repeats.next,
@@ -263,10 +261,10 @@ others-all : (h : List Entry) (ground_slots size end : ℕ) → size ≡ ground_
 others-all h ground_slots size end size_is end_is = (λ i. take (end_is i - size_is i) (drop (size_is i) h)) ∙ take_rest h ground_slots
 
 -- the lines that are written are those of the database
-pub lines-of : (f : Forgetting) (most_records size end : ℕ) (line : List ℕ) → line ≡ log_opening_line f.db.catalog f.db.limits.keep most_records f.numbering → size ≡ f.numbering.ground_slots → end ≡ length f.db.history
+pub lines-of : (f : Forgetting) (terms : Terms) (size end : ℕ) (line : List ℕ) → line ≡ log_opening_line terms.version f.db.catalog f.db.limits.keep terms.most_records f.numbering → size ≡ f.numbering.ground_slots → end ≡ length f.db.history
     → (([] ++ line ∷ []) ++ lines_of_entries true f.db.catalog (take (size - 0) (drop 0 f.db.history))) ++ lines_of_entries false f.db.catalog (take (end - size) (drop size f.db.history))
-    ≡ lines_of_database f.db f.numbering most_records
-lines-of f most_records size end line line_is size_is end_is =
+    ≡ lines_of_database f.db f.numbering terms
+lines-of f terms size end line line_is size_is end_is =
     let tables = f.db.catalog in
     let h : List Entry = f.db.history in
     let none : size - 0 ≡ size = omega arith in
@@ -275,10 +273,10 @@ lines-of f most_records size end line line_is size_is end_is =
     λ i. line_is i ∷ (lines_of_entries true tables (ground i) ++ lines_of_entries false tables (rest i))
 
 -- a log that is made for a session which forgets is one of that session
-pub readable : (f : Forgetting) (most_records size end : ℕ) → IsSound f.db f.numbering [] 0 → HasGround f.db f.ground_slots → f.numbering.ground_slots ≡ f.ground_slots
+pub readable : (f : Forgetting) (terms : Terms) (size end : ℕ) → IsSound f.db f.numbering [] 0 → HasGround f.db f.ground_slots → f.numbering.ground_slots ≡ f.ground_slots
     → record usual_limits { keep = f.db.limits.keep } ≡ f.db.limits → size ≡ f.numbering.ground_slots → end ≡ length f.db.history → size ≤ max_ground_slots → size ≤ end
-    → All (IsPrintable true) (take (size - 0) (drop 0 f.db.history)) → All (IsPrintable false) (take (end - size) (drop size f.db.history)) → IsReadable f most_records
-readable f most_records size end sound ground same usual size_is end_is few within first others = λ session database numbering records fits.
+    → All (IsPrintable true) (take (size - 0) (drop 0 f.db.history)) → All (IsPrintable false) (take (end - size) (drop size f.db.history)) → IsReadable f terms
+readable f terms size end sound ground same usual size_is end_is few within first others = λ session database numbering told fits.
     let h : List Entry = f.db.history in
     let none : size - 0 ≡ size = omega arith in
     let rest = others-all h f.numbering.ground_slots size end size_is end_is in
@@ -294,4 +292,4 @@ readable f most_records size end sound ground same usual size_is end_is few with
       slots_printable = subst (All (IsPrintable false)) rest others;
     } in
     log-of session (subst (λ (n : Numbering). IsLoggable session.database n.ground_slots) (sym numbering) (subst (λ d. IsLoggable d f.numbering.ground_slots) (sym database) loggable))
-    (subst IsNumbering (sym numbering) sound.numbered) (subst (λ n. n ≤ max_records) (sym records) fits)
+    (subst IsNumbering (sym numbering) sound.numbered) (subst (λ (t : Terms). t.most_records ≤ max_records) (sym told) fits)

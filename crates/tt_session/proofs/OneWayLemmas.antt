@@ -1,6 +1,5 @@
 -- A log is read back in one way: line by line, where each line leads to one session or to none.
-use Rattle.std.proofs.Common.{◌≡◌, ℕ, zero, suc, ◌+◌, ◌<◌, ◌≤◌, Bool, true, false, List, [], ◌∷◌, ◌++◌, length, map, option_and_then, Option, None, Some, is_err, Result, Ok, Err, refl, sym, ap, ◌∙◌, subst, arith}
-use Rattle.std.proofs.lemmas.List.{length-map}
+use Rattle.std.proofs.Common.{◌≡◌, ℕ, zero, suc, ◌+◌, ◌<◌, Bool, true, false, List, [], ◌∷◌, ◌++◌, length, option_and_then, Option, None, Some, is_err, Result, Ok, Err, refl, sym, ap, ◌∙◌, subst, arith}
 use Rattle.tt_grammar.specs.declared.fault.DocFault.{DocFault}
 use Rattle.tt_requests.specs.declared.log_opening.LogOpening.{LogOpening}
 use Rattle.tt_requests.specs.declared.opening.Opening.{Opening}
@@ -12,20 +11,14 @@ use Rattle.tt_session.specs.declared.session.Session.{Session}
 use Rattle.tt_session.specs.declared.session.Session.TheVariants.{NotOpen, Restored, Open}
 use Rattle.tt_session.specs.Session.{OpenSession}
 use Rattle.tt_session.specs.Run.{Turn, turn_by_opening}
-use Rattle.tt_session.specs.Answering.{LineRead, turn_of_read, turns_of}
 use Rattle.tt_session.specs.Changing.{changes_database}
-use Rattle.tt_session.specs.Logged.{with_line_if, logged_by, logged_of}
-use Rattle.tt_session.specs.Together.{kept_line}
-use Rattle.tt_session.specs.Restoring.{opened_on, laid_by, laid_by_lines, BeginsLog, ReadsLog, IsNoNext, IsNoLog, IsNoLine, LogsAreReadInOneWay}
+use Rattle.tt_session.specs.Restoring.{opened_on, laid_by, laid_by_lines, repeated, repeated_all, AllChange, BeginsLog, ReadsLog, IsNoNext, IsNoLog, IsNoLine, LogsAreReadInOneWay}
 use Rattle.tt_session.proofs.LogReadLemmas.{openings_have_no_ground}
 use Rattle.tt_session.proofs.RestoringLemmas.{begins-base, read-value}
 
 -- a session that is read back and how many slots of the ground are still to come, if the lines so far are some of a log
 abbrev Reading : Type 0
 Reading = Option (Session × ℕ)
-
-abbrev next_of : Session → List ℕ → Session
-next_of session line = (turn_of_read session (kept_line line)).session
 
 -- ---- the reading of a further line
 
@@ -34,7 +27,7 @@ changed_to true next = Some (next, 0)
 changed_to false next = None
 
 abbrev by_request : Session → List ℕ → Reading
-by_request session line = changed_to (changes_database session (next_of session line)) (next_of session line)
+by_request session line = changed_to (changes_database session (repeated session line)) (repeated session line)
 
 abbrev by_ground : Option OpenSession → ℕ → Reading
 by_ground None left = None
@@ -66,45 +59,21 @@ by_lines-none : (lines : List (List ℕ)) → by_lines None lines ≡ None
 by_lines-none [] = refl
 by_lines-none (line ∷ lines) = by_lines-none lines
 
--- ---- lines that are logged
-
-logged-few : (session : Session) (reads : List LineRead) → length (logged_of session reads) ≤ length reads
-logged-few session [] = omega arith
-logged-few session (read ∷ reads) =
-    by (changes_database session (turn_of_read session read).session) (logged-few (turn_of_read session read).session reads)
-  where
-    by : (b : Bool) → length (logged_of (turn_of_read session read).session reads) ≤ length reads
-        → length (with_line_if b read.line (logged_of (turn_of_read session read).session reads)) ≤ length (read ∷ reads)
-    by true few = omega (arith, few)
-    by false few = omega (arith, few)
-
--- where all lines are logged, so is the first one, and the others behind it
-logged-first : (session : Session) (line : List ℕ) (lines : List (List ℕ)) → logged_of session (map kept_line (line ∷ lines)) ≡ line ∷ lines
-    → (changes_database session (next_of session line) ≡ true) × (logged_of (next_of session line) (map kept_line lines) ≡ lines)
-logged-first session line lines are = by (changes_database session (next_of session line)) refl are
-  where
-    by : (b : Bool) → changes_database session (next_of session line) ≡ b → with_line_if b line (logged_of (next_of session line) (map kept_line lines)) ≡ line ∷ lines
-        → (changes_database session (next_of session line) ≡ true) × (logged_of (next_of session line) (map kept_line lines) ≡ lines)
-    by true c e = (c, cc e)
-    by false c e =
-        let few = logged-few (next_of session line) (map kept_line lines) in
-        let many = ap length e in
-        let count : length (map kept_line lines) ≡ length lines = length-map lines kept_line in
-        absurd (omega (arith, few, many, count))
+-- ---- lines that change the database
 
 -- what opens a session opens no log that was made anew
-opens-none : (line : List ℕ) → changes_database NotOpen (next_of NotOpen line) ≡ true → is_err (log_opening_of (value_of_line line)) ≡ true
+opens-none : (line : List ℕ) → changes_database NotOpen (repeated NotOpen line) ≡ true → is_err (log_opening_of (value_of_line line)) ≡ true
 opens-none line changes = by (is_passed_over line) refl
   where
-    none : {A : Type 0} → next_of NotOpen line ≡ NotOpen → A
+    none : {A : Type 0} → repeated NotOpen line ≡ NotOpen → A
     none stays = let same : changes_database NotOpen NotOpen ≡ true = subst (λ s. changes_database NotOpen s ≡ true) stays changes in cc
 
-    by_value : (r : Result Opening DocFault) → opening_of (value_of_line line) ≡ r → next_of NotOpen line ≡ (turn_by_opening r).session → is_err (log_opening_of (value_of_line line)) ≡ true
+    by_value : (r : Result Opening DocFault) → opening_of (value_of_line line) ≡ r → repeated NotOpen line ≡ (turn_by_opening r).session → is_err (log_opening_of (value_of_line line)) ≡ true
     by_value (Ok opening) is next = openings_have_no_ground (value_of_line line) opening is
     by_value (Err fault) is next = none next
 
     by : (b : Bool) → is_passed_over line ≡ b → is_err (log_opening_of (value_of_line line)) ≡ true
-    by true passed = none (rw (passed, next_of) refl)
+    by true passed = none (rw (passed, repeated) refl)
     by false taken =
         by_value (opening_of (value_of_line line)) refl (ap (λ (t : Turn). t.session) (read-value NotOpen line taken))
 
@@ -112,20 +81,18 @@ by_opening-err : (r : Result LogOpening DocFault) (line : List ℕ) → is_err r
 by_opening-err (Ok opening) line err = cc
 by_opening-err (Err fault) line err = refl
 
-by_request-changes : (session : Session) (line : List ℕ) → changes_database session (next_of session line) ≡ true → by_request session line ≡ Some (next_of session line, 0)
-by_request-changes session line changes = ap (λ b. changed_to b (next_of session line)) changes
+by_request-changes : (session : Session) (line : List ℕ) → changes_database session (repeated session line) ≡ true → by_request session line ≡ Some (repeated session line, 0)
+by_request-changes session line changes = ap (λ b. changed_to b (repeated session line)) changes
 
-by_line-changes : (session : Session) (line : List ℕ) → changes_database session (next_of session line) ≡ true → by_line session 0 line ≡ Some (next_of session line, 0)
+by_line-changes : (session : Session) (line : List ℕ) → changes_database session (repeated session line) ≡ true → by_line session 0 line ≡ Some (repeated session line, 0)
 by_line-changes NotOpen line changes = by_opening-err (log_opening_of (value_of_line line)) line (opens-none line changes) ∙ by_request-changes NotOpen line changes
 by_line-changes (Restored s) line changes = by_request-changes (Restored s) line changes
 by_line-changes (Open s) line changes = by_request-changes (Open s) line changes
 
-by_lines-logged : (session : Session) (lines : List (List ℕ)) → logged_of session (map kept_line lines) ≡ lines
-    → by_lines (Some (session, 0)) lines ≡ Some ((turns_of session (map kept_line lines)).session, 0)
-by_lines-logged session [] are = refl
-by_lines-logged session (line ∷ lines) are =
-    let first = logged-first session line lines are in
-    ap (λ r. by_lines r lines) (by_line-changes session line first.0) ∙ by_lines-logged (next_of session line) lines first.1
+by_lines-change : (session : Session) (lines : List (List ℕ)) → AllChange session lines → by_lines (Some (session, 0)) lines ≡ Some (repeated_all session lines, 0)
+by_lines-change session [] all = refl
+by_lines-change session (line ∷ lines) all =
+    ap (λ r. by_lines r lines) (by_line-changes session line all.0) ∙ by_lines-change (repeated session line) lines all.1
 
 -- ---- the ground
 
@@ -157,19 +124,15 @@ reads-by lines session left p =
     ap (by_lines (Some (NotOpen, 0))) p.lines_are ∙ by_lines-append (Some (NotOpen, 0)) p.first p.others
     ∙ ap (λ r. by_lines r p.others) (begins-by p.first p.base left p.begins) ∙ others left p.ground_first ∙ ap (λ s. Some (s, left)) (sym p.session_is)
   where
-    others : (n : ℕ) → (0 < n → p.others ≡ []) → by_lines (Some (p.base, n)) p.others ≡ Some ((turns_of p.base (map kept_line p.others)).session, n)
-    others zero none = by_lines-logged p.base p.others p.are_logged
+    others : (n : ℕ) → (0 < n → p.others ≡ []) → by_lines (Some (p.base, n)) p.others ≡ Some (repeated_all p.base p.others, n)
+    others zero none = by_lines-change p.base p.others p.all_change
     others (suc n) none =
         let no_others : p.others ≡ [] = none (omega arith) in
-        ap (λ ls. by_lines (Some (p.base, suc n)) ls) no_others ∙ ap (λ ls. Some ((turns_of p.base (map kept_line ls)).session, suc n)) (sym no_others)
+        ap (λ ls. by_lines (Some (p.base, suc n)) ls) no_others ∙ ap (λ ls. Some (repeated_all p.base ls, suc n)) (sym no_others)
 
--- a line that isn't logged isn't read
-request-none : (session : Session) (line : List ℕ) → logged_by session (next_of session line) line ≡ [] → by_request session line ≡ None
-request-none session line none = by (changes_database session (next_of session line)) none
-  where
-    by : (b : Bool) → with_line_if b line [] ≡ [] → changed_to b (next_of session line) ≡ None
-    by true is = cc
-    by false is = refl
+-- a line that changes nothing isn't read
+request-none : (session : Session) (line : List ℕ) → changes_database session (repeated session line) ≡ false → by_request session line ≡ None
+request-none session line none = ap (λ b. changed_to b (repeated session line)) none
 
 -- while slots of the ground are still to come, the session is open
 begun-open : (session : Session) (lines : List (List ℕ)) (left : ℕ) → BeginsLog lines session (suc left) → (s : OpenSession) × (session ≡ Open s)
@@ -184,9 +147,9 @@ left-open lines session left p =
 
 -- nor is one that can't be the next one of a log
 no-next : (session : Session) (left : ℕ) (line : List ℕ) → IsNoNext session left line → ((n : ℕ) → left ≡ suc n → (s : OpenSession) × (session ≡ Open s)) → by_line session left line ≡ None
-no-next NotOpen zero line isnt is_open = by_opening-err (log_opening_of (value_of_line line)) line (isnt.no_opening refl) ∙ request-none NotOpen line (isnt.not_logged refl)
-no-next (Restored s) zero line isnt is_open = request-none (Restored s) line (isnt.not_logged refl)
-no-next (Open s) zero line isnt is_open = request-none (Open s) line (isnt.not_logged refl)
+no-next NotOpen zero line isnt is_open = by_opening-err (log_opening_of (value_of_line line)) line (isnt.no_opening refl) ∙ request-none NotOpen line (isnt.no_change refl)
+no-next (Restored s) zero line isnt is_open = request-none (Restored s) line (isnt.no_change refl)
+no-next (Open s) zero line isnt is_open = request-none (Open s) line (isnt.no_change refl)
 no-next NotOpen (suc left) line isnt is_open = absurd (cc (is_open left refl).1)
 no-next (Restored s) (suc left) line isnt is_open = absurd (cc (is_open left refl).1)
 no-next (Open s) (suc left) line isnt is_open = ap (λ o. by_ground o left) (isnt.no_ground (omega arith))

@@ -17,7 +17,10 @@ use Rattle.tt_grammar.specs.Fault.{with_path, document_path}
 use Rattle.tt_grammar.specs.Decoder.{count_within}
 use Rattle.tt_grammar.specs.Edits.{replacement}
 use Rattle.tt_grammar.specs.TextValue.{json_of_bytes, value_of_found}
-use Rattle.tt_grammar.specs.Version.{version_of_sessions}
+use Rattle.tt_grammar.specs.declared.session_version.SessionVersion.{SessionVersion}
+use Rattle.tt_grammar.specs.declared.session_version.SessionVersion.TheVariants.{Two, Three}
+use Rattle.tt_grammar.specs.SessionVersion.{session_version, number_of_version}
+use Rattle.tt_grammar.specs.Version.{newest_version}
 use Rattle.tt_requests.specs.declared.request.Command.TheVariants as commands
 use Rattle.tt_requests.specs.declared.request.Request.{Request}
 use Rattle.tt_requests.specs.declared.opening.Opening.{Opening}
@@ -54,8 +57,8 @@ abbrev edit_members : ℕ → List ℕ → List Member
 edit_members slot text = number_member (codes "replace") slot ∷ (codes "by", text) ∷ []
 
 edit-back : (tables : Tables) (slot nested : ℕ) (by : json.Json) (text : List ℕ) (d : Data) (ws : List Write) → slot < 2 ^ 64
-    → IsReadBack nested by text d (replacement version_of_sessions tables) ws
-    → IsReadBack (suc nested) (json.object (edit_tree slot by)) (replacing_text slot text) (edit_data slot d) (edit tables) (Replace slot ws)
+    → IsReadBack nested by text d (replacement newest_version tables) ws
+    → IsReadBack (suc nested) (json.object (edit_tree slot by)) (replacing_text slot text) (edit_data slot d) (edit newest_version tables) (Replace slot ws)
 unfolding edit replace
 edit-back tables slot nested by text d ws fits back = record {
   prints = object-prints (edit_tree slot by) (edit_members slot text) (refl, number-prints (decimal slot), (refl, back.prints, tt));
@@ -83,8 +86,8 @@ abbrev the_request : ℕ → List Write → Request
 the_request slot ws = record { worker = usual_worker; expected = None; command = commands.Begin (record { edits = Replace slot ws ∷ [] }) }
 
 line-back : (tables : Tables) (slot nested : ℕ) (by : json.Json) (text : List ℕ) (d : Data) (ws : List Write)
-    → IsReadBack nested (json.object (edit_tree slot by)) (replacing_text slot text) (edit_data slot d) (edit tables) (Replace slot ws)
-    → IsReadBack (nested + 2) (json.object (line_tree slot by)) (replacing_line slot text) (line_data slot d) (members_of_request tables) (the_request slot ws)
+    → IsReadBack nested (json.object (edit_tree slot by)) (replacing_text slot text) (edit_data slot d) (edit newest_version tables) (Replace slot ws)
+    → IsReadBack (nested + 2) (json.object (line_tree slot by)) (replacing_line slot text) (line_data slot d) (members_of_request newest_version tables) (the_request slot ws)
 unfolding members_of_request begin
 line-back tables slot nested by text d ws back =
     let printed = array-prints (line_items slot by) (replacing_text slot text ∷ []) (back.prints, tt) in
@@ -109,14 +112,14 @@ short_line slot text fits short =
     let within : length (replacing_line slot text) ≤ max_line_bytes = simp length-append (omega (arith, length-append {A = ℕ})) in
     le-ltb max_line_bytes (length (replacing_line slot text)) within
 
-replaces : (tables : Tables) (nested : ℕ) (by : json.Json) (text : List ℕ) (d : Data) (ws : List Write) → IsReadBack nested by text d (replacement version_of_sessions tables) ws
+replaces : (tables : Tables) (nested : ℕ) (by : json.Json) (text : List ℕ) (d : Data) (ws : List Write) → IsReadBack nested by text d (replacement newest_version tables) ws
     → nested ≤ 100 → length text ≤ 8000000 → Replaces tables text ws
 replaces tables nested by text d ws back flat short slot fits =
     let line : List ℕ = replacing_line slot text in
     let whole = line-back tables slot (suc nested) by text d ws (edit-back tables slot nested by text d ws fits back) in
-    let read : read_with (members_of_request tables) line ≡ Ok (the_request slot ws) =
-    read-back (suc nested + 2) (json.object (line_tree slot by)) line (line_data slot d) (members_of_request tables) (the_request slot ws) whole (omega arith) in
-    ap (request_of tables) (line-read line (short_line slot text fits short)) ∙ ap (with_path document_path) read
+    let read : read_with (members_of_request newest_version tables) line ≡ Ok (the_request slot ws) =
+    read-back (suc nested + 2) (json.object (line_tree slot by)) line (line_data slot d) (members_of_request newest_version tables) (the_request slot ws) whole (omega arith) in
+    ap (request_of newest_version tables) (line-read line (short_line slot text fits short)) ∙ ap (with_path document_path) read
 
 pub printed_writes_replace : PrintedWritesReplace
 printed_writes_replace tables w catalog sound storable =
@@ -132,16 +135,28 @@ printed_actions_replace tables ws catalog sound storable =
 
 -- ---- an opening
 
-abbrev opening_tree : Tables → ℕ → ℕ → json.Members
-opening_tree tables keep records =
-    json.member (codes "version") (json.number (decimal 2))
+pub version-fits : (version : SessionVersion) → number_of_version version < 2 ^ 64
+version-fits Two = omega arith
+version-fits Three = omega arith
+
+pub version-digits : (version : SessionVersion) → length (decimal (number_of_version version)) ≤ 20
+version-digits Two = length-decimal-le 20 2 (omega arith) (omega arith) (omega arith)
+version-digits Three = length-decimal-le 20 3 (omega arith) (omega arith) (omega arith)
+
+pub version-read : (version : SessionVersion) → session_version (number (unsigned (number_of_version version))) ≡ Ok version
+version-read Two = refl
+version-read Three = refl
+
+abbrev opening_tree : SessionVersion → Tables → ℕ → ℕ → json.Members
+opening_tree version tables keep records =
+    json.member (codes "version") (json.number (decimal (number_of_version version)))
     (json.member (codes "tables") (json_of_tables tables)
     (json.member (codes "keep") (json.number (decimal keep)) (json.member (codes "records") (json.number (decimal records)) json.no_members)))
 
-abbrev opening_data : Tables → ℕ → ℕ → Data
-opening_data tables keep records =
+abbrev opening_data : SessionVersion → Tables → ℕ → ℕ → Data
+opening_data version tables keep records =
     spec.object (member (codes "keep") (number (unsigned keep))
-    (member (codes "records") (number (unsigned records)) (member (codes "tables") (data_of_tables tables) (member (codes "version") (number (unsigned 2)) no_members))))
+    (member (codes "records") (number (unsigned records)) (member (codes "tables") (data_of_tables tables) (member (codes "version") (number (unsigned (number_of_version version))) no_members))))
 
 pub count-within : (max n : ℕ) → n ≤ max → count_within 0 max (number (unsigned n)) ≡ Ok n
 count-within max n h =
@@ -149,46 +164,46 @@ count-within max n h =
     let below : nat_lt max n ≡ false = grind (arith, nat_tests) in
     rw (above, below) refl
 
-opening-back : (tables : Tables) (keep records : ℕ) → IsCatalog tables → keep ≤ max_keep → records ≤ max_records
-    → IsReadBack 5 (json.object (opening_tree tables keep records)) (opening_line tables keep records) (opening_data tables keep records) members_of_opening
-    (record { catalog = tables; keep = keep; records = records })
+opening-back : (version : SessionVersion) (tables : Tables) (keep records : ℕ) → IsCatalog tables → keep ≤ max_keep → records ≤ max_records
+    → IsReadBack 5 (json.object (opening_tree version tables keep records)) (opening_line version tables keep records) (opening_data version tables keep records) members_of_opening
+    (record { version = version; catalog = tables; keep = keep; records = records })
 unfolding members_of_opening declaration
-opening-back tables keep records sound few_kept few_records =
+opening-back version tables keep records sound few_kept few_records =
     let back = tables-back tables sound in
     let keep_fits : keep < 2 ^ 64 = omega arith in
     let records_fit : records < 2 ^ 64 = omega arith in
-    let version_fits : 2 < 2 ^ 64 = omega arith in
+    let version_fits = version-fits version in
     record {
-      prints = object-prints (opening_tree tables keep records) (declared_members tables keep records)
-          (refl, number-prints (decimal 2), (refl, back.prints, (refl, number-prints (decimal keep), (refl, number-prints (decimal records), tt))));
-      utf8 = IsUtf8-object (declared_members tables keep records) (
-        (IsUtf8-are_ascii (codes "version") refl, digits-utf8 2 version_fits),
+      prints = object-prints (opening_tree version tables keep records) (declared_members version tables keep records)
+          (refl, number-prints (decimal (number_of_version version)), (refl, back.prints, (refl, number-prints (decimal keep), (refl, number-prints (decimal records), tt))));
+      utf8 = IsUtf8-object (declared_members version tables keep records) (
+        (IsUtf8-are_ascii (codes "version") refl, digits-utf8 (number_of_version version) version_fits),
         (
           (IsUtf8-are_ascii (codes "tables") refl, back.utf8),
           ((IsUtf8-are_ascii (codes "keep") refl, digits-utf8 keep keep_fits), ((IsUtf8-are_ascii (codes "records") refl, digits-utf8 records records_fit), tt)),
         ),
       );
-      numbers = (IsNumber-decimal 2 version_fits, (back.numbers, (IsNumber-decimal keep keep_fits, (IsNumber-decimal records records_fit, tt))));
+      numbers = (IsNumber-decimal (number_of_version version) version_fits, (back.numbers, (IsNumber-decimal keep keep_fits, (IsNumber-decimal records records_fit, tt))));
       shallow = let flat = back.shallow in omega arith;
-      stands = simp (number_of-decimal 2 version_fits, back.stands, number_of-decimal keep keep_fits, number_of-decimal records records_fit);
+      stands = simp (number_of-decimal (number_of_version version) version_fits, back.stands, number_of-decimal keep keep_fits, number_of-decimal records records_fit);
       once = simp back.once;
-      decoded = simp (back.decoded, count-within max_keep keep few_kept, count-within max_records records few_records);
+      decoded = simp (version-read version, back.decoded, count-within max_keep keep few_kept, count-within max_records records few_records);
     }
 
-short_opening : (tables : Tables) (keep records : ℕ) → IsCatalog tables → keep ≤ max_keep → records ≤ max_records → is_too_long (opening_line tables keep records) ≡ false
-short_opening tables keep records sound few_kept few_records =
+short_opening : (version : SessionVersion) (tables : Tables) (keep records : ℕ) → IsCatalog tables → keep ≤ max_keep → records ≤ max_records → is_too_long (opening_line version tables keep records) ≡ false
+short_opening version tables keep records sound few_kept few_records =
     let all = length-tables tables sound in
-    let version_digits = length-decimal-le 20 2 (omega arith) (omega arith) (omega arith) in
+    let version_digits = version-digits version in
     let keep_digits = length-decimal-le 20 keep (omega arith) (omega arith) (omega arith) in
     let records_digits = length-decimal-le 20 records (omega arith) (omega arith) (omega arith) in
-    let within : length (opening_line tables keep records) ≤ max_line_bytes = simp length-append (omega (arith, length-append {A = ℕ})) in
-    le-ltb max_line_bytes (length (opening_line tables keep records)) within
+    let within : length (opening_line version tables keep records) ≤ max_line_bytes = simp length-append (omega (arith, length-append {A = ℕ})) in
+    le-ltb max_line_bytes (length (opening_line version tables keep records)) within
 
 pub printed_tables_open : PrintedTablesOpen
-printed_tables_open tables keep records sound few_kept few_records =
-    let line : List ℕ = opening_line tables keep records in
-    let opening : Opening = record { catalog = tables; keep = keep; records = records } in
-    let back = opening-back tables keep records sound few_kept few_records in
+printed_tables_open version tables keep records sound few_kept few_records =
+    let line : List ℕ = opening_line version tables keep records in
+    let opening : Opening = record { version = version; catalog = tables; keep = keep; records = records } in
+    let back = opening-back version tables keep records sound few_kept few_records in
     let read : read_with members_of_opening line ≡ Ok opening =
-    read-back 5 (json.object (opening_tree tables keep records)) line (opening_data tables keep records) members_of_opening opening back (omega arith) in
-    ap opening_of (line-read line (short_opening tables keep records sound few_kept few_records)) ∙ ap (with_path document_path) read
+    read-back 5 (json.object (opening_tree version tables keep records)) line (opening_data version tables keep records) members_of_opening opening back (omega arith) in
+    ap opening_of (line-read line (short_opening version tables keep records sound few_kept few_records)) ∙ ap (with_path document_path) read

@@ -20,6 +20,7 @@ use Rattle.tt_db.specs.declared.errors.ReadError.{ReadError}
 use Rattle.tt_db.specs.declared.errors.ReadError.TheVariants as read_errors
 use Rattle.tt_db.specs.State.{slots_in, edits_fault, first_refusal, refused_if, unless_repairing}
 use Rattle.tt_db.specs.Database.{now_in, right_preview_of}
+use Rattle.tt_grammar.specs.SessionVersion.{grammar_of}
 use Rattle.tt_requests.specs.declared.request.Command.{Command}
 use Rattle.tt_requests.specs.declared.request.Command.TheVariants as commands
 use Rattle.tt_requests.specs.declared.request.Page.{Page}
@@ -181,5 +182,5 @@ error-of session worker (commands.Forget time) error sound judged is = forget-er
 
 pub other_errors_answer_no_line : OtherErrorsAnswerNoLine
 other_errors_answer_no_line session value request error sound read is =
-    error-of session request.worker request.command error sound (requests_are_judged session.database.catalog value request read)
+    error-of session request.worker request.command error sound (requests_are_judged (grammar_of session.version) session.database.catalog value request read)
     (moved-is (moved_to session.numbering (now_in session.database) request.expected) (carried_out session request.worker request.command) error is)

@@ -12,6 +12,9 @@ use Rattle.tt_db.specs.declared.errors.ReadError.{ReadError}
 use Rattle.tt_db.specs.State.{slots_left, unless_repairing}
 use Rattle.tt_db.specs.Database.{Database, now_in, right_preview_of, state_of}
 use Rattle.tt_grammar.specs.declared.fault.DocFault.{DocFault}
+use Rattle.tt_grammar.specs.declared.session_version.SessionVersion.{SessionVersion}
+use Rattle.tt_grammar.specs.SessionVersion.{grammar_of, newest_of_sessions}
+use Rattle.tt_grammar.specs.Version.{newest_version}
 use Rattle.tt_records.specs.declared.record.Record.{Record}
 use Rattle.tt_requests.specs.declared.opening.Opening.{Opening}
 use Rattle.tt_requests.specs.declared.request.Command.{Command}
@@ -25,6 +28,7 @@ use Rattle.tt_requests.specs.Lines.{is_passed_over, is_too_long}
 use Rattle.tt_requests.specs.LineValue.{value_of_line}
 use Rattle.tt_requests.specs.Opening.{opening_of}
 use Rattle.tt_requests.specs.Requests.{request_of}
+use Rattle.tt_requests.proofs.NewestVersionLemmas.{requests_read_the_same}
 use Rattle.tt_answers.specs.declared.answer.Refusal.{Refusal}
 use Rattle.tt_answers.specs.declared.answer.Refusal.TheVariants as refusals
 use Rattle.tt_answers.specs.declared.answer.Answer.TheVariants as answers
@@ -41,13 +45,12 @@ use Rattle.tt_session.specs.Reading.{read, previewed_by, selected_by}
 use Rattle.tt_session.specs.ToldRequests.{forgotten_in, asks_for_forgotten, read_at, read_in, read_as_told, missing_if_idle, unless_missing, own_edit}
 use Rattle.tt_session.specs.Changes.{forgotten_by}
 use Rattle.tt_session.specs.Forgetting.{forgetting_of, forget_refusal, forgets_nothing, forgotten_answer, unless_forget_refused, forget}
-use Rattle.tt_session.specs.Reopening.{asks_for, with_most_records}
+use Rattle.tt_session.specs.Reopening.{asks_for, reopened_by}
 use Rattle.tt_session.specs.Repairing.{entry_by, status_of, unless_refused, with_event, with_steps, with_all_steps}
-use Rattle.tt_session.specs.Restoring.{BeginsLog, ReadsLog, restored, IsAlike, IsLike, IsLogOf, NewLogsAreRead, LogsAreReadBack}
+use Rattle.tt_session.specs.Restoring.{BeginsLog, as_newest, repeated, repeated_all, ReadsLog, restored, IsAlike, IsLike, IsLogOf, NewLogsAreRead, LogsAreReadBack}
 use Rattle.tt_session.specs.Room.{refusal_in_session}
 use Rattle.tt_session.specs.Run.{Turn, turn_by_opening, turn_by_outcome, turn_by_reopening, turn_by_request, turn_by_value, turn_without_memory}
-use Rattle.tt_session.specs.Session.{OpenSession, Forgetting, state_in, counted, opened}
-use Rattle.tt_session.specs.Together.{kept_line}
+use Rattle.tt_session.specs.Session.{OpenSession, Forgetting, request_in, state_in, counted, opened}
 use Rattle.tt_session.proofs.TogetherLemmas.{open-same}
 use Rattle.tt_session.proofs.LoggedLemmas.{same-entries, same-next}
 use Rattle.tt_session.proofs.RestoringLemmas.{reads-push, read-value}
@@ -181,9 +184,9 @@ moved-goes : (base : Base) (now : Option ℕ) (outcome : Result Answered Refusal
 moved-goes base None outcome goes = goes
 moved-goes base (Some now) outcome goes = inl refl
 
--- it is the same whatever the records and the number of the call
-abbrev session_of : Base → List Record → ℕ → ℕ → OpenSession
-session_of base records most calls = record { database = base.database; numbering = base.numbering; records = records; most_records = most; calls = calls }
+-- it is the same whatever the version, the records and the number of the call
+abbrev session_of : Base → SessionVersion → List Record → ℕ → ℕ → OpenSession
+session_of base version records most calls = record { version = version; database = base.database; numbering = base.numbering; records = records; most_records = most; calls = calls }
 
 refused-same : (base : Base) (refusal : Option DbError) (a b : Answered) → base_of a.session ≡ base_of b.session → outcome_base base (unless_refused refusal a) ≡ outcome_base base (unless_refused refusal b)
 refused-same base None a b same = same
@@ -197,12 +200,12 @@ forget-same : (base : Base) (refusal : Option Refusal) (a b : Answered) → base
 forget-same base None a b same = same
 forget-same base (Some refusal) a b same = refl
 
-module _ (base : Base) (r q : List Record) (m l n k : ℕ) where
+module _ (base : Base) (v w : SessionVersion) (r q : List Record) (m l n k : ℕ) where
   abbrev one : OpenSession
-  one = session_of base r m n
+  one = session_of base v r m n
 
   abbrev other : OpenSession
-  other = session_of base q l k
+  other = session_of base w q l k
 
   forgotten-same : (f : Forgetting) → base_of (forgotten_answer one f).session ≡ base_of (forgotten_answer other f).session
   forgotten-same f = go (forgets_nothing one f)
@@ -243,10 +246,10 @@ request-goes : (session : OpenSession) (asked : Result Request DocFault) → Goe
 request-goes session (Err fault) = inl refl
 request-goes session (Ok request) = moved-goes (base_of session) (moved_to session.numbering (now_in session.database) request.expected) _ (carried-goes session request.worker request.command)
 
-request-same : (base : Base) (r q : List Record) (m l n k : ℕ) (asked : Result Request DocFault) → request_base (session_of base r m n) asked ≡ request_base (session_of base q l k) asked
-request-same base r q m l n k (Err fault) = refl
-request-same base r q m l n k (Ok request) =
-    moved-same base r q m l n k (moved_to base.numbering (now_in base.database) request.expected) _ _ (carried-same base r q m l n k request.worker request.command)
+request-same : (base : Base) (v w : SessionVersion) (r q : List Record) (m l n k : ℕ) (asked : Result Request DocFault) → request_base (session_of base v r m n) asked ≡ request_base (session_of base w q l k) asked
+request-same base v w r q m l n k (Err fault) = refl
+request-same base v w r q m l n k (Ok request) =
+    moved-same base v w r q m l n k (moved_to base.numbering (now_in base.database) request.expected) _ _ (carried-same base v w r q m l n k request.worker request.command)
 
 -- the session after a request is open, and this is what becomes of its database
 record Next (session : OpenSession) (asked : Result Request DocFault) : Type 0 where
@@ -304,11 +307,10 @@ reads-stay session next asked is reads = ap (λ (b : Base). b.database) (reads-b
 pub reads-tell : (session next : OpenSession) (asked : Result Request DocFault) → Open next ≡ (turn_by_request session asked).session → asks_read_only asked ≡ true → next.numbering ≡ session.numbering
 reads-tell session next asked is reads = ap (λ (b : Base). b.numbering) (reads-base session next asked is reads)
 
-two-requests : (s t : OpenSession) (value : Result Data DocFault) → base_of t ≡ base_of s
-    → request_base (counted t) (request_of t.database.catalog value) ≡ request_base (counted s) (request_of s.database.catalog value)
-two-requests s t value same =
-    request-same (base_of t) t.records s.records t.most_records s.most_records (t.calls + 1) (s.calls + 1) (request_of t.database.catalog value)
-    ∙ ap (λ (base : Base). request_base (session_of base s.records s.most_records (s.calls + 1)) (request_of base.database.catalog value)) same
+two-requests : (s t : OpenSession) (asked : Result Request DocFault) → base_of t ≡ base_of s → request_base (counted t) asked ≡ request_base (counted s) asked
+two-requests s t asked same =
+    request-same (base_of t) t.version s.version t.records s.records t.most_records s.most_records (t.calls + 1) (s.calls + 1) asked
+    ∙ ap (λ (base : Base). request_base (session_of base s.version s.records s.most_records (s.calls + 1)) asked) same
 
 -- ---- a session that was read back beside one that goes on
 
@@ -339,7 +341,7 @@ opening-follows (Ok opening) = inr ((opened opening, refl, record { database = r
 
 abbrev reopened : OpenSession → Opening → Bool → Turn
 reopened session opening asks =
-    cond asks (record { text = opening_text session.numbering (answers.Standing (status_of session.database)); session = Open (with_most_records session opening.records) })
+    cond asks (record { text = opening_text session.numbering (answers.Standing (status_of session.database)); session = Open (reopened_by session opening) })
     (record { text = opening_text session.numbering (answers.Refused refusals.AnotherOpening); session = Restored session })
 
 reopening-follows : (replayed : Session) (session : OpenSession) (again : Session) (asked : Result Opening DocFault) → IsLike replayed (Restored session)
@@ -348,32 +350,48 @@ reopening-follows replayed session again (Err fault) m = inl (m, same-entries (R
 reopening-follows replayed session again (Ok opening) m = go (asks_for opening session.database)
   where
     go : (asks : Bool) → Follows replayed (Restored session) again (reopened session opening asks).session
-    go true = inl ((m.0, m.1, record { database = m.2.database; numbering = m.2.numbering }), same-entries (Restored session) (Open (with_most_records session opening.records)) refl refl)
+    go true = inl ((m.0, m.1, record { database = m.2.database; numbering = m.2.numbering }), same-entries (Restored session) (Open (reopened_by session opening)) refl refl)
     go false = inl (m, same-entries (Restored session) (Restored session) refl refl)
 
--- two open sessions with the same database, whose numbers are told alike
+-- two open sessions with the same database, whose numbers are told alike: what the one is asked as of its version, the other is asked as of the newest
 request-follows : (replayed : Session) (s t : OpenSession) (value : Result Data DocFault) → replayed ≡ Open t → base_of t ≡ base_of s
-    → Follows replayed (Open s) (turn_by_value replayed value).session (turn_by_value (Open s) value).session
-request-follows replayed s t value is same =
-    let mine = request-next (counted s) (request_of s.database.catalog value) in
-    let theirs = request-next (counted t) (request_of t.database.catalog value) in
-    let bases : base_of theirs.next ≡ base_of mine.next = theirs.base ∙ two-requests s t value same ∙ sym mine.base in
-    let again : (turn_by_value replayed value).session ≡ Open theirs.next = ap (λ x. (turn_by_value x value).session) is ∙ theirs.is in
-    subst (λ next. Follows replayed (Open s) (turn_by_value replayed value).session next) (sym mine.is)
-    (go mine.next theirs.next again bases (subst (Goes (base_of s)) (sym mine.base) (request-goes (counted s) (request_of s.database.catalog value))))
+    → Follows replayed (Open s) (turn_by_value (as_newest replayed) value).session (turn_by_value (Open s) value).session
+request-follows replayed s t value is same = asked (request_in s value) refl
   where
-    go : (next theirs : OpenSession) → (turn_by_value replayed value).session ≡ Open theirs → base_of theirs ≡ base_of next → Goes (base_of s) (base_of next)
-        → Follows replayed (Open s) (turn_by_value replayed value).session (Open next)
-    go next theirs again bases (inl stays) =
+    newest : OpenSession
+    newest = record t { version = newest_of_sessions }
+
+    again : Session
+    again = (turn_by_value (as_newest replayed) value).session
+
+    go : (next theirs : OpenSession) → again ≡ Open theirs → base_of theirs ≡ base_of next → Goes (base_of s) (base_of next) → Follows replayed (Open s) again (Open next)
+    go next theirs again_is bases (inl stays) =
         inl ((t, is, base-alike next t (same ∙ sym stays)), same-entries (Open s) (Open next) (ap (λ (base : Base). length base.database.history + 1) stays) (ap (λ (base : Base). base.numbering.horizon) stays))
-    go next theirs again bases (inr other) =
-        inr ((theirs, again, base-alike next theirs bases), ap not other)
+    go next theirs again_is bases (inr other) =
+        inr ((theirs, again_is, base-alike next theirs bases), ap not other)
+
+    asked : (r : Result Request DocFault) → request_in s value ≡ r → Follows replayed (Open s) again (turn_by_request (counted s) (request_in s value)).session
+    asked (Err fault) mine =
+        subst (λ r. Follows replayed (Open s) again (turn_by_request (counted s) r).session) (sym mine)
+        (inl ((t, is, base-alike (counted s) t same), same-entries (Open s) (Open (counted s)) refl refl))
+    asked (Ok request) mine =
+        let tables : t.database.catalog ≡ s.database.catalog = ap (λ (base : Base). base.database.catalog) same in
+        let theirs_is : request_in newest value ≡ Ok request =
+        ap (λ ts. request_of newest_version ts value) tables ∙ requests_read_the_same (grammar_of s.version) s.database.catalog value request mine in
+        let one = request-next (counted s) (Ok request) in
+        let other = request-next (counted newest) (Ok request) in
+        let bases : base_of other.next ≡ base_of one.next = other.base ∙ two-requests s newest (Ok request) same ∙ sym one.base in
+        let again_is : again ≡ Open other.next =
+        ap (λ x. (turn_by_value (as_newest x) value).session) is ∙ ap (λ r. (turn_by_request (counted newest) r).session) theirs_is ∙ other.is in
+        subst (λ r. Follows replayed (Open s) again (turn_by_request (counted s) r).session) (sym mine)
+        (subst (λ next. Follows replayed (Open s) again next) (sym one.is)
+        (go one.next other.next again_is bases (subst (Goes (base_of s)) (sym one.base) (request-goes (counted s) (Ok request)))))
 
 value-follows : (replayed session : Session) (value : Result Data DocFault) → IsLike replayed session
-    → Follows replayed session (turn_by_value replayed value).session (turn_by_value session value).session
+    → Follows replayed session (turn_by_value (as_newest replayed) value).session (turn_by_value session value).session
 value-follows replayed NotOpen value m =
-    subst (λ x. Follows x NotOpen (turn_by_value x value).session (turn_by_opening (opening_of value)).session) (sym m) (opening-follows (opening_of value))
-value-follows replayed (Restored session) value m = reopening-follows replayed session (turn_by_value replayed value).session (opening_of value) m
+    subst (λ x. Follows x NotOpen (turn_by_value (as_newest x) value).session (turn_by_opening (opening_of value)).session) (sym m) (opening-follows (opening_of value))
+value-follows replayed (Restored session) value m = reopening-follows replayed session (turn_by_value (as_newest replayed) value).session (opening_of value) m
 value-follows replayed (Open session) value m = request-follows replayed session m.0 value m.1 (alike-base session m.0 m.2)
 
 -- a line that is lost changes no database
@@ -389,24 +407,24 @@ unlogged-follows replayed (Restored session) again m = inl (m, same-entries (Res
 unlogged-follows replayed (Open session) again m = inl ((m.0, m.1, record { database = m.2.database; numbering = m.2.numbering }), same-entries (Open session) (Open (counted session)) refl refl)
 
 read-follows : (replayed session : Session) (read : LineRead) → IsLike replayed session
-    → Follows replayed session (turn_of_read replayed (kept_line read.line)).session (turn_of_read session read).session
+    → Follows replayed session (repeated replayed read.line) (turn_of_read session read).session
 read-follows replayed session read m = passed (is_passed_over read.line) refl
   where
     unlogged : (b : Bool) → is_passed_over read.line ≡ false
-        → Follows replayed session (turn_of_read replayed (kept_line read.line)).session (cond b (turn_without_log session) (turn_by_value session (value_of_line read.line))).session
+        → Follows replayed session (repeated replayed read.line) (cond b (turn_without_log session) (turn_by_value session (value_of_line read.line))).session
     unlogged true told = unlogged-follows replayed session _ m
     unlogged false told =
-        subst (λ (t : Turn). Follows replayed session t.session (turn_by_value session (value_of_line read.line)).session) (sym (read-value replayed read.line told))
+        subst (λ (t : Turn). Follows replayed session t.session (turn_by_value session (value_of_line read.line)).session) (sym (read-value (as_newest replayed) read.line told))
         (value-follows replayed session (value_of_line read.line) m)
 
     lost : (b : Bool) → is_passed_over read.line ≡ false
-        → Follows replayed session (turn_of_read replayed (kept_line read.line)).session
+        → Follows replayed session (repeated replayed read.line)
         (cond b (turn_without_memory session) (cond (read.is_unlogged && forgets_by session read.line) (turn_without_log session) (turn_by_value session (value_of_line read.line)))).session
     lost true told = lost-follows replayed session _ m
     lost false told = unlogged (read.is_unlogged && forgets_by session read.line) told
 
     passed : (b : Bool) → is_passed_over read.line ≡ b
-        → Follows replayed session (turn_of_read replayed (kept_line read.line)).session
+        → Follows replayed session (repeated replayed read.line)
         (cond b (record { text = []; session = session }) (cond (not (is_too_long read.line) && read.is_lost) (turn_without_memory session)
         (cond (read.is_unlogged && forgets_by session read.line) (turn_without_log session) (turn_by_value session (value_of_line read.line))))).session
     passed true told = inl (m, same-entries session session refl refl)
@@ -424,7 +442,7 @@ log-next-read lines session read p new = anew (makes_log_anew session read) refl
     next = (turn_of_read session read).session
 
     again : Session
-    again = (turn_of_read p.read (kept_line read.line)).session
+    again = repeated p.read read.line
 
     plain : Follows p.read session again next → IsLogOf (lines ++ logged_by session next read.line) next
     plain (inl (like, none)) =
@@ -450,25 +468,31 @@ abbrev IsAfresh : Session → Type 0
 IsAfresh (Restored session) = ⊥
 IsAfresh session = Unit {0}
 
-value-afresh : (session : Session) (value : Result Data DocFault) → IsAfresh session → IsAfresh (turn_by_value session value).session
+value-afresh : (session : Session) (value : Result Data DocFault) → IsAfresh session → IsAfresh (turn_by_value (as_newest session) value).session
 value-afresh NotOpen value fresh = go (opening_of value)
   where
     go : (asked : Result Opening DocFault) → IsAfresh (turn_by_opening asked).session
     go (Err fault) = tt
     go (Ok opening) = tt
 value-afresh (Restored session) value fresh = absurd fresh
-value-afresh (Open session) value fresh = subst IsAfresh (sym (request-next (counted session) (request_of session.database.catalog value)).is) tt
+value-afresh (Open session) value fresh =
+    let newest : OpenSession = record session { version = newest_of_sessions } in subst IsAfresh (sym (request-next (counted newest) (request_in newest value)).is) tt
 
-read-afresh : (session : Session) (line : List ℕ) → IsAfresh session → IsAfresh (turn_of_read session (kept_line line)).session
-read-afresh session line fresh = go (is_passed_over line) refl
+newest-afresh : (session : Session) → IsAfresh session → IsAfresh (as_newest session)
+newest-afresh NotOpen fresh = tt
+newest-afresh (Restored session) fresh = absurd fresh
+newest-afresh (Open session) fresh = tt
+
+line-afresh : (session : Session) (line : List ℕ) → IsAfresh session → IsAfresh (repeated session line)
+line-afresh session line fresh = go (is_passed_over line) refl
   where
-    go : (b : Bool) → is_passed_over line ≡ b → IsAfresh (turn_of_read session (kept_line line)).session
-    go true told = rw told fresh
-    go false told = subst (λ (t : Turn). IsAfresh t.session) (sym (read-value session line told)) (value-afresh session (value_of_line line) fresh)
+    go : (b : Bool) → is_passed_over line ≡ b → IsAfresh (repeated session line)
+    go true told = rw (told, repeated) (newest-afresh session fresh)
+    go false told = subst (λ (t : Turn). IsAfresh t.session) (sym (read-value (as_newest session) line told)) (value-afresh session (value_of_line line) fresh)
 
-lines-afresh : (lines : List (List ℕ)) (session : Session) → IsAfresh session → IsAfresh (turns_of session (map kept_line lines)).session
+lines-afresh : (lines : List (List ℕ)) (session : Session) → IsAfresh session → IsAfresh (repeated_all session lines)
 lines-afresh [] session fresh = fresh
-lines-afresh (line ∷ lines) session fresh = lines-afresh lines (turn_of_read session (kept_line line)).session (read-afresh session line fresh)
+lines-afresh (line ∷ lines) session fresh = lines-afresh lines (repeated session line) (line-afresh session line fresh)
 
 base-afresh : (first : List (List ℕ)) (base : Session) (left : ℕ) → BeginsLog first base left → IsAfresh base
 base-afresh first NotOpen left begins = tt

@@ -1,8 +1,8 @@
 -- How a session is read back from the lines of a log.
-use Rattle.std.proofs.Common.{◌≡◌, ℕ, ◌+◌, ◌-◌, ◌<◌, ◌==◌, ◌&&◌, Bool, true, false, not, cond, List, [], ◌∷◌, ◌++◌, length, take, drop, map, append-nil, append_assoc, length-append, inl, inr, Option, None, Some, is_some, option_and_then, Result, Ok, Err, IsErr, IfOk, OnOk, IfErr, codes, refl, sym, ap, ◌∙◌, subst, arith, ne_eqb}
+use Rattle.std.proofs.Common.{◌≡◌, ℕ, ◌+◌, ◌-◌, ◌<◌, ◌==◌, ◌&&◌, Bool, true, false, not, cond, List, [], ◌∷◌, ◌++◌, length, take, drop, append-nil, append_assoc, length-append, inl, inr, Option, None, Some, is_some, option_and_then, Result, Ok, Err, IsErr, IfOk, OnOk, IfErr, codes, refl, sym, ap, ◌∙◌, subst, arith, ne_eqb}
 use Rattle.std.specs.List.{list_all}
 use Rattle.std.proofs.lemmas.Bool.{and_parts}
-use Rattle.std.proofs.lemmas.List.{map-append, take_rest, take-append-drop}
+use Rattle.std.proofs.lemmas.List.{take_rest, take-append-drop}
 use Rattle.std.proofs.Math.Seq.{take-add}
 use Rattle.tt_requests.specs.Lines.{is_too_long, is_passed_over, whole_lines_of, with_byte_if}
 use Rattle.tt_requests.specs.LineValue.{value_of_line}
@@ -18,49 +18,41 @@ use Rattle.tt_requests.specs.declared.log_opening.LogOpening.{LogOpening}
 use Rattle.tt_requests.specs.LogOpening.{log_opening_of}
 use Rattle.tt_requests.specs.GroundAction.{ground_action_of}
 use Rattle.tt_session.specs.Session.{OpenSession}
-use Rattle.tt_session.specs.Run.{Turn, begun, turn_by_value}
-use Rattle.tt_session.specs.Answering.{turn_of_read, turns_of}
+use Rattle.tt_session.specs.Run.{Turn, begun, turn_by_value, turn_of_long_line}
+use Rattle.tt_session.specs.Answering.{turn_of_read}
 use Rattle.tt_session.specs.Changing.{changes_database}
-use Rattle.tt_session.specs.Logged.{with_line_if, logged_by, logged_of}
 use Rattle.tt_session.specs.Together.{kept_line}
-use Rattle.tt_session.specs.Restoring.{opened_on, with_ground, laid_by, laid_by_lines, LaysGround, BeginsLog, ReadsLog, restored, Restores, IsNoGround, IsNoNext, IsNoLine}
+use Rattle.tt_session.specs.Restoring.{opened_on, with_ground, laid_by, laid_by_lines, as_newest, repeated, repeated_all, AllChange, LaysGround, BeginsLog, ReadsLog, restored, Restores, IsNoGround, IsNoNext, IsNoLine}
 use Rattle.tt_session.specs.declared.restoring.OpenLog.{OpenLog}
 use Rattle.tt_session.specs.RestoringRun.{IsRestoring, FailsAtLine, FailsIn, IsNextOrNot, OpensBy}
 use Rattle.tt_session.proofs.AnsweringLemmas.{read-long, read-kept, whole_lines_of-joined, whole_lines_of-line}
 use Rattle.tt_session.proofs.LineLemmas.{first_line, rest_of}
-use Rattle.tt_session.proofs.LoggedLemmas.{logged_of-append, none-logged}
-use Rattle.tt_session.proofs.RunningLemmas.{turns-session, cuts-more, cuts-line, long-as-far}
+use Rattle.tt_session.proofs.LoggedLemmas.{same-entries}
+use Rattle.tt_session.proofs.RunningLemmas.{cuts-more, cuts-line}
 
 -- ---- lines of a log
 
-kept-append : (lines : List (List ℕ)) (line : List ℕ) → map kept_line (lines ++ line ∷ []) ≡ map kept_line lines ++ kept_line line ∷ []
-kept-append lines line = map-append kept_line lines (line ∷ [])
+repeated-push : (base : Session) (lines : List (List ℕ)) (line : List ℕ) → repeated_all base (lines ++ line ∷ []) ≡ repeated (repeated_all base lines) line
+repeated-push base [] line = refl
+repeated-push base (first ∷ lines) line = repeated-push (repeated base first) lines line
 
--- the session after lines from a session on
-abbrev after_kept : Session → List (List ℕ) → Session
-after_kept base lines = (turns_of base (map kept_line lines)).session
-
-after-push : (base : Session) (lines : List (List ℕ)) (line : List ℕ) → after_kept base (lines ++ line ∷ []) ≡ (turn_of_read (after_kept base lines) (kept_line line)).session
-after-push base lines line = ap (λ rs. (turns_of base rs).session) (kept-append lines line) ∙ turns-session base (map kept_line lines) (kept_line line ∷ [])
-
-logged-push : (base : Session) (lines : List (List ℕ)) (line : List ℕ) → logged_of base (map kept_line lines) ≡ lines
-    → changes_database (after_kept base lines) (turn_of_read (after_kept base lines) (kept_line line)).session ≡ true → logged_of base (map kept_line (lines ++ line ∷ [])) ≡ lines ++ line ∷ []
-logged-push base lines line are made =
-    ap (logged_of base) (kept-append lines line) ∙ logged_of-append base (map kept_line lines) (kept_line line ∷ [])
-    ∙ (λ i. are i ++ with_line_if (made i) line [])
+change-push : (base : Session) (lines : List (List ℕ)) (line : List ℕ) → AllChange base lines
+    → changes_database (repeated_all base lines) (repeated (repeated_all base lines) line) ≡ true → AllChange base (lines ++ line ∷ [])
+change-push base [] line all changes = (changes, tt)
+change-push base (first ∷ lines) line all changes = (all.0, change-push (repeated base first) lines line all.1 changes)
 
 -- a further line that changes the database
-pub reads-push : (lines : List (List ℕ)) (session : Session) (line : List ℕ) → ReadsLog lines session 0 → changes_database session (turn_of_read session (kept_line line)).session ≡ true
-    → ReadsLog (lines ++ line ∷ []) (turn_of_read session (kept_line line)).session 0
-reads-push lines session line p made = record {
+pub reads-push : (lines : List (List ℕ)) (session : Session) (line : List ℕ) → ReadsLog lines session 0 → changes_database session (repeated session line) ≡ true
+    → ReadsLog (lines ++ line ∷ []) (repeated session line) 0
+reads-push lines session line p changes = record {
   first = p.first;
   others = p.others ++ line ∷ [];
   lines_are = ap (λ ls. ls ++ line ∷ []) p.lines_are ∙ append_assoc p.first p.others (line ∷ []);
   base = p.base;
   begins = p.begins;
   ground_first = λ less. absurd (omega (arith, less));
-  are_logged = logged-push p.base p.others line p.are_logged (subst (λ s. changes_database s (turn_of_read s (kept_line line)).session ≡ true) p.session_is made);
-  session_is = ap (λ s. (turn_of_read s (kept_line line)).session) p.session_is ∙ sym (after-push p.base p.others line);
+  all_change = change-push p.base p.others line p.all_change (subst (λ s. changes_database s (repeated s line) ≡ true) p.session_is changes);
+  session_is = ap (λ s. repeated s line) p.session_is ∙ sym (repeated-push p.base p.others line);
 }
 
 laid-then : (laid : Option OpenSession) (next : OpenSession) (lines : List (List ℕ)) (line : List ℕ) → option_and_then (λ s. laid_by_lines s lines) laid ≡ Some next
@@ -79,7 +71,7 @@ laid-one session next line is = ap (λ o. option_and_then (λ s. laid_by_lines s
 -- what a log begins with, where nothing is behind the ground
 pub begins-base : (lines : List (List ℕ)) (session : Session) (left : ℕ) (p : ReadsLog lines session left) → p.others ≡ [] → (lines ≡ p.first) × (p.base ≡ session)
 begins-base lines session left p none =
-    (p.lines_are ∙ ap (λ ls. p.first ++ ls) none ∙ append-nil p.first, sym (p.session_is ∙ ap (after_kept p.base) none))
+    (p.lines_are ∙ ap (λ ls. p.first ++ ls) none ∙ append-nil p.first, sym (p.session_is ∙ ap (repeated_all p.base) none))
 
 -- a further slot of the ground
 reads-lay : (lines : List (List ℕ)) (now next : OpenSession) (line : List ℕ) (left after : ℕ) → ReadsLog lines (Open now) left → left ≡ after + 1 → laid_by now line ≡ Some next
@@ -103,7 +95,7 @@ reads-lay lines now next line left after p left_is laid =
         laid = laid-append (opened_on ground.opening) now ground.slots line ground.laid ∙ laid-one now next line laid;
       };
       ground_first = λ less. refl;
-      are_logged = refl;
+      all_change = tt;
       session_is = refl;
     }
 
@@ -116,7 +108,7 @@ reads-ground line opening opens = record {
   base = Open (opened_on opening);
   begins = record { line = line; slots = []; lines_are = refl; opening = opening; opens = opens; count = omega arith; laid = refl };
   ground_first = λ less. refl;
-  are_logged = refl;
+  all_change = tt;
   session_is = refl;
 }
 
@@ -162,7 +154,7 @@ next-reads lines begun_as next left after line p fresh (inr (inl logs)) =
     let session = begun begun_as in
     let zero_left : left ≡ 0 = no-left begun_as refl in (
       subst (λ s. ReadsLog (lines ++ line ∷ []) s after) (sym logs.next_is)
-          (subst (λ n. ReadsLog (lines ++ line ∷ []) (turn_of_read session (kept_line line)).session n) (sym logs.left_is)
+          (subst (λ n. ReadsLog (lines ++ line ∷ []) (repeated session line) n) (sym logs.left_is)
           (reads-push lines session line (subst (λ n. ReadsLog lines session n) zero_left p) (subst (λ s. changes_database session s ≡ true) logs.next_is logs.changes))),
       λ closed. open-closed logs.after (sym logs.is_open ∙ closed),
     )
@@ -232,12 +224,17 @@ long-none NotOpen line long = tt
 long-none (Restored session) line long = tt
 long-none (Open session) line long = ap (λ v. with_ground session (ground_action_of session.database.catalog v)) (long-value line long)
 
+long-stays : (session : Session) → changes_database session (turn_of_long_line (as_newest session)).session ≡ false
+long-stays NotOpen = same-entries NotOpen NotOpen refl refl
+long-stays (Restored session) = same-entries (Restored session) (Restored session) refl refl
+long-stays (Open session) = same-entries (Open session) (turn_of_long_line (as_newest (Open session))).session refl refl
+
 pub fails-long : (given : List ℕ) (old : Restoring) (p : IsRestoring given old) (number : ℕ) → number ≡ old.count + 1 → is_too_long p.left ≡ true → FailsAtLine (given ++ 10 ∷ []) number
 fails-long given old p number number_is long =
     let session = begun old.session in
     fails-at given old p number number_is (record {
       no_ground = λ some. long-none session p.left long;
-      not_logged = λ none. ap (λ (t : Turn). logged_by session t.session p.left) (read-long session p.left long) ∙ none-logged session _ p.left (long-as-far session);
+      no_change = λ none. ap (λ (t : Turn). changes_database session t.session) (read-long (as_newest session) p.left long) ∙ long-stays session;
       no_opening = λ closed. subst (λ v. IsErr (log_opening_of v)) (sym (long-value p.left long)) refl;
     })
 

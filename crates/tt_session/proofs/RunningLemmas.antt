@@ -12,12 +12,12 @@ use Rattle.tt_session.specs.declared.run.Run.{Run}
 use Rattle.tt_session.specs.Lines.{HasBytes, has_no_feed, joined}
 use Rattle.tt_requests.specs.LineValue.{value_of_line}
 use Rattle.tt_requests.specs.Opening.{max_records}
-use Rattle.tt_requests.specs.Requests.{request_of}
+use Rattle.tt_session.specs.declared.terms.Terms.{Terms}
 use Rattle.tt_session.specs.declared.commands.ForgetRequest.{ForgetRequest}
 use Rattle.tt_session.specs.declared.open_session.ready_to_forget.ReadyToForget.{ReadyToForget}
 use Rattle.tt_session.specs.declared.short_answer.ShortAnswer.TheVariants as shorts
 use Rattle.tt_session.specs.ShortAnswers.{short_text}
-use Rattle.tt_session.specs.Session.{OpenSession, Forgetting, counted}
+use Rattle.tt_session.specs.Session.{OpenSession, Forgetting, request_in, terms_of, counted}
 use Rattle.tt_session.specs.Changes.{forgotten_by}
 use Rattle.tt_session.specs.Commands.{asks_to_forget}
 use Rattle.tt_session.specs.Forgetting.{forgets_nothing}
@@ -220,7 +220,7 @@ forget-turn : (session : Session) (bytes : List ℕ) (f : ForgetRequest) (a : As
 forget-turn session bytes f a =
     ap (λ s. turn_of_read s (kept_line bytes)) a.session_is ∙ read-kept (Open a.opened) bytes ∙ value-turn a.opened bytes f a.told a.asks
   where
-    value-turn : (s : OpenSession) (line : List ℕ) (g : ForgetRequest) → is_passed_over line ≡ false → IsForgetRequest (request_of s.database.catalog (value_of_line line)) g
+    value-turn : (s : OpenSession) (line : List ℕ) (g : ForgetRequest) → is_passed_over line ≡ false → IsForgetRequest (request_in s (value_of_line line)) g
         → turn_with_memory (Open s) line ≡ turn_of_forget (counted s) g
     value-turn s line g told asks = rw told (ap (turn_by_request (counted s)) asks.1)
 
@@ -295,17 +295,17 @@ ready-forgets : {O : Type 0} (handed : Handing O) (has_log : Type 0) (first outl
 ready-forgets handed has_log first outlet start over line run ready p =
     (λ i. p.asks i && changes_database (Open p.session) (p.turn i).session) ∙ forgets-changes p.session ready.forgetting p.anew
 
-pub forgets : {O : Type 0} (handed : Handing O) (has_log : Type 0) (first outlet : O) (start : Session) (over : List LineRead) (line : List ℕ) (run : Run) (ready : ReadyToForget) (most : ℕ) (text refusal : List ℕ)
-    → (p : IsReady handed has_log first outlet start over line run ready) → ((session : OpenSession) → run.session ≡ Open session → most ≡ session.most_records) → most ≤ max_records
-    → text ≡ ready.text.items → refusal ≡ short_text (shorts.CallWithoutLog (calls_of run.session)) → Forgets start over line ready.forgetting most text refusal
-forgets handed has_log first outlet start over line run ready most text refusal p most_is few text_is refusal_is =
+pub forgets : {O : Type 0} (handed : Handing O) (has_log : Type 0) (first outlet : O) (start : Session) (over : List LineRead) (line : List ℕ) (run : Run) (ready : ReadyToForget) (terms : Terms) (text refusal : List ℕ)
+    → (p : IsReady handed has_log first outlet start over line run ready) → ((session : OpenSession) → run.session ≡ Open session → terms ≡ terms_of session) → terms.most_records ≤ max_records
+    → text ≡ ready.text.items → refusal ≡ short_text (shorts.CallWithoutLog (calls_of run.session)) → Forgets start over line ready.forgetting terms text refusal
+forgets handed has_log first outlet start over line run ready terms text refusal p terms_are few text_is refusal_is =
     let s = p.session in
     let next = forgotten_by (counted s) ready.forgetting in
     let value = ready-turn handed has_log first outlet start over line run ready p in
     record {
       session = s;
       session_is = p.before;
-      most_is = most_is (counted s) p.counted_is;
+      terms_are = terms_are (counted s) p.counted_is;
       few = few;
       turn = value ∙ ap (λ t. record { text = t; session = Open next }) (sym text_is);
       anew = (λ i. p.asks i && changes_database (Open s) (value i).session) ∙ forgets-changes s ready.forgetting p.anew;

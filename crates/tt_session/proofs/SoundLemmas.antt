@@ -9,12 +9,11 @@ use Rattle.tt_requests.specs.Opening.{max_records, opening_of}
 use Rattle.tt_answers.specs.declared.answer.Answer.TheVariants as answers
 use Rattle.tt_answers.specs.declared.answer.Refusal.TheVariants as refusals
 use Rattle.tt_answers.specs.AnswerText.{opening_text}
-use Rattle.tt_requests.specs.Requests.{request_of}
 use Rattle.tt_session.specs.declared.session.Session.{Session}
 use Rattle.tt_session.specs.declared.session.Session.TheVariants as sessions
-use Rattle.tt_session.specs.Session.{OpenSession, opened, counted}
+use Rattle.tt_session.specs.Session.{OpenSession, opened, counted, request_in}
 use Rattle.tt_session.specs.Repairing.{status_of}
-use Rattle.tt_session.specs.Reopening.{asks_for, with_most_records}
+use Rattle.tt_session.specs.Reopening.{asks_for, reopened_by}
 use Rattle.tt_session.specs.Run.{Turn, turn_by_opening, turn_by_reopening, turn_by_value, turn_without_memory, lacks_memory, turn_of_line, turn_of_lines}
 use Rattle.tt_session.specs.Invariants.{IsOpenSession, IsSession, SessionsStaySound}
 use Rattle.tt_session.proofs.OpeningLemmas.{IsOpening, is_opening}
@@ -39,15 +38,15 @@ opening-sound value = by (opening_of value) refl
     by (Err fault) is = tt
     by (Ok opening) is = opened-sound opening (is_opening value opening is)
 
-fewer-sound : (session : OpenSession) (most : ℕ) → IsOpenSession session → most ≤ max_records → IsOpenSession (with_most_records session most)
-fewer-sound session most sound few = record {
+reopened-sound : (session : OpenSession) (opening : Opening) → IsOpenSession session → opening.records ≤ max_records → IsOpenSession (reopened_by session opening)
+reopened-sound session opening sound few = record {
   catalog = sound.catalog;
   fits = sound.fits;
   edits = sound.edits;
   legal = sound.legal;
   room = sound.room;
   numbered = sound.numbered;
-  few_records = few_last most session.records;
+  few_records = few_last opening.records session.records;
   few_kept = few;
 }
 
@@ -55,9 +54,9 @@ reopening-sound : (session : OpenSession) (value : Result Data DocFault) → IsO
 reopening-sound session value sound = by (opening_of value) refl
   where
     chosen : (opening : Opening) → opening.records ≤ max_records → (asked : Bool) → IsSession (cond {A = Turn} asked
-        (record { text = opening_text session.numbering (answers.Standing (status_of session.database)); session = sessions.Open (with_most_records session opening.records) })
+        (record { text = opening_text session.numbering (answers.Standing (status_of session.database)); session = sessions.Open (reopened_by session opening) })
         (record { text = opening_text session.numbering (answers.Refused refusals.AnotherOpening); session = sessions.Restored session })).session
-    chosen opening few true = fewer-sound session opening.records sound few
+    chosen opening few true = reopened-sound session opening sound few
     chosen opening few false = sound
 
     by : (reading : Result Opening DocFault) → opening_of value ≡ reading → IsSession (turn_by_reopening session reading).session
@@ -67,7 +66,7 @@ reopening-sound session value sound = by (opening_of value) refl
 value-sound : (session : Session) (value : Result Data DocFault) → IsSession session → IsSession (turn_by_value session value).session
 value-sound sessions.NotOpen value sound = opening-sound value
 value-sound (sessions.Restored session) value sound = reopening-sound session value sound
-value-sound (sessions.Open session) value sound = open_sessions_stay_sound (counted session) (request_of session.database.catalog value) sound
+value-sound (sessions.Open session) value sound = open_sessions_stay_sound (counted session) (request_in session value) sound
 
 memory-sound : (session : Session) → IsSession session → IsSession (turn_without_memory session).session
 memory-sound sessions.NotOpen sound = tt

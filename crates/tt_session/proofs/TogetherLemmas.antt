@@ -9,7 +9,8 @@ use Rattle.tt_grammar.specs.declared.fault.DocFault.{DocFault}
 use Rattle.tt_records.specs.declared.record.Record.{Record}
 use Rattle.tt_requests.specs.declared.request.Request.{Request}
 use Rattle.tt_requests.specs.LineValue.{value_of_line}
-use Rattle.tt_requests.specs.Requests.{request_of}
+use Rattle.tt_grammar.specs.declared.version.Version.{Version}
+use Rattle.tt_grammar.specs.SessionVersion.{grammar_of}
 use Rattle.tt_session.specs.declared.session.Session.{Session}
 use Rattle.tt_session.specs.declared.session.Session.TheVariants.{Open}
 use Rattle.tt_session.specs.Answering.{LineRead, turn_of_read, turns_of}
@@ -21,7 +22,7 @@ use Rattle.tt_session.specs.Commands.{reads_records, asks_for_records, is_forget
 use Rattle.tt_session.specs.Lines.{joined, has_no_feed}
 use Rattle.tt_session.specs.Logged.{logged_by, logged_of, ArePlain, with_lines}
 use Rattle.tt_session.specs.Run.{Turn, turn_by_request, turn_with_memory}
-use Rattle.tt_session.specs.Session.{OpenSession, counted, with_earlier_records, without_records}
+use Rattle.tt_session.specs.Session.{OpenSession, counted, with_earlier_records, without_records, request_in}
 use Rattle.tt_session.specs.Together.{kept_line, AnswersFront, BeginsWith, BeginsPassedOver, BeginsWithLine, AnswersWith, Grows}
 use Rattle.tt_session.proofs.AnsweringLemmas.{turns_of-append, joined-append, read-kept}
 use Rattle.tt_session.proofs.EarlierLemmas.{earlier-all, turn-earlier}
@@ -99,8 +100,8 @@ front-nothing count old new before after kept left p =
 begins-some : (bytes : List ℕ) (count : ℕ) (line : List ℕ) → BeginsWith bytes count line → 0 < count
 begins-some bytes count line begins = omega (arith, ap length begins.front, length-take count bytes, length-append line (10 ∷ []))
 
-pub line-fits : (tables : Tables) (bytes : List ℕ) (count : ℕ) (asked : Result Request DocFault) → BeginsWithLine tables bytes count asked → (0 < count) × (count ≤ length bytes)
-line-fits tables bytes count asked is = (begins-some bytes count is.line is.begins, is.begins.within)
+pub line-fits : (version : Version) (tables : Tables) (bytes : List ℕ) (count : ℕ) (asked : Result Request DocFault) → BeginsWithLine version tables bytes count asked → (0 < count) × (count ≤ length bytes)
+line-fits version tables bytes count asked is = (begins-some bytes count is.line is.begins, is.begins.within)
 
 -- the line that so many first bytes are, without its line feed
 abbrev pub line_in : List ℕ → ℕ → List ℕ
@@ -130,13 +131,13 @@ front-passed bytes count session out kept passed =
     }
 
 -- a line is answered
-pub front-one : (tables : Tables) (bytes : List ℕ) (count : ℕ) (asked : Result Request DocFault) (old new : OpenSession) (text before after : List ℕ) (kept left : Option (List (List ℕ))) → tables ≡ old.database.catalog
-    → asks_to_forget asked ≡ false → BeginsWithLine tables bytes count asked → turn_by_request (counted old) asked ≡ record { text = text; session = Open new } → after ≡ before ++ text → new.calls ≡ old.calls + 1
+pub front-one : (bytes : List ℕ) (count : ℕ) (asked : Result Request DocFault) (old new : OpenSession) (text before after : List ℕ) (kept left : Option (List (List ℕ)))
+    → asks_to_forget asked ≡ false → BeginsWithLine (grammar_of old.version) old.database.catalog bytes count asked → turn_by_request (counted old) asked ≡ record { text = text; session = Open new } → after ≡ before ++ text → new.calls ≡ old.calls + 1
     → left ≡ with_lines kept (logged_by (Open old) (Open new) (line_in bytes count)) → AnswersFront bytes count (Open old) (Open new) before after kept left
-front-one tables bytes count asked old new text before after kept left same other is turn out calls logged =
+front-one bytes count asked old new text before after kept left other is turn out calls logged =
     let line = is.line in
-    let passed : turn_with_memory (Open old) line ≡ turn_by_request (counted old) (request_of old.database.catalog (value_of_line line)) = rw is.told refl in
-    let asks : request_of old.database.catalog (value_of_line line) ≡ asked = ap (λ t. request_of t (value_of_line line)) (sym same) ∙ sym is.is in
+    let passed : turn_with_memory (Open old) line ≡ turn_by_request (counted old) (request_in old (value_of_line line)) = rw is.told refl in
+    let asks : request_in old (value_of_line line) ≡ asked = sym is.is in
     let one : turn_of_read (Open old) (kept_line line) ≡ record { text = text; session = Open new } =
     read-kept (Open old) line ∙ passed ∙ ap (turn_by_request (counted old)) asks ∙ turn in
     let some = begins-some bytes count line is.begins in
@@ -181,13 +182,13 @@ not-forget (Ok request) other = by request.command other
     by commands.Tables is = refl
 
 -- a line is answered with earlier records
-pub front-earlier : (earlier : List Record) (tables : Tables) (bytes : List ℕ) (count : ℕ) (asked : Result Request DocFault) (old new : OpenSession) (before after : List ℕ) (kept left : Option (List (List ℕ)))
-    → tables ≡ old.database.catalog → asks_for_records asked ≡ false → BeginsWithLine tables bytes count asked
+pub front-earlier : (earlier : List Record) (bytes : List ℕ) (count : ℕ) (asked : Result Request DocFault) (old new : OpenSession) (before after : List ℕ) (kept left : Option (List (List ℕ)))
+    → asks_for_records asked ≡ false → BeginsWithLine (grammar_of old.version) old.database.catalog bytes count asked
     → Open new ≡ (turn_by_request (counted old) asked).session → after ≡ before ++ (turn_by_request (counted old) asked).text → new.calls ≡ old.calls + 1
     → left ≡ with_lines kept (logged_by (Open old) (Open new) (line_in bytes count))
     → AnswersFront bytes count (Open (with_earlier_records earlier old)) (Open (with_earlier_records earlier new)) before after kept left
-front-earlier earlier tables bytes count asked old new before after kept left same other is session out calls logged =
-    front-one tables bytes count asked (with_earlier_records earlier old) (with_earlier_records earlier new) (turn_by_request (counted old) asked).text before after kept left same (not-forget asked other) is
+front-earlier earlier bytes count asked old new before after kept left other is session out calls logged =
+    front-one bytes count asked (with_earlier_records earlier old) (with_earlier_records earlier new) (turn_by_request (counted old) asked).text before after kept left (not-forget asked other) is
     (turn-earlier earlier old new asked (turn_by_request (counted old) asked).text other (turn-parts asked (counted old) new session)) out calls logged
 
 -- a line and nothing behind it
@@ -205,13 +206,13 @@ with-one asked line behind old new before after kept left session out calls logg
 }
 
 -- a line that is answered, and those behind it
-pub front-with : (tables : Tables) (bytes : List ℕ) (len count all : ℕ) (asked : Result Request DocFault) (old new : OpenSession) (before after : List ℕ) (kept left : Option (List (List ℕ))) → tables ≡ old.database.catalog
-    → asks_to_forget asked ≡ false → BeginsWithLine tables bytes len asked → AnswersWith asked (line_in bytes len) (take (length bytes - len) (drop len bytes)) count old new before after kept left → len + count ≡ all
+pub front-with : (bytes : List ℕ) (len count all : ℕ) (asked : Result Request DocFault) (old new : OpenSession) (before after : List ℕ) (kept left : Option (List (List ℕ)))
+    → asks_to_forget asked ≡ false → BeginsWithLine (grammar_of old.version) old.database.catalog bytes len asked → AnswersWith asked (line_in bytes len) (take (length bytes - len) (drop len bytes)) count old new before after kept left → len + count ≡ all
     → AnswersFront bytes all (Open old) (Open new) before after kept left
-front-with tables bytes len count all asked old new before after kept left same other is p e =
+front-with bytes len count all asked old new before after kept left other is p e =
     let mid = with_lines kept (logged_by (Open old) (Open p.mid) (line_in bytes len)) in
     front-more bytes len count all (Open old) (Open p.mid) (Open new) before (before ++ p.text) after kept mid left
-    (front-one tables bytes len asked old p.mid p.text before (before ++ p.text) kept mid same other is p.turn refl p.calls refl) p.others e
+    (front-one bytes len asked old p.mid p.text before (before ++ p.text) kept mid other is p.turn refl p.calls refl) p.others e
 
 -- a line with nothing behind it is answered
 pub line-text : (asked : Result Request DocFault) (line : List ℕ) (count : ℕ) (old new : OpenSession) (before after : List ℕ) (kept left : Option (List (List ℕ))) → AnswersWith asked line [] count old new before after kept left
@@ -234,11 +235,10 @@ line-logged asked line count old new before after kept left p =
     none.2 ∙ ap (λ s. with_lines kept (logged_by (Open old) s line)) (sym none.0)
 
 -- a line that is answered alone, and doesn't ask to forget
-pub line-plain : (tables : Tables) (asked : Result Request DocFault) (line : List ℕ) (count : ℕ) (old new : OpenSession) (before after : List ℕ) (kept left : Option (List (List ℕ))) → tables ≡ old.database.catalog
-    → is_passed_over line ≡ false → asked ≡ request_of tables (value_of_line line) → asks_to_forget asked ≡ false → AnswersWith asked line [] count old new before after kept left
+pub line-plain : (asked : Result Request DocFault) (line : List ℕ) (count : ℕ) (old new : OpenSession) (before after : List ℕ) (kept left : Option (List (List ℕ)))
+    → is_passed_over line ≡ false → asked ≡ request_in old (value_of_line line) → asks_to_forget asked ≡ false → AnswersWith asked line [] count old new before after kept left
     → AnswersPlain (Open old) (Open new) line before after kept left
-line-plain tables asked line count old new before after kept left same told is other p =
-    let asks : asked ≡ request_of old.database.catalog (value_of_line line) = is ∙ ap (λ t. request_of t (value_of_line line)) same in
+line-plain asked line count old new before after kept left told asks other p =
     let turn : turn_with_memory (Open old) line ≡ turn_by_request (counted old) asked = rw told (ap (turn_by_request (counted old)) (sym asks)) in
     record {
       text = line-text asked line count old new before after kept left p ∙ ap (λ (t : Turn). before ++ t.text) (sym turn);
@@ -294,11 +294,11 @@ with-ahead asked line behind count old fork first ahead new before empty mid tex
     }
 
 -- and one more line is answered
-pub with-next : (asked next : Result Request DocFault) (line : List ℕ) (tables : Tables) (behind : List ℕ) (count len all : ℕ) (old mid new : OpenSession) (before kept after : List ℕ) (x y z : Option (List (List ℕ)))
-    → AnswersWith asked line behind count old mid before kept x y → tables ≡ mid.database.catalog → asks_to_forget next ≡ false → BeginsWithLine tables (drop count behind) len next
+pub with-next : (asked next : Result Request DocFault) (line : List ℕ) (behind : List ℕ) (count len all : ℕ) (old mid new : OpenSession) (before kept after : List ℕ) (x y z : Option (List (List ℕ)))
+    → AnswersWith asked line behind count old mid before kept x y → asks_to_forget next ≡ false → BeginsWithLine (grammar_of mid.version) mid.database.catalog (drop count behind) len next
     → Open new ≡ (turn_by_request (counted mid) next).session → after ≡ kept ++ (turn_by_request (counted mid) next).text → new.calls ≡ mid.calls + 1
     → z ≡ with_lines y (logged_by (Open mid) (Open new) (line_in (drop count behind) len)) → count + len ≡ all → AnswersWith asked line behind all old new before after x z
-with-next asked next line tables behind count len all old mid new before kept after x y z p same other begins session out calls logged e = record {
+with-next asked next line behind count len all old mid new before kept after x y z p other begins session out calls logged e = record {
   mid = p.mid;
   text = p.text;
   turn = p.turn;
@@ -307,7 +307,7 @@ with-next asked next line tables behind count len all old mid new before kept af
       let first = with_lines x (logged_by (Open old) (Open p.mid) line) in
       subst (λ n. AnswersFront behind n (Open p.mid) (Open new) (before ++ p.text) after first z) e
       (front-trans behind count len (Open p.mid) (Open mid) (Open new) (before ++ p.text) kept after first y z p.others
-      (front-one tables (drop count behind) len next mid new (turn_by_request (counted mid) next).text kept after y z same other begins (turn-parts next (counted mid) new session) out calls logged));
+      (front-one (drop count behind) len next mid new (turn_by_request (counted mid) next).text kept after y z other begins (turn-parts next (counted mid) new session) out calls logged));
 }
 
 -- and one more line is left

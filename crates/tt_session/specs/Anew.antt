@@ -8,11 +8,12 @@ use Rattle.tt_session.specs.declared.session.Session.TheVariants as sessions
 use Rattle.tt_session.specs.declared.outlet.Renewal.{Renewal}
 use Rattle.tt_session.specs.declared.outlet.Renewal.TheVariants as renewals
 use Rattle.tt_session.specs.declared.run.Run.{Run}
+use Rattle.tt_session.specs.declared.terms.Terms.{Terms}
 use Rattle.tt_session.specs.declared.open_session.ready_to_forget.ReadyToForget.{ReadyToForget}
 use Rattle.tt_session.specs.Changing.{line_asks_to_forget}
 use Rattle.tt_session.specs.Forgetting.{forgets_nothing}
 use Rattle.tt_session.specs.Run.{turn_by_value}
-use Rattle.tt_session.specs.Session.{OpenSession, Forgetting, counted}
+use Rattle.tt_session.specs.Session.{OpenSession, Forgetting, terms_of, counted}
 use Rattle.tt_session.specs.Changes.{forgotten_by}
 use Rattle.tt_session.specs.Answering.{LineRead, turn_of_read, turns_of}
 use Rattle.tt_session.specs.Logged.{makes_log_anew}
@@ -20,11 +21,11 @@ use Rattle.tt_session.specs.Together.{kept_line, unlogged_line}
 use Rattle.tt_session.specs.Running.{Handing, Stands}
 
 -- behind the first lines that a session has read, a line makes it forget something: this text is its answer then, and this one if the log can't be made anew
-pub record Forgets (start : Session) (over : List LineRead) (line : List ℕ) (f : Forgetting) (most_records : ℕ) (text refusal : List ℕ) : Type 0 where
+pub record Forgets (start : Session) (over : List LineRead) (line : List ℕ) (f : Forgetting) (terms : Terms) (text refusal : List ℕ) : Type 0 where
   pub session : OpenSession
   pub session_is : (turns_of start over).session ≡ sessions.Open session
-  pub most_is : most_records ≡ session.most_records
-  pub few : most_records ≤ max_records
+  pub terms_are : terms ≡ terms_of session
+  pub few : terms.most_records ≤ max_records
   pub turn : turn_of_read (sessions.Open session) (kept_line line) ≡ record { text = text; session = sessions.Open (forgotten_by (counted session) f) }
   pub anew : makes_log_anew (sessions.Open session) (kept_line line) ≡ true
   pub refused : turn_of_read (sessions.Open session) (unlogged_line line) ≡ record { text = refusal; session = sessions.Open (counted session) }

@@ -1,7 +1,7 @@
 -- What changes the database of a session, and which lines make it forget.
 use Rattle.std.specs.Prelude.{ℕ, ◌+◌, ◌==◌, ◌&&◌, Bool, false, not, List, length}
 use Rattle.tt_requests.specs.LineValue.{value_of_line}
-use Rattle.tt_requests.specs.Requests.{request_of}
+use Rattle.tt_session.specs.Session.{request_in}
 use Rattle.tt_session.specs.declared.session.Session.{Session}
 use Rattle.tt_session.specs.declared.session.Session.TheVariants as sessions
 use Rattle.tt_session.specs.Commands.{asks_to_forget}
@@ -24,5 +24,5 @@ changes_database old new = not ((entries_of new == entries_of old) && (horizon_o
 
 -- whether a line asks a session to forget what lies before a time
 abbrev pub line_asks_to_forget : Session → List ℕ → Bool
-line_asks_to_forget (sessions.Open session) line = asks_to_forget (request_of session.database.catalog (value_of_line line))
+line_asks_to_forget (sessions.Open session) line = asks_to_forget (request_in session (value_of_line line))
 line_asks_to_forget session line = false

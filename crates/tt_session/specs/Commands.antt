@@ -58,10 +58,10 @@ slots_between session from to worker row =
 abbrev pub slots : OpenSession → ToldTime → ToldTime → Option ℕ → Option RowId → Result Answered Refusal
 slots session from to worker row = slots_between session (first_slot session.numbering from) (last_slot session.numbering to) worker row
 
--- the tables, and how much is kept
+-- the version, the tables, and how much is kept
 abbrev pub declared_tables : OpenSession → Result Answered Refusal
 declared_tables session =
-    unchanged session (answers.Declared session.database.limits.keep session.most_records)
+    unchanged session (answers.Declared session.version session.database.limits.keep session.most_records)
 
 -- whether a command leaves the database as it is
 abbrev pub is_read_only : Command → Bool

@@ -5,7 +5,6 @@ use Rattle.tt_requests.specs.declared.request.Command.TheVariants as commands
 use Rattle.tt_requests.specs.declared.request.Request.{Request}
 use Rattle.tt_requests.specs.Lines.{is_too_long, is_passed_over}
 use Rattle.tt_requests.specs.LineValue.{value_of_line}
-use Rattle.tt_requests.specs.Requests.{request_of}
 use Rattle.tt_db.specs.Database.{now_in}
 use Rattle.tt_answers.specs.declared.answer.Answer.{Answer}
 use Rattle.tt_answers.specs.declared.answer.Refusal.{Refusal}
@@ -13,7 +12,7 @@ use Rattle.tt_session.specs.declared.commands.ForgetRequest.{ForgetRequest}
 use Rattle.tt_session.specs.declared.open_session.ready_to_forget.ReadyToForget.{ReadyToForget}
 use Rattle.tt_session.specs.declared.session.Session.{Session}
 use Rattle.tt_session.specs.declared.session.Session.TheVariants as sessions
-use Rattle.tt_session.specs.Session.{OpenSession, Forgetting}
+use Rattle.tt_session.specs.Session.{OpenSession, Forgetting, request_in}
 use Rattle.tt_session.specs.Answers.{Answered}
 use Rattle.tt_session.specs.Changes.{forgotten_by}
 use Rattle.tt_session.specs.Commands.{moved_to, unless_moved}
@@ -58,7 +57,7 @@ pub record AsksToForget (session : Session) (line : List ℕ) (f : ForgetRequest
   pub session_is : session ≡ sessions.Open opened
   pub short : is_too_long line ≡ false
   pub told : is_passed_over line ≡ false
-  pub asks : IsForgetRequest (request_of opened.database.catalog (value_of_line line)) f
+  pub asks : IsForgetRequest (request_in opened (value_of_line line)) f
 
 -- a line that isn't to forget is answered, and kept if it is to be logged: the log isn't made anew for it
 pub record AnswersPlain (old new : Session) (line before after : List ℕ) (kept left : Option (List (List ℕ))) : Type 0 where

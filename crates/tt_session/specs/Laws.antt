@@ -8,10 +8,9 @@ use Rattle.tt_db.specs.declared.errors.DbError.TheVariants as errors
 use Rattle.tt_db.specs.Database.{now_in}
 use Rattle.tt_grammar.specs.declared.fault.DocFault.{DocFault}
 use Rattle.tt_requests.specs.declared.request.Request.{Request}
-use Rattle.tt_requests.specs.Requests.{request_of}
 use Rattle.tt_answers.specs.declared.answer.Refusal.TheVariants as refusals
 use Rattle.tt_session.specs.declared.change_entries.Moment.TheVariants.{Now, Next}
-use Rattle.tt_session.specs.Session.{OpenSession, state_in, with_database}
+use Rattle.tt_session.specs.Session.{OpenSession, request_in, state_in, with_database}
 use Rattle.tt_session.specs.Repairing.{with_event}
 use Rattle.tt_session.specs.Commands.{outcome_of_request}
 use Rattle.tt_session.specs.Moments.{changes_answer_at}
@@ -29,7 +28,7 @@ answers_lines error = true
 -- a request that was read from a line is refused with no other error of the database
 abbrev pub OtherErrorsAnswerNoLine : Type 0
 OtherErrorsAnswerNoLine = (session : OpenSession) (value : Result Data DocFault) (request : Request) (error : DbError) → IsOpenSession session →
-    request_of session.database.catalog value ≡ Ok request → outcome_of_request session request ≡ Err (refusals.Event error) → answers_lines error ≡ true
+    request_in session value ≡ Ok request → outcome_of_request session request ≡ Err (refusals.Event error) → answers_lines error ≡ true
 
 -- the session after the switch
 abbrev pub switched : OpenSession → ℕ → OpenSession

@@ -8,6 +8,8 @@ use Rattle.tt_numbers.specs.Numbers.{Numbering}
 use Rattle.tt_answers.specs.LogText.{log_opening_line, ground_line, slot_line}
 use Rattle.tt_session.specs.declared.session.Session.{Session}
 use Rattle.tt_session.specs.declared.session.Session.TheVariants as sessions
+use Rattle.tt_session.specs.declared.terms.Terms.{Terms}
+use Rattle.tt_session.specs.Session.{terms_of}
 use Rattle.tt_session.specs.SlotEntries.{action_of}
 
 -- the action of an entry, which has no writes where the entry is no action
@@ -26,12 +28,12 @@ lines_of_entries is_ground tables entries = map (line_of_entry is_ground tables)
 abbrev pub lines_of_slots : Tables → ℕ → List Entry → List (List ℕ)
 lines_of_slots tables size history = lines_of_entries true tables (take size history) ++ lines_of_entries false tables (drop size history)
 
--- the lines of a log for a database whose history is actions alone
-abbrev pub lines_of_database : Database → Numbering → ℕ → List (List ℕ)
-lines_of_database db numbering records =
-    log_opening_line db.catalog db.limits.keep records numbering ∷ lines_of_slots db.catalog numbering.ground_slots db.history
+-- the lines of a log for a database whose history is actions alone, of a session with these terms
+abbrev pub lines_of_database : Database → Numbering → Terms → List (List ℕ)
+lines_of_database db numbering terms =
+    log_opening_line terms.version db.catalog db.limits.keep terms.most_records numbering ∷ lines_of_slots db.catalog numbering.ground_slots db.history
 
 -- the lines of a log that is made anew for a session
 abbrev pub lines_of_log : Session → List (List ℕ)
-lines_of_log (sessions.Open session) = lines_of_database session.database session.numbering session.most_records
+lines_of_log (sessions.Open session) = lines_of_database session.database session.numbering (terms_of session)
 lines_of_log session = []

@@ -6,6 +6,8 @@ use Rattle.tt_values.specs.Tables.{Tables, IsCatalog}
 use Rattle.tt_values.specs.Check.{action_fault}
 use Rattle.serde_json.specs.Data.{Data}
 use Rattle.tt_grammar.specs.declared.fault.DocFault.{DocFault}
+use Rattle.tt_grammar.specs.declared.session_version.SessionVersion.{SessionVersion}
+use Rattle.tt_grammar.specs.Version.{newest_version}
 use Rattle.tt_grammar.specs.ReadBack.{IsStorable, values_of_write}
 use Rattle.tt_requests.specs.declared.request.Command.TheVariants as commands
 use Rattle.tt_requests.specs.declared.opening.Opening.{Opening}
@@ -29,22 +31,22 @@ pub record OpensLog (line : List ℕ) (log : LogOpening) : Type 0 where
   pub no_opening : IsErr (opening_of (value_of_line line))
   pub taken_up : IsTakenUp line
 
--- the first line of a log is read as the tables, how much is kept, and the ground that it was printed from
+-- the first line of a log is read as the version, the tables, how much is kept, and the ground that it was printed from
 abbrev pub PrintedLogOpens : Type 0
-PrintedLogOpens = (tables : Tables) (keep records : ℕ) (numbering : Numbering) → IsCatalog tables → keep ≤ max_keep → records ≤ max_records → IsNumbering numbering
+PrintedLogOpens = (version : SessionVersion) (tables : Tables) (keep records : ℕ) (numbering : Numbering) → IsCatalog tables → keep ≤ max_keep → records ≤ max_records → IsNumbering numbering
     → numbering.ground_slots ≤ max_ground_slots
-    → OpensLog (log_opening_line tables keep records numbering) (record { opening = record { catalog = tables; keep = keep; records = records }; numbering = numbering })
+    → OpensLog (log_opening_line version tables keep records numbering) (record { opening = record { version = version; catalog = tables; keep = keep; records = records }; numbering = numbering })
 
 -- an action of the ground that can be carried out is read as the same
 abbrev pub PrintedGroundIsRead : Type 0
 PrintedGroundIsRead = (tables : Tables) (ws : List Write) → IsCatalog tables → action_fault tables ws ≡ None → All (λ w. All IsStorable (values_of_write w)) ws →
     (ground_action_of tables (value_of_line (ground_line tables ws)) ≡ Ok ws) × IsTakenUp (ground_line tables ws)
 
--- an action of a further slot that can be carried out is read as a request of the same worker
+-- an action of a further slot that can be carried out is read, as of the newest version, as a request of the same worker
 abbrev pub PrintedSlotsAreRead : Type 0
 PrintedSlotsAreRead = (tables : Tables) (worker : ℕ) (ws : List Write) → IsCatalog tables → 1 ≤ worker → worker < 2 ^ 32
     → action_fault tables ws ≡ None → All (λ w. All IsStorable (values_of_write w)) ws →
-    (request_of tables (value_of_line (slot_line tables worker ws)) ≡ Ok (record { worker = worker; expected = None; command = commands.Write ws }))
+    (request_of newest_version tables (value_of_line (slot_line tables worker ws)) ≡ Ok (record { worker = worker; expected = None; command = commands.Write ws }))
     × IsTakenUp (slot_line tables worker ws)
 
 -- what opens a session opens no log

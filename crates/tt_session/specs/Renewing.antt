@@ -14,7 +14,8 @@ use Rattle.tt_requests.specs.Opening.{max_records}
 use Rattle.tt_session.specs.declared.session.Session.TheVariants as sessions
 use Rattle.tt_session.specs.declared.log_renewal.RenewFault.{RenewFault}
 use Rattle.tt_session.specs.declared.log_renewal.RenewFault.TheVariants as faults
-use Rattle.tt_session.specs.Session.{OpenSession, Forgetting}
+use Rattle.tt_session.specs.declared.terms.Terms.{Terms}
+use Rattle.tt_session.specs.Session.{OpenSession, Forgetting, terms_of}
 use Rattle.tt_session.specs.LogLines.{action_in, lines_of_log}
 use Rattle.tt_session.specs.OnLog.{Telling}
 use Rattle.tt_session.specs.Restoring.{IsLogOf}
@@ -31,8 +32,8 @@ pub record IsPrintable (is_ground : Bool) (e : Entry) : Type 0 where
   pub worker_fits : e.worker < 2 ^ 32
 
 -- a log that is made for a session which forgets is one of that session
-abbrev pub IsReadable : Forgetting → ℕ → Type 0
-IsReadable f most_records = (session : OpenSession) → session.database ≡ f.db → session.numbering ≡ f.numbering → session.most_records ≡ most_records → most_records ≤ max_records →
+abbrev pub IsReadable : Forgetting → Terms → Type 0
+IsReadable f terms = (session : OpenSession) → session.database ≡ f.db → session.numbering ≡ f.numbering → terms_of session ≡ terms → terms.most_records ≤ max_records →
     IsLogOf (lines_of_log (sessions.Open session)) (sessions.Open session)
 
 -- a log goes on as it was

@@ -30,3 +30,7 @@ asks_for opening db = are_same_by is_same_table opening.catalog db.catalog && (o
 -- the session with no more records than this
 abbrev pub with_most_records : OpenSession → ℕ → OpenSession
 with_most_records session most = record session { records = last_items most session.records; most_records = most }
+
+-- the session as an opening opens it again: with its version, and with no more records than it asks for
+abbrev pub reopened_by : OpenSession → Opening → OpenSession
+reopened_by session opening = record (with_most_records session opening.records) { version = opening.version }

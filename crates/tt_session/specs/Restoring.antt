@@ -1,5 +1,5 @@
--- How a session is read back from the lines of a log: the ground is laid, if there is one, and each line behind it is answered and changes the database.
-use Rattle.std.specs.Prelude.{◌≡◌, ℕ, ◌+◌, ◌<◌, ◌&&◌, Bool, true, is_none, List, [], ◌∷◌, ◌++◌, map, length, Option, None, Some, option_and_then, Result, Ok, Err, IsErr, if◌then◌else◌}
+-- How a session is read back from the lines of a log: the ground is laid, if there is one, and each line behind it is answered, as of the newest version, and changes the database.
+use Rattle.std.specs.Prelude.{◌≡◌, ℕ, ◌+◌, ◌<◌, ◌&&◌, Bool, true, false, is_none, List, [], ◌∷◌, ◌++◌, length, Option, None, Some, option_and_then, Result, Ok, Err, IsErr, if◌then◌else◌}
 use Rattle.std.specs.List.{list_all}
 use Rattle.tt_values.specs.declared.statement.Write.{Write}
 use Rattle.tt_values.specs.Action.{replies_of}
@@ -8,6 +8,7 @@ use Rattle.tt_db.specs.Database.{Database, now_in, current_of_db}
 use Rattle.tt_horizon.specs.Forgetting.{ground_worker}
 use Rattle.tt_horizon.specs.Grounds.{inserts_alone, is_inserted}
 use Rattle.tt_grammar.specs.declared.fault.DocFault.{DocFault}
+use Rattle.tt_grammar.specs.SessionVersion.{newest_of_sessions}
 use Rattle.tt_requests.specs.declared.log_opening.LogOpening.{LogOpening}
 use Rattle.tt_requests.specs.LineValue.{value_of_line}
 use Rattle.tt_requests.specs.LogOpening.{log_opening_of}
@@ -19,7 +20,8 @@ use Rattle.tt_session.specs.Room.{refusal_in_session}
 use Rattle.tt_session.specs.Repairing.{with_event}
 use Rattle.tt_session.specs.Answering.{LineRead, turn_of_read, turns_of}
 use Rattle.tt_session.specs.LogLines.{lines_of_log}
-use Rattle.tt_session.specs.Logged.{logged_by, logged_of, makes_log_anew, log_after}
+use Rattle.tt_session.specs.Changing.{changes_database}
+use Rattle.tt_session.specs.Logged.{makes_log_anew, log_after}
 use Rattle.tt_session.specs.Together.{kept_line}
 
 -- ---- the ground
@@ -65,6 +67,24 @@ BeginsLog lines (sessions.Open session) left = LaysGround lines session left
 
 -- ---- the lines of a log
 
+-- a session whose requests are read as of the newest version
+abbrev pub as_newest : Session → Session
+as_newest (sessions.Open session) = sessions.Open (record session { version = newest_of_sessions })
+as_newest session = session
+
+-- the session after a line of its log, which is read as of the newest version, whatever the version of the session
+abbrev pub repeated : Session → List ℕ → Session
+repeated session line = (turn_of_read (as_newest session) (kept_line line)).session
+
+abbrev pub repeated_all : Session → List (List ℕ) → Session
+repeated_all session [] = session
+repeated_all session (line ∷ lines) = repeated_all (repeated session line) lines
+
+-- each of these lines changes the database
+abbrev pub AllChange : Session → List (List ℕ) → Type 0
+AllChange session [] = Unit {0}
+AllChange session (line ∷ lines) = (changes_database session (repeated session line) ≡ true) × AllChange (repeated session line) lines
+
 -- these are lines of a log, and make this session; this many slots of the ground are still to come
 pub record ReadsLog (lines : List (List ℕ)) (session : Session) (left : ℕ) : Type 0 where
   pub first : List (List ℕ)
@@ -73,8 +93,8 @@ pub record ReadsLog (lines : List (List ℕ)) (session : Session) (left : ℕ) :
   pub base : Session
   pub begins : BeginsLog first base left
   pub ground_first : 0 < left → others ≡ []
-  pub are_logged : logged_of base (map kept_line others) ≡ others
-  pub session_is : session ≡ (turns_of base (map kept_line others)).session
+  pub all_change : AllChange base others
+  pub session_is : session ≡ repeated_all base others
 
 -- a session that was read back is to be opened again
 abbrev pub restored : Session → Session
@@ -95,7 +115,7 @@ IsNoGround session line = Unit {0}
 -- a line can't be the next one of a log
 pub record IsNoNext (session : Session) (left : ℕ) (line : List ℕ) : Type 0 where
   pub no_ground : 0 < left → IsNoGround session line
-  pub not_logged : left ≡ 0 → logged_by session (turn_of_read session (kept_line line)).session line ≡ []
+  pub no_change : left ≡ 0 → changes_database session (repeated session line) ≡ false
   pub no_opening : session ≡ sessions.NotOpen → IsErr (log_opening_of (value_of_line line))
 
 -- lines can't be the further ones of a log: none of them are there, but some of the ground are still to come; or the first can't be the next one

@@ -14,10 +14,8 @@ use Rattle.tt_session.specs.declared.restoring.OpenLog.{OpenLog}
 use Rattle.tt_session.specs.Session.{OpenSession}
 use Rattle.tt_session.specs.Changing.{changes_database}
 use Rattle.tt_session.specs.Run.{begun}
-use Rattle.tt_session.specs.Answering.{turn_of_read}
-use Rattle.tt_session.specs.Together.{kept_line}
 use Rattle.tt_session.specs.Running.{Cuts}
-use Rattle.tt_session.specs.Restoring.{opened_on, laid_by, ReadsLog, IsNoNext}
+use Rattle.tt_session.specs.Restoring.{opened_on, laid_by, repeated, ReadsLog, IsNoNext}
 
 -- a session that is being read back was given these bytes: it has read the lines that end in them
 pub record IsRestoring (given : List ℕ) (run : Restoring) : Type 0 where
@@ -70,7 +68,7 @@ pub record LogsNext (session : Session) (left : ℕ) (line : List ℕ) (next : S
   pub no_ground : (s : OpenSession) → session ≡ sessions.Open s → left ≡ 0
   pub after : OpenSession
   pub is_open : next ≡ sessions.Open after
-  pub next_is : next ≡ (turn_of_read session (kept_line line)).session
+  pub next_is : next ≡ repeated session line
   pub changes : changes_database session next ≡ true
   pub left_is : left_after ≡ 0
 
@@ -91,7 +89,7 @@ IsNextOrNot false session left line next left_after = IsNoNext session left line
 -- the first line of a log opens this, if it opens anything
 abbrev pub OpensBy : List ℕ → Option OpenLog → Type 0
 OpensBy line None =
-    ((turn_of_read sessions.NotOpen (kept_line line)).session ≡ sessions.NotOpen) × IsErr (log_opening_of (value_of_line line))
+    (repeated sessions.NotOpen line ≡ sessions.NotOpen) × IsErr (log_opening_of (value_of_line line))
 OpensBy line (Some log) =
-    ((sessions.Open log.session ≡ (turn_of_read sessions.NotOpen (kept_line line)).session) × (log.ground_slots ≡ 0))
+    ((sessions.Open log.session ≡ repeated sessions.NotOpen line) × (log.ground_slots ≡ 0))
     ⊎ OpensGround sessions.NotOpen line (sessions.Open log.session) log.ground_slots

@@ -8,10 +8,9 @@ use Rattle.tt_requests.specs.declared.request.Request.{Request}
 use Rattle.tt_requests.specs.Lines.{is_too_long, is_passed_over}
 use Rattle.tt_requests.specs.LineValue.{value_of_line}
 use Rattle.tt_requests.specs.Opening.{opening_of}
-use Rattle.tt_requests.specs.Requests.{request_of}
 use Rattle.tt_session.specs.declared.session.Session.{Session}
 use Rattle.tt_session.specs.declared.session.Session.TheVariants as sessions
-use Rattle.tt_session.specs.Session.{OpenSession, opened, counted}
+use Rattle.tt_session.specs.Session.{OpenSession, opened, request_in, counted}
 use Rattle.tt_numbers.specs.Numbers.{nothing_forgotten}
 use Rattle.tt_answers.specs.declared.answer.Refusal.{Refusal}
 use Rattle.tt_answers.specs.declared.answer.Refusal.TheVariants as refusals
@@ -20,7 +19,7 @@ use Rattle.tt_answers.specs.declared.answer.Answer.TheVariants as answers
 use Rattle.tt_session.specs.Answers.{Answered}
 use Rattle.tt_session.specs.Repairing.{status_of}
 use Rattle.tt_session.specs.Commands.{outcome_of_request}
-use Rattle.tt_session.specs.Reopening.{asks_for, with_most_records}
+use Rattle.tt_session.specs.Reopening.{asks_for, reopened_by}
 use Rattle.tt_answers.specs.RefusalText.{too_long}
 use Rattle.tt_answers.specs.AnswerText.{opening_text, call_text}
 
@@ -46,7 +45,7 @@ abbrev pub turn_by_reopening : OpenSession → Result Opening DocFault → Turn
 turn_by_reopening session (Err fault) = record { text = opening_text session.numbering (answers.Faulty fault); session = sessions.Restored session }
 turn_by_reopening session (Ok opening) =
     if asks_for opening session.database
-    then record { text = opening_text session.numbering (answers.Standing (status_of session.database)); session = sessions.Open (with_most_records session opening.records) }
+    then record { text = opening_text session.numbering (answers.Standing (status_of session.database)); session = sessions.Open (reopened_by session opening) }
     else record { text = opening_text session.numbering (answers.Refused refusals.AnotherOpening); session = sessions.Restored session }
 
 -- the last call is answered
@@ -67,7 +66,7 @@ turn_by_request session (Ok request) = turn_by_outcome session (outcome_of_reque
 abbrev pub turn_by_value : Session → Result Data DocFault → Turn
 turn_by_value sessions.NotOpen value = turn_by_opening (opening_of value)
 turn_by_value (sessions.Restored session) value = turn_by_reopening session (opening_of value)
-turn_by_value (sessions.Open session) value = turn_by_request (counted session) (request_of session.database.catalog value)
+turn_by_value (sessions.Open session) value = turn_by_request (counted session) (request_in session value)
 
 -- a line for which there was no memory is an opening or a call all the same
 abbrev pub turn_without_memory : Session → Turn

@@ -3,6 +3,7 @@ use Rattle.std.specs.Prelude.{◌≡◌, ℕ, ◌+◌, ◌≤◌, true, false, L
 use Rattle.std.specs.List.{list_all}
 use Rattle.tt_values.specs.Tables.{Tables}
 use Rattle.tt_grammar.specs.declared.fault.DocFault.{DocFault}
+use Rattle.tt_grammar.specs.declared.version.Version.{Version}
 use Rattle.tt_requests.specs.declared.request.Request.{Request}
 use Rattle.tt_requests.specs.Lines.{is_passed_over}
 use Rattle.tt_requests.specs.LineValue.{value_of_line}
@@ -54,18 +55,18 @@ pub record BeginsPassedOver (bytes : List ℕ) (count : ℕ) : Type 0 where
   pub begins : BeginsWith bytes count line
   pub told : is_passed_over line ≡ true
 
--- the first of some bytes are a whole line, which asks this of a database with these tables, or has this fault
-pub record BeginsWithLine (tables : Tables) (bytes : List ℕ) (count : ℕ) (asked : Result Request DocFault) : Type 0 where
+-- the first of some bytes are a whole line, which asks this, as of a version, of a database with these tables, or has this fault
+pub record BeginsWithLine (version : Version) (tables : Tables) (bytes : List ℕ) (count : ℕ) (asked : Result Request DocFault) : Type 0 where
   pub line : List ℕ
   pub begins : BeginsWith bytes count line
   pub told : is_passed_over line ≡ false
-  pub is : asked ≡ request_of tables (value_of_line line)
+  pub is : asked ≡ request_of version tables (value_of_line line)
 
 -- this is the first line of some bytes, where they have a whole one
-abbrev pub IsFirstLine : Tables → List ℕ → FirstLine → Type 0
-IsFirstLine tables bytes firsts.NotWhole = Unit {0}
-IsFirstLine tables bytes (firsts.PassedOver len) = BeginsPassedOver bytes len
-IsFirstLine tables bytes (firsts.Read line) = BeginsWithLine tables bytes line.len line.asked
+abbrev pub IsFirstLine : Version → Tables → List ℕ → FirstLine → Type 0
+IsFirstLine version tables bytes firsts.NotWhole = Unit {0}
+IsFirstLine version tables bytes (firsts.PassedOver len) = BeginsPassedOver bytes len
+IsFirstLine version tables bytes (firsts.Read line) = BeginsWithLine version tables bytes line.len line.asked
 
 -- what this line asks is answered, and then the lines that the first of the bytes behind it are
 pub record AnswersWith (asked : Result Request DocFault) (line behind : List ℕ) (count : ℕ) (old new : OpenSession) (before after : List ℕ) (kept left : Option (List (List ℕ))) : Type 0 where

@@ -27,13 +27,14 @@ fn status(session: &OpenSession) -> Result<Response, Failure>
     Ok(Response::unrecorded(Answer::Standing(status)))
 }
 
-/// The tables, and how much is kept.
+/// The version, the tables, and how much is kept.
 fn declared_tables(session: &OpenSession) -> Result<Response, Failure>
     ensures { Becomes session.now result (declared_tables session.now) }
 {
     Ok(Response::unrecorded(Answer::Declared {
+        version: session.terms().version,
         keep: session.db().limits().keep,
-        records: session.most_records(),
+        records: session.terms().most_records,
     }))
 }
 

@@ -1,16 +1,17 @@
 //! The first line of some bytes, and what it asks for.
 ghost use Rattle.std.specs.Prelude.{◌≡◌, true, IfOk, MatchOption};
 ghost use Rattle.tt_requests.specs.LineValue.{value_of_line};
-ghost use Rattle.tt_requests.specs.Requests.{request_of};
+ghost use Rattle.tt_grammar.specs.SessionVersion.{grammar_of};
+ghost use Rattle.tt_session.specs.Session.{request_in};
 ghost use Rattle.tt_session.specs.Lines.{has_no_feed, HasFirstFeed};
 ghost use Rattle.tt_session.specs.Together.{IsFirstLine};
 
+use crate::open_session::OpenSession;
 use memchr::memchr;
-use std::alloc::{AllocError, Global};
+use std::alloc::AllocError;
 use tt_grammar::DocFault;
 use tt_json::Scratch;
 use tt_requests::{Request, is_passed_over};
-use tt_values::Catalog;
 
 /// A line that is read: what it asks for, or its first fault.
 #[derive(Drop)]
@@ -32,14 +33,14 @@ pub(crate) enum FirstLine {
 }
 
 impl FirstLine {
-    /// Reads the first line of some bytes, for a database with these tables.
+    /// Reads the first line of some bytes, for a session.
     pub(crate) fn of(
-        alloc: Global,
-        catalog: &Catalog,
+        session: &OpenSession,
         bytes: &[u8],
         scratch: &mut Scratch,
     ) -> Result<FirstLine, AllocError>
-        ensures { IfOk result (IsFirstLine catalog.now bytes.now) }
+        ensures { IfOk result (IsFirstLine (grammar_of session.now.version)
+            session.now.database.catalog bytes.now) }
     {
         let Some(end) = first_feed(bytes) else {
             return Ok(FirstLine::NotWhole);
@@ -48,7 +49,7 @@ impl FirstLine {
         if is_passed_over(line) {
             return Ok(FirstLine::PassedOver(end + 1));
         }
-        let asked = read_request(alloc, catalog, line, scratch)?;
+        let asked = read_request(session, line, scratch)?;
         Ok(FirstLine::Read(RequestLine {
             asked,
             len: end + 1,
@@ -56,16 +57,17 @@ impl FirstLine {
     }
 }
 
-/// What a line asks of a database with these tables, or its first fault.
+/// What a line asks of a session, or its first fault.
 pub(crate) fn read_request(
-    alloc: Global,
-    catalog: &Catalog,
+    session: &OpenSession,
     line: &[u8],
     scratch: &mut Scratch,
 ) -> Result<Result<Request, DocFault>, AllocError>
-    ensures { IfOk result (λ asked. asked ≡ request_of catalog.now (value_of_line line.now)) }
+    ensures { IfOk result (λ asked. asked ≡ request_in session.now (value_of_line line.now)) }
 {
-    match Request::from_line_with(alloc, catalog, line, scratch) {
+    let version = session.terms().version.grammar();
+    let catalog = session.db().catalog();
+    match Request::from_line_with(session.alloc(), version, catalog, line, scratch) {
         Err(DocFault::Memory) => Err(AllocError),
         asked => Ok(asked),
     }

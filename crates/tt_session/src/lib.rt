@@ -27,6 +27,7 @@ mod session_change;
 mod short_answer;
 mod slot_entries;
 mod storable;
+mod terms;
 mod told_requests;
 mod workspace;
 mod writing;

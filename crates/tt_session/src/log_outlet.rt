@@ -87,11 +87,11 @@ impl<D: Device> Outlet for LogOutlet<D> {
     ) -> Result<Renewal, OutletError> {
         let Forgotten {
             forgetting,
-            most_records,
+            terms,
             text,
             refusal,
         } = *forgotten;
-        match make_anew(alloc, &mut self.log, forgetting, most_records) {
+        match make_anew(alloc, &mut self.log, forgetting, terms) {
             Ok(()) => {
                 self.hand_over_alone(alloc, text)?;
                 Ok(Renewal::MadeAnew)

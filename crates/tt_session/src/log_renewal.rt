@@ -9,6 +9,7 @@ ghost use Rattle.tt_session.specs.Renewing.{IsPrintable, IsReadable, IsWriting, 
 
 use crate::session_change::Forgetting;
 use crate::storable::read_action;
+use crate::terms::Terms;
 use crate::workspace::MANY_BYTES;
 use std::alloc::{AllocError, Global};
 use tt_answers::{push_ground_line, push_log_opening, push_slot_line};
@@ -44,26 +45,26 @@ pub(crate) fn make_anew<D: Device>(
     alloc: Global,
     log: &mut Log<D>,
     forgetting: &Forgetting,
-    most_records: u32,
+    terms: Terms,
 ) -> Result<(), RenewFault>
     requires { D.tells log.old.device → IsSettled D.seen D.may_leave log.old }
     ensures ok { OnOk result (D.tells log.old.device → TakesLines
         (telling D.tells D.seen D.shown D.moment D.left_since D.failures) D.may_leave
         log.old log.new
-        (lines_of_database forgetting.now.db forgetting.now.numbering most_records)) }
+        (lines_of_database forgetting.now.db forgetting.now.numbering terms)) }
     ensures err { IfErr result (λ fault. D.tells log.old.device → FailsToRenew fault
         (telling D.tells D.seen D.shown D.moment D.left_since D.failures) D.may_leave
         log.old log.new
-        (lines_of_database forgetting.now.db forgetting.now.numbering most_records)) }
-    ensures readable { OnOk result (IsReadable forgetting.now most_records) }
+        (lines_of_database forgetting.now.db forgetting.now.numbering terms)) }
+    ensures readable { OnOk result (IsReadable forgetting.now terms) }
     ensures readable_lost { IsErrOf result RenewFault.Lost
-        → IsReadable forgetting.now most_records }
+        → IsReadable forgetting.now terms }
     ensures tells { D.tells log.old.device ↔ D.tells log.new.device }
 {
     let Ok(()) = log.begin_new() else {
         return Err(RenewFault::Kept);
     };
-    match write_new(alloc, log, forgetting, most_records) {
+    match write_new(alloc, log, forgetting, terms) {
         Ok(()) => take_new(log),
         Err(RenewFault::Memory) => {
             log.remove_new();
@@ -106,7 +107,7 @@ fn write_new<D: Device>(
     alloc: Global,
     log: &mut Log<D>,
     forgetting: &Forgetting,
-    most_records: u32,
+    terms: Terms,
 ) -> Result<(), RenewFault>
     requires settled { D.tells log.old.device → IsSettled D.seen D.may_leave log.old }
     requires making { D.tells log.old.device → IsMaking D.new_file log.old }
@@ -114,11 +115,11 @@ fn write_new<D: Device>(
     ensures ok { OnOk result (D.tells log.old.device → IsWriting
         (telling D.tells D.seen D.shown D.moment D.left_since D.failures) D.may_leave D.new_file
         log.old log.new []
-        (lines_of_database forgetting.now.db forgetting.now.numbering most_records)) }
+        (lines_of_database forgetting.now.db forgetting.now.numbering terms)) }
     ensures err { IfErr result (λ fault. D.tells log.old.device → FailsToWrite fault
         (telling D.tells D.seen D.shown D.moment D.left_since D.failures) D.may_leave
         log.old log.new) }
-    ensures readable { OnOk result (IsReadable forgetting.now most_records) }
+    ensures readable { OnOk result (IsReadable forgetting.now terms) }
     ensures tells { D.tells log.old.device ↔ D.tells log.new.device }
 {
     let db = &forgetting.db;
@@ -133,9 +134,10 @@ fn write_new<D: Device>(
     let mut text = Vec::new(alloc);
     push_log_opening(
         &mut text,
+        terms.version,
         db.catalog(),
         limits.keep,
-        most_records,
+        terms.most_records,
         forgetting.numbering,
     )?;
     push_line(log, &mut lines, &text)?;

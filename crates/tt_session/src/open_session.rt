@@ -1,7 +1,7 @@
 //! A session that is open.
 ghost use Rattle.std.specs.Prelude.{◌≡◌, ◌+◌, ◌<◌, ◌≤◌, ◌-◌, ◌^◌, OnOk, OnErr, IfOk};
 ghost use Rattle.tt_requests.specs.Opening.{max_keep, max_records};
-ghost use Rattle.tt_session.specs.Session.{counted, opened, with_latest_if, with_earlier_records, without_records};
+ghost use Rattle.tt_session.specs.Session.{counted, opened, terms_of, with_latest_if, with_earlier_records, without_records};
 ghost use Rattle.tt_session.specs.Changes.{forgotten_by, with_change};
 ghost use Rattle.tt_session.specs.Invariants.{IsOpenSession};
 ghost use Rattle.tt_session.specs.Reopening.{with_most_records};
@@ -16,19 +16,23 @@ mod together;
 
 use crate::records::Records;
 use crate::session_change::{BoxedForgetting, Forgetting, SessionChange};
+use crate::terms::Terms;
 pub(crate) use ready_to_forget::ReadyToForget;
 use std::alloc::{AllocError, Global};
 use std::marker::Model;
 pub(crate) use together::Extent;
 use tt_db::{Db, Limits};
+use tt_grammar::SessionVersion;
 use tt_numbers::Numbering;
 use tt_records::Record;
 use tt_requests::{LogOpening, Opening};
 
-/// A session that is open: its database, how its numbers are told, and the records of its last
-/// calls.
+/// A session that is open: its version, its database, how its numbers are told, and the records of
+/// its last calls.
 pub struct OpenSession {
     alloc: Global,
+    /// As of which its requests are read.
+    version: SessionVersion,
     db: Db,
     numbering: Numbering,
     records: Records,
@@ -45,6 +49,7 @@ impl Model for OpenSession {
     ghost Value = { OpenSession };
 
     ghost view = { λ s. record {
+      version = s.version;
       database = s.db;
       numbering = s.numbering;
       records = s.records;
@@ -60,6 +65,7 @@ impl Drop for OpenSession {
     fn drop(self) {
         let OpenSession {
             alloc: _,
+            version: _,
             db: _,
             numbering: _,
             records: _,
@@ -77,6 +83,7 @@ impl OpenSession {
         ensures { result ≡ opened opening }
     {
         let Opening {
+            version,
             catalog,
             keep,
             records,
@@ -90,6 +97,7 @@ impl OpenSession {
         let _ = (db.catalog().len(), db.events());
         OpenSession {
             alloc,
+            version,
             db,
             numbering: Numbering::new(),
             records: Records::new(alloc),
@@ -147,12 +155,22 @@ impl OpenSession {
         self.most_records = most;
     }
 
-    /// How many records are kept at most.
-    pub(crate) fn most_records(&self) -> u32
-        ensures most { result ≡ self.now.most_records }
-        ensures few { result ≤ max_records }
+    /// What the opening of the session has asked for.
+    pub(crate) fn terms(&self) -> Terms
+        ensures terms { result ≡ terms_of self.now }
+        ensures few { result.most_records ≤ max_records }
     {
-        self.most_records
+        Terms {
+            version: self.version,
+            most_records: self.most_records,
+        }
+    }
+
+    /// Its requests are read as of this version from now on.
+    pub(crate) fn read_as_of(&mut self, version: SessionVersion)
+        ensures { self.new ≡ record self.old { version = version } }
+    {
+        self.version = version;
     }
 
     /// How many calls there were.
@@ -222,6 +240,7 @@ impl OpenSession {
         let db = self.db.share()?;
         Ok(OpenSession {
             alloc: self.alloc,
+            version: self.version,
             db,
             numbering: self.numbering,
             records: Records::new(self.alloc),
@@ -239,6 +258,7 @@ impl OpenSession {
     {
         let OpenSession {
             alloc: _,
+            version,
             db,
             numbering,
             records,
@@ -247,6 +267,7 @@ impl OpenSession {
         } = ahead;
         self.records.append(records)?;
         self.records.keep_last(most_records as usize);
+        self.version = version;
         self.db = db;
         self.numbering = numbering;
         self.most_records = most_records;

@@ -6,6 +6,7 @@ ghost use Rattle.tt_session.specs.Running.{AnswersKept};
 ghost use Rattle.tt_session.specs.Anew.{Forgets, Renews, StopsRenewing};
 
 use crate::session_change::Forgetting;
+use crate::terms::Terms;
 use std::alloc::Global;
 use std::io::Write;
 use tt_log::Lines;
@@ -31,8 +32,8 @@ pub(crate) enum Renewal {
 pub(crate) struct Forgotten<'a> {
     /// How the session goes on.
     pub(crate) forgetting: &'a Forgetting,
-    /// How many records it keeps at most.
-    pub(crate) most_records: u32,
+    /// What its opening has asked for.
+    pub(crate) terms: Terms,
     /// The answer.
     pub(crate) text: &'a [u8],
     /// What is handed over in its place where the log can't be made anew.
@@ -80,12 +81,12 @@ pub(crate) trait Outlet {
         ensures ready { OnOk result (is_ready self.new) }
         ensures renewed { IfOk result (λ renewal. (first : Self) (start : Session)
             (over : List LineRead) (line : List ℕ) → handed first self.old start over
-            → Forgets start over line forgotten.now.forgetting.now forgotten.now.most_records
+            → Forgets start over line forgotten.now.forgetting.now forgotten.now.terms
             forgotten.now.text.now forgotten.now.refusal.now
             → Renews handed first self.new start over line renewal) }
         ensures stopped { OnErr result ((first : Self) (start : Session)
             (over : List LineRead) (line : List ℕ) → handed first self.old start over
-            → Forgets start over line forgotten.now.forgetting.now forgotten.now.most_records
+            → Forgets start over line forgotten.now.forgetting.now forgotten.now.terms
             forgotten.now.text.now forgotten.now.refusal.now
             → StopsRenewing stopped first self.new start over line) };
 }

@@ -5,9 +5,7 @@ ghost use Rattle.tt_log.specs.Reading.{unread, IsReading};
 ghost use Rattle.tt_requests.specs.Lines.{is_passed_over};
 ghost use Rattle.tt_session.specs.Changing.{changes_database};
 ghost use Rattle.tt_session.specs.Run.{begun, calls_of};
-ghost use Rattle.tt_session.specs.Answering.{turn_of_read};
-ghost use Rattle.tt_session.specs.Together.{kept_line};
-ghost use Rattle.tt_session.specs.Restoring.{laid_by, restored, Restores, IsNoLine};
+ghost use Rattle.tt_session.specs.Restoring.{laid_by, repeated, restored, Restores, IsNoLine};
 ghost use Rattle.tt_session.specs.RestoringRun.{IsRestoring, FailsIn, IsNextOrNot, OpensBy};
 ghost use Rattle.tt_session.specs.declared.session.Session.TheVariants.{Open};
 
@@ -17,7 +15,7 @@ use crate::open_session::OpenSession;
 use crate::run::MAX_TOTAL;
 use crate::session::{Session, open_or_stay};
 use std::alloc::{AllocError, Global};
-use tt_grammar::DocFault;
+use tt_grammar::{DocFault, SessionVersion};
 use tt_json::Scratch;
 use tt_log::{Device, UnreadLog};
 use tt_requests::{LogOpening, ground_action_from_line, is_passed_over};
@@ -223,7 +221,7 @@ fn read_next(
             if is_passed_over(line) {
                 return Ok(false);
             }
-            repeat(alloc, open, line, text, scratch)
+            repeat(open, line, text, scratch)
         }
         None => {
             let opened = open_log(alloc, line, text)?;
@@ -262,10 +260,10 @@ fn lay_line(
     }
 }
 
-/// Answers a line, which isn't passed over, in place. Returns whether it changes the database.
+/// Answers a line, which isn't passed over, in place, as of the newest version. Returns whether it
+/// changes the database.
 /// Where memory runs out, nothing is promised of the session.
 fn repeat(
-    alloc: Global,
     session: &mut OpenSession,
     line: &[u8],
     text: &mut Vec<u8>,
@@ -274,12 +272,13 @@ fn repeat(
     requires calls { session.old.calls < 2 ^ 64 - 1 }
     requires told { is_passed_over line.now ≡ false }
     ensures session { OnOk result (Open session.new
-        ≡ (turn_of_read (Open session.old) (kept_line line.now)).session) }
+        ≡ repeated (Open session.old) line.now) }
     ensures made { IfOk result (λ made.
         made ≡ changes_database (Open session.old) (Open session.new)) }
     ensures calls { OnOk result (session.new.calls ≡ session.old.calls + 1) }
 {
-    let asked = read_request(alloc, session.db().catalog(), line, scratch)?;
+    session.read_as_of(SessionVersion::newest());
+    let asked = read_request(session, line, scratch)?;
     let extent = session.extent();
     session.answer_in_place(text, asked)?;
     Ok(!session.is_as_at(extent))

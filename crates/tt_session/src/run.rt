@@ -508,7 +508,7 @@ impl Run {
         let ReadyToForget { forgetting, text } = ready;
         let forgotten = Forgotten {
             forgetting: forgetting.get(),
-            most_records: self.session.most_records(),
+            terms: self.session.terms(),
             text: text.as_slice(),
             refusal: refusal.as_str().as_bytes(),
         };

@@ -10,11 +10,12 @@ use crate::pending_lines::PendingLines;
 use crate::repairing::status_of;
 use crate::session_change::BoxedForgetting;
 use crate::short_answer::ShortAnswer;
+use crate::terms::Terms;
 use crate::workspace::{Workspace, append};
 use std::alloc::{AllocError, Global};
 use std::mem;
 use tt_answers::{Answer, push_opening};
-use tt_grammar::DocFault;
+use tt_grammar::{DocFault, SessionVersion};
 use tt_numbers::Numbering;
 use tt_requests::{Opening, is_passed_over};
 
@@ -35,7 +36,7 @@ impl Session {
     ghost use Rattle.tt_session.specs.Together.{AnswersFront};
     ghost use Rattle.tt_session.specs.ForgetRequests.{AnswersLine, turn_of_forget, Prepares};
     ghost use Rattle.tt_session.specs.Changes.{forgotten_by};
-    ghost use Rattle.tt_session.specs.Session.{OpenSession, counted};
+    ghost use Rattle.tt_session.specs.Session.{OpenSession, terms_of, counted};
     ghost use Rattle.tt_session.specs.declared.session.Session.TheVariants.{Restored, Open};
 
     /// How many calls there were.
@@ -167,15 +168,18 @@ impl Session {
         }
     }
 
-    /// How many records are kept at most.
-    pub(crate) fn most_records(&self) -> u32
-        ensures most { (session : OpenSession) → self.now ≡ Open session
-            → result ≡ session.most_records }
-        ensures few { result ≤ max_records }
+    /// What the opening of the session has asked for.
+    pub(crate) fn terms(&self) -> Terms
+        ensures terms { (session : OpenSession) → self.now ≡ Open session
+            → result ≡ terms_of session }
+        ensures few { result.most_records ≤ max_records }
     {
         match self {
-            Session::NotOpen => 0,
-            Session::Restored(session) | Session::Open(session) => session.most_records(),
+            Session::NotOpen => Terms {
+                version: SessionVersion::newest(),
+                most_records: 0,
+            },
+            Session::Restored(session) | Session::Open(session) => session.terms(),
         }
     }
 

@@ -9,12 +9,14 @@ use Rattle.tt_values.specs.declared.row.Row.{Row}
 use Rattle.tt_values.specs.declared.reply.Reply.{Reply}
 use Rattle.tt_values.specs.declared.reply.Reply.TheVariants as replies
 use Rattle.tt_values.specs.Value.{is_same}
+use Rattle.tt_values.specs.declared.comparison.Comparison.{Comparison}
+use Rattle.tt_values.specs.declared.comparison.Comparison.TheVariants.{Is, IsNot, Below, AtMost, Above, AtLeast}
 use Rattle.tt_values.specs.declared.statement.Change.{Change}
 use Rattle.tt_values.specs.declared.statement.Change.TheVariants.{Set, Add}
 use Rattle.tt_values.specs.declared.statement.Equal.{Equal}
 use Rattle.tt_values.specs.declared.statement.Write.{Write}
 use Rattle.tt_values.specs.declared.statement.Write.TheVariants.{Insert, Update, Delete}
-use Rattle.tt_values.specs.Same.{are_same_by, is_same_row, is_same_reply, is_same_equal, is_same_change, is_same_write, SameRepliesAreEqual, SameWritesAreEqual}
+use Rattle.tt_values.specs.Same.{are_same_by, is_same_row, is_same_reply, is_same_comparison, is_same_equal, is_same_change, is_same_write, SameRepliesAreEqual, SameWritesAreEqual}
 
 first_true : (a b : Bool) → (a && b) ≡ true → a ≡ true
 first_true true b h = refl
@@ -107,18 +109,59 @@ reply_decides (replies.Rows rs) (replies.Rows ss) =
 pub same_replies_are_equal : SameRepliesAreEqual
 same_replies_are_equal first second = by_decides is_same_reply reply_decides first second
 
+comparison_decides : (a b : Comparison) → Decides (is_same_comparison a b) (a ≡ b)
+comparison_decides Is Is = (λ e. refl, λ e. refl)
+comparison_decides Is IsNot = (λ e. absurd (cc e), λ e. absurd (cc e))
+comparison_decides Is Below = (λ e. absurd (cc e), λ e. absurd (cc e))
+comparison_decides Is AtMost = (λ e. absurd (cc e), λ e. absurd (cc e))
+comparison_decides Is Above = (λ e. absurd (cc e), λ e. absurd (cc e))
+comparison_decides Is AtLeast = (λ e. absurd (cc e), λ e. absurd (cc e))
+comparison_decides IsNot Is = (λ e. absurd (cc e), λ e. absurd (cc e))
+comparison_decides IsNot IsNot = (λ e. refl, λ e. refl)
+comparison_decides IsNot Below = (λ e. absurd (cc e), λ e. absurd (cc e))
+comparison_decides IsNot AtMost = (λ e. absurd (cc e), λ e. absurd (cc e))
+comparison_decides IsNot Above = (λ e. absurd (cc e), λ e. absurd (cc e))
+comparison_decides IsNot AtLeast = (λ e. absurd (cc e), λ e. absurd (cc e))
+comparison_decides Below Is = (λ e. absurd (cc e), λ e. absurd (cc e))
+comparison_decides Below IsNot = (λ e. absurd (cc e), λ e. absurd (cc e))
+comparison_decides Below Below = (λ e. refl, λ e. refl)
+comparison_decides Below AtMost = (λ e. absurd (cc e), λ e. absurd (cc e))
+comparison_decides Below Above = (λ e. absurd (cc e), λ e. absurd (cc e))
+comparison_decides Below AtLeast = (λ e. absurd (cc e), λ e. absurd (cc e))
+comparison_decides AtMost Is = (λ e. absurd (cc e), λ e. absurd (cc e))
+comparison_decides AtMost IsNot = (λ e. absurd (cc e), λ e. absurd (cc e))
+comparison_decides AtMost Below = (λ e. absurd (cc e), λ e. absurd (cc e))
+comparison_decides AtMost AtMost = (λ e. refl, λ e. refl)
+comparison_decides AtMost Above = (λ e. absurd (cc e), λ e. absurd (cc e))
+comparison_decides AtMost AtLeast = (λ e. absurd (cc e), λ e. absurd (cc e))
+comparison_decides Above Is = (λ e. absurd (cc e), λ e. absurd (cc e))
+comparison_decides Above IsNot = (λ e. absurd (cc e), λ e. absurd (cc e))
+comparison_decides Above Below = (λ e. absurd (cc e), λ e. absurd (cc e))
+comparison_decides Above AtMost = (λ e. absurd (cc e), λ e. absurd (cc e))
+comparison_decides Above Above = (λ e. refl, λ e. refl)
+comparison_decides Above AtLeast = (λ e. absurd (cc e), λ e. absurd (cc e))
+comparison_decides AtLeast Is = (λ e. absurd (cc e), λ e. absurd (cc e))
+comparison_decides AtLeast IsNot = (λ e. absurd (cc e), λ e. absurd (cc e))
+comparison_decides AtLeast Below = (λ e. absurd (cc e), λ e. absurd (cc e))
+comparison_decides AtLeast AtMost = (λ e. absurd (cc e), λ e. absurd (cc e))
+comparison_decides AtLeast Above = (λ e. absurd (cc e), λ e. absurd (cc e))
+comparison_decides AtLeast AtLeast = (λ e. refl, λ e. refl)
+
 equal_decides : (p q : Equal) → Decides (is_same_equal p q) (p ≡ q)
 equal_decides p q = (are_equal, are_same)
   where
     are_equal : is_same_equal p q ≡ true → p ≡ q
     are_equal e =
-        let column : p.column ≡ q.column = (Decides-eqb p.column q.column).0 (first_true _ _ e) in
-        let value : p.value ≡ q.value = (value_decides p.value q.value).0 (second_true (p.column == q.column) _ e) in
-        λ i. record { column = column i; value = value i }
+        let both = first_true _ _ e in
+        let column : p.column ≡ q.column = (Decides-eqb p.column q.column).0 (first_true _ _ both) in
+        let how : p.how ≡ q.how = (comparison_decides p.how q.how).0 (second_true (p.column == q.column) _ both) in
+        let value : p.value ≡ q.value = (value_decides p.value q.value).0 (second_true ((p.column == q.column) && is_same_comparison p.how q.how) _ e) in
+        λ i. record { column = column i; how = how i; value = value i }
 
     are_same : p ≡ q → is_same_equal p q ≡ true
     are_same e =
-        both_true _ _ ((Decides-eqb p.column q.column).1 (ap (λ (x : Equal). x.column) e)) ((value_decides p.value q.value).1 (ap (λ (x : Equal). x.value) e))
+        both_true _ _ (both_true _ _ ((Decides-eqb p.column q.column).1 (ap (λ (x : Equal). x.column) e)) ((comparison_decides p.how q.how).1 (ap (λ (x : Equal). x.how) e)))
+        ((value_decides p.value q.value).1 (ap (λ (x : Equal). x.value) e))
 
 change_decides : (a b : Change) → Decides (is_same_change a b) (a ≡ b)
 change_decides (Set c v) (Set d w) = (are_equal, are_same)

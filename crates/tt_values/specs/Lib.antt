@@ -4,6 +4,7 @@ pub mod Text
 pub mod Limits
 pub mod Faults
 pub mod Value
+pub mod Comparison
 pub mod Digest
 pub mod Row
 pub mod Matches

@@ -5,6 +5,8 @@ use Rattle.std.specs.Ordering.{int_eq}
 use Rattle.tt_values.specs.declared.row.Row.{Row}
 use Rattle.tt_values.specs.declared.reply.Reply.{Reply}
 use Rattle.tt_values.specs.declared.reply.Reply.TheVariants as replies
+use Rattle.tt_values.specs.declared.comparison.Comparison.{Comparison}
+use Rattle.tt_values.specs.declared.comparison.Comparison.TheVariants.{Is, IsNot, Below, AtMost, Above, AtLeast}
 use Rattle.tt_values.specs.declared.statement.Change.{Change}
 use Rattle.tt_values.specs.declared.statement.Change.TheVariants.{Set, Add}
 use Rattle.tt_values.specs.declared.statement.Equal.{Equal}
@@ -29,9 +31,19 @@ is_same_reply (replies.Deleted m) (replies.Deleted n) = m == n
 is_same_reply (replies.Rows rs) (replies.Rows ss) = are_same_by is_same_row rs ss
 is_same_reply a b = false
 
--- whether two conditions ask for the same value of the same column
+-- whether two comparisons are the same
+abbrev pub is_same_comparison : Comparison → Comparison → Bool
+is_same_comparison Is Is = true
+is_same_comparison IsNot IsNot = true
+is_same_comparison Below Below = true
+is_same_comparison AtMost AtMost = true
+is_same_comparison Above Above = true
+is_same_comparison AtLeast AtLeast = true
+is_same_comparison a b = false
+
+-- whether two conditions compare the same column with the same value in the same way
 abbrev pub is_same_equal : Equal → Equal → Bool
-is_same_equal p q = (p.column == q.column) && is_same p.value q.value
+is_same_equal p q = (p.column == q.column) && is_same_comparison p.how q.how && is_same p.value q.value
 
 -- whether two changes do the same to the same column
 abbrev pub is_same_change : Change → Change → Bool

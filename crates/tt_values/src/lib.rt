@@ -8,6 +8,7 @@
 mod catalog;
 mod changing;
 mod checking;
+mod comparison;
 mod digests;
 mod few;
 mod items;
@@ -28,6 +29,7 @@ mod value;
 pub use catalog::{Catalog, CatalogError};
 pub use changing::changed;
 pub use checking::{CheckError, check, check_action, check_select};
+pub use comparison::Comparison;
 pub use digests::digest;
 pub use few::Few;
 pub use items::Items;
@@ -54,7 +56,7 @@ pub const MAX_NAME_BYTES: usize = 64;
 /// The maximal length of a text in a statement, in bytes.
 pub const MAX_TEXT_BYTES: usize = 1024;
 
-/// The maximal number of equalities of a statement.
+/// The maximal number of conditions of a statement.
 pub const MAX_EQUALS: usize = 32;
 
 /// The maximal number of writes of an action.

@@ -3,6 +3,7 @@ ghost use Rattle.std.specs.Prelude.{◌≡◌};
 ghost use Rattle.std.specs.List.{list_all, zip};
 ghost use Rattle.tt_values.specs.Same.{are_same_by};
 
+use crate::comparison::Comparison;
 use crate::reply::Reply;
 use crate::row::Row;
 use crate::statement::{Change, Equal, Write};
@@ -81,14 +82,35 @@ impl Same for Reply {
     }
 }
 
-/// The same value of the same column.
+/// The same comparison.
+impl Same for Comparison {
+    ghost use Rattle.tt_values.specs.Same.{is_same_comparison};
+
+    ghost same = { is_same_comparison };
+
+    fn is_same(&self, other: &Comparison) -> bool {
+        matches!(
+            (self, other),
+            (Comparison::Is, Comparison::Is)
+                | (Comparison::IsNot, Comparison::IsNot)
+                | (Comparison::Below, Comparison::Below)
+                | (Comparison::AtMost, Comparison::AtMost)
+                | (Comparison::Above, Comparison::Above)
+                | (Comparison::AtLeast, Comparison::AtLeast)
+        )
+    }
+}
+
+/// The same comparison of the same column with the same value.
 impl Same for Equal {
     ghost use Rattle.tt_values.specs.Same.{is_same_equal};
 
     ghost same = { is_same_equal };
 
     fn is_same(&self, other: &Equal) -> bool {
-        self.column == other.column && self.value.is_same(&other.value)
+        self.column == other.column
+            && self.how.is_same(&other.how)
+            && self.value.is_same(&other.value)
     }
 }
 

@@ -1,15 +1,17 @@
 //! Statements. They name tables and columns by their positions, counted from 0.
 ghost use Rattle.std.specs.Prelude.{◌≡◌, [], IfOk};
 
+use crate::comparison::Comparison;
 use crate::items::Items;
 use crate::row::Row;
 use crate::value::Value;
 use std::alloc::{AllocError, Global};
 
-/// The condition that a column has a value.
+/// The condition that the value of a column compares so with this value.
 #[derive(Clone, Debug, PartialEq, Drop)]
 pub struct Equal {
     pub column: u16,
+    pub how: Comparison,
     pub value: Value,
 }
 
@@ -30,21 +32,21 @@ pub enum Write {
         table: u16,
         row: Row,
     },
-    /// Changes the rows that match all equalities. Each of them is written and counted, even if
+    /// Changes the rows that match all conditions. Each of them is written and counted, even if
     /// no value of it changes.
     Update {
         table: u16,
         changes: Items<Change>,
         equals: Items<Equal>,
     },
-    /// Removes the rows that match all equalities.
+    /// Removes the rows that match all conditions.
     Delete {
         table: u16,
         equals: Items<Equal>,
     },
 }
 
-/// A statement that reads the rows that match all equalities.
+/// A statement that reads the rows that match all conditions.
 #[derive(Clone, Debug, PartialEq, Drop)]
 pub struct Select {
     pub table: u16,
@@ -52,12 +54,16 @@ pub struct Select {
 }
 
 impl Equal {
+    ghost use Rattle.tt_values.specs.Matches.{equates};
+    ghost use Rattle.tt_values.specs.declared.comparison.Comparison.TheVariants.{Is};
+
     /// The condition that a column of kind Int has this value. Allocates nothing.
     pub fn int(column: u16, value: i64) -> Equal
-        ensures { result ≡ record { column = column; value = Value.Int value } }
+        ensures { result ≡ record { column = column; how = Is; value = Value.Int value } }
     {
         Equal {
             column,
+            how: Comparison::Is,
             value: Value::Int(value),
         }
     }
@@ -65,10 +71,28 @@ impl Equal {
     /// The condition that a column of kind Text has this value.
     pub fn text(alloc: Global, column: u16, value: &str) -> Result<Equal, AllocError>
         ensures { IfOk result (λ equal.
-            equal ≡ record { column = column; value = Value.Text value.now }) }
+            equal ≡ record { column = column; how = Is; value = Value.Text value.now }) }
     {
         let value = Value::text(alloc, value)?;
-        Ok(Equal { column, value })
+        Ok(Equal {
+            column,
+            how: Comparison::Is,
+            value,
+        })
+    }
+
+    /// The same column and value, compared in this way. Allocates nothing.
+    pub fn with(self, how: Comparison) -> Equal
+        ensures { result ≡ record { column = self.column; how = how; value = self.value } }
+    {
+        Equal { how, ..self }
+    }
+
+    /// Whether it is an equality, which fixes the value of its column. Allocates nothing.
+    pub fn equates(&self) -> bool
+        ensures { result ≡ equates self.now }
+    {
+        self.how.is_equality()
     }
 
     /// An equal condition, which shares its text with this one.
@@ -104,8 +128,8 @@ impl Write {
         Ok(Write::Insert { table, row })
     }
 
-    /// The update that makes these changes to the rows that match all equalities. Without
-    /// equalities it changes all rows of the table.
+    /// The update that makes these changes to the rows that match all conditions. Without
+    /// conditions it changes all rows of the table.
     pub fn update<const M: usize, const N: usize>(
         alloc: Global,
         table: u16,
@@ -123,7 +147,7 @@ impl Write {
         })
     }
 
-    /// The delete of the rows that match all equalities. Without equalities it deletes all rows
+    /// The delete of the rows that match all conditions. Without conditions it deletes all rows
     /// of the table.
     pub fn delete<const N: usize>(
         alloc: Global,
@@ -163,7 +187,7 @@ impl Select {
         Select::matching(alloc, table, [])
     }
 
-    /// The select of the rows that match all equalities.
+    /// The select of the rows that match all conditions.
     pub fn matching<const N: usize>(
         alloc: Global,
         table: u16,

@@ -18,7 +18,7 @@ pub enum Value {
 }
 
 impl Value {
-    ghost use Rattle.tt_values.specs.Value.{is_of_kind};
+    ghost use Rattle.tt_values.specs.Value.{is_less, is_of_kind};
 
     /// A value of kind Text, with a copy of this text.
     pub fn text(alloc: Global, text: &str) -> Result<Value, AllocError>
@@ -33,6 +33,18 @@ impl Value {
         match (kind, self) {
             (Kind::Int, Value::Int(_)) | (Kind::Text, Value::Text(_)) => true,
             (Kind::Int, Value::Text(_)) | (Kind::Text, Value::Int(_)) => false,
+        }
+    }
+
+    /// Whether this value is less than one of its kind: an int as a number, a text by its bytes.
+    /// Of two kinds none is less. Allocates nothing.
+    pub fn is_less(&self, other: &Value) -> bool
+        ensures { result ≡ is_less self.now other.now }
+    {
+        match (self, other) {
+            (Value::Int(int), Value::Int(other)) => int < other,
+            (Value::Text(text), Value::Text(other)) => text.as_str() < other.as_str(),
+            (Value::Int(_), Value::Text(_)) | (Value::Text(_), Value::Int(_)) => false,
         }
     }
 

@@ -15,7 +15,10 @@ use Rattle.tt_values.specs.declared.row.Row.{Row}
 use Rattle.tt_values.specs.declared.statement.Equal.{Equal}
 use Rattle.tt_values.specs.Value.{is_same}
 use Rattle.tt_values.specs.Row.{first_int}
-use Rattle.tt_values.specs.Matches.{is_value, holds, matches}
+use Rattle.tt_values.specs.declared.comparison.Comparison.{Comparison}
+use Rattle.tt_values.specs.declared.comparison.Comparison.TheVariants.{Is, IsNot, Below, AtMost, Above, AtLeast}
+use Rattle.tt_values.specs.Comparison.{is_equality}
+use Rattle.tt_values.specs.Matches.{is_compared, holds, equates, matches}
 use Rattle.tt_versions.specs.declared.side.Side.{Side}
 use Rattle.tt_versions.specs.declared.side.Side.TheVariants.{Current, Next}
 use Rattle.tt_versions.specs.declared.version.Version.{Version}
@@ -25,7 +28,7 @@ use Rattle.tt_versions.specs.Versions.{started_by, started_before, visible_row, 
 use Rattle.tt_versions.specs.Lineage.{unwritten, chain_on, with_write_on, split_back}
 use Rattle.tt_versions.specs.Sides.{LineagesByKey, lineage_at, side_of, is_split, StaysSplit, UnsplitsRows}
 use Rattle.tt_values.specs.Digest.{digest_of}
-use Rattle.tt_versions.specs.Index.{KeySet, has_key, keys_under, KeepsKeys, ColumnLists, ColumnsList, IndexState, ListsRow, KeepsRows, CoversEqual, CoversMatches, keys_equated, IsAtMost, IsSmallest, SayNoSet, IsKeyOfMatches, ChainHas, LineageHas, ListsTable, HaveKeysIn, HaveKey}
+use Rattle.tt_versions.specs.Index.{KeySet, has_key, keys_under, KeepsKeys, ColumnLists, ColumnsList, IndexState, ListsRow, KeepsRows, CoversEqual, CoversMatches, keys_with, keys_equated, IsAtMost, IsSmallest, SayNoSet, IsKeyOfMatches, ChainHas, LineageHas, ListsTable, HaveKeysIn, HaveKey}
 use Rattle.tt_versions.specs.declared.lineages.IndexedEntries.{IndexedEntries}
 use Rattle.tt_versions.specs.IndexedEntries.{IsConsistent}
 use Rattle.tt_versions.proofs.EntriesLemmas.{first, second}
@@ -155,7 +158,7 @@ ListsRow-same index key old new columns first h = record {
   first = λ keyed. sym (first_int-same old.values new.values (first keyed)) ∙ h.first keyed;
 }
 
--- ---- equalities
+-- ---- conditions
 
 pub equal_values : (v w : Value) → is_same v w ≡ true → v ≡ w
 equal_values (values.Int m) (values.Int n) h = ap values.Int ((Decides-int_eq m n).0 h)
@@ -163,53 +166,69 @@ equal_values (values.Int m) (values.Text t) h = cc
 equal_values (values.Text s) (values.Int n) h = cc
 equal_values (values.Text s) (values.Text t) h = ap values.Text ((bytes_eq-Decides s t).0 h)
 
--- each equality of those that match holds
+-- each condition of those that match holds
 pub holds-at : (equals : List Equal) (n : ℕ) (q : Equal) (row : Row) → slice_get equals n ≡ Some q → IsTrue (matches equals row) → IsTrue (holds q row)
 holds-at [] n q row there h = cc
 holds-at (p ∷ equals) zero q row there h = let same : p ≡ q = cc in subst (λ x. IsTrue (holds x row)) same (first _ _ h)
 holds-at (p ∷ equals) (suc n) q row there h = holds-at equals n q row there (second _ _ h)
 
 -- where the equality is on a column, the column's set has the key
-lists_equal : (o : Option Value) (v : Value) (sets : List (ℤ × KeySet)) (key : ℤ) → IfSome o (λ w. IsTrue (has_key (keys_under (digest_of w) sets) key)) → IsTrue (is_value v o) → IsTrue (has_key (keys_under (digest_of v) sets) key)
+lists_equal : (o : Option Value) (v : Value) (sets : List (ℤ × KeySet)) (key : ℤ) → IfSome o (λ w. IsTrue (has_key (keys_under (digest_of w) sets) key)) → IsTrue (is_compared Is v o) → IsTrue (has_key (keys_under (digest_of v) sets) key)
 lists_equal None v sets key h is = cc
 lists_equal (Some w) v sets key h is = subst (λ x. IsTrue (has_key (keys_under (digest_of x) sets) key)) (sym (equal_values v w is)) h
 
-pub CoversEqual-column : (index : IndexState) (n : ℕ) (c : IndexedColumn) (equal : Equal) → slice_get index.columns n ≡ Some c → c.position ≡ equal.column
+is_the_same : (how : Comparison) → IsTrue (is_equality how) → how ≡ Is
+is_the_same Is h = refl
+is_the_same IsNot h = cc
+is_the_same Below h = cc
+is_the_same AtMost h = cc
+is_the_same Above h = cc
+is_the_same AtLeast h = cc
+
+-- an equality holds where the value is the same
+holds-equality : (equal : Equal) (row : Row) → IsTrue (equates equal) → IsTrue (holds equal row) → IsTrue (is_compared Is equal.value (slice_get row.values equal.column))
+holds-equality equal row equality h = subst (λ how. IsTrue (is_compared how equal.value (slice_get row.values equal.column))) (is_the_same equal.how equality) h
+
+pub CoversEqual-column : (index : IndexState) (n : ℕ) (c : IndexedColumn) (equal : Equal) → slice_get index.columns n ≡ Some c → c.position ≡ equal.column → IsTrue (equates equal)
     → CoversEqual index (keys_under (digest_of equal.value) c.sets) equal
-CoversEqual-column index n c equal there at key row listed h =
+CoversEqual-column index n c equal there at equality key row listed h =
     let column : ColumnLists c key row = ColumnsList-at index.columns n c key row there listed.columns in
-    lists_equal (slice_get row.values equal.column) equal.value c.sets key (subst (λ p. IfSome (slice_get row.values p) (λ w. IsTrue (has_key (keys_under (digest_of w) c.sets) key))) at column) h
+    lists_equal (slice_get row.values equal.column) equal.value c.sets key (subst (λ p. IfSome (slice_get row.values p) (λ w. IsTrue (has_key (keys_under (digest_of w) c.sets) key))) at column) (holds-equality equal row equality h)
 
 pub CoversMatches-equal : (index : IndexState) (keys : KeySet) (equals : List Equal) (n : ℕ) (equal : Equal) → slice_get equals n ≡ Some equal → CoversEqual index keys equal → CoversMatches index keys equals
 CoversMatches-equal index keys equals n equal there covers key row listed h = covers key row listed (holds-at equals n equal row there h)
 
 -- ---- the sets that equalities say
 
--- the set that an equality says, by the columns from one on
-pub keys_equated-here : (cs : List IndexedColumn) (n : ℕ) (c : IndexedColumn) (equal : Equal) → slice_get cs n ≡ Some c → (c.position == equal.column) ≡ true
-    → keys_equated (drop n cs) equal ≡ Some (keys_under (digest_of equal.value) c.sets)
-keys_equated-here [] n c equal there is = cc
-keys_equated-here (d ∷ cs) zero c equal there is =
+-- the keys under a value, by the columns from one on
+pub keys_with-here : (cs : List IndexedColumn) (n : ℕ) (c : IndexedColumn) (equal : Equal) → slice_get cs n ≡ Some c → (c.position == equal.column) ≡ true
+    → keys_with (drop n cs) equal ≡ Some (keys_under (digest_of equal.value) c.sets)
+keys_with-here [] n c equal there is = cc
+keys_with-here (d ∷ cs) zero c equal there is =
     let same : d ≡ c = cc in
-    ap (λ (x : IndexedColumn). cond (x.position == equal.column) (Some (keys_under (digest_of equal.value) x.sets)) (keys_equated cs equal)) same
-    ∙ ap (λ b. cond b (Some (keys_under (digest_of equal.value) c.sets)) (keys_equated cs equal)) is
-keys_equated-here (d ∷ cs) (suc n) c equal there is = keys_equated-here cs n c equal there is
+    ap (λ (x : IndexedColumn). cond (x.position == equal.column) (Some (keys_under (digest_of equal.value) x.sets)) (keys_with cs equal)) same
+    ∙ ap (λ b. cond b (Some (keys_under (digest_of equal.value) c.sets)) (keys_with cs equal)) is
+keys_with-here (d ∷ cs) (suc n) c equal there is = keys_with-here cs n c equal there is
 
-keys_equated-skip_suc : (cs : List IndexedColumn) (n : ℕ) (c : IndexedColumn) (equal : Equal) → slice_get cs n ≡ Some c → (c.position == equal.column) ≡ false
-    → keys_equated (drop (suc n) cs) equal ≡ keys_equated (drop n cs) equal
-keys_equated-skip_suc [] n c equal there is = cc
-keys_equated-skip_suc (d ∷ cs) zero c equal there is =
+keys_with-skip_suc : (cs : List IndexedColumn) (n : ℕ) (c : IndexedColumn) (equal : Equal) → slice_get cs n ≡ Some c → (c.position == equal.column) ≡ false
+    → keys_with (drop (suc n) cs) equal ≡ keys_with (drop n cs) equal
+keys_with-skip_suc [] n c equal there is = cc
+keys_with-skip_suc (d ∷ cs) zero c equal there is =
     let same : d ≡ c = cc in
-    sym (ap (λ (x : IndexedColumn). cond (x.position == equal.column) (Some (keys_under (digest_of equal.value) x.sets)) (keys_equated cs equal)) same
-    ∙ ap (λ b. cond b (Some (keys_under (digest_of equal.value) c.sets)) (keys_equated cs equal)) is)
-keys_equated-skip_suc (d ∷ cs) (suc n) c equal there is = keys_equated-skip_suc cs n c equal there is
+    sym (ap (λ (x : IndexedColumn). cond (x.position == equal.column) (Some (keys_under (digest_of equal.value) x.sets)) (keys_with cs equal)) same
+    ∙ ap (λ b. cond b (Some (keys_under (digest_of equal.value) c.sets)) (keys_with cs equal)) is)
+keys_with-skip_suc (d ∷ cs) (suc n) c equal there is = keys_with-skip_suc cs n c equal there is
 
 -- a column with another position says no set
-pub keys_equated-skip : (cs : List IndexedColumn) (n : ℕ) (c : IndexedColumn) (equal : Equal) → slice_get cs n ≡ Some c → (c.position == equal.column) ≡ false
-    → keys_equated (drop (n + 1) cs) equal ≡ keys_equated (drop n cs) equal
-keys_equated-skip cs n c equal there is =
+pub keys_with-skip : (cs : List IndexedColumn) (n : ℕ) (c : IndexedColumn) (equal : Equal) → slice_get cs n ≡ Some c → (c.position == equal.column) ≡ false
+    → keys_with (drop (n + 1) cs) equal ≡ keys_with (drop n cs) equal
+keys_with-skip cs n c equal there is =
     let next : suc n ≡ n + 1 = omega arith in
-    ap (λ m. keys_equated (drop m cs) equal) (sym next) ∙ keys_equated-skip_suc cs n c equal there is
+    ap (λ m. keys_with (drop m cs) equal) (sym next) ∙ keys_with-skip_suc cs n c equal there is
+
+-- the set that an equality says
+pub keys_equated-equality : (cs : List IndexedColumn) (equal : Equal) → equates equal ≡ true → keys_equated cs equal ≡ keys_with cs equal
+keys_equated-equality cs equal equality = ap (λ b. cond b (keys_with cs equal) None) equality
 
 pub IfSome-copied : {X : Type 0} (o : Option (Bor X)) (P : X → Type 0) → IfSome o (λ x. P x.now) → IfSome (option_copied o) P
 IfSome-copied None P h = tt
@@ -271,14 +290,14 @@ IfSome-either picked one other P (inl is) h g = subst (λ o. IfSome o P) (sym is
 IfSome-either picked one other P (inr is) h g = subst (λ o. IfSome o P) (sym is) g
 
 -- an equality on the first column says the first value
-first_value : (vs : List Value) (n : ℤ) → IsTrue (is_value (values.Int n) (slice_get vs 0)) → first_int vs ≡ Some n
+first_value : (vs : List Value) (n : ℤ) → IsTrue (is_compared Is (values.Int n) (slice_get vs 0)) → first_int vs ≡ Some n
 first_value [] n h = cc
 first_value (values.Int m ∷ vs) n h = ap Some (sym ((Decides-int_eq n m).0 h))
 first_value (values.Text t ∷ vs) n h = cc
 
-pub first_equated : (equal : Equal) (n : ℤ) (row : Row) → equal.column ≡ 0 → equal.value ≡ values.Int n → IsTrue (holds equal row) → first_int row.values ≡ Some n
-first_equated equal n row column value h =
-    first_value row.values n (subst (λ v. IsTrue (is_value v (slice_get row.values 0))) value (subst (λ p. IsTrue (is_value equal.value (slice_get row.values p))) column h))
+pub first_equated : (equal : Equal) (n : ℤ) (row : Row) → equal.column ≡ 0 → IsTrue (equates equal) → equal.value ≡ values.Int n → IsTrue (holds equal row) → first_int row.values ≡ Some n
+first_equated equal n row column equality value h =
+    first_value row.values n (subst (λ v. IsTrue (is_compared Is v (slice_get row.values 0))) value (subst (λ p. IsTrue (is_compared Is equal.value (slice_get row.values p))) column (holds-equality equal row equality h)))
 
 pub IsKeyOfMatches-equal : (index : IndexState) (only : ℤ) (equals : List Equal) (n : ℕ) (equal : Equal) → IsTrue index.is_keyed → slice_get equals n ≡ Some equal
     → ((row : Row) → IsTrue (holds equal row) → first_int row.values ≡ Some only) → IsKeyOfMatches index only equals

@@ -7,5 +7,6 @@ pub mod UnsplitLemmas
 pub mod MatchingLemmas
 pub mod PageLemmas
 pub mod IndexLemmas
+pub mod RangeLemmas
 pub mod LawProofs
 mod worked_rows

@@ -21,7 +21,7 @@ use Rattle.tt_versions.proofs.MatchingLemmas.{matching_of, matching_among, lists
 
 -- ---- a walk from a key on
 
-is_lt-int : (low key : ℤ) → is_lt (int_cmp low key) ≡ int_lt low key
+pub is_lt-int : (low key : ℤ) → is_lt (int_cmp low key) ≡ int_lt low key
 is_lt-int low key = by (int_lt low key) (int_lt key low)
   where
     by : (b c : Bool) → is_lt (cond b Less (cond c Greater Equal)) ≡ b
@@ -51,7 +51,7 @@ after-first low key None rest = by (is_after low key)
     by false = refl
 after-first low key (Some row) rest = refl
 
-matching_of-after : (low : Option ℤ) (equals : List Equality) (time : ℕ) (side : Side) (t : LineagesByKey)
+pub matching_of-after : (low : Option ℤ) (equals : List Equality) (time : ℕ) (side : Side) (t : LineagesByKey)
     → matching_of equals time side (those_after low t) ≡ those_after low (matching_of equals time side t)
 matching_of-after low equals time side [] = refl
 matching_of-after low equals time side (e ∷ es) = by (is_after low e.0) refl (matching_of-after low equals time side es)

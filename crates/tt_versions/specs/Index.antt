@@ -6,7 +6,7 @@ use Rattle.std.specs.FinMap.Entries as sorted
 use Rattle.tt_values.specs.declared.row.Row.{Row}
 use Rattle.tt_values.specs.declared.statement.Equal.{Equal}
 use Rattle.tt_values.specs.Row.{first_int}
-use Rattle.tt_values.specs.Matches.{holds, matches}
+use Rattle.tt_values.specs.Matches.{holds, equates, matches}
 use Rattle.tt_versions.specs.declared.indexed_column.IndexedColumn.{IndexedColumn}
 use Rattle.tt_versions.specs.declared.side.Side.{Side}
 use Rattle.tt_versions.specs.declared.version.Version.{Version}
@@ -53,7 +53,7 @@ pub record ListsRow (index : IndexState) (key : ℤ) (row : Row) : Type 0 where
 abbrev pub KeepsRows : IndexState → IndexState → Type 0
 KeepsRows before after = (key : ℤ) (row : Row) → ListsRow before key row → ListsRow after key row
 
--- each row of the index for which an equality holds has its key in the set
+-- each row of the index for which a condition holds has its key in the set
 abbrev pub CoversEqual : IndexState → KeySet → Equal → Type 0
 CoversEqual index keys equal = (key : ℤ) (row : Row) → ListsRow index key row → IsTrue (holds equal row) → IsTrue (has_key keys key)
 
@@ -61,10 +61,14 @@ CoversEqual index keys equal = (key : ℤ) (row : Row) → ListsRow index key ro
 abbrev pub CoversMatches : IndexState → KeySet → List Equal → Type 0
 CoversMatches index keys equals = (key : ℤ) (row : Row) → ListsRow index key row → IsTrue (matches equals row) → IsTrue (has_key keys key)
 
--- the set that an equality says: the keys under the digest of its value in the first column with its position, none if no column has it
+-- the keys under the digest of a condition's value in the first column with its position, none if no column has it
+abbrev pub keys_with : List IndexedColumn → Equal → Option KeySet
+keys_with [] equal = None
+keys_with (c ∷ cs) equal = if c.position == equal.column then Some (keys_under (digest_of equal.value) c.sets) else keys_with cs equal
+
+-- the set that an equality says; of another condition none
 abbrev pub keys_equated : List IndexedColumn → Equal → Option KeySet
-keys_equated [] equal = None
-keys_equated (c ∷ cs) equal = if c.position == equal.column then Some (keys_under (digest_of equal.value) c.sets) else keys_equated cs equal
+keys_equated cs equal = if equates equal then keys_with cs equal else None
 
 -- the first set has at most as many keys as the second, and is there where the second is
 abbrev pub IsAtMost : Option KeySet → Option KeySet → Type 0
@@ -72,11 +76,11 @@ IsAtMost keys None = Unit {0}
 IsAtMost None (Some set) = ⊥
 IsAtMost (Some keys) (Some set) = length keys ≤ length set
 
--- no equality says a set with fewer keys
+-- no condition says a set with fewer keys
 abbrev pub IsSmallest : IndexState → KeySet → List Equal → Type 0
 IsSmallest index keys equals = All (λ equal. IfSome (keys_equated index.columns equal) (λ set. length keys ≤ length set)) equals
 
--- no equality says a set
+-- no condition says a set
 abbrev pub SayNoSet : IndexState → List Equal → Type 0
 SayNoSet index equals = All (λ equal. keys_equated index.columns equal ≡ None) equals
 

@@ -6,5 +6,6 @@ pub mod RowsByWrites
 pub mod Matching
 pub mod Pages
 pub mod Index
+pub mod KeyRange
 pub mod IndexedEntries
 pub mod Laws

@@ -1,4 +1,4 @@
--- The rows of a side that match the equalities of a statement.
+-- The rows of a side that match the conditions of a statement.
 use Rattle.std.specs.Prelude.{◌≡◌, ℕ, ℤ, IsTrue, List, Option, None, Some, if◌then◌else◌}
 use Rattle.std.specs.Ordering.{int_cmp}
 use Rattle.std.specs.FinMap.Entries as sorted

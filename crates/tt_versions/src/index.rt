@@ -3,8 +3,10 @@ ghost use Rattle.std.specs.Option.{option_copied};
 ghost use Rattle.tt_values.specs.Row.{first_int};
 ghost use Rattle.tt_values.specs.Matches.{holds};
 ghost use Rattle.tt_versions.specs.Index.{ColumnsList, ListsRow, KeepsRows, CoversEqual, CoversMatches, keys_equated, IsAtMost, IsSmallest, SayNoSet, IsKeyOfMatches};
+ghost use Rattle.tt_versions.specs.KeyRange.{IsRangeOfMatches, IsNarrowest};
 
 use crate::indexed_column::{IndexedColumn, KeySet};
+use crate::key_range::KeyRange;
 use std::alloc::{AllocError, Global};
 use std::marker::Model;
 use tt_pages::PagedMap;
@@ -81,7 +83,7 @@ impl Index {
         (!self.is_keyed || same_value(0, old, new)) && same_values(&self.columns, old, new)
     }
 
-    /// The one key that matching rows can have, if the equalities say one.
+    /// The one key that matching rows can have, if an equality says one.
     pub(crate) fn key_for(&self, equals: &[Equal]) -> Option<i64>
         ensures { IfSome result (λ key. IsKeyOfMatches self.now key equals.now) }
     {
@@ -94,6 +96,18 @@ impl Index {
             }
         }
         None
+    }
+
+    /// A range that has the key of each matching row: the one that comparisons of the keys leave.
+    pub(crate) fn range_for(&self, equals: &[Equal]) -> KeyRange
+        ensures has { IsRangeOfMatches self.now result equals.now }
+        ensures narrowest { IsTrue self.now.is_keyed → IsNarrowest result equals.now }
+    {
+        if self.is_keyed {
+            KeyRange::of(equals)
+        } else {
+            KeyRange::all()
+        }
     }
 
     /// The smallest set that has the key of each matching row, if an equality is on a column of
@@ -110,12 +124,15 @@ impl Index {
         smallest
     }
 
-    /// The set that has the key of each row for which the equality holds, if it is on a column of
-    /// the index.
+    /// The set that has the key of each row for which the condition holds, if it is an equality on
+    /// a column of the index.
     fn keys_equated(&self, equal: &Equal) -> Option<&KeySet>
         ensures covers { IfSome result (λ keys. CoversEqual self.now keys.now equal.now) }
         ensures same { option_copied result ≡ keys_equated self.now.columns equal.now }
     {
+        if !equal.equates() {
+            return None;
+        }
         for column in &self.columns {
             if column.position == equal.column {
                 return Some(column.keys_under(digest(&equal.value), &self.empty));
@@ -203,12 +220,12 @@ fn begins_with(row: &Row, key: i64) -> bool
     }
 }
 
-/// The key that an equality on the first column asks for.
+/// The key that a condition asks for: one that is an equality, on the first column.
 fn equated_key(equal: &Equal) -> Option<i64>
     ensures { IfSome result (λ key. (row : Row)
         → IsTrue (holds equal.now row) → first_int row.values ≡ Some key) }
 {
-    if equal.column != 0 {
+    if equal.column != 0 || !equal.equates() {
         return None;
     }
     match &equal.value {

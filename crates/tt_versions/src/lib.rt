@@ -5,6 +5,7 @@
 
 mod index;
 mod indexed_column;
+mod key_range;
 pub mod laws;
 mod lineage;
 mod lineages;

@@ -5,11 +5,13 @@ ghost use Rattle.std.specs.Ordering.{int_cmp};
 ghost use Rattle.std.specs.FinMap.Entries.{find, put, is_sorted};
 ghost use Rattle.tt_versions.specs.Lineage.{with_write_on, split_back};
 ghost use Rattle.tt_versions.specs.Index.{ListsRow, KeepsRows, LineageHas, HaveKey, HaveKeysIn};
+ghost use Rattle.tt_versions.specs.KeyRange.{HaveKeysWithin};
 ghost use Rattle.tt_versions.specs.Pages.{those_after};
 ghost use Rattle.tt_versions.specs.Sides.{lineage_at, is_split, with_writes, StaysSplit, MarksKey, UnsplitsRow};
 
 use crate::index::Index;
 use crate::indexed_column::{IndexedColumn, KeySet};
+use crate::key_range::KeyRange;
 use crate::lineage::Lineage;
 use crate::row_write::RowWrite;
 use crate::side::Side;
@@ -109,11 +111,18 @@ impl Lineages {
         })
     }
 
-    /// The one key of all rows that match, if the equalities say one.
+    /// The one key of all rows that match, if an equality says one.
     pub(crate) fn key_for(&self, equals: &[Equal]) -> Option<i64>
         ensures { IfSome result (λ key. HaveKey self.now key equals.now) }
     {
         self.indexed.index.key_for(equals)
+    }
+
+    /// A range with the keys of all rows that match.
+    pub(crate) fn range_for(&self, equals: &[Equal]) -> KeyRange
+        ensures { HaveKeysWithin self.now result equals.now }
+    {
+        self.indexed.index.range_for(equals)
     }
 
     /// A set with the keys of all rows that match, if there is a smaller one than all keys.

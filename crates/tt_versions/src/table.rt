@@ -6,6 +6,7 @@ mod page;
 mod persistent;
 
 use crate::indexed_column::{IndexedColumn, KeySet};
+use crate::key_range::KeyRange;
 use crate::lineage::Lineage;
 use crate::lineages::Lineages;
 use crate::side::Side;
@@ -48,6 +49,7 @@ impl Table {
     ghost use Rattle.tt_versions.specs.Sides.{no_lineages, lineage_at, side_of, current_of, next_of, is_split, all_written_from, whole_among, rolled_back_from, just_before, no_rows, none_split, with_key, rows_behind, ListsRows};
     ghost use Rattle.tt_versions.specs.Matching.{if_matching, ListsMatches, ListsMatchingRows};
     ghost use Rattle.tt_versions.specs.Index.{HaveKey, HaveKeysIn};
+    ghost use Rattle.tt_versions.specs.KeyRange.{HaveKeysWithin};
     ghost use Rattle.tt_versions.specs.RowsByWrites.{AddsRowWritesOf, DropsRowWrites, ListsContent};
 
     /// A table without rows. Takes no memory; what the other calls take comes from this allocator.
@@ -128,9 +130,10 @@ impl Table {
         Ok(rows)
     }
 
-    /// The rows of that side as of the time that match all equalities, each with its key, by rising
+    /// The rows of that side as of the time that match all conditions, each with its key, by rising
     /// key. An equality on the first column, or on a column that the table was created with, spares
-    /// it from reading the other rows.
+    /// it from reading the other rows. Where the first values are the keys, comparisons of them by
+    /// order leave it a range of keys to read.
     pub fn rows_matching(
         &self,
         equals: &[Equal],
@@ -163,7 +166,7 @@ impl Table {
             Some(keys) if keys.len() < self.lineages.len() / 2 => {
                 self.rows_among(keys, equals, time, side)
             }
-            _ => self.rows_of_all(equals, time, side),
+            _ => self.rows_within(self.lineages.range_for(equals), equals, time, side),
         }
     }
 
@@ -207,18 +210,23 @@ impl Table {
         Ok(rows)
     }
 
-    /// The rows that match, of all.
-    fn rows_of_all(
+    /// The rows that match, of those with keys in this range. Reads no other rows.
+    fn rows_within(
         &self,
+        range: KeyRange,
         equals: &[Equal],
         time: u64,
         side: Side,
     ) -> Result<Vec<(i64, &Row)>, AllocError>
+        requires { HaveKeysWithin self.now range equals.now }
         ensures { IfOk result (λ rows.
             ListsMatches (rows_behind rows.items) equals.now (side_of self.now side) time) }
     {
         let mut rows = Vec::new(self.alloc);
-        for (key, lineage) in self.lineages.iter() {
+        for (key, lineage) in self.lineages.iter_after(range.after) {
+            if !range.is_before(*key) {
+                return Ok(rows);
+            }
             if let Some(row) = lineage.matching(equals, time, side) {
                 rows.push((*key, row))?;
             }

@@ -5,7 +5,7 @@ use std::alloc::Global;
 use std::process::Abort;
 use tt_document::{Ask, Call, DocFault, Document};
 use tt_grammar::push_quoted;
-use tt_values::{Catalog, Change, Column, Equal, Items, Select, Value, Write};
+use tt_values::{Catalog, Change, Column, Comparison, Equal, Items, Select, Value, Write};
 
 const STORED: &str =
     r#"{"version":1,"tables":[{"name":"acct","columns":[{"name":"id","kind":"int"},{"name":"owner","kind":"text","partition":true},{"name":"bal","kind":"int"}]}],"workers":1,"calls":[
@@ -138,6 +138,30 @@ fn actions_of_version_2(rt: HostRuntime) {
     };
     same(&rt, &path.as_str(), &"$.calls[0].do[1].row[2]");
     same(&rt, &cause.as_str(), &"wrong type");
+}
+
+/// The signs of comparisons.
+const SIGNS: [(&str, Comparison); 6] = [
+    ("=", Comparison::Is),
+    ("!=", Comparison::IsNot),
+    ("<", Comparison::Below),
+    ("<=", Comparison::AtMost),
+    (">", Comparison::Above),
+    (">=", Comparison::AtLeast),
+];
+
+#[test]
+fn comparisons_of_version_3(rt: HostRuntime) {
+    let alloc = rt.alloc();
+    for (sign, how) in SIGNS {
+        let text = format!(in alloc;
+            r#"{{"worker":1,"delete":"acct","where":[["id","{sign}",1]]}}"#
+        );
+        let text = text.expect(&rt, "memory");
+        let compared = Equal::int(0, 1).with(how);
+        let delete = Write::delete(alloc, 0, [compared]).expect(&rt, "memory");
+        is_call(&rt, alloc, 3, text.as_str(), call_of(&rt, alloc, [delete]));
+    }
 }
 
 #[test]

@@ -6,6 +6,8 @@ use Rattle.tt_values.specs.declared.value.Value.TheVariants as values
 use Rattle.tt_values.specs.declared.statement.Change.TheVariants as changes
 use Rattle.tt_values.specs.declared.statement.Write.TheVariants as writes
 use Rattle.tt_values.specs.declared.reply.Reply.TheVariants as replies
+use Rattle.tt_grammar.specs.declared.session_version.SessionVersion.TheVariants.{Two}
+use Rattle.tt_values.specs.declared.comparison.Comparison.TheVariants.{Is, AtLeast}
 use Rattle.tt_grammar.proofs.worked_texts.Accounts.{accounts, account}
 use Rattle.tt_answers.specs.declared.answer.Answer.TheVariants as answers
 use Rattle.tt_answers.specs.AnswerText.{call_text}
@@ -21,7 +23,7 @@ slots : call_text accounts nothing_forgotten 18 (answers.Slots 4 (
       number = 3;
       worker = 1;
       slot = record {
-        action = Some (writes.Update 0 (changes.Add 2 (pos 1) ∷ []) (record { column = 0; value = values.Int (pos 1) } ∷ []) ∷ []);
+        action = Some (writes.Update 0 (changes.Add 2 (pos 1) ∷ []) (record { column = 0; how = Is; value = values.Int (pos 1) } ∷ []) ∷ []);
         replies = Some (replies.Updated 1 ∷ []);
       };
       asked = None;
@@ -53,20 +55,20 @@ replaced : call_text accounts nothing_forgotten 25 (answers.Slots 4 (
       worker = 2;
       slot = record {
         action = Some (
-            writes.Delete 0 (record { column = 1; value = values.Text (codes "bob") } ∷ record { column = 2; value = values.Int (pos 0) } ∷ [])
+            writes.Delete 0 (record { column = 1; how = Is; value = values.Text (codes "bob") } ∷ record { column = 2; how = AtLeast; value = values.Int (pos 0) } ∷ [])
             ∷ writes.Update 0 (changes.Set 1 (values.Text (codes "eve")) ∷ changes.Add 2 (pos 5) ∷ []) [] ∷ []);
         replies = Some (replies.Deleted 0 ∷ replies.Updated 2 ∷ []);
       };
       asked = Some [];
     }
     ∷ []))
-    ≡ (codes "{\"call\":25,\"time\":4,\"slots\":[{\"slot\":2,\"worker\":2,\"do\":[{\"delete\":\"acct\",\"where\":[[\"owner\",\"bob\"],[\"bal\",0]]},"
+    ≡ (codes "{\"call\":25,\"time\":4,\"slots\":[{\"slot\":2,\"worker\":2,\"do\":[{\"delete\":\"acct\",\"where\":[[\"owner\",\"bob\"],[\"bal\",\">=\",0]]},"
     ++ codes "{\"update\":\"acct\",\"change\":[[\"set\",\"owner\",\"eve\"],[\"add\",\"bal\",5]],\"where\":[]}],\"replies\":[{\"deleted\":0},{\"updated\":2}],"
     ++ codes "\"asked\":[]}]}\n")
 unfolding digits
 replaced = refl
 
-tables : call_text accounts nothing_forgotten 21 (answers.Declared 4 100000)
+tables : call_text accounts nothing_forgotten 21 (answers.Declared Two 4 100000)
     ≡ (codes "{\"call\":21,\"version\":2,\"tables\":[{\"name\":\"acct\",\"columns\":[{\"name\":\"id\",\"kind\":\"int\",\"partition\":false},{\"name\":\"owner\","
     ++ codes "\"kind\":\"text\",\"partition\":true},{\"name\":\"bal\",\"kind\":\"int\",\"partition\":false}]}],\"keep\":4,\"records\":100000}\n")
 unfolding digits

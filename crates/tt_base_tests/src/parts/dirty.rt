@@ -1,7 +1,10 @@
 ghost use Rattle.std.specs.Prelude.{◌≡◌, length};
 
 use super::Plain::{self, Number, Words};
-use super::{ANN, PlainPartition, delete, done, insert, nothing_dirty, partition_reads, row};
+use super::{
+    ANN, NO_EQUALITIES, PlainPartition, delete, delete_by, done, insert, nothing_dirty,
+    partition_reads, row,
+};
 use crate::same::same;
 use std::alloc::Global;
 use std::process::Abort;
@@ -134,6 +137,20 @@ fn a_delete_is_clear_by_what_it_reads(rt: HostRuntime) {
     }
     let of_parcels = delete(&rt, alloc, 1, &[]);
     assert!(rt; dirty.is_clear(&of_parcels));
+    done(dirty);
+}
+
+#[test]
+fn a_delete_is_clear_by_equalities_alone(rt: HostRuntime) {
+    let alloc = rt.alloc();
+    let dirty = ann_to_eve(&rt, alloc);
+    for how in NO_EQUALITIES {
+        for table in [0, 1] {
+            let pairs = [(0, Number(2)), (1, Words("bob"))];
+            let delete = delete_by(&rt, alloc, table, how, &pairs);
+            assert_eq!(rt; dirty.is_clear(&delete), table == 1, "{how:?}");
+        }
+    }
     done(dirty);
 }
 

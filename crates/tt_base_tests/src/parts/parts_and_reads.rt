@@ -1,10 +1,11 @@
 use super::Plain::{self, Number, Words};
 use super::{
-    ANN, PlainPartition, acct, delete, insert, parcel, partition, partition_reads, partitions, row,
-    tables,
+    ANN, NO_EQUALITIES, PlainPartition, acct, delete, delete_by, insert, parcel, partition,
+    partition_reads, partitions, row, tables,
 };
 use crate::same::same;
 use tt_parts::{Reads, parts_of, reads_of};
+use tt_values::{Equal, Write};
 
 /// A table, a row of it, and the partitions that the row lies in.
 type RowCase = (u16, &'static [Plain], &'static [PlainPartition]);
@@ -72,6 +73,31 @@ fn a_write_without_partitions_reads_its_table(rt: HostRuntime) {
         let delete = delete(&rt, alloc, 4, pairs);
         let reads = reads_of(alloc, &def, &delete).expect(&rt, "memory");
         assert_eq!(rt; reads, Reads::All { table: 4 }, "{pairs:?}");
+    }
+}
+
+#[test]
+fn a_write_without_equalities_reads_its_table(rt: HostRuntime) {
+    let alloc = rt.alloc();
+    let def = parcel(&rt, alloc);
+    for how in NO_EQUALITIES {
+        let delete = delete_by(&rt, alloc, 4, how, &[(0, Number(7)), (1, Words("ulm"))]);
+        let reads = reads_of(alloc, &def, &delete).expect(&rt, "memory");
+        assert_eq!(rt; reads, Reads::All { table: 4 }, "{how:?}");
+    }
+}
+
+#[test]
+fn of_several_conditions_equalities_are_read(rt: HostRuntime) {
+    let alloc = rt.alloc();
+    let def = parcel(&rt, alloc);
+    let want = partition_reads(&rt, alloc, &[(4, 1, Words("ulm"))]);
+    for how in NO_EQUALITIES {
+        let ulm = Equal::text(alloc, 1, "ulm").expect(&rt, "memory");
+        let conditions = [Equal::int(0, 7).with(how), ulm, Equal::int(3, 9).with(how)];
+        let delete = Write::delete(alloc, 4, conditions).expect(&rt, "memory");
+        let reads = reads_of(alloc, &def, &delete).expect(&rt, "memory");
+        assert_eq!(rt; reads, want, "{how:?}");
     }
 }
 

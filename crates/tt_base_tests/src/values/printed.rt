@@ -55,7 +55,7 @@ fn a_write(rt: HostRuntime) {
     let write = Write::update(alloc, 0, [change], [Equal::int(0, 1)]).expect(&rt, "memory");
     let text = format!(in alloc; "{write:?}").expect(&rt, "memory");
     let changes = "Items { items: [Add { column: 2, by: 5 }] }";
-    let equals = "Items { items: [Equal { column: 0, value: Int(1) }] }";
+    let equals = "Items { items: [Equal { column: 0, how: Is, value: Int(1) }] }";
     let expected = format!(in alloc; "Update {{ table: 0, changes: {changes}, equals: {equals} }}");
     same(
         &rt,

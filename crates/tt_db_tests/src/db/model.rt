@@ -5,7 +5,9 @@
 use std::alloc::Global;
 use std::process::Abort;
 use tt_db::{Edit, Event, Outcome, Progress, Slot};
-use tt_values::{Catalog, Change, Equal, Items, Reply, Row, Select, Shared, Value, Write};
+use tt_values::{
+    Catalog, Change, Comparison, Equal, Items, Reply, Row, Select, Shared, Value, Write,
+};
 
 /// The action of a slot, or None where the slot is cancelled.
 type Action = Option<Items<Write>>;
@@ -91,9 +93,32 @@ fn is_before(one: Key, other: Key) -> bool {
     one.0 < other.0 || (one.0 == other.0 && one.1 < other.1)
 }
 
+/// Whether a value is less than another one of its kind.
+fn is_less(value: &Value, other: &Value) -> bool {
+    match (value, other) {
+        (Value::Int(number), Value::Int(other)) => number < other,
+        (Value::Text(text), Value::Text(other)) => text.as_str() < other.as_str(),
+        (Value::Int(_), Value::Text(_)) | (Value::Text(_), Value::Int(_)) => false,
+    }
+}
+
+fn is_met(equal: &Equal, value: &Value) -> bool {
+    match equal.how {
+        Comparison::Is => *value == equal.value,
+        Comparison::IsNot => *value != equal.value,
+        Comparison::Below => is_less(value, &equal.value),
+        Comparison::AtMost => !is_less(&equal.value, value),
+        Comparison::Above => is_less(&equal.value, value),
+        Comparison::AtLeast => !is_less(value, &equal.value),
+    }
+}
+
 fn is_match(equals: &[Equal], row: &Row) -> bool {
     for equal in equals {
-        if row.values.get(usize::from(equal.column)) != Some(&equal.value) {
+        let Some(value) = row.values.get(usize::from(equal.column)) else {
+            return false;
+        };
+        if !is_met(equal, value) {
             return false;
         }
     }
@@ -411,10 +436,11 @@ impl Dirty {
         let mut is_clear = false;
         for equal in equals {
             let column = usize::from(equal.column);
-            if self.is_dirty_key(table, column, &equal.value) {
+            let is_equality = equal.how == Comparison::Is;
+            if is_equality && self.is_dirty_key(table, column, &equal.value) {
                 return true;
             }
-            if is_partition(catalog, table, column) {
+            if is_equality && is_partition(catalog, table, column) {
                 has_partitions = true;
                 is_clear = is_clear || !self.has_partition(table, column, &equal.value);
             }

@@ -4,7 +4,7 @@ use super::{ACCT, add, delete, insert, set_balance, set_owner};
 use std::alloc::Global;
 use std::process::Abort;
 use tt_db::{Edit, Event};
-use tt_values::{Change, Equal, Items, Value, Write};
+use tt_values::{Change, Comparison, Equal, Items, Value, Write};
 
 /// Numbers that look random, and are the same in each run of the tests.
 #[derive(Drop)]
@@ -37,15 +37,28 @@ impl Random {
         }
     }
 
-    fn equal(&mut self, rt: &impl Abort, alloc: Global) -> Equal {
-        match self.below(3) {
-            0 => Equal::int(0, self.id()),
-            1 => Equal::text(alloc, 1, self.owner()).expect(rt, "memory"),
-            _ => Equal::int(2, self.balance()),
+    /// An equality in half of the cases.
+    fn comparison(&mut self) -> Comparison {
+        match self.below(10) {
+            0 => Comparison::IsNot,
+            1 => Comparison::Below,
+            2 => Comparison::AtMost,
+            3 => Comparison::Above,
+            4 => Comparison::AtLeast,
+            _ => Comparison::Is,
         }
     }
 
-    /// A condition of 0 to 2 equalities.
+    fn equal(&mut self, rt: &impl Abort, alloc: Global) -> Equal {
+        let equal = match self.below(3) {
+            0 => Equal::int(0, self.id()),
+            1 => Equal::text(alloc, 1, self.owner()).expect(rt, "memory"),
+            _ => Equal::int(2, self.balance()),
+        };
+        equal.with(self.comparison())
+    }
+
+    /// 0 to 2 conditions.
     fn equals(&mut self, rt: &impl Abort, alloc: Global) -> Items<Equal> {
         let mut equals = Vec::new(alloc);
         for _ in 0..self.below(3) {

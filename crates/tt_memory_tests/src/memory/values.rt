@@ -4,9 +4,9 @@ use super::{account_columns, add_to_all, delete, everything, insert, items, owne
 use std::alloc::{AllocError, Global};
 use std::process::Abort;
 use tt_values::{
-    Catalog, CatalogError, Change, CheckError, Column, Equal, Items, Kind, Row, Same, Select,
-    Shared, TableDef, Text, Value, Write, are_same, changed, check, check_action, check_select,
-    digest, matches,
+    Catalog, CatalogError, Change, CheckError, Column, Comparison, Equal, Items, Kind, Row, Same,
+    Select, Shared, TableDef, Text, Value, Write, are_same, changed, check, check_action,
+    check_select, digest, matches,
 };
 
 /// A text, though the first call may find no memory.
@@ -70,6 +70,31 @@ fn values_that_are_shared(rt: HostRuntime) {
     let owner = Shared::from_arc(shared.into_arc());
     let further = owner.clone().expect(&rt, "an owner");
     same(&rt, &(*owner.get(), *further.get()), &(7, 7));
+    quiet(alloc);
+}
+
+/// Values are compared, and conditions made and judged, without memory.
+#[test]
+fn values_that_are_compared(rt: HostRuntime) {
+    let alloc = rt.alloc();
+    let _tally = Tally::new(alloc);
+    let north = Value::text(alloc, "ann of the north sea").expect(&rt, "memory");
+    let south = Value::text(alloc, "ann of the south sea").expect(&rt, "memory");
+    let ann = row(&rt, alloc, 1, "ann of the north sea", 5);
+    let owned = owned_by(&rt, alloc, "ann of the south sea");
+    quiet(alloc);
+    same(
+        &rt,
+        &(north.is_less(&south), south.is_less(&north)),
+        &(true, false),
+    );
+    same(&rt, &Comparison::AtLeast.holds(&north, &south), &true);
+    same(&rt, &Comparison::AtMost.holds(&north, &south), &false);
+    let conditions = [
+        owned.with(Comparison::Below),
+        Equal::int(2, 5).with(Comparison::AtLeast),
+    ];
+    same(&rt, &matches(&conditions, &ann), &true);
     quiet(alloc);
 }
 

@@ -3,7 +3,7 @@ use super::marks::{Tally, mark, quiet};
 use super::{owned_by, row, same};
 use std::alloc::{AllocError, Global};
 use std::process::Abort;
-use tt_values::{Equal, Few, Row, Value};
+use tt_values::{Comparison, Equal, Few, Row, Value};
 use tt_versions::{Side, Table};
 
 /// The row of ann with this balance.
@@ -226,16 +226,15 @@ fn with_no_further_rows(rt: &impl Abort, alloc: Global, table: Table) -> Table {
     table
 }
 
-/// How many rows bob has, though the first call may find no memory.
-fn count_of_bob(rt: &impl Abort, alloc: Global, table: &Table) -> usize {
-    let equals = [owned_by(rt, alloc, "bob")];
+/// How many rows match, though the first call may find no memory.
+fn count_of(rt: &impl Abort, alloc: Global, table: &Table, equals: &[Equal]) -> usize {
     mark(alloc);
-    let rows = table.rows_matching(&equals, 1, Side::Current);
+    let rows = table.rows_matching(equals, 1, Side::Current);
     mark(alloc);
     match rows {
         Ok(rows) => rows.len(),
         Err(AllocError) => table
-            .rows_matching(&equals, 1, Side::Current)
+            .rows_matching(equals, 1, Side::Current)
             .expect(rt, "a second call")
             .len(),
     }
@@ -246,7 +245,8 @@ fn the_rows_that_match(rt: HostRuntime) {
     let alloc = rt.alloc();
     let _tally = Tally::new(alloc);
     let table = with_two_rows(&rt, alloc);
-    same(&rt, &count_of_bob(&rt, alloc, &table), &1);
+    let of_bob = [owned_by(&rt, alloc, "bob")];
+    same(&rt, &count_of(&rt, alloc, &table, &of_bob), &1);
 }
 
 /// Five rows that can be searched by owners: the third one is bob's, the others are ann's.
@@ -257,6 +257,25 @@ fn five_rows(rt: &impl Abort, alloc: Global) -> Table {
         table = table.written(key, row, 1).expect(rt, "memory");
     }
     table
+}
+
+/// The conditions that the key lies above 1, and isn't above this one.
+fn within(last: i64) -> [Equal; 2] {
+    [
+        Equal::int(0, 1).with(Comparison::Above),
+        Equal::int(0, last).with(Comparison::AtMost),
+    ]
+}
+
+/// Rows that are found by comparisons: within a range of keys, and among all.
+#[test]
+fn the_rows_that_compare(rt: HostRuntime) {
+    let alloc = rt.alloc();
+    let _tally = Tally::new(alloc);
+    let table = five_rows(&rt, alloc);
+    let not_ann = [owned_by(&rt, alloc, "ann").with(Comparison::IsNot)];
+    same(&rt, &count_of(&rt, alloc, &table, &within(4)), &3);
+    same(&rt, &count_of(&rt, alloc, &table, &not_ann), &1);
 }
 
 /// Asserts which keys a page behind key 1 has, and whether more follow, though the first call may
@@ -298,4 +317,5 @@ fn pages_of_the_rows_that_match(rt: HostRuntime) {
     has_page(&rt, alloc, &table, &of_ann, 3, (&[2, 4, 5], false));
     has_page(&rt, alloc, &table, &of_bob, 1, (&[3], false));
     has_page(&rt, alloc, &table, &[Equal::int(0, 3)], 1, (&[3], false));
+    has_page(&rt, alloc, &table, &within(4), 2, (&[2, 3], true));
 }

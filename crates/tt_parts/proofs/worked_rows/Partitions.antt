@@ -3,8 +3,9 @@ use Rattle.std.proofs.Common.{◌≡◌, ℕ, pos, true, List, [], ◌∷◌, co
 use Rattle.tt_values.specs.declared.value.Kind.TheVariants as kinds
 use Rattle.tt_values.specs.declared.value.Value.TheVariants as values
 use Rattle.tt_values.specs.declared.table.Column.{Column}
+use Rattle.tt_values.specs.declared.comparison.Comparison.TheVariants.{IsNot, AtMost, Above, Below}
 use Rattle.tt_values.specs.declared.statement.Equal.{Equal}
-use Rattle.tt_values.proofs.worked_rows.Accounts.{columns, ann, bob, account, owner_is, of_balance, balance_is, balance_to, insert, update, delete}
+use Rattle.tt_values.proofs.worked_rows.Accounts.{columns, ann, bob, account, id_compares, owner_compares, owner_is, of_balance, balance_is, balance_to, insert, update, delete}
 use Rattle.tt_parts.specs.declared.partition.Partition.{Partition}
 use Rattle.tt_parts.specs.declared.partition.Reads.{Reads}
 use Rattle.tt_parts.specs.declared.partition.Reads.TheVariants.{All, Equated}
@@ -39,6 +40,10 @@ only_balance = (refl, refl)
 -- each equality counts, in their order
 two_owners : update_reads (owner_is ann ∷ owner_is bob ∷ owner_is ann ∷ []) ≡ Equated (owner_partition ann ∷ owner_partition bob ∷ owner_partition ann ∷ [])
 two_owners = refl
+
+-- a condition that isn't an equality has no partition, also where it leaves one value
+compared : (update_reads (owner_compares IsNot ann ∷ id_compares AtMost 1 ∷ []) ≡ All 0) × (update_reads (id_compares Above 1 ∷ owner_is ann ∷ id_compares Below 3 ∷ []) ≡ Equated (owner_partition ann ∷ []))
+compared = (refl, refl)
 
 -- an insert reads the partition of its key
 key_of_insert : reads_of columns (insert 4 bob 0) ≡ Equated (id_partition 4 ∷ [])

@@ -27,7 +27,7 @@ abbrev pub replies : Slots → List (Option (List Reply))
 replies W = replies_from W 0 (length W)
 
 -- the replies to a slot of one write
-abbrev answered : Reply → Option (List Reply)
+abbrev pub answered : Reply → Option (List Reply)
 answered reply = Some (reply ∷ [])
 
 -- the accounts after all slots

@@ -19,6 +19,7 @@ use Rattle.tt_grammar.specs.TextValue.{value_of_json}
 use Rattle.tt_requests.specs.LineValue.{value_of_line}
 use Rattle.tt_requests.specs.Edits.{cancel, edit}
 use Rattle.tt_requests.specs.Requests.{one_write, begin, bare, only_true, members_of_request}
+use Rattle.tt_grammar.specs.declared.session_version.SessionVersion.TheVariants.{Three}
 use Rattle.tt_session.specs.declared.session.Session.{Session}
 use Rattle.tt_session.specs.declared.session.Session.TheVariants as sessions
 use Rattle.tt_numbers.specs.Numbers.{nothing_forgotten}
@@ -28,6 +29,7 @@ use Rattle.tt_session.proofs.worked_sessions.Asking.{answers}
 -- an open session whose history may have this many entries
 abbrev limited : ℕ → Session
 limited entries = sessions.Open (record {
+  version = Three;
   database = record { catalog = tables; limits = record usual_limits { events = entries }; history = [] };
   numbering = nothing_forgotten;
   records = [];

@@ -64,6 +64,7 @@ impl OpenSession {
         let status = status_of(&self.db);
         push_opening_answer(self.alloc, out, self.numbering, &Answer::Standing(status))?;
         self.keep_at_most(opening.records);
+        self.read_as_of(opening.version);
         Ok(true)
     }
 }

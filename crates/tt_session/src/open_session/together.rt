@@ -6,6 +6,7 @@
 //! out, the fork is dropped, and the session is as it was before that first line.
 ghost use Rattle.std.specs.Prelude.{◌≡◌, ◌+◌, ◌-◌, ◌≤◌, ◌<◌, ◌^◌, ◌++◌, true, false, length, drop, List, IfOk, IfSome, OnOk, OnErr};
 ghost use Rattle.tt_session.specs.declared.session.Session.TheVariants.{Open};
+ghost use Rattle.tt_grammar.specs.SessionVersion.{grammar_of};
 ghost use Rattle.tt_session.specs.Session.{with_earlier_records};
 ghost use Rattle.tt_requests.specs.Lines.{is_passed_over};
 ghost use Rattle.tt_session.specs.Commands.{asks_for_records, asks_to_forget};
@@ -88,7 +89,7 @@ impl OpenSession {
         ensures text_stays { OnErr result (out.new.items ≡ out.old.items) }
         ensures lines_stay { OnErr result (workspace.new.lines ≡ workspace.old.lines) }
     {
-        match FirstLine::of(self.alloc, self.db.catalog(), bytes, &mut workspace.scratch)? {
+        match FirstLine::of(self, bytes, &mut workspace.scratch)? {
             FirstLine::NotWhole => Ok(0),
             FirstLine::PassedOver(len) => Ok(len),
             FirstLine::Read(RequestLine { asked, len }) => {
@@ -123,7 +124,7 @@ impl OpenSession {
         ensures session_stays { OnErr result (self.new ≡ self.old) }
         ensures lines_stay { OnErr result (workspace.new.lines ≡ workspace.old.lines) }
     {
-        let asked = read_request(self.alloc, self.db.catalog(), line, &mut workspace.scratch)?;
+        let asked = read_request(self, line, &mut workspace.scratch)?;
         match forget_request(&asked) {
             Some(request) => Ok(Some(request)),
             None => {
@@ -226,7 +227,8 @@ impl OpenSession {
             workspace.old.text.items workspace.new.text.items
             workspace.old.lines workspace.new.lines) }
         ensures next { IfOk result (λ r. IfSome r.1 (λ next. BeginsWithLine
-            self.new.database.catalog (drop r.0 bytes.now) next.len next.asked)) }
+            (grammar_of self.new.version) self.new.database.catalog
+            (drop r.0 bytes.now) next.len next.asked)) }
         ensures records { IfOk result (λ r. IfSome r.1 (λ next.
             asks_for_records next.asked ≡ true)) }
         ensures lines_grow { OnErr result (Grows workspace.old.lines workspace.new.lines) }
@@ -234,7 +236,7 @@ impl OpenSession {
         let mut taken = 0;
         while !is_much(kept.saturating_add(workspace.text.len()), &workspace.lines) {
             let rest = &bytes[taken..];
-            match FirstLine::of(self.alloc, self.db.catalog(), rest, &mut workspace.scratch)? {
+            match FirstLine::of(self, rest, &mut workspace.scratch)? {
                 FirstLine::NotWhole => return Ok((taken, None)),
                 FirstLine::PassedOver(len) => taken += len,
                 FirstLine::Read(line) => {

@@ -5,6 +5,8 @@ use Rattle.tt_values.specs.declared.value.Kind.TheVariants as kinds
 use Rattle.tt_values.specs.declared.value.Value.TheVariants as values
 use Rattle.tt_values.specs.declared.table.Column.{Column}
 use Rattle.tt_values.specs.declared.row.Row.{Row}
+use Rattle.tt_values.specs.declared.comparison.Comparison.{Comparison}
+use Rattle.tt_values.specs.declared.comparison.Comparison.TheVariants.{Is}
 use Rattle.tt_values.specs.declared.statement.Equal.{Equal}
 use Rattle.tt_values.specs.declared.statement.Change.{Change}
 use Rattle.tt_values.specs.declared.statement.Change.TheVariants.{Set, Add}
@@ -58,13 +60,23 @@ narrow_account id owner = record { values = values.Int (pos id) ∷ values.Text 
 
 -- equalities
 abbrev pub id_is : ℕ → Equal
-id_is id = record { column = 0; value = values.Int (pos id) }
+id_is id = record { column = 0; how = Is; value = values.Int (pos id) }
 
 abbrev pub owner_is : List ℕ → Equal
-owner_is owner = record { column = 1; value = values.Text owner }
+owner_is owner = record { column = 1; how = Is; value = values.Text owner }
 
 abbrev pub balance_is : ℕ → Equal
-balance_is balance = record { column = 2; value = values.Int (pos balance) }
+balance_is balance = record { column = 2; how = Is; value = values.Int (pos balance) }
+
+-- conditions that compare otherwise
+abbrev pub id_compares : Comparison → ℕ → Equal
+id_compares how id = record { column = 0; how = how; value = values.Int (pos id) }
+
+abbrev pub owner_compares : Comparison → List ℕ → Equal
+owner_compares how owner = record { column = 1; how = how; value = values.Text owner }
+
+abbrev pub balance_compares : Comparison → ℕ → Equal
+balance_compares how balance = record { column = 2; how = how; value = values.Int (pos balance) }
 
 -- lists of one equality
 abbrev pub of_id : ℕ → List Equal

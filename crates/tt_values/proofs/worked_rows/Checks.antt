@@ -1,5 +1,6 @@
 -- The faults of statements.
 use Rattle.std.proofs.Common.{◌≡◌, pos, [], ◌∷◌, replicate, None, Some, refl}
+use Rattle.tt_values.specs.declared.comparison.Comparison.TheVariants.{Is}
 use Rattle.tt_values.specs.declared.value.Value.TheVariants as values
 use Rattle.tt_values.specs.declared.statement.Change.TheVariants.{Set, Add}
 use Rattle.tt_values.specs.declared.statement.Write.TheVariants.{Insert, Update, Delete}
@@ -32,7 +33,7 @@ two_changes_of_a_column : write_fault tables (Update 0 (balance_to 1 ∷ balance
 two_changes_of_a_column = refl
 
 -- columns are looked for before kinds, in the equalities too
-column_before_kind : write_fault tables (update (Add 1 (pos 1)) (record { column = 3; value = values.Int (pos 1) } ∷ [])) ≡ Some errors.NoColumn
+column_before_kind : write_fault tables (update (Add 1 (pos 1)) (record { column = 3; how = Is; value = values.Int (pos 1) } ∷ [])) ≡ Some errors.NoColumn
 column_before_kind = refl
 
 -- 32 equalities are allowed, and 33 are too many
@@ -48,5 +49,5 @@ equalities_of_writes = (refl, refl)
 texts :
     (write_fault tables (update (Set 1 (values.Text (replicate 1024 97))) []) ≡ None)
     × (write_fault tables (update (Set 1 (values.Text (replicate 1025 97))) []) ≡ Some errors.TextTooLong)
-    × (select_fault tables (select (record { column = 1; value = values.Text (replicate 1025 97) } ∷ [])) ≡ Some errors.TextTooLong)
+    × (select_fault tables (select (record { column = 1; how = Is; value = values.Text (replicate 1025 97) } ∷ [])) ≡ Some errors.TextTooLong)
 texts = (refl, refl, refl)

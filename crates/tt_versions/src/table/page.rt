@@ -2,10 +2,12 @@
 ghost use Rattle.std.specs.Prelude.{◌≡◌, IfOk};
 ghost use Rattle.tt_versions.specs.Sides.{side_of, rows_behind};
 ghost use Rattle.tt_versions.specs.Index.{HaveKey, HaveKeysIn};
+ghost use Rattle.tt_versions.specs.KeyRange.{HaveKeysWithin};
 ghost use Rattle.tt_versions.specs.Pages.{ListsPage, ListsMatchingPage};
 
 use super::Table;
 use crate::indexed_column::KeySet;
+use crate::key_range::KeyRange;
 use crate::side::Side;
 use crate::walk::{is_after, iter_after};
 use std::alloc::AllocError;
@@ -60,7 +62,7 @@ impl Table {
         match self.lineages.keys_for(query.equals) {
             // Where most rows are listed, reading all in order is faster than looking them up.
             Some(keys) if keys.len() < self.lineages.len() / 2 => self.page_among(keys, query),
-            _ => self.page_of_all(query),
+            _ => self.page_within(self.lineages.range_for(query.equals), query),
         }
     }
 
@@ -108,12 +110,21 @@ impl Table {
         Ok((rows, false))
     }
 
-    /// The page, by a walk of all rows after the key.
-    fn page_of_all(&self, query: &PageQuery<'_>) -> Result<(Vec<(i64, &Row)>, bool), AllocError>
+    /// The page, where each row that matches has a key in this range. Reads none of the other rows.
+    fn page_within(
+        &self,
+        range: KeyRange,
+        query: &PageQuery<'_>,
+    ) -> Result<(Vec<(i64, &Row)>, bool), AllocError>
+        requires { HaveKeysWithin self.now range query.now.equals.now }
         ensures { IfOk result (λ p. ListsPageOf query.now self.now (rows_behind p.0.items) p.1) }
     {
         let mut rows = Vec::new(self.alloc);
-        for (key, lineage) in self.lineages.iter_after(query.after) {
+        let ahead = range.starting_after(query.after);
+        for (key, lineage) in self.lineages.iter_after(ahead.after) {
+            if !ahead.is_before(*key) {
+                return Ok((rows, false));
+            }
             if let Some(row) = lineage.matching(query.equals, query.time, query.side) {
                 if rows.len() == query.most {
                     return Ok((rows, true));

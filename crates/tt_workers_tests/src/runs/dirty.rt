@@ -2,7 +2,7 @@
 use super::model::{Effect, Key, Rows, key_of};
 use std::alloc::Global;
 use std::process::Abort;
-use tt_values::{Catalog, Equal, Row, Value, Write};
+use tt_values::{Catalog, Comparison, Equal, Row, Value, Write};
 
 /// The rows of a table that have this value in this column.
 #[derive(Drop)]
@@ -145,10 +145,11 @@ impl Dirty {
         let mut is_clear = false;
         for equal in equals {
             let column = usize::from(equal.column);
-            if self.is_dirty_key(table, column, &equal.value) {
+            let is_equality = equal.how == Comparison::Is;
+            if is_equality && self.is_dirty_key(table, column, &equal.value) {
                 return true;
             }
-            if is_partition(catalog, table, column) {
+            if is_equality && is_partition(catalog, table, column) {
                 has_partitions = true;
                 is_clear = is_clear || !self.has_partition(table, column, &equal.value);
             }

@@ -4,7 +4,7 @@
 use std::alloc::Global;
 use std::mem;
 use std::process::Abort;
-use tt_values::{Change, Equal, Items, Reply, Row, Select, Value, Write};
+use tt_values::{Change, Comparison, Equal, Items, Reply, Row, Select, Value, Write};
 
 /// The table and the key of a row.
 pub(super) type Key = (u16, i64);
@@ -43,9 +43,32 @@ fn is_before(one: Key, other: Key) -> bool {
     one.0 < other.0 || (one.0 == other.0 && one.1 < other.1)
 }
 
+/// Whether a value is less than another one of its kind.
+fn is_less(value: &Value, other: &Value) -> bool {
+    match (value, other) {
+        (Value::Int(number), Value::Int(other)) => number < other,
+        (Value::Text(text), Value::Text(other)) => text.as_str() < other.as_str(),
+        (Value::Int(_), Value::Text(_)) | (Value::Text(_), Value::Int(_)) => false,
+    }
+}
+
+fn is_met(equal: &Equal, value: &Value) -> bool {
+    match equal.how {
+        Comparison::Is => *value == equal.value,
+        Comparison::IsNot => *value != equal.value,
+        Comparison::Below => is_less(value, &equal.value),
+        Comparison::AtMost => !is_less(&equal.value, value),
+        Comparison::Above => is_less(&equal.value, value),
+        Comparison::AtLeast => !is_less(value, &equal.value),
+    }
+}
+
 fn is_match(equals: &[Equal], row: &Row) -> bool {
     for equal in equals {
-        if row.values.get(usize::from(equal.column)) != Some(&equal.value) {
+        let Some(value) = row.values.get(usize::from(equal.column)) else {
+            return false;
+        };
+        if !is_met(equal, value) {
             return false;
         }
     }

@@ -4,7 +4,7 @@ use std::alloc::Global;
 use std::process::Abort;
 
 const HEAD: &str =
-    r#"{"version":2,"tables":[{"name":"acct","columns":[{"name":"id","kind":"int"},{"name":"owner","kind":"text","partition":true},{"name":"bal","kind":"int"}]},{"name":"note","columns":[{"name":"k","kind":"int"},{"name":"body","kind":"text"}]}],"workers":15,"calls":["#;
+    r#"{"version":3,"tables":[{"name":"acct","columns":[{"name":"id","kind":"int"},{"name":"owner","kind":"text","partition":true},{"name":"bal","kind":"int"}]},{"name":"note","columns":[{"name":"k","kind":"int"},{"name":"body","kind":"text"}]}],"workers":15,"calls":["#;
 
 const WORKERS: u32 = 15;
 
@@ -74,6 +74,18 @@ impl Script {
         }
     }
 
+    /// How a value is compared, with the comma behind it: an equality in half of the cases.
+    fn comparison(&mut self) -> &'static str {
+        match self.below(10) {
+            0 => "\"!=\",",
+            1 => "\"<\",",
+            2 => "\"<=\",",
+            3 => "\">\",",
+            4 => "\">=\",",
+            _ => "",
+        }
+    }
+
     fn push(&mut self, rt: &impl Abort, words: &str) {
         self.text.push_str(words).expect(rt, "memory");
     }
@@ -128,10 +140,11 @@ impl Script {
     }
 
     fn push_select(&mut self, rt: &impl Abort) {
+        let how = self.comparison();
         let owner = self.owner();
         write!(
             self.text,
-            "\"select\":\"acct\",\"where\":[[\"owner\",\"{owner}\"]]"
+            "\"select\":\"acct\",\"where\":[[\"owner\",{how}\"{owner}\"]]"
         )
         .expect(rt, "memory");
     }
@@ -168,9 +181,9 @@ impl Script {
             4 => self.push_note(rt),
             5 => self.push_gift(rt),
             6 => self.push_new_owner(rt),
-            7 => self.push_new_balance(rt),
+            7 => self.push_new_balances(rt),
             8 => self.push_delete(rt),
-            _ => self.push_delete_of_balance(rt),
+            _ => self.push_delete_of_balances(rt),
         }
     }
 
@@ -215,12 +228,25 @@ impl Script {
         .expect(rt, "memory");
     }
 
-    fn push_new_balance(&mut self, rt: &impl Abort) {
+    fn push_new_balances(&mut self, rt: &impl Abort) {
         let balance = self.balance();
-        let old = self.balance();
         write!(
             self.text,
-            "\"update\":\"acct\",\"change\":[[\"set\",\"bal\",{balance}]],\"where\":[[\"bal\",{old}]]"
+            "\"update\":\"acct\",\"change\":[[\"set\",\"bal\",{balance}]],"
+        )
+        .expect(rt, "memory");
+        self.push_where_balances(rt);
+    }
+
+    /// The condition of a few keys whose balances compare with a number.
+    fn push_where_balances(&mut self, rt: &impl Abort) {
+        let first = self.id();
+        let last = first.saturating_add(4);
+        let how = self.comparison();
+        let balance = self.balance();
+        write!(
+            self.text,
+            "\"where\":[[\"id\",\">=\",{first}],[\"id\",\"<=\",{last}],[\"bal\",{how}{balance}]]"
         )
         .expect(rt, "memory");
     }
@@ -230,13 +256,9 @@ impl Script {
         write!(self.text, "\"delete\":\"acct\",\"where\":[[\"id\",{id}]]").expect(rt, "memory");
     }
 
-    fn push_delete_of_balance(&mut self, rt: &impl Abort) {
-        let balance = self.balance();
-        write!(
-            self.text,
-            "\"delete\":\"acct\",\"where\":[[\"bal\",{balance}]]"
-        )
-        .expect(rt, "memory");
+    fn push_delete_of_balances(&mut self, rt: &impl Abort) {
+        self.push(rt, "\"delete\":\"acct\",");
+        self.push_where_balances(rt);
     }
 
     /// The edits of the repair, of actions far from one another.

@@ -44,12 +44,12 @@ returns-clause-ok g c =
     let of = telling D.tells D.seen D.shown D.moment D.left_since D.failures in
     let log = c.args.log.now in
     let f = c.forgetting.inside in
-    let most = c.args.most_records in
+    let terms = c.args.terms in
     let forgetting : Forgetting = record { db = f.db; time = f.time; ground_slots = f.ground_slots; numbering = f.numbering } in
-    let line_is : c.deref.result.now ≡ log_opening_line f.db.catalog f.db.limits.keep most f.numbering =
+    let line_is : c.deref.result.now ≡ log_opening_line terms.version f.db.catalog f.db.limits.keep terms.most_records f.numbering =
     c.deref.ensures.value ∙ c.in_ok-push_log_opening.ensures
-    ∙ (λ i. c.new-text.ensures.items i ++ log_opening_line (c.catalog.ensures i) (c.limits-limits.ensures.value i).keep most f.numbering) in
-    let all = lines-of forgetting most c.ground_slots-ground_slots.result c.events-slots.result c.deref.result.now line_is c.ground_slots-ground_slots.ensures c.events-slots.ensures.count in
+    ∙ (λ i. c.new-text.ensures.items i ++ log_opening_line terms.version (c.catalog.ensures i) (c.limits-limits.ensures.value i).keep terms.most_records f.numbering) in
+    let all = lines-of forgetting terms c.ground_slots-ground_slots.result c.events-slots.result c.deref.result.now line_is c.ground_slots-ground_slots.ensures c.events-slots.ensures.count in
     on_ok c.write_pending.result
     (λ wrote told.
     let begun =
@@ -59,7 +59,7 @@ returns-clause-ok g c =
     let told_2 = c.push_slots.ensures.tells.0 told_1 in
     let told_3 = c.push_slots-2.ensures.tells.0 told_2 in
     let third = c.in_ok-push_slots-2.ensures.ok told_2 log _ (c.in_ok-push_slots.ensures.ok told_1 log _ (c.in_ok-push_line.ensures.ok told log [] begun)) in
-    subst (λ ls. IsWriting of D.may_leave D.new_file log c.write_pending.new.log [] ls) (all ∙ ap (λ (f : Forgetting). lines_of_database f.db f.numbering most) c.forgetting.view_is)
+    subst (λ ls. IsWriting of D.may_leave D.new_file log c.write_pending.new.log [] ls) (all ∙ ap (λ (f : Forgetting). lines_of_database f.db f.numbering terms) c.forgetting.view_is)
     (wrote told_3 log _ third))
     c.write_pending.ensures.ok
 
@@ -82,11 +82,11 @@ pub returns-clause-readable : goal.returns-clause-readable
 returns-clause-readable g c =
     let f = c.forgetting.inside in
     let p = c.forgetting.invariant in
-    let most = c.args.most_records in
+    let terms = c.args.terms in
     let forgetting : Forgetting = record { db = f.db; time = f.time; ground_slots = f.ground_slots; numbering = f.numbering } in
     let usual : record usual_limits { keep = f.db.limits.keep } ≡ f.db.limits =
     subst (λ (l : Limits). record usual_limits { keep = l.keep } ≡ l) c.limits-limits.ensures.value (search rules) in
     ok_with c.write_pending.result
-    (subst (λ (f : Forgetting). IsReadable f most) c.forgetting.view_is
-    (readable forgetting most c.ground_slots-ground_slots.result c.events-slots.result p.0 p.2 p.3 usual c.ground_slots-ground_slots.ensures c.events-slots.ensures.count
+    (subst (λ (f : Forgetting). IsReadable f terms) c.forgetting.view_is
+    (readable forgetting terms c.ground_slots-ground_slots.result c.events-slots.result p.0 p.2 p.3 usual c.ground_slots-ground_slots.ensures c.events-slots.ensures.count
     (omega (arith, c.if-ground_slots-from.false, c.from.ensures)) (omega (arith, c.if-ground_slots-slots.false)) c.in_ok-push_slots.ensures.printable c.in_ok-push_slots-2.ensures.printable))

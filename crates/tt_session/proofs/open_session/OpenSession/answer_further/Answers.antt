@@ -1,9 +1,10 @@
 -- A further line is passed over or answered, whatever records are before those of this session.
-use Rattle.std.proofs.Common.{◌≡◌, ◌+◌, ◌-◌, false, List, [], length, take, drop, length-take, length-drop, refl, sym, ap, subst, ◌∙◌, arith}
+use Rattle.std.proofs.Common.{◌≡◌, ◌+◌, ◌-◌, false, List, [], length, take, drop, length-take, length-drop, refl, sym, subst, ◌∙◌, arith}
 use Rattle.tt_records.specs.declared.record.Record.{Record}
 use Rattle.tt_session.specs.declared.session.Session.TheVariants.{Open}
 use Rattle.tt_session.specs.Commands.{asks_for_records}
-use Rattle.tt_session.specs.Session.{OpenSession, with_earlier_records}
+use Rattle.tt_grammar.specs.SessionVersion.{grammar_of}
+use Rattle.tt_session.specs.Session.{with_earlier_records}
 use Rattle.tt_session.specs.Together.{AnswersFront, IsFirstLine}
 use Rattle.tt_session.proofs.ResultLemmas.{on_err}
 use Rattle.tt_session.proofs.TogetherLemmas.{front-nil, front-passed, front-more, front-earlier, front-grows, line-fits}
@@ -21,7 +22,7 @@ loop-rest-preserved-in-PassedOver c =
     let l = c.loop-rest in
     let bytes = c.args.bytes.now in
     let rest = take (length bytes - l.taken) (drop l.taken bytes) in
-    let passed = subst (IsFirstLine c.catalog.result.now rest) c.in-PassedOver.is c.in_ok-of.ensures in
+    let passed = subst (IsFirstLine (grammar_of l.self.version) l.self.database.catalog rest) c.in-PassedOver.is c.in_ok-of.ensures in
     let text = l.workspace.text.items in
     let all : (earlier : List Record) → AnswersFront bytes (l.taken + c.in-PassedOver.len) (Open (with_earlier_records earlier c.args.self.now)) (Open (with_earlier_records earlier l.self)) c.args.workspace.now.text.items text c.args.workspace.now.lines l.workspace.lines =
     λ earlier.
@@ -35,7 +36,7 @@ log_in_place-requires c =
     let l = c.loop-rest in
     let bytes = c.args.bytes.now in
     let rest = take (length bytes - l.taken) (drop l.taken bytes) in
-    let fits = line-fits c.catalog.result.now rest c.in-Read.line.len c.in-Read.line.asked (subst (IsFirstLine c.catalog.result.now rest) c.in-Read.is c.in_ok-of.ensures) in
+    let fits = line-fits (grammar_of l.self.version) l.self.database.catalog rest c.in-Read.line.len c.in-Read.line.asked (subst (IsFirstLine (grammar_of l.self.version) l.self.database.catalog rest) c.in-Read.is c.in_ok-of.ensures) in
     omega (arith, l.invariant.calls, l.invariant.within, fits.0, fits.1, length-take (length bytes - l.taken) (drop l.taken bytes), length-drop l.taken bytes, c.requires)
 
 pub loop-rest-preserved : goal.loop-rest-preserved
@@ -43,19 +44,17 @@ loop-rest-preserved c =
     let l = c.loop-rest in
     let bytes = c.args.bytes.now in
     let rest = take (length bytes - l.taken) (drop l.taken bytes) in
-    let tables = c.catalog.result.now in
     let line = c.in-Read.line in
     let new = c.log_in_place.new in
     let done = c.in_ok-log_in_place-in-Read.ensures in
-    let same = c.catalog.ensures ∙ ap (λ (s : OpenSession). s.database.catalog) c.self.view_is in
-    let is = subst (IsFirstLine tables rest) c.in-Read.is c.in_ok-of.ensures in
+    let is = subst (IsFirstLine (grammar_of l.self.version) l.self.database.catalog rest) c.in-Read.is c.in_ok-of.ensures in
     let other : asks_for_records line.asked ≡ false = sym c.asks_for_records.ensures ∙ c.if-asks_for_records.false in
     let all : (earlier : List Record) → AnswersFront bytes (l.taken + line.len) (Open (with_earlier_records earlier c.args.self.now)) (Open (with_earlier_records earlier new.self)) c.args.workspace.now.text.items new.workspace.text.items c.args.workspace.now.lines new.workspace.lines =
     λ earlier.
     front-more bytes l.taken line.len (l.taken + line.len) (Open (with_earlier_records earlier c.args.self.now)) (Open (with_earlier_records earlier l.self)) (Open (with_earlier_records earlier new.self))
     c.args.workspace.now.text.items l.workspace.text.items new.workspace.text.items c.args.workspace.now.lines l.workspace.lines new.workspace.lines (l.invariant.answered earlier)
-    (front-earlier earlier tables rest line.len line.asked l.self new.self l.workspace.text.items new.workspace.text.items l.workspace.lines new.workspace.lines
-    same other is done.session done.text done.calls done.lines) refl in
+    (front-earlier earlier rest line.len line.asked l.self new.self l.workspace.text.items new.workspace.text.items l.workspace.lines new.workspace.lines
+    other is done.session done.text done.calls done.lines) refl in
     record { within = (all []).within; calls = (all []).calls; answered = all }
 
 pub returns-in_err-of-clause-lines_grow : goal.returns-in_err-of-clause-lines_grow

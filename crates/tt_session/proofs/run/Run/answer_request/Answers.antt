@@ -1,5 +1,5 @@
 -- A line that is passed over, one that is too long, one for which there is memory, one that asks to forget, and one for which there is no memory.
-use Rattle.std.proofs.Common.{◌≡◌, true, false, IfSome, refl, sym, ap, subst, ◌∙◌, arith}
+use Rattle.std.proofs.Common.{◌≡◌, false, IfSome, refl, sym, ap, subst, ◌∙◌, arith}
 use Rattle.tt_session.specs.Lines.{HasBytes}
 use Rattle.tt_session.specs.Run.{calls_of, turn_of_long_line}
 use Rattle.tt_session.specs.ForgetRequests.{AnswersLine, AsksToForget}
