@@ -132,7 +132,7 @@ collect_documents_of_manual() {
   done
   for command in replay run; do
     reports tests/help.report "$command" < <(
-      sed -n '/^  {"version":2,$/,/^$/p' crates/tt_cli/src/command_line.rt)
+      sed -n '/^  {"version":3,$/,/^$/p' crates/tt_cli/src/command_line.rt)
   done
 }
 
@@ -146,7 +146,7 @@ collect_sessions() {
   blocks_of_session '' docs/SESSION.md >"$cases/report"
   reports "$cases/report" session < <(blocks_of_session json docs/SESSION.md)
   reports tests/help.answers session < <(
-    sed -n '/^  {"version":2,"tables"/,/^$/p' crates/tt_cli/src/command_line.rt)
+    sed -n '/^  {"version":3,"tables"/,/^$/p' crates/tt_cli/src/command_line.rt)
 }
 
 # The blocks of code of a kind, up to the chapter on ends.
