@@ -27,8 +27,8 @@ impl KeyRange {
         }
     }
 
-    /// The keys that comparisons of the first column with ints leave: those by order, since `Is` and
-    /// `IsNot` leave all.
+    /// The keys that comparisons of the first column with ints leave: those by order, since `Is`
+    /// and `IsNot` leave all.
     pub(crate) fn of(equals: &[Equal]) -> KeyRange
         ensures has { HasKeysOf result equals.now }
         ensures narrowest { IsNarrowest result equals.now }
@@ -119,7 +119,8 @@ fn later(first: Option<i64>, second: Option<i64>) -> Option<i64>
 
 /// The less of two upper bounds, either of which may be missing.
 fn earlier(first: Option<i64>, second: Option<i64>) -> Option<i64>
-    ensures { (key : ℤ) → is_before result key ≡ (is_before first key && is_before second key) }
+    ensures { (key : ℤ) → is_before result key
+        ≡ (is_before first key && is_before second key) }
 {
     match (first, second) {
         (Some(high), Some(other)) => Some(high.min(other)),
