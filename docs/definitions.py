@@ -59,8 +59,9 @@ PARTS = [
          'What an update makes of a row'),
         ('tt_values', 'Effect', 'matching_rows table_of effect_on effect reply_on reply_of answer_of',
          'What one write changes and answers, and what a select answers'),
-        ('tt_values', 'Action', 'with_rows_at content_after_write content_after_action replies_of'
-         ' rows_of_write rows_of_action row_id_cmp with_row_once each_row_once effect_of_action'
+        ('tt_values', 'Action', 'with_rows_at content_after_write content_after_writes replies_of_writes has_no_effect'
+         ' up_to_no_effect tried is_undone kept content_after_action replies_of'
+         ' rows_of_write rows_touched row_id_cmp with_row_once each_row_once effect_of_action'
          ' action_writes',
          'The same of several writes in order, at one time'),
         ('tt_values', 'RowWrites', 'Slots slot_after slot_writes slot_replies row_writes content_of',
@@ -104,7 +105,7 @@ PARTS = [
          ' columns_in parts_if with_row has_other_partition is_clear',
          'What is dirty, and when a write is clear of it'),
         ('tt_repair_laws', 'Due', 'content_after rows_matched is_dirty_key has_dirty_key names_dirty_row'
-         ' is_write_clear is_write_affected action_rows_matched is_affected slot_rows_written'
+         ' is_write_clear is_write_affected rows_matched_by is_affected slot_rows_written'
          ' slot_rows_matched is_slot_affected with_row_of is_due_by rows_reexecuted dirty_after_slot'
          ' dirty_after is_due reexecuted_count',
          'Which slots are due, and what gets dirty with them'),

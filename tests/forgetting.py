@@ -80,6 +80,15 @@ def slots_edited(line):
     return {edit.get('cancel', edit.get('replace')) for edit in line['begin']}
 
 
+def action_of(entry):
+    """The writes that a slot makes, and whether they are whole."""
+    return entry['do'], 'whole' in entry
+
+
+def asked_of(entry):
+    return (entry['asked'], 'asked_whole' in entry) if 'asked' in entry else action_of(entry)
+
+
 class Both:
     """A session that forgets, and one that keeps everything."""
 
@@ -146,9 +155,9 @@ class Both:
         self.horizon, self.generation = time, status['generation']
         slots = self.keeping.ask({'slots': [time, time + 9_999]})['slots']
         self.forgetful.ask(STATUS)
-        left = {entry['slot']: entry['do'] for entry in slots if entry['slot'] > time}
-        self.asked = {slot: action or [] for slot, action in left.items()}
-        self.emptied = {slot for slot, action in left.items() if action is None}
+        left = {entry['slot']: action_of(entry) for entry in slots if entry['slot'] > time}
+        self.asked = {slot: (writes or [], is_whole) for slot, (writes, is_whole) in left.items()}
+        self.emptied = {slot for slot, (writes, _) in left.items() if writes is None}
 
     # Other lines
 
@@ -184,14 +193,17 @@ class Both:
     def slots(self, entries):
         wanted = []
         for entry in entries:
-            slot, action = entry['slot'], entry['do']
-            asked = self.asked.get(slot, entry.get('asked', action))
+            slot = entry['slot']
+            asked = self.asked.get(slot, asked_of(entry))
             if slot in self.emptied:
                 entry = {**entry, 'do': [], 'replies': []}
-                action = []
             entry.pop('asked', None)
+            entry.pop('asked_whole', None)
+            if asked != action_of(entry):
+                entry['asked'] = asked[0]
+                entry.update({'asked_whole': True} if asked[1] else {})
             if slot > self.horizon:
-                wanted.append(entry if asked == action else {**entry, 'asked': asked})
+                wanted.append(entry)
         return wanted
 
     def changes(self, which, kept, answer):

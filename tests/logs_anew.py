@@ -112,7 +112,7 @@ def size_of(session):
 def made_anew(session):
     """The log that a session makes that has just forgotten."""
     ground = {'time': session.horizon, 'generation': session.before, 'slots': session.ground}
-    slots = [{'do': action} if place < session.ground else {'worker': worker, 'do': action}
+    slots = [action if place < session.ground else {'worker': worker, **action}
              for place, (worker, action) in enumerate(zip(session.workers, session.asked))]
     return [json_of(line) for line in [{**session.do_tables({}), 'ground': ground}, *slots]]
 
@@ -228,13 +228,14 @@ class Anew(Checks):
 
     def forget_in_both_versions(self):
         """A log that is made anew tells the version of the session that has done it, and keeps
-        comparisons in either."""
+        comparisons and whole actions in either."""
         where = [['id', 1], ['bal', '>=', 8]]
         compared = {'update': 'acct', 'change': [['add', 'bal', -8]], 'where': where}
-        slot = json_of({'worker': 1, 'do': [compared]})
+        whole = {'do': [compared], 'whole': True}
+        slots = [json_of({'worker': 1, 'do': [compared]}), json_of({'worker': 1, **whole})]
         file = self.new_file()
         self.killed(file, [OPENING, '{"insert":"acct","row":[1,"ann",30]}'])
-        self.killed(file, [NEWER, json_of(compared), json_of(compared)])
+        self.killed(file, [NEWER, json_of(compared), json_of(whole)])
         for time, (opening, balance) in enumerate(((NEWER, 30), (OPENING, 22)), 1):
             answers = self.killed(file, [opening, '{"forget":%d}' % time])
             self.check(json.loads(answers[1]).get('horizon') == time,
@@ -243,7 +244,7 @@ class Anew(Checks):
             self.check(json.loads(first)['version'] == json.loads(opening)['version'],
                        'a log of two versions that is made anew: its version', first)
             self.check(lines == [json_of({'do': [{'insert': 'acct', 'row': [1, 'ann', balance]}]}),
-                                 *[slot] * (3 - time)],
+                                 *slots[time - 1:]],
                        'a log of two versions that is made anew: its lines', lines)
             for again in OPENING, NEWER:
                 opened, selected = map(json.loads, self.run(file, [again, QUESTIONS[2]])[1])

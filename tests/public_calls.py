@@ -42,7 +42,7 @@ PROMISED = {
     'tt_values': 'Catalog::add Catalog::find Catalog::table Catalog::name Catalog::len '
                  'TableDef::find TableDef::of Column::int Column::text Column::partition Row::key '
                  'Row::copy Value::copy Write::copy Select::copy Equal::copy Change::copy '
-                 'Equal::int Equal::text Equal::with Comparison::holds Write::insert Write::update '
+                 'Equal::int Equal::text Equal::with Comparison::holds Action::whole Write::insert Write::update '
                  'Write::delete '
                  'check check_select matches changed',
     'tt_versions': 'Table::at Table::is_split Table::rows_at Table::written Table::split_back '

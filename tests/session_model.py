@@ -21,6 +21,7 @@ WRITES = ['insert', 'update', 'delete']
 KINDS = ['insert', 'update', 'delete', 'select', 'preview', 'do', 'begin', 'step', 'finish',
          'abort', 'status', 'slots', 'changes', 'tables', 'forget']
 MOST_WRITES = 16  # of an action
+NOTHING = {'do': []}
 COMPARISONS = {'=': operator.eq, '!=': operator.ne, '<': operator.lt, '<=': operator.le,
                '>': operator.gt, '>=': operator.ge}
 SIGNS = list(COMPARISONS)
@@ -153,10 +154,14 @@ def a_value(path, value):
     return value
 
 
-def true(path, value):
+def a_flag(path, value):
     if not isinstance(value, bool):
         raise wrong(path)
-    if not value:
+    return value
+
+
+def true(path, value):
+    if not a_flag(path, value):
         raise out_of_range(path)
     return True
 
@@ -209,12 +214,7 @@ def a_column(path, value):
     kind = column.take('kind', a_text)
     if kind not in ('int', 'text'):
         raise out_of_range(f'{path}.kind')
-
-    def flag(path, value):
-        if not isinstance(value, bool):
-            raise wrong(path)
-        return value
-    partition = column.perhaps('partition', flag, False)
+    partition = column.perhaps('partition', a_flag, False)
     column.end()
     return {'name': name, 'kind': kind, 'partition': partition}
 
@@ -308,7 +308,7 @@ class Grammar:
             write['where'] = members.take('where', self.where(table))
         return table, write
 
-    def whole(self, path, table, statement):
+    def judge(self, path, table, statement):
         kinds = {column['name']: column['kind'] for column in table['columns']}
         row = statement.get('row', [])
         changes, where = statement.get('change', []), statement.get('where', [])
@@ -333,15 +333,18 @@ class Grammar:
             members = Members(path, value)
             table, write = self.write_of(members, members.kind(WRITES))
             members.end()
-            self.whole(path, table, write)
+            self.judge(path, table, write)
             return write
         return items(path, value, one, most=MOST_WRITES)
 
     def action_of(self, members, kind):
         if kind == 'do':
-            return members.take('do', self.do), lambda: None
+            action = {'do': members.take('do', self.do)}
+            if self.version > 2 and members.perhaps('whole', a_flag, False):
+                action['whole'] = True
+            return action, lambda: None
         table, write = self.write_of(members, kind)
-        return [write], lambda: self.whole(members.path, table, write)
+        return {'do': [write]}, lambda: self.judge(members.path, table, write)
 
     def edit(self, path, value):
         edit = Members(path, value)
@@ -350,9 +353,9 @@ class Grammar:
 
         def by(path, value):
             members = Members(path, value)
-            action, whole = self.action_of(members, members.kind([*WRITES, 'do']))
+            action, judge = self.action_of(members, members.kind([*WRITES, 'do']))
             members.end()
-            whole()
+            judge()
             return action
         if kind == 'replace':
             action = edit.take('by', by)
@@ -365,9 +368,9 @@ class Grammar:
             'worker', lambda path, value: a_count(path, value, 1, 2 ** 32 - 1), 1)}
         asked['if'] = members.perhaps('if', a_count)
         kind = asked['kind'] = members.kind(KINDS)
-        whole = None
+        judge = None
         if kind in [*WRITES, 'do']:
-            asked['action'], whole = self.action_of(members, kind)
+            asked['action'], judge = self.action_of(members, kind)
         elif kind in ('select', 'preview'):
             table = asked['table'] = members.take(kind, self.table)
             asked['where'] = members.take('where', self.where(table))
@@ -378,8 +381,8 @@ class Grammar:
             asked['most'] = members.perhaps(
                 'most', lambda path, value: a_count(path, value, 1, 100_000))
 
-            def whole():
-                self.whole('$', table, {'where': asked['where']})
+            def judge():
+                self.judge('$', table, {'where': asked['where']})
         elif kind == 'begin':
             asked['edits'] = members.take(
                 'begin', lambda path, value: items(path, value, self.edit, most=10_000))
@@ -409,12 +412,13 @@ class Grammar:
         else:
             members.take(kind, true)
         members.end()
-        if whole:
-            whole()
+        if judge:
+            judge()
         return asked
 
 
-# The database: a generation is a list of slots, each an action, or None where it is cancelled
+# The database: a generation is a list of slots, each an action, or None where it is cancelled. An
+# action is the member `do` that it is printed as, and where it is whole the member `whole`.
 
 class Generation:
     """Slots with their contents: contents[t] is {(table, key): row} after slot t."""
@@ -425,7 +429,7 @@ class Generation:
             self.push(action)
 
     def push(self, action):
-        content, replies, _ = carried_out(self.tables, action or [], self.contents[-1])
+        content, replies, *_ = carried_out(self.tables, action or NOTHING, self.contents[-1])
         self.slots.append(action)
         self.contents.append(content)
         self.replies.append(None if action is None else replies)
@@ -442,7 +446,7 @@ def ground_of(tables, content):
     for table in tables:
         keys = sorted(key for name, key in content if name == table['name'])
         inserts += [{'insert': table['name'], 'row': content[table['name'], key]} for key in keys]
-    return [inserts[at:at + MOST_WRITES] for at in range(0, len(inserts), MOST_WRITES)]
+    return [{'do': inserts[at:at + MOST_WRITES]} for at in range(0, len(inserts), MOST_WRITES)]
 
 
 def is_match(table, where, row):
@@ -459,26 +463,29 @@ def holds(found, *condition):
 
 
 def carried_out(tables, action, content):
-    """The content after an action, its replies, and the keys that its writes wrote."""
-    content, replies, wrote = dict(content), [], set()
-    for write in action:
-        table = table_of(tables, write)
-        name, matched = table['name'], matched_by(tables, write, content)
+    """The content after an action, its replies, the keys that it touched, and those that its writes
+    matched in their turn. A whole action ends at its first write that has no effect, and then has
+    written nothing."""
+    before, content, replies, touched, matched = content, dict(content), [], set(), set()
+    for write in action['do']:
+        table, keys = table_of(tables, write), matched_by(tables, write, content)
+        matched.update(keys)
         if 'insert' in write:
-            key = (name, write['row'][0])
-            replies.append('duplicate' if key in content else 'inserted')
-            if key not in content:
+            keys = [key for key in keys if key not in content]
+            replies.append('inserted' if keys else 'duplicate')
+        else:
+            replies.append({'deleted' if 'delete' in write else 'updated': len(keys)})
+        for key in keys:
+            if 'insert' in write:
                 content[key] = write['row']
-                wrote.add(key)
-            continue
-        for key in matched:
-            if 'delete' in write:
+            elif 'delete' in write:
                 del content[key]
             else:
                 content[key] = changed(table, write['change'], content[key])
-        replies.append({'deleted' if 'delete' in write else 'updated': len(matched)})
-        wrote |= set(matched)
-    return content, replies, wrote
+        touched.update(keys)
+        if 'whole' in action and not keys:
+            return before, replies, touched, matched
+    return content, replies, touched, matched
 
 
 def table_of(tables, write):
@@ -522,17 +529,13 @@ class Repair:
         old, action = self.current.slots[at], self.current.slots[at]
         if at + 1 in self.edits:
             action = self.edits[at + 1]
-        wrote = carried_out(tables, old or [], self.current.contents[at])[2]
+        touched = carried_out(tables, old or NOTHING, self.current.contents[at])[2]
         before = self.next.contents[-1]
         self.next.push(action)
-        if not self.is_due(at + 1, old, wrote):
+        if not self.is_due(at + 1, old, touched):
             return
         self.rerun += 1
-        content, keys = before, set(wrote)
-        for write in action or []:
-            keys |= set(matched_by(tables, write, content))
-            content = carried_out(tables, [write], content)[0]
-        for key in keys:
+        for key in touched | carried_out(tables, action or NOTHING, before)[3]:
             self.rows.add(key)
             table = next(table for table in tables if table['name'] == key[0])
             self.parts.add((key[0], table['columns'][0]['name'], key[1]))
@@ -540,12 +543,12 @@ class Repair:
                 if key in rows:
                     self.parts |= parts_of(table, rows[key])
 
-    def is_due(self, slot, action, wrote):
+    def is_due(self, slot, action, touched):
         if slot in self.edits:
             return True
         if action is None:
             return False
-        return bool(wrote & self.rows) or any(self.meets(write) for write in action)
+        return bool(touched & self.rows) or any(self.meets(write) for write in action['do'])
 
     def meets(self, write):
         table = table_of(self.current.tables, write)
@@ -757,7 +760,7 @@ class Session:
         self.not_forgotten(time)
         at, current, newest = self.place(time), self.current(), self.newest()
         ground = ground_of(self.tables, current.contents[at])
-        self.asked = ground + [action or [] for action in current.slots[at:]]
+        self.asked = ground + [action or NOTHING for action in current.slots[at:]]
         self.workers = [0] * len(ground) + self.workers[at:]
         self.generations, self.entries = [Generation(self.tables, self.asked)], len(self.asked)
         self.horizon, self.ground, self.before = time, len(ground), newest
@@ -780,10 +783,11 @@ class Session:
             if row is not None and before.get(row) == after.get(row):
                 continue
             action = current.slots[at]
-            entry = {'slot': slot, 'worker': self.workers[at], 'do': action,
+            entry = {'slot': slot, 'worker': self.workers[at], **(action or {'do': None}),
                      'replies': current.replies[at]}
             if action != self.asked[at]:
-                entry['asked'] = self.asked[at]
+                names = {'do': 'asked', 'whole': 'asked_whole'}
+                entry.update({names[name]: value for name, value in self.asked[at].items()})
             found.append(entry)
         return {'time': self.now(), 'slots': found}
 
@@ -816,6 +820,7 @@ class Random:
     def __init__(self, seed, forgets=None):
         self.random = random.Random(seed)
         self.time = self.horizon = 0  # the horizon is perhaps less
+        self.written = {}  # the actions of slots, so far as is known
         self.forgets = self.one_of(0, 1, 1, 3) if forgets is None else forgets
         self.has_many_rows = self.one_of(False, False, True)
         self.version = self.one_of(2, 3)
@@ -879,12 +884,44 @@ class Random:
     def action(self):
         if self.one_of(True, True, False):
             return self.write()
+        if self.version > 2 and self.one_of(True, False):
+            return self.whole_action()
         return {'do': [self.write() for _ in range(self.one_of(0, 1, 2, self.most(3, 16)))]}
+
+    def whole_action(self):
+        """Often of writes that mostly have an effect, and perhaps one among them that mostly has none."""
+        writes = [self.one_of(self.write, self.write_to_all)() for _ in range(self.one_of(0, 1, 2, 3, 4))]
+        if self.one_of(True, False):
+            without = {'delete': 'acct', 'where': [['id', 100], *self.where()]}
+            writes.insert(self.one_of(0, len(writes) // 2, len(writes)), without)
+        return {'do': writes, 'whole': self.one_of(*[True] * 7, False)}
+
+    def write_to_all(self):
+        key, low = self.key(), self.one_of(0, 1, 1, self.key())
+        return self.one_of(
+            {'insert': 'acct', 'row': [key + self.random.randint(0, 40), self.owner(), 5, 1]},
+            {'update': 'acct', 'change': [['add', 'bal', self.one_of(1, -1, 2 ** 63 - 1)]],
+             'where': [['id', '>', low]]},
+            {'update': 'acct', 'change': [['set', 'owner', self.owner()]], 'where': []})
+
+    def faulty_whole(self):
+        write, value = self.write(), self.one_of(0, 1, None, 'true', [], {})
+        faulty = self.one_of({'do': [write], 'whole': value}, {**write, 'whole': True},
+                             {'do': [write, {**write, 'whole': True}], 'whole': True})
+        return self.one_of(faulty, {'begin': [{'replace': self.time, 'by': faulty}]},
+                           {'status': True, 'whole': True}, {'whole': True})
 
     def edit(self):
         least = self.one_of(*[self.horizon + 1] * 8, 1, 0)
         slot = self.random.randint(least, max(least, self.time + self.one_of(0, 0, 0, 1)))
+        if self.version > 2 and slot in self.written and self.one_of(True, False, False):
+            return {'replace': slot, 'by': self.as_whole_or_not(self.written[slot])}
         return self.one_of({'cancel': slot}, {'replace': slot, 'by': self.action()})
+
+    def as_whole_or_not(self, action):
+        """The same writes, mostly whole where they weren't, and the other way round."""
+        writes = {'do': action['do'] if 'do' in action else [action]}
+        return writes if 'whole' in action and self.one_of(True, True, False) else {**writes, 'whole': True}
 
     def some_time(self):
         return self.random.randint(self.one_of(0, self.horizon, self.horizon), self.time + 1)
@@ -912,7 +949,8 @@ class Random:
         where, first = self.perhaps_faulty(where), self.some_time()
         if kind == 'write':
             self.time += 1
-            return self.action()
+            self.written[self.time] = self.action()
+            return dict(self.written[self.time])
         if kind == 'forget':
             return self.forget()
         if kind == 'select':
@@ -932,7 +970,7 @@ class Random:
             'changes': {'changes': self.one_of('now', 'next')},
             'tables': {'tables': True},
             'fault': self.one_of({'step': 0}, {'insert': 'acct', 'row': [1]}, {}, [], {'x': 1},
-                                 {'forget': -1}),
+                                 {'forget': -1}, self.faulty_whole(), self.faulty_whole()),
         }[kind]
 
     def lines(self, count):

@@ -209,6 +209,59 @@ CONVERSATION: list[tuple[Any, str, str, Any]] = [
      '{"select":"acct","where":[["id","==",1]]}',
      '{"call":49,"fault":{"path":"$.where[0][1]","cause":"out of range"}}',
      (Fault, {"path": "$.where[0][1]", "cause": "out of range"})),
+    # Whole actions, of which the last one is replaced by the same writes, not whole.
+    (lambda s: s.do([insert("acct", [3, "eve", 8]), update("acct", where={"id": 1}, add={"bal": 5})],
+                    whole=True, worker=3, if_time=8),
+     '{"worker":3,"if":8,"do":[{"insert":"acct","row":[3,"eve",8]},'
+     '{"update":"acct","change":[["add","bal",5]],"where":[["id",1]]}],"whole":true}',
+     '{"call":50,"slot":9,"replies":["inserted",{"updated":1}]}',
+     Written(50, 9, [Reply("inserted"), Reply("updated", 1)])),
+    (lambda s: s.send(do([delete("acct", {"id": 3}), insert("acct", {"id": 1, "owner": "ann", "bal": 0}),
+                          delete("acct", {})], whole=True)).result(),
+     '{"do":[{"delete":"acct","where":[["id",3]]},{"insert":"acct","row":[1,"ann",0]},'
+     '{"delete":"acct","where":[]}],"whole":true}',
+     '{"call":51,"slot":10,"replies":[{"deleted":1},"duplicate"]}',
+     Written(51, 10, [Reply("deleted", 1), Reply("duplicate")])),
+    (lambda s: s.do([], whole=False),
+     '{"do":[]}', '{"call":52,"slot":11,"replies":[]}', Written(52, 11, [])),
+    (lambda s: s.select("acct"),
+     '{"select":"acct","where":[]}',
+     '{"call":53,"time":11,"rows":[[1,"ann",5],[3,"eve",8]]}',
+     Selected(53, 11, [[1, "ann", 5], [3, "eve", 8]])),
+    (lambda s: s.begin([replace(10, do([delete("acct", {"id": 3}), insert("acct", [1, "ann", 0]),
+                                        delete("acct", {})])), replace(11, do([], whole=True)), cancel(9)]),
+     '{"begin":[{"replace":10,"by":{"do":[{"delete":"acct","where":[["id",3]]},'
+     '{"insert":"acct","row":[1,"ann",0]},{"delete":"acct","where":[]}]}},'
+     '{"replace":11,"by":{"do":[],"whole":true}},{"cancel":9}]}',
+     '{"call":54,"done":2,"left":9,"rerun":0}', Stepped(2, 9, 0, 54)),
+    (lambda s: s.finish(),
+     '{"finish":true}',
+     '{"call":55,"generation":2,"slots":11,"rerun":3}', Switched(55, 2, 11, 3)),
+    (lambda s: s.slots(9, 11),
+     '{"slots":[9,11]}',
+     '{"call":56,"time":11,"slots":[{"slot":9,"worker":3,"do":null,"replies":null,'
+     '"asked":[{"insert":"acct","row":[3,"eve",8]},'
+     '{"update":"acct","change":[["add","bal",5]],"where":[["id",1]]}],"asked_whole":true},'
+     '{"slot":10,"worker":1,"do":[{"delete":"acct","where":[["id",3]]},'
+     '{"insert":"acct","row":[1,"ann",0]},{"delete":"acct","where":[]}],'
+     '"replies":[{"deleted":0},"duplicate",{"deleted":1}],"asked":[{"delete":"acct","where":[["id",3]]},'
+     '{"insert":"acct","row":[1,"ann",0]},{"delete":"acct","where":[]}],"asked_whole":true},'
+     '{"slot":11,"worker":1,"do":[],"whole":true,"replies":[],"asked":[]}]}',
+     Slots(56, 11, [
+         Slot(9, 3, None, None, [insert("acct", [3, "eve", 8]),
+                                 update("acct", where={"id": 1}, add={"bal": 5})], False, True),
+         Slot(10, 1, [delete("acct", {"id": 3}), insert("acct", [1, "ann", 0]), delete("acct", {})],
+              [Reply("deleted", 0), Reply("duplicate"), Reply("deleted", 1)],
+              [delete("acct", {"id": 3}), insert("acct", [1, "ann", 0]), delete("acct", {})], False, True),
+         Slot(11, 1, [], [], [], True, False)])),
+    (lambda s: s.send({"insert": "acct", "row": [4, "fay", 0], "whole": True}).result(),
+     '{"insert":"acct","row":[4,"fay",0],"whole":true}',
+     '{"call":57,"fault":{"path":"$","cause":"unknown member \\"whole\\""}}',
+     (Fault, {"path": "$", "cause": 'unknown member "whole"'})),
+    (lambda s: s.send({"do": [], "whole": 1}).result(),
+     '{"do":[],"whole":1}',
+     '{"call":58,"fault":{"path":"$.whole","cause":"wrong type"}}',
+     (Fault, {"path": "$.whole", "cause": "wrong type"})),
 ]
 
 
@@ -267,6 +320,16 @@ class StandIn(Conversation, StandInCase):
         self.assertEqual(str(Lost(3, "no memory\n")), "the program ended with status 3: no memory")
         self.assertEqual(str(Reply("updated", 2)), "updated 2")
         self.assertEqual(str(Reply("inserted")), "inserted")
+
+    def test_whether_an_action_was_carried_out(self) -> None:
+        inserted, duplicate = Reply("inserted"), Reply("duplicate")
+        for done in (inserted, Reply("updated", 1), Reply("deleted", 2)):
+            self.assertIs(Written(1, 1, [done]).done, True)
+            self.assertIs(Written(1, 1, [duplicate, done]).done, True)    # of a do that isn't whole
+        for without in (duplicate, Reply("updated", 0), Reply("deleted", 0)):
+            self.assertIs(Written(1, 1, [without]).done, False)
+            self.assertIs(Written(1, 1, [inserted, without]).done, False)
+        self.assertIs(Written(1, 1, []).done, True)
 
     def test_what_json_cannot_carry_is_not_sent(self) -> None:
         with self.open(told('{"call":1,"slot":1,"replies":["inserted"]}')) as session:

@@ -204,6 +204,43 @@ class Comparisons(StandInCase):
         self.assertEqual((compared, compared.how, compared.value), (at_least("b"), ">=", "b"))
 
 
+class WholeActions(StandInCase):
+
+    def test_requests(self) -> None:
+        write = delete("acct", {})
+        self.assertEqual(do([write], whole=True), {"do": [write], "whole": True})
+        self.assertEqual(do(iter([write]), whole=False), {"do": [write]})
+        self.assertEqual(replace(1, do([], whole=True)),
+                         {"replace": 1, "by": {"do": [], "whole": True}})
+
+    def test_their_lines(self) -> None:
+        row: dict[str, Value] = {"bal": 10, "owner": "ann", "id": 1}
+        with self.open(told(*(WRITTEN % (call, call) for call in range(1, 4)),
+                            '{"call":4,"done":0,"left":3,"rerun":0}')) as session:
+            session.do([insert("acct", row)], whole=True, worker=2, if_time=0)
+            session.send(do([insert("acct", row)], whole=True), worker=2).result()
+            session.send({"whole": True, "do": [insert("acct", row)]}).result()
+            session.begin([replace(1, do([insert("acct", row)], whole=True)), replace(2, do([]))])
+        written = '"do":[{"insert":"acct","row":[1,"ann",10]}]'
+        self.assertEqual(self.lines()[1:], [
+            '{"worker":2,"if":0,' + written + ',"whole":true}', '{"worker":2,' + written + ',"whole":true}',
+            '{"whole":true,' + written + '}',
+            '{"begin":[{"replace":1,"by":{' + written + ',"whole":true}},{"replace":2,"by":{"do":[]}}]}'])
+
+    def test_slots(self) -> None:
+        slot = '{"slot":%d,"worker":1,"do":[],%s"replies":[]%s}'
+        given = (("", ""), ('"whole":true,', ""), ("", ',"asked":[],"asked_whole":true'),
+                 ('"whole":true,', ',"asked":[]'))
+        told_of = ",".join(slot % (number, *each) for number, each in enumerate(given, 1))
+        with self.open(told('{"call":1,"time":4,"slots":[' + told_of + ']}', WRITTEN % (2, 5))) as session:
+            slots = session.slots(1, 4).slots
+            assert slots[1].do is not None
+            session.do(slots[1].do, whole=slots[1].whole)    # as it was
+        self.assertEqual([(slot.whole, slot.asked, slot.asked_whole) for slot in slots], [
+            (False, None, False), (True, None, False), (False, [], True), (True, [], False)])
+        self.assertEqual(self.lines()[2], '{"do":[],"whole":true}')
+
+
 class Errors(Case):
 
     def test_copies(self) -> None:

@@ -413,13 +413,17 @@ class Session:
         """
         return await self._ask(requests.delete(table, where), answers.written, worker, if_time, timeout)
 
-    async def do(self, writes: Iterable[Write], *, worker: int | None = None,
+    async def do(self, writes: Iterable[Write], *, whole: bool = False, worker: int | None = None,
                  if_time: int | None = None, timeout: float | None = None) -> Written:
         """Carries out up to 16 writes in order, as one slot at one time.
 
+        Where they are `whole`, either each of them has an effect, or nothing is written; `done` of what
+        is returned tells which. A write has no effect where it inserts a key that is there, or matches no
+        row.
+
         Raises `Full`, and what any request does.
         """
-        return await self._ask(requests.do(writes), answers.written, worker, if_time, timeout)
+        return await self._ask(requests.do(writes, whole=whole), answers.written, worker, if_time, timeout)
 
     # Reads
 

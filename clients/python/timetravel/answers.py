@@ -27,10 +27,22 @@ class Reply:
 
 @dataclass(frozen=True)
 class Written:
-    """The slot of an action, and the replies to its writes."""
+    """The slot of an action, and the replies to its writes. Of a whole action that has written nothing
+    these are the replies up to the first write that had no effect: what each did before it was taken
+    back."""
     call: int
     slot: int
     replies: list[Reply]
+
+    @property
+    def done(self) -> bool:
+        """Whether a whole action was carried out: False where its last reply is "duplicate", "updated 0"
+        or "deleted 0", and it has written nothing.
+
+        It is told by the last reply alone, of whatever action. Of a single write it is therefore whether
+        it had an effect; of a `do` that isn't whole, only whether the last of its writes had one.
+        """
+        return not self.replies or self.replies[-1].kind != "duplicate" and self.replies[-1].count != 0
 
 
 @dataclass(frozen=True)
@@ -90,12 +102,15 @@ class Status:
 @dataclass(frozen=True)
 class Slot:
     """A slot of the current generation. `do` and `replies` are None where a repair has cancelled it;
-    `asked` has the writes that were asked for, where a repair has cancelled or replaced them."""
+    `asked` has the writes that were asked for, where a repair has cancelled or replaced them. `whole` and
+    `asked_whole` tell whether `do` and `asked` are whole; two actions may differ in this alone."""
     slot: int
     worker: int
     do: list[Write] | None
     replies: list[Reply] | None
     asked: list[Write] | None = None
+    whole: bool = False
+    asked_whole: bool = False
 
 
 @dataclass(frozen=True)
@@ -230,7 +245,7 @@ def slots(rows: Mapping[str, type[Row]], found: Members) -> Slots:
 def _slot(rows: Mapping[str, type[Row]], found: Members) -> Slot:
     replies = None if found["replies"] is None else _replies(found["replies"])
     return Slot(found["slot"], found["worker"], _writes(rows, found["do"]), replies,
-                _writes(rows, found.get("asked")))
+                _writes(rows, found.get("asked")), found.get("whole", False), found.get("asked_whole", False))
 
 
 def _writes(rows: Mapping[str, type[Row]], found: list[Any] | None) -> list[Write] | None:

@@ -37,9 +37,13 @@ class Write(TypedDict, total=False):
     where: list[list[Value]]    # a list of a column, perhaps how it compares, and a value
 
 
-class DoRequest(TypedDict):
-    """Some writes as one slot."""
+class _DoRequest(TypedDict):
     do: list[Write]
+
+
+class DoRequest(_DoRequest, total=False):
+    """Some writes as one slot."""
+    whole: bool
 
 
 class Edit(TypedDict, total=False):
@@ -225,9 +229,20 @@ def delete(table: str, where: Where) -> Write:
     return {"delete": table, "where": pairs(where)}
 
 
-def do(writes: Iterable[Write]) -> DoRequest:
-    """Up to 16 writes as one slot, at one time."""
-    return {"do": list(writes)}
+def do(writes: Iterable[Write], *, whole: bool = False) -> DoRequest:
+    """Up to 16 writes as one slot, at one time.
+
+        do([update("acct", where={"id": 1, "bal": at_least(8)}, add={"bal": -8}),
+            insert("acct", [2, "bob", 8])], whole=True)
+
+    Where they are whole, either each of them has an effect, or nothing is written: the first one that has
+    none, since its key is there or no row matches, ends the action and takes back what those before it
+    have written. It is so in a repair, too.
+    """
+    request: DoRequest = {"do": list(writes)}
+    if whole:
+        request["whole"] = True
+    return request
 
 
 def select(table: str, where: Where = (), *, at: int | None = None, generation: int | None = None,

@@ -206,13 +206,22 @@ class Session:
         """
         return self._ask(requests.delete(table, where), answers.written, worker, if_time, timeout)
 
-    def do(self, writes: Iterable[Write], *, worker: int | None = None, if_time: int | None = None,
-           timeout: float | None = None) -> Written:
+    def do(self, writes: Iterable[Write], *, whole: bool = False, worker: int | None = None,
+           if_time: int | None = None, timeout: float | None = None) -> Written:
         """Carries out up to 16 writes in order, as one slot at one time.
+
+        Where they are `whole`, either each of them has an effect, or nothing is written; `done` of what
+        is returned tells which. A write has no effect where it inserts a key that is there, or matches no
+        row.
+
+            sold = session.do([update("acct", where={"id": 1, "bal": at_least(8)}, add={"bal": -8}),
+                               insert("acct", [2, "bob", 8])], whole=True)
+            if not sold.done:
+                ...    # Nothing was written: there is too little, or row 2 is there.
 
         Raises `Full`, and what any request does.
         """
-        return self._ask(requests.do(writes), answers.written, worker, if_time, timeout)
+        return self._ask(requests.do(writes, whole=whole), answers.written, worker, if_time, timeout)
 
     # Reads
 

@@ -8,15 +8,20 @@ use Rattle.tt_numbers.specs.Numbers.{Numbering}
 use Rattle.tt_grammar.specs.JsonText.{Member, number_member, further_item, member_text}
 use Rattle.tt_answers.specs.AnswerText.{horizon_members}
 
--- an object of two numbers and two values, and more members
-pub slot-pieces : (out one two label_3 three label_4 four more all name_1 number_1 name_2 number_2 name_3 value_3 name_4 value_4 last end : List ℕ)
-    → one ≡ out ++ (name_1 ++ number_1) → two ≡ one ++ (name_2 ++ number_2) → label_3 ≡ two ++ name_3 → three ≡ label_3 ++ value_3
+-- an object of two numbers, further members that begin with some behind a comma and a value, and more members
+pub slot-pieces : (out one two label_3 three label_4 four more all name_1 number_1 name_2 number_2 comma members name_4 value_4 last further end : List ℕ)
+    → further ≡ comma ++ (members ++ (name_4 ++ (value_4 ++ last))) → one ≡ out ++ (name_1 ++ number_1) → two ≡ one ++ (name_2 ++ number_2) → label_3 ≡ two ++ comma → three ≡ label_3 ++ members
     → label_4 ≡ three ++ name_4 → four ≡ label_4 ++ value_4 → more ≡ four ++ last → all ≡ more ++ end
-    → all ≡ out ++ (name_1 ++ ((number_1 ++ (name_2 ++ (number_2 ++ (name_3 ++ (value_3 ++ (name_4 ++ (value_4 ++ last))))))) ++ end))
-slot-pieces out one two label_3 three label_4 four more all name_1 number_1 name_2 number_2 name_3 value_3 name_4 value_4 last end p q r s t u v w =
-    w ∙ ap (λ o. o ++ end) (v ∙ ap (λ o. o ++ last) (u ∙ ap (λ o. o ++ value_4) (t ∙ ap (λ o. o ++ name_4) (s ∙ ap (λ o. o ++ value_3)
-    (r ∙ ap (λ o. o ++ name_3) (q ∙ ap (λ o. o ++ (name_2 ++ number_2)) p))))))
-    ∙ simp append_assoc
+    → all ≡ out ++ (name_1 ++ ((number_1 ++ (name_2 ++ (number_2 ++ further))) ++ end))
+slot-pieces out one two label_3 three label_4 four more all name_1 number_1 name_2 number_2 comma members name_4 value_4 last further end e p q r s t u v w =
+    w ∙ ap (λ o. o ++ end) (v ∙ ap (λ o. o ++ last) (u ∙ ap (λ o. o ++ value_4) (t ∙ ap (λ o. o ++ name_4) (s ∙ ap (λ o. o ++ members)
+    (r ∙ ap (λ o. o ++ comma) (q ∙ ap (λ o. o ++ (name_2 ++ number_2)) p))))))
+    ∙ whole
+    ∙ ap (λ f. out ++ (name_1 ++ ((number_1 ++ (name_2 ++ (number_2 ++ f))) ++ end))) (sym e)
+  where
+    whole : ((((((((out ++ (name_1 ++ number_1)) ++ (name_2 ++ number_2)) ++ comma) ++ members) ++ name_4) ++ value_4) ++ last) ++ end)
+        ≡ out ++ (name_1 ++ ((number_1 ++ (name_2 ++ (number_2 ++ (comma ++ (members ++ (name_4 ++ (value_4 ++ last))))))) ++ end))
+    whole = simp append_assoc
 
 -- an object of a number, a member and two values
 pub changed-pieces : (out one two label_3 three label_4 four all name_1 number_1 member name_3 value_3 name_4 value_4 end : List ℕ)
@@ -108,13 +113,13 @@ log-pieces out first second third fourth fifth all begin name_1 number_1 name_2 
     (q ∙ ap (λ o. o ++ (name_1 ++ (number_1 ++ (name_2 ++ (value_2 ++ (name_3 ++ (number_3 ++ (name_4 ++ (number_4 ++ []))))))))) p))))
     ∙ simp (append_assoc, append-nil)
 
--- an object of one value
-pub one-value : (out first second all label value end : List ℕ) → first ≡ out ++ label → second ≡ first ++ value → all ≡ second ++ end
-    → all ≡ out ++ (label ++ ((value ++ []) ++ end))
-one-value out first second all label value end p q r = r ∙ ap (λ o. o ++ end) (q ∙ ap (λ o. o ++ value) p) ∙ simp (append_assoc, append-nil)
+-- an object of members
+pub members-object : (out first second all begin members end : List ℕ) → first ≡ out ++ begin → second ≡ first ++ members → all ≡ second ++ end
+    → all ≡ out ++ (begin ++ (members ++ end))
+members-object out first second all begin members end p q r = r ∙ ap (λ o. o ++ end) (q ∙ ap (λ o. o ++ members) p) ∙ simp append_assoc
 
--- an object of a number, and a value
-pub number-value-object : (out first second third all label number name_2 value end : List ℕ) → first ≡ out ++ (label ++ number) → second ≡ first ++ name_2
-    → third ≡ second ++ value → all ≡ third ++ end → all ≡ out ++ (label ++ ((number ++ (name_2 ++ (value ++ []))) ++ end))
-number-value-object out first second third all label number name_2 value end p q r s =
-    s ∙ ap (λ o. o ++ end) (r ∙ ap (λ o. o ++ value) (q ∙ ap (λ o. o ++ name_2) p)) ∙ simp (append_assoc, append-nil)
+-- an object of a number, and of members behind a comma
+pub number-members-object : (out first second third all label number comma members end : List ℕ) → first ≡ out ++ (label ++ number) → second ≡ first ++ comma
+    → third ≡ second ++ members → all ≡ third ++ end → all ≡ out ++ (label ++ ((number ++ (comma ++ members)) ++ end))
+number-members-object out first second third all label number comma members end p q r s =
+    s ∙ ap (λ o. o ++ end) (r ∙ ap (λ o. o ++ members) (q ∙ ap (λ o. o ++ comma) p)) ∙ simp append_assoc

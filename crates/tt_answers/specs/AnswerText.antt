@@ -3,7 +3,7 @@ use Rattle.std.specs.Prelude.{ℕ, ◌==◌, Bool, if◌then◌else◌, List, []
 use Rattle.std.specs.List.{flat_map}
 use Rattle.tt_numbers.specs.Numbers.{Numbering}
 use Rattle.tt_values.specs.declared.row.Row.{Row}
-use Rattle.tt_values.specs.declared.statement.Write.{Write}
+use Rattle.tt_values.specs.declared.action.Action.{Action}
 use Rattle.tt_values.specs.declared.reply.Reply.{Reply}
 use Rattle.tt_values.specs.declared.reply.Reply.TheVariants as replies
 use Rattle.tt_values.specs.Tables.{Tables}
@@ -17,7 +17,7 @@ use Rattle.tt_records.specs.declared.changed.After.TheVariants as afters
 use Rattle.tt_grammar.specs.Quoting.{quoted}
 use Rattle.tt_grammar.specs.Printing.{row_text}
 use Rattle.tt_grammar.specs.JsonText.{Member, number_member, array_text, object_text, flag_text, text_or_null}
-use Rattle.tt_grammar.specs.WriteText.{action_text, tables_text}
+use Rattle.tt_grammar.specs.WriteText.{named_action_members, action_members_or_null, tables_text}
 use Rattle.tt_answers.specs.declared.answer.Status.{Status}
 use Rattle.tt_answers.specs.declared.answer.RowPage.{RowPage}
 use Rattle.tt_answers.specs.declared.answer.SlotEntry.{SlotEntry}
@@ -77,18 +77,18 @@ abbrev pub page_members : RowPage → List Member
 page_members page = (codes "rows", rows_text page.rows) ∷ more_members page.more
 
 -- the action that was asked for, if that is told
-abbrev pub asked_members : Tables → Option (List Write) → List Member
+abbrev pub asked_members : Tables → Option Action → List Member
 asked_members tables None = []
-asked_members tables (Some action) = (codes "asked", action_text tables action) ∷ []
+asked_members tables (Some action) = named_action_members (codes "asked") (codes "asked_whole") tables action
 
 -- a slot: its number, its worker, its action and its replies, which are null where it is cancelled, and the action that was asked for
 abbrev pub slot_members : Tables → Numbering → SlotEntry → List Member
 slot_members tables numbering entry =
     time_member numbering (codes "slot") entry.number
     ∷ number_member (codes "worker") entry.worker
-    ∷ (codes "do", text_or_null (option_map (action_text tables) entry.slot.action))
-    ∷ (codes "replies", text_or_null (option_map replies_text entry.slot.replies))
-    ∷ asked_members tables entry.asked
+    ∷ (action_members_or_null tables entry.slot.action
+    ++ (codes "replies", text_or_null (option_map replies_text entry.slot.replies))
+    ∷ asked_members tables entry.asked)
 
 -- a slot, as an object
 abbrev pub slot_text : Tables → Numbering → SlotEntry → List ℕ

@@ -1,11 +1,11 @@
 -- The lines of a log that is made anew, without their line feeds: its opening, and a line for each slot of the database.
 use Rattle.std.specs.Prelude.{ℕ, List, [], ◌∷◌, ◌++◌, codes}
 use Rattle.tt_numbers.specs.Numbers.{Numbering}
-use Rattle.tt_values.specs.declared.statement.Write.{Write}
+use Rattle.tt_values.specs.declared.action.Action.{Action}
 use Rattle.tt_values.specs.Tables.{Tables}
 use Rattle.tt_grammar.specs.declared.session_version.SessionVersion.{SessionVersion}
 use Rattle.tt_grammar.specs.JsonText.{Member, number_member, object_text}
-use Rattle.tt_grammar.specs.WriteText.{action_text}
+use Rattle.tt_grammar.specs.WriteText.{action_members}
 use Rattle.tt_answers.specs.AnswerText.{declared_members}
 
 -- the time that was last forgotten up to, the generation of that, and how many slots of the database are the ground
@@ -26,9 +26,9 @@ abbrev pub log_opening_line : SessionVersion → Tables → ℕ → ℕ → Numb
 log_opening_line version tables keep records numbering = object_text (log_opening_members version tables keep records numbering)
 
 -- a slot of the ground: its action
-abbrev pub ground_line : Tables → List Write → List ℕ
-ground_line tables action = object_text ((codes "do", action_text tables action) ∷ [])
+abbrev pub ground_line : Tables → Action → List ℕ
+ground_line tables action = object_text (action_members tables action)
 
 -- a further slot: its worker, and its action
-abbrev pub slot_line : Tables → ℕ → List Write → List ℕ
-slot_line tables worker action = object_text (number_member (codes "worker") worker ∷ (codes "do", action_text tables action) ∷ [])
+abbrev pub slot_line : Tables → ℕ → Action → List ℕ
+slot_line tables worker action = object_text (number_member (codes "worker") worker ∷ action_members tables action)

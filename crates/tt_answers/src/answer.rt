@@ -5,7 +5,7 @@ use tt_db::{DbError, Progress, ReadError, Slot};
 use tt_grammar::{DocFault, SessionVersion};
 use tt_numbers::ToldTime;
 use tt_records::{Changed, What};
-use tt_values::{Items, Reply, Row, Write};
+use tt_values::{Action, Items, Reply, Row};
 
 /// Why a request is refused.
 #[derive(Clone, Copy, Debug, PartialEq, Eq)]
@@ -60,7 +60,7 @@ pub struct SlotEntry {
     /// What it is in the current generation.
     pub slot: Slot,
     /// The action that was asked for, if that is another.
-    pub asked: Option<Items<Write>>,
+    pub asked: Option<Action>,
 }
 
 /// Where a call stands whose answer can change.

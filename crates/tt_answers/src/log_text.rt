@@ -8,7 +8,7 @@ use crate::told_text::{push_told_generation, push_told_time};
 use std::alloc::AllocError;
 use tt_grammar::{SessionVersion, push_action, push_labelled};
 use tt_numbers::Numbering;
-use tt_values::{Catalog, Write};
+use tt_values::{Action, Catalog};
 
 /// Pushes the first line of a log that is made anew: the version of the session, the tables, how
 /// much is kept, and the ground.
@@ -36,12 +36,12 @@ pub fn push_log_opening(
 pub fn push_ground_line(
     out: &mut Vec<u8>,
     catalog: &Catalog,
-    action: &[Write],
+    action: &Action,
 ) -> Result<(), AllocError>
     ensures { OnOk result (out.new.items
         ≡ out.old.items ++ ground_line catalog.now action.now) }
 {
-    out.extend_from_slice(b"{\"do\":")?;
+    out.push(b'{')?;
     push_action(out, catalog, action)?;
     out.push(b'}')?;
     Ok(())
@@ -52,13 +52,13 @@ pub fn push_slot_line(
     out: &mut Vec<u8>,
     catalog: &Catalog,
     worker: u32,
-    action: &[Write],
+    action: &Action,
 ) -> Result<(), AllocError>
     ensures { OnOk result (out.new.items
         ≡ out.old.items ++ slot_line catalog.now worker action.now) }
 {
     push_labelled(out, b"{\"worker\":", u64::from(worker))?;
-    out.extend_from_slice(b",\"do\":")?;
+    out.push(b',')?;
     push_action(out, catalog, action)?;
     out.push(b'}')?;
     Ok(())

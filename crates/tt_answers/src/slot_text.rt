@@ -8,10 +8,10 @@ use crate::answer::{ChangeEntry, Place, SlotEntry};
 use crate::reply_text::{push_replies, push_replies_or_null};
 use crate::told_text::push_told_time;
 use std::alloc::AllocError;
-use tt_grammar::{push_action, push_action_or_null, push_labelled};
+use tt_grammar::{push_action_or_null, push_labelled, push_named_action};
 use tt_numbers::Numbering;
 use tt_records::After;
-use tt_values::{Catalog, Items, Write};
+use tt_values::{Action, Catalog};
 
 /// Pushes slots as an array.
 pub(crate) fn push_slots(
@@ -62,7 +62,7 @@ fn push_slot(
 {
     push_told_time(out, b"{\"slot\":", numbering.told_time(entry.number))?;
     push_labelled(out, b",\"worker\":", u64::from(entry.worker))?;
-    out.extend_from_slice(b",\"do\":")?;
+    out.push(b',')?;
     push_action_or_null(out, catalog, &entry.slot.action)?;
     out.extend_from_slice(b",\"replies\":")?;
     push_replies_or_null(out, &entry.slot.replies)?;
@@ -75,14 +75,14 @@ fn push_slot(
 fn push_asked(
     out: &mut Vec<u8>,
     catalog: &Catalog,
-    asked: &Option<Items<Write>>,
+    asked: &Option<Action>,
 ) -> Result<(), AllocError>
     ensures { OnOk result (out.new.items ≡ out.old.items
         ++ flat_map further_item (map member_text (asked_members catalog.now asked.now))) }
 {
     if let Some(action) = asked {
-        out.extend_from_slice(b",\"asked\":")?;
-        push_action(out, catalog, action.as_slice())?;
+        out.push(b',')?;
+        push_named_action(out, "asked", "asked_whole", catalog, action)?;
     }
     Ok(())
 }

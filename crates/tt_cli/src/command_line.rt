@@ -34,14 +34,16 @@ that workers make, in order:
      {"worker":1,"delete":"acct","where":[]},
      {"worker":1,"do":[
        {"insert":"acct","row":[1,"ann",10]},
-       {"insert":"acct","row":[2,"bob",20]}]}],
+       {"insert":"acct","row":[2,"bob",20]}],"whole":true}],
    "repair":{"edits":[{"cancel":2}]}}
 
 A condition is [COLUMN,VALUE], or [COLUMN,HOW,VALUE] with one of = != < <= > >= as HOW, in quotes.
 The second select reads the rows as they were at time 1, after the first write. The last call makes
-two writes as one action: they take one slot and one time. The repair has one edit, which cancels
-call 2, the update. An edit is {"cancel":N} or {"replace":N,"by":WRITE}, where WRITE is an insert,
-an update, a delete or a "do" as above, without "worker", which is made in place of call N.
+two writes as one action: they take one slot and one time. It is whole: if one of them had no effect
+(an insert of a key that is there, an update or delete that matches no row), it would write nothing.
+The repair has one edit, which cancels call 2, the update. An edit is {"cancel":N} or
+{"replace":N,"by":WRITE}, where WRITE is an insert, an update, a delete or a "do" as above, without
+"worker", which is made in place of call N.
 `run` makes the calls of each worker in a thread of its own, in the worker's order, and then the
 repair beside the calls of its member "meanwhile".
 The report goes to standard output: a line for each call, one for the repair and for each reply

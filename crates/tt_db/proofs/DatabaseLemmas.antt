@@ -1,6 +1,6 @@
 -- A database with one more entry.
 use Rattle.std.proofs.Common.{◌≡◌, ◌≢◌, ℕ, ◌+◌, ◌<◌, ◌≤◌, List, [], ◌∷◌, ◌++◌, length, None, Some, refl, sym, ap, subst, ◌∙◌, arith, length-append}
-use Rattle.tt_values.specs.declared.statement.Write.{Write}
+use Rattle.tt_values.specs.declared.action.Action.{Action}
 use Rattle.tt_values.specs.Tables.{Tables, IsCatalog}
 use Rattle.tt_values.specs.RowWrites.{Slots}
 use Rattle.tt_repair_laws.proofs.LawProofs.{edited_slots_are_as_many}
@@ -110,7 +110,7 @@ few_generations-next limits S events.Switch few = omega (arith, few)
 few_generations-next limits S events.Abort few = omega (arith, few)
 
 -- and the repair has done no more slots than there are
-IsWithin-action : (phase : Phase) (W : Slots) (action : List Write) → IsWithin phase W → IsWithin phase (W ++ Some action ∷ [])
+IsWithin-action : (phase : Phase) (W : Slots) (action : Action) → IsWithin phase W → IsWithin phase (W ++ Some action ∷ [])
 IsWithin-action Idle W action h = tt
 IsWithin-action (Repairing edits n) W action h = omega (arith, h, length-append W (Some action ∷ []))
 

@@ -15,6 +15,7 @@ use Rattle.tt_values.specs.declared.statement.Change.{Change}
 use Rattle.tt_values.specs.declared.statement.Select.{Select}
 use Rattle.tt_values.specs.declared.statement.Write.{Write}
 use Rattle.tt_values.specs.declared.statement.Write.TheVariants.{Insert, Update, Delete}
+use Rattle.tt_values.specs.declared.action.Action.{Action}
 use Rattle.tt_values.specs.declared.checking.CheckError.{CheckError}
 use Rattle.tt_values.specs.declared.checking.CheckError.TheVariants as faults
 use Rattle.tt_values.specs.Row.{first_int, key_of}
@@ -25,7 +26,7 @@ use Rattle.tt_values.specs.Change.{changed}
 use Rattle.tt_values.specs.Matches.{matches}
 use Rattle.tt_values.specs.Content.{RowsByKey, Content, RowWrite, row_at, with_row_at, with_row_write, content_at}
 use Rattle.tt_values.specs.Effect.{table_of, matching_rows, effect_on, effect, answer_of}
-use Rattle.tt_values.specs.Action.{with_rows_at, content_after_write, content_after_action}
+use Rattle.tt_values.specs.Action.{with_rows_at, content_after_write, content_after_writes, is_undone, content_after_action}
 use Rattle.tt_values.specs.ActionLaws.{IsByRisingKey}
 use Rattle.tt_values.specs.RowWrites.{Slots, row_writes, slot_writes, slot_after, content_of}
 use Rattle.tt_values.proofs.LawProofs.{rows_rise, next_content, past_stays, last_content_stays, action_leaves_its_last_content, accepted_inserts_have_keys, accepted_updates_keep_keys}
@@ -146,7 +147,7 @@ AllPairsKeyed-effect_on tables (Update table changes equals) rows catalog none h
     (AllKeyed-filter (λ e. matches equals e.1) rows h)
 AllPairsKeyed-effect_on tables (Delete table equals) rows catalog none h = AllPairsKeyed-delete (matching_rows equals rows)
 
--- a content after a write without a fault, and after an action without one
+-- a content after a write without a fault, after some without one, and after an action without one
 IsKeyedContent-after_write : (tables : Tables) (w : Write) (X : Content) → IsCatalog tables → write_fault tables w ≡ None → IsKeyedContent X → IsKeyedContent (content_after_write w X)
 IsKeyedContent-after_write tables w X catalog none h =
     IsKeyedContent-with_rows_at (table_of w) (effect w X) X h (AllPairsKeyed-effect_on tables w (X (table_of w)) catalog none (h (table_of w)))
@@ -170,17 +171,24 @@ HaveNoFaults-action tables ws none = by (nat_lt max_writes (length ws)) none
     by true h = cc
     by false h = HaveNoFaults-first tables ws h
 
-IsKeyedContent-after_action : (tables : Tables) (ws : List Write) (X : Content) → IsCatalog tables → HaveNoFaults tables ws → IsKeyedContent X → IsKeyedContent (content_after_action ws X)
-IsKeyedContent-after_action tables [] X catalog none h = h
-IsKeyedContent-after_action tables (w ∷ ws) X catalog none h =
-    IsKeyedContent-after_action tables ws (content_after_write w X) catalog none.1 (IsKeyedContent-after_write tables w X catalog none.0 h)
+IsKeyedContent-after_writes : (tables : Tables) (ws : List Write) (X : Content) → IsCatalog tables → HaveNoFaults tables ws → IsKeyedContent X → IsKeyedContent (content_after_writes ws X)
+IsKeyedContent-after_writes tables [] X catalog none h = h
+IsKeyedContent-after_writes tables (w ∷ ws) X catalog none h =
+    IsKeyedContent-after_writes tables ws (content_after_write w X) catalog none.1 (IsKeyedContent-after_write tables w X catalog none.0 h)
+
+IsKeyedContent-after_action : (tables : Tables) (action : Action) (X : Content) → IsCatalog tables → HaveNoFaults tables action.writes → IsKeyedContent X → IsKeyedContent (content_after_action action X)
+IsKeyedContent-after_action tables action X catalog none h = by (is_undone action X)
+  where
+    by : (b : Bool) → IsKeyedContent (content_after_writes (if b then [] else action.writes) X)
+    by true = h
+    by false = IsKeyedContent-after_writes tables action.writes X catalog none h
 
 -- the actions of slots have no faults
 abbrev AllAccepted : Tables → Slots → Type 0
 AllAccepted tables [] = Unit {0}
 AllAccepted tables (s ∷ W) = IsAccepted tables s × AllAccepted tables W
 
-AllAccepted-push : (tables : Tables) (W : Slots) (s : Option (List Write)) → AllAccepted tables W → IsAccepted tables s → AllAccepted tables (W ++ s ∷ [])
+AllAccepted-push : (tables : Tables) (W : Slots) (s : Option Action) → AllAccepted tables W → IsAccepted tables s → AllAccepted tables (W ++ s ∷ [])
 AllAccepted-push tables [] s h a = (a, tt)
 AllAccepted-push tables (x ∷ W) s h a = (h.0, AllAccepted-push tables W s h.1 a)
 
@@ -190,20 +198,20 @@ slot_after-AllAccepted tables (s ∷ W) zero h = h.0
 slot_after-AllAccepted tables (s ∷ W) (suc n) h = slot_after-AllAccepted tables W n h.1
 
 -- slots stay so with edits whose actions have no faults
-IsAccepted-edit : (tables : Tables) (E : List Edit) (t : ℕ) (s : Option (List Write)) → edits_fault tables E ≡ None → IsAccepted tables s → IsAccepted tables (slot_with_edit (edit_of E t) s)
+IsAccepted-edit : (tables : Tables) (E : List Edit) (t : ℕ) (s : Option Action) → edits_fault tables E ≡ None → IsAccepted tables s → IsAccepted tables (slot_with_edit (edit_of E t) s)
 IsAccepted-edit tables [] t s none h = h
 IsAccepted-edit tables (Cancel k ∷ E) t s none h = by (k == t) (IsAccepted-edit tables E t s none h)
   where
     by : (b : Bool) → IsAccepted tables (slot_with_edit (edit_of E t) s) → IsAccepted tables (slot_with_edit (if b then Some (Cancel k) else edit_of E t) s)
     by true rest = tt
     by false rest = rest
-IsAccepted-edit tables (Replace k action ∷ E) t s none h = by (action_fault tables action) refl none (λ rest. IsAccepted-edit tables E t s rest h)
+IsAccepted-edit tables (Replace k action ∷ E) t s none h = by (action_fault tables action.writes) refl none (λ rest. IsAccepted-edit tables E t s rest h)
   where
-    at : (b : Bool) → action_fault tables action ≡ None → IsAccepted tables (slot_with_edit (edit_of E t) s) → IsAccepted tables (slot_with_edit (if b then Some (Replace k action) else edit_of E t) s)
+    at : (b : Bool) → action_fault tables action.writes ≡ None → IsAccepted tables (slot_with_edit (edit_of E t) s) → IsAccepted tables (slot_with_edit (if b then Some (Replace k action) else edit_of E t) s)
     at true is others = is
     at false is others = others
 
-    by : (fault : Option CheckError) → action_fault tables action ≡ fault → option_or fault (edits_fault tables E) ≡ None
+    by : (fault : Option CheckError) → action_fault tables action.writes ≡ fault → option_or fault (edits_fault tables E) ≡ None
         → (edits_fault tables E ≡ None → IsAccepted tables (slot_with_edit (edit_of E t) s))
         → IsAccepted tables (slot_with_edit (if k == t then Some (Replace k action) else edit_of E t) s)
     by None is rest others = at (k == t) is (others rest)
@@ -276,11 +284,11 @@ IsAcceptedState-legal tables limits S (e ∷ history) legal h =
 IsAcceptedState-after : (tables : Tables) (limits : Limits) (history : List Entry) → IsLegal tables limits history → IsAcceptedState tables (after limits history)
 IsAcceptedState-after tables limits history legal = IsAcceptedState-legal tables limits start history legal (record { slots = tt; edits = tt; closed = tt })
 
-IsKeyedContent-slot : (tables : Tables) (s : Option (List Write)) (time : ℕ) (X : Content) → IsCatalog tables → IsAccepted tables s → IsByRisingKey X → IsKeyedContent X
+IsKeyedContent-slot : (tables : Tables) (s : Option Action) (time : ℕ) (X : Content) → IsCatalog tables → IsAccepted tables s → IsByRisingKey X → IsKeyedContent X
     → IsKeyedContent (fold with_row_write X (slot_writes time s X))
 IsKeyedContent-slot tables None time X catalog a rising h = h
 IsKeyedContent-slot tables (Some action) time X catalog a rising h =
-    subst IsKeyedContent (sym (action_leaves_its_last_content time action X rising)) (IsKeyedContent-after_action tables action X catalog (HaveNoFaults-action tables action a) h)
+    subst IsKeyedContent (sym (action_leaves_its_last_content time action X rising)) (IsKeyedContent-after_action tables action X catalog (HaveNoFaults-action tables action.writes a) h)
 
 IsKeyedContent-slots : (tables : Tables) (W : Slots) (n : ℕ) → IsCatalog tables → AllAccepted tables W → IsKeyedContent (content_at (row_writes W n) n)
 unfolding row_writes

@@ -5,7 +5,7 @@ use Rattle.std.proofs.lemmas.List.Elements.{All-nil, All-cons}
 use Rattle.std.proofs.lemmas.List.{drop_more, take_more}
 use Rattle.std.specs.List.{All, list_any}
 use Rattle.std.specs.Option.{option_map, option_or}
-use Rattle.tt_values.specs.declared.statement.Write.{Write}
+use Rattle.tt_values.specs.declared.action.Action.{Action}
 use Rattle.tt_values.specs.declared.checking.CheckError.{CheckError}
 use Rattle.tt_values.specs.Tables.{Tables}
 use Rattle.tt_values.specs.Check.{action_fault}
@@ -57,19 +57,19 @@ below count limit none within =
     grind (arith, nat_tests)
 
 -- what is known of an action that isn't refused
-pub record IsAcceptedAction (tables : Tables) (limits : Limits) (S : State) (action : List Write) : Type 0 where
-  pub no_fault : action_fault tables action ≡ None
+pub record IsAcceptedAction (tables : Tables) (limits : Limits) (S : State) (action : Action) : Type 0 where
+  pub no_fault : action_fault tables action.writes ≡ None
   pub room : full_at (now_of S) limits.slots ≡ None
   pub events : full_at S.events limits.events ≡ None
 
-pub accepted_action : (tables : Tables) (limits : Limits) (S : State) (action : List Write) → refusal tables limits S (events.Write action) ≡ None → IsAcceptedAction tables limits S action
+pub accepted_action : (tables : Tables) (limits : Limits) (S : State) (action : Action) → refusal tables limits S (events.Write action) ≡ None → IsAcceptedAction tables limits S action
 accepted_action tables limits S action h =
     let slots = full_at (now_of S) limits.slots in
     let events = full_at S.events limits.events in
-    let first = no_first (option_map errors.Statement (action_fault tables action)) (slots ∷ events ∷ []) h in
+    let first = no_first (option_map errors.Statement (action_fault tables action.writes)) (slots ∷ events ∷ []) h in
     let second = no_first slots (events ∷ []) first.rest in
     let third = no_first events [] second.rest in
-    record { no_fault = none_mapped errors.Statement (action_fault tables action) first.none; room = second.none; events = third.none }
+    record { no_fault = none_mapped errors.Statement (action_fault tables action.writes) first.none; room = second.none; events = third.none }
 
 -- of the beginning of a repair
 pub record IsAcceptedBegin (tables : Tables) (limits : Limits) (S : State) (edits : List Edit) : Type 0 where
@@ -130,7 +130,7 @@ not_full tables limits S events.Abort h =
 pub has_room_for_entry : (tables : Tables) (limits : Limits) (S : State) (event : Event) → refusal tables limits S event ≡ None → S.events ≤ limits.events → S.events < limits.events
 has_room_for_entry tables limits S event h within = below S.events limits.events (not_full tables limits S event h) within
 
-pub has_room_for_slot : (tables : Tables) (limits : Limits) (S : State) (action : List Write) → refusal tables limits S (events.Write action) ≡ None → now_of S ≤ limits.slots → now_of S < limits.slots
+pub has_room_for_slot : (tables : Tables) (limits : Limits) (S : State) (action : Action) → refusal tables limits S (events.Write action) ≡ None → now_of S ≤ limits.slots → now_of S < limits.slots
 has_room_for_slot tables limits S action h within = below (now_of S) limits.slots (accepted_action tables limits S action h).room within
 
 -- a step finds a slot, and a switch none
@@ -171,9 +171,9 @@ All-names W (e ∷ edits) h = by ((slot_number e == 0) || nat_lt (length W) (slo
 pub All-accepted : (tables : Tables) (edits : List Edit) → edits_fault tables edits ≡ None → All (HasNoFault tables) edits
 All-accepted tables [] h = All-nil (HasNoFault tables)
 All-accepted tables (Cancel t ∷ edits) h = All-cons (HasNoFault tables) (Cancel t) edits tt (All-accepted tables edits h)
-All-accepted tables (Replace t action ∷ edits) h = by (action_fault tables action) refl h (All-accepted tables edits)
+All-accepted tables (Replace t action ∷ edits) h = by (action_fault tables action.writes) refl h (All-accepted tables edits)
   where
-    by : (fault : Option CheckError) → action_fault tables action ≡ fault → option_or fault (edits_fault tables edits) ≡ None
+    by : (fault : Option CheckError) → action_fault tables action.writes ≡ fault → option_or fault (edits_fault tables edits) ≡ None
         → (edits_fault tables edits ≡ None → All (HasNoFault tables) edits) → All (HasNoFault tables) (Replace t action ∷ edits)
     by None is none rest = All-cons (HasNoFault tables) (Replace t action) edits is (rest none)
     by (Some e) is none rest = cc

@@ -68,7 +68,7 @@ slots_left S = left_of S.phase S.slots
 abbrev pub edits_fault : Tables → List Edit → Option CheckError
 edits_fault tables [] = None
 edits_fault tables (Cancel t ∷ E) = edits_fault tables E
-edits_fault tables (Replace t action ∷ E) = option_or (action_fault tables action) (edits_fault tables E)
+edits_fault tables (Replace t action ∷ E) = option_or (action_fault tables action.writes) (edits_fault tables E)
 
 -- the slot of the first edit whose slot isn't among the first n slots
 abbrev pub missing_slot : ℕ → List Edit → Option ℕ
@@ -106,7 +106,7 @@ unless_caught_up left = refused_if (nat_lt 0 left) (errors.NotCaughtUp left)
 -- why the table refuses an event, if it does
 abbrev pub refusal : Tables → Limits → State → Event → Option DbError
 refusal tables limits S (events.Write action) = first_refusal
-    (option_map errors.Statement (action_fault tables action)
+    (option_map errors.Statement (action_fault tables action.writes)
     ∷ full_at (now_of S) limits.slots
     ∷ full_at S.events limits.events
     ∷ [])

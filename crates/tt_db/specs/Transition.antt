@@ -38,7 +38,7 @@ state_with G number = record { slots = G.slots; generation = number; events = 0;
 
 -- what tables of two generations ask of an event
 abbrev pub Allows : TwoGenerations → Event → Type 0
-Allows G (events.Write action) = (action_fault G.catalog action ≡ None) × (length G.slots < max_slots)
+Allows G (events.Write action) = (action_fault G.catalog action.writes ≡ None) × (length G.slots < max_slots)
 Allows G (events.Begin edits) = (G.phase ≡ Idle) × All (NamesSlot G.slots) edits × All (HasNoFault G.catalog) edits
 Allows G events.Step = 0 < left_of G.phase G.slots
 Allows G events.Switch = left_of G.phase G.slots ≡ 0

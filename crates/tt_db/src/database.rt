@@ -24,7 +24,7 @@ use std::marker::Model;
 use std::sync::Arc;
 use tt_generations::{Edit, Generations, Progress, Slot};
 use tt_pages::PagedLog;
-use tt_values::{Catalog, Reply, Row, RowId, Select, Shared, Write, check_action, check_select};
+use tt_values::{Action, Catalog, Reply, Row, RowId, Select, Shared, check_action, check_select};
 use tt_versions::{Side, Table};
 
 /// A database: a catalog, limits, and the history of the accepted events.
@@ -318,7 +318,7 @@ impl Db {
         ensures { result ≡ refusal_of self.now event.now }
     {
         match event {
-            Event::Write(action) => self.action_refusal(action.as_slice()),
+            Event::Write(action) => self.action_refusal(action),
             Event::Begin(edits) => self.begin_refusal(edits.as_slice()),
             Event::Step => self.step_refusal(),
             Event::Switch => self.switch_refusal(),
@@ -327,7 +327,7 @@ impl Db {
     }
 
     /// Why an action is refused.
-    fn action_refusal(&self, action: &[Write]) -> Option<DbError>
+    fn action_refusal(&self, action: &Action) -> Option<DbError>
         ensures { result ≡ refusal_of self.now (Event.Write action.now) }
     {
         if let Err(fault) = check_action(self.catalog(), action) {

@@ -1,13 +1,13 @@
 use std::alloc::AllocError;
 use tt_generations::Edit;
 use tt_pages::Kept;
-use tt_values::{Items, Write};
+use tt_values::{Action, Items};
 
 /// What a worker asks the database to do.
 #[derive(Debug, PartialEq, Drop)]
 pub enum Event {
-    /// An action: writes that are carried out in order, as one slot of the current generation.
-    Write(Items<Write>),
+    /// An action, which is carried out as one slot of the current generation.
+    Write(Action),
     /// A repair begins, with these edits of slots.
     Begin(Items<Edit>),
     /// The repair does its next slot, and re-executes it if it is due.

@@ -4,7 +4,7 @@ use tt_values::{Items, Reply};
 #[derive(Clone, Debug, PartialEq, Drop)]
 pub enum Outcome {
     /// An action took the slot of this number, counted from 1, and these are the replies to its
-    /// writes.
+    /// writes, of a whole action up to the first without an effect.
     Written {
         slot: u64,
         replies: Items<Reply>,

@@ -13,7 +13,7 @@ pub(crate) fn edits_fault(catalog: &Catalog, edits: &[Edit]) -> Option<CheckErro
 {
     for edit in edits {
         if let Edit::Replace(_, action) = edit {
-            if let Err(fault) = check_action(catalog, action.as_slice()) {
+            if let Err(fault) = check_action(catalog, action) {
                 return Some(fault);
             }
         }

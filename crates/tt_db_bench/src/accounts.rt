@@ -2,7 +2,7 @@
 use crate::error::BenchError;
 use std::alloc::{AllocError, Global};
 use tt_db::{Entry, Event};
-use tt_values::{Catalog, Change, Column, Equal, Items, TableDef, Text, Value, Write};
+use tt_values::{Action, Catalog, Change, Column, Equal, Items, TableDef, Text, Value, Write};
 
 /// The position of the table `account`.
 const ACCOUNT: u16 = 0;
@@ -49,7 +49,7 @@ pub(crate) fn pay(alloc: Global, id: u32) -> Result<Entry, AllocError> {
 }
 
 fn entry(alloc: Global, write: Write) -> Result<Entry, AllocError> {
-    let action = Items::of(alloc, [write])?;
+    let action = Action::of(Items::of(alloc, [write])?);
     Ok(Entry {
         worker: WORKER,
         event: Event::Write(action),

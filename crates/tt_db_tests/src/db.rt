@@ -18,6 +18,7 @@ mod runs;
 mod sharing;
 mod unfinished_repairs;
 mod versions;
+mod whole_actions;
 
 use std::alloc::Global;
 use std::fmt::Debug;
@@ -25,7 +26,7 @@ use std::process::Abort;
 use std::sync::Arc;
 use tt_db::{Db, DbError, Entry, Event, Limits, MAX_EDITS, MAX_KEEP, Outcome};
 use tt_values::{
-    Catalog, Change, Column, Equal, Items, Reply, Row, Select, TableDef, Value, Write,
+    Action, Catalog, Change, Column, Equal, Items, Reply, Row, Select, TableDef, Value, Write,
 };
 
 /// An account: its id, its owner and its balance.
@@ -147,8 +148,8 @@ fn add_to_balance(rt: &impl Abort, alloc: Global, id: i64, by: i64) -> Write {
 }
 
 /// An action of these writes.
-fn action<const N: usize>(rt: &impl Abort, alloc: Global, writes: [Write; N]) -> Items<Write> {
-    Items::of(alloc, writes).expect(rt, "memory")
+fn action<const N: usize>(rt: &impl Abort, alloc: Global, writes: [Write; N]) -> Action {
+    Action::of(Items::of(alloc, writes).expect(rt, "memory"))
 }
 
 fn replies<const N: usize>(rt: &impl Abort, alloc: Global, replies: [Reply; N]) -> Items<Reply> {

@@ -11,6 +11,7 @@ use Rattle.tt_values.specs.declared.checking.CheckError.TheVariants as errors
 use Rattle.tt_values.specs.declared.statement.Select.{Select}
 use Rattle.tt_values.specs.declared.statement.Write.{Write}
 use Rattle.tt_values.specs.declared.statement.Write.TheVariants.{Insert, Update, Delete}
+use Rattle.tt_values.specs.declared.action.Action.{Action}
 use Rattle.tt_values.specs.Tables.{Tables}
 use Rattle.tt_values.specs.Check.{write_fault, first_write_fault, action_fault, select_fault}
 use Rattle.tt_values.specs.Limits.{max_writes}
@@ -28,7 +29,7 @@ use Rattle.tt_grammar.specs.Tables.{catalog}
 use Rattle.tt_grammar.specs.Conditions.{table_named, value, condition}
 use Rattle.tt_grammar.specs.Changes.{change}
 use Rattle.tt_grammar.specs.Statements.{checked_statement, no_members_at, insert, update, delete}
-use Rattle.tt_grammar.specs.Actions.{has_action, write, item_of_action, writes, action}
+use Rattle.tt_grammar.specs.Actions.{has_action, write, item_of_action, writes, is_whole, members_of_action, action}
 use Rattle.tt_grammar.specs.Version.{version}
 use Rattle.tt_grammar.specs.Edits.{max_edits, no_kind_of_write, replacement_by, replacement}
 use Rattle.tt_document.specs.declared.document.Document.{Document}
@@ -239,16 +240,17 @@ writes-ok version tables v ws e =
     let few = ap (nat_lt max_writes) same_length ∙ within_limit-ok _ _ limit.is in
     action_fault-none tables ws few (each-ok (λ w. write_fault tables w ≡ None) (item_of_action version tables) (item_of_action-ok version tables) 0 items.value ws limit.rest)
 
-action-ok : (version : Version) (tables : Tables) (context : Context) (v : Data) (ws : List Write) → action version tables context v ≡ Ok ws → action_fault tables ws ≡ None
+action-ok : (version : Version) (tables : Tables) (context : Context) (v : Data) (act : Action) → action version tables context v ≡ Ok act → action_fault tables act.writes ≡ None
 unfolding action
-action-ok version tables context v ws e =
-    let items = step (member (codes "do") (writes version tables) v) _ ws e in
-    let known = step (no_members_at context (codes "do" ∷ []) v) _ ws items.rest in
+action-ok version tables context v act e =
+    let items = step (member (codes "do") (writes version tables) v) _ act e in
+    let whole = step (is_whole version v) _ act items.rest in
+    let known = step (no_members_at context (members_of_action version) v) _ act whole.rest in
     let read = member-ok (codes "do") (writes version tables) v items.value items.is in
-    subst (λ ws. action_fault tables ws ≡ None) (ok_same known.rest) (writes-ok version tables read.value items.value read.is)
+    subst (λ (a : Action). action_fault tables a.writes ≡ None) (ok_same known.rest) (writes-ok version tables read.value items.value read.is)
 
 -- what a call asks for has no fault
-do-ok : (tables : Tables) (r : Result (List Write) DocFault) (a : Ask) → ((ws : List Write) → r ≡ Ok ws → action_fault tables ws ≡ None)
+do-ok : (tables : Tables) (r : Result Action DocFault) (a : Ask) → ((act : Action) → r ≡ Ok act → action_fault tables act.writes ≡ None)
     → (r >>= λ action. Ok (asks.Write action)) ≡ Ok a → ask_fault tables a ≡ None
 do-ok tables r a sound e =
     let action = step r _ a e in
@@ -301,21 +303,21 @@ calls-ok version tables workers v cs e =
     }
 
 -- the action of a replacement has no fault
-replacement_by_kind-ok : (version : Version) (tables : Tables) (v : Data) (first : Bool) (ws : List Write) (cause : List ℕ)
-    → cond first (action version tables contexts.Nested v) (refuse cause) ≡ Ok ws → action_fault tables ws ≡ None
-replacement_by_kind-ok version tables v true ws cause e = action-ok version tables contexts.Nested v ws e
-replacement_by_kind-ok version tables v false ws cause e = cc
+replacement_by_kind-ok : (version : Version) (tables : Tables) (v : Data) (first : Bool) (act : Action) (cause : List ℕ)
+    → cond first (action version tables contexts.Nested v) (refuse cause) ≡ Ok act → action_fault tables act.writes ≡ None
+replacement_by_kind-ok version tables v true act cause e = action-ok version tables contexts.Nested v act e
+replacement_by_kind-ok version tables v false act cause e = cc
 
-replacement_by-ok : (version : Version) (tables : Tables) (v : Data) (o : Option Write) (ws : List Write) → IsAccepted tables o → replacement_by version tables v o ≡ Ok ws → action_fault tables ws ≡ None
-replacement_by-ok version tables v (Some w) ws h e = subst (λ ws. action_fault tables ws ≡ None) (ok_same e) (action_of_one-none tables w h)
-replacement_by-ok version tables v None ws h e = replacement_by_kind-ok version tables v (has_action version v) ws (no_kind_of_write version) e
+replacement_by-ok : (version : Version) (tables : Tables) (v : Data) (o : Option Write) (act : Action) → IsAccepted tables o → replacement_by version tables v o ≡ Ok act → action_fault tables act.writes ≡ None
+replacement_by-ok version tables v (Some w) act h e = subst (λ (a : Action). action_fault tables a.writes ≡ None) (ok_same e) (action_of_one-none tables w h)
+replacement_by-ok version tables v None act h e = replacement_by_kind-ok version tables v (has_action version v) act (no_kind_of_write version) e
 
-replacement-ok : (version : Version) (tables : Tables) (v : Data) (ws : List Write) → replacement version tables v ≡ Ok ws → action_fault tables ws ≡ None
+replacement-ok : (version : Version) (tables : Tables) (v : Data) (act : Action) → replacement version tables v ≡ Ok act → action_fault tables act.writes ≡ None
 unfolding replacement
-replacement-ok version tables v ws e =
-    let members = step (object v) _ ws e in
-    let read = step (write version tables contexts.Nested v) _ ws members.rest in
-    replacement_by-ok version tables v read.value ws (write-ok version tables contexts.Nested v read.value read.is) read.rest
+replacement-ok version tables v act e =
+    let members = step (object v) _ act e in
+    let read = step (write version tables contexts.Nested v) _ act members.rest in
+    replacement_by-ok version tables v read.value act (write-ok version tables contexts.Nested v read.value read.is) read.rest
 
 -- an edit names one of the calls, and its action has no fault
 record IsSound (tables : Tables) (calls : ℕ) (e : Edit) : Type 0 where

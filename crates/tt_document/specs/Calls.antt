@@ -1,5 +1,5 @@
 -- The calls of a document.
-use Rattle.std.specs.Prelude.{ℕ, if◌then◌else◌, List, [], ◌∷◌, Option, Some, None, Result, Ok, codes}
+use Rattle.std.specs.Prelude.{ℕ, if◌then◌else◌, List, Option, Some, None, Result, Ok, codes}
 use Rattle.serde_json.specs.Data.{Data}
 use Rattle.tt_values.specs.declared.statement.Write.{Write}
 use Rattle.tt_values.specs.Tables.{Tables}
@@ -10,7 +10,7 @@ use Rattle.tt_grammar.specs.declared.version.Version.TheVariants as versions
 use Rattle.tt_grammar.specs.Fault.{◌>>=◌, refuse}
 use Rattle.tt_grammar.specs.Decoder.{object, array, within_limit, count_within, has, member}
 use Rattle.tt_grammar.specs.Arrays.{each}
-use Rattle.tt_grammar.specs.Actions.{has_action, write, action}
+use Rattle.tt_grammar.specs.Actions.{has_action, write, action_of_one, action}
 use Rattle.tt_document.specs.declared.document.Call.{Call}
 use Rattle.tt_document.specs.declared.document.Ask.{Ask}
 use Rattle.tt_document.specs.declared.document.Ask.TheVariants as asks
@@ -28,7 +28,7 @@ no_kind versions.Three = codes "missing one of insert, update, delete, select, p
 
 -- what a call asks for: its write, if it has one, as an action of one; or else its select; or else its preview; or else its action
 abbrev pub ask_by : Version → Tables → Data → Option Write → Result Ask DocFault
-ask_by version tables v (Some write) = Ok (asks.Write (write ∷ []))
+ask_by version tables v (Some write) = Ok (asks.Write (action_of_one write))
 ask_by version tables v None =
     if has (codes "select") v then select version tables v else (
     if has (codes "preview") v then preview version tables v else (

@@ -37,7 +37,7 @@ document_of_text text = document_of_json (json_of_text text)
 
 -- the fault of what a call asks for, if it has one
 abbrev pub ask_fault : Tables → Ask → Option CheckError
-ask_fault tables (asks.Write action) = action_fault tables action
+ask_fault tables (asks.Write action) = action_fault tables action.writes
 ask_fault tables (asks.Read select at) = select_fault tables select
 ask_fault tables (asks.Preview select) = select_fault tables select
 
@@ -50,7 +50,7 @@ pub record IsValidCall (tables : Tables) (workers : ℕ) (call : Call) : Type 0 
 -- the fault of an edit's action, if it has one
 abbrev pub edit_fault : Tables → Edit → Option CheckError
 edit_fault tables (Cancel number) = None
-edit_fault tables (Replace number action) = action_fault tables action
+edit_fault tables (Replace number action) = action_fault tables action.writes
 
 -- an edit of a call that asks for an action, with an action that the tables accept
 pub record IsValidEdit (tables : Tables) (calls : List Call) (edit : Edit) : Type 0 where

@@ -4,7 +4,7 @@ use std::alloc::Global;
 use tt_grammar::{DocFault, OwnedItems, parse_text};
 use tt_json::{JsonValue, Scratch, root};
 use tt_repair_laws::Edit;
-use tt_values::{Catalog, Items, Select, Shared, Write};
+use tt_values::{Action, Catalog, Items, Select, Shared};
 
 /// A workload: the tables, and the calls that the workers make.
 #[derive(Debug, Drop)]
@@ -86,7 +86,7 @@ pub struct Call {
 pub enum Ask {
     /// An action: at most [`MAX_WRITES`](tt_values::MAX_WRITES) writes, carried out in order as
     /// one slot.
-    Write(Items<Write>),
+    Write(Action),
     /// Rows of a table: as they were at a time, or as they are now where none is given.
     Read { select: Select, at: Option<u64> },
     /// Rows of a table in the next generation, at the last slot that the repair has done.

@@ -1,7 +1,7 @@
 -- What both sides of the tables show, before and after each event.
 use Rattle.std.proofs.Common.{◌≡◌, ℕ, zero, suc, ◌<◌, ◌≤◌, Bool, true, false, ◌&&◌, ◌||◌, nat_le, ℤ, List, [], ◌∷◌, ◌++◌, length, Option, if◌then◌else◌, refl, sym, ap, ◌∙◌, arith}
 use Rattle.tt_values.specs.declared.row.Row.{Row}
-use Rattle.tt_values.specs.declared.statement.Write.{Write}
+use Rattle.tt_values.specs.declared.action.Action.{Action}
 use Rattle.tt_values.specs.Tables.{Tables}
 use Rattle.tt_values.specs.Content.{Content, row_at}
 use Rattle.tt_values.specs.RowWrites.{Slots, slot_after, row_writes}
@@ -13,9 +13,9 @@ use Rattle.tt_versions.proofs.LawProofs.{whole_rows_show_the_same, empty_table_s
 use Rattle.tt_parts.specs.Dirty.{has_row, is_row_in}
 use Rattle.tt_repair_laws.specs.declared.edit.Edit.{Edit}
 use Rattle.tt_repair_laws.specs.Edits.{edited_slots}
-use Rattle.tt_repair_laws.specs.Due.{content_after, is_due, dirty_after, rows_reexecuted, slot_rows_written}
+use Rattle.tt_repair_laws.specs.Due.{content_after, is_due, dirty_after, rows_reexecuted, slot_rows_touched}
 use Rattle.tt_repair_laws.specs.NextSide.{current_side, next_side}
-use Rattle.tt_repair_laws.proofs.LawProofs.{next_side_begins_as_current, next_side_shows_edited_slots, undue_slots_leave_next_side, due_slots_change_reexecuted_rows, later_slots_leave_dirty_rows, next_side_ends_as_edited_slots, later_slots_change_no_repair, undue_slots_dirty_nothing, due_slots_dirty_reexecuted_rows, dirty_rows_grow, nothing_is_dirty_at_first, edited_slots_are_as_many, dirty_rows_are_as_edited, clean_rows_are_as_current, last_edited_rows_stay, unwritten_rows_stay, clean_rows_agree}
+use Rattle.tt_repair_laws.proofs.LawProofs.{next_side_begins_as_current, next_side_shows_edited_slots, undue_slots_leave_next_side, due_slots_change_reexecuted_rows, later_slots_leave_dirty_rows, next_side_ends_as_edited_slots, later_slots_change_no_repair, undue_slots_dirty_nothing, due_slots_dirty_reexecuted_rows, dirty_rows_grow, nothing_is_dirty_at_first, edited_slots_are_as_many, dirty_rows_are_as_edited, clean_rows_are_as_current, last_edited_rows_stay, untouched_rows_stay, clean_rows_agree}
 use Rattle.tt_generations.specs.Rows.{TablesByPosition, versions_at, CurrentAgrees, KeepsSplitRows, ShowsSide}
 use Rattle.tt_generations.specs.Reexecution.{AreReexecuted, ShowsContentBefore}
 use Rattle.tt_generations.specs.TwoGenerations.{Phase, Idle, Repairing, IsWithin, next_side_of, dirty_rows_of}
@@ -23,7 +23,7 @@ use Rattle.tt_generations.specs.Generations.{HaveBothSides}
 use Rattle.tt_generations.proofs.RowsLemmas.{CurrentAgrees-empty}
 
 -- a slot that is added: the current side gets it, and so does the next one but for the split rows
-pub HaveBothSides-slot : (before after : TablesByPosition) (tables : Tables) (phase : Phase) (W : Slots) (s : Option (List Write)) → IsWithin phase W → HaveBothSides before tables phase W
+pub HaveBothSides-slot : (before after : TablesByPosition) (tables : Tables) (phase : Phase) (W : Slots) (s : Option Action) → IsWithin phase W → HaveBothSides before tables phase W
     → CurrentAgrees after (row_writes (W ++ s ∷ []) (length (W ++ s ∷ []))) → KeepsSplitRows before after → HaveBothSides after tables phase (W ++ s ∷ [])
 HaveBothSides-slot before after tables phase W s within have now keeps = record {
   current = now;
@@ -139,17 +139,17 @@ HaveBothSides-abort before after tables phase W have shows = record {
 
 -- before a slot is re-executed, the next side shows the content that the edited slots before it left
 pub ShowsContentBefore-next : (versions : TablesByPosition) (tables : Tables) (W : Slots) (E : List Edit) (n : ℕ) → n < length W → HaveBothSides versions tables (Repairing E n) W
-    → ShowsContentBefore versions (suc n) (content_after (edited_slots W E) n) (slot_rows_written (slot_after W n) (content_after W n))
+    → ShowsContentBefore versions (suc n) (content_after (edited_slots W E) n) (slot_rows_touched (slot_after W n) (content_after W n))
 ShowsContentBefore-next versions tables W E n within have = record {
   rising = λ table. rows_rise (row_writes (edited_slots W E) n) n table;
   before = λ table key. (λ i. have.next table i key n) ∙ next_side_shows_edited_slots tables W E n n table key (omega (arith, within)) (omega arith);
   split = λ table key u is later.
       let is_dirty : has_row (dirty_after tables W E n) table key ≡ true = sym (λ i. have.split table i key) ∙ is in
       (λ i. have.next table i key u) ∙ (λ i. dirty_rows_are_as_edited tables W E n table key is_dirty i u) ∙ last_edited_rows_stay W E n table key u (omega (arith, later));
-  unwritten = λ table key is none.
+  untouched = λ table key is none.
       let is_clean : has_row (dirty_after tables W E n) table key ≡ false = sym (λ i. have.split table i key) ∙ is in
       (λ i. have.next table i key (suc n)) ∙ (λ i. clean_rows_are_as_current tables W E n table key is_clean i (suc n))
       ∙ (λ i. row_at (past_stays W (suc n) (length W) (suc n) (omega arith) (omega (arith, within)) i table) key)
-      ∙ unwritten_rows_stay W n table key none
+      ∙ untouched_rows_stay W n table key none
       ∙ sym (clean_rows_agree tables W E n n table key (omega arith) is_clean);
 }

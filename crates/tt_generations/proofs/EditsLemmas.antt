@@ -5,7 +5,7 @@ use Rattle.std.specs.Ordering.{int_cmp, int_eq}
 use Rattle.std.specs.Cmp.{int_cmp_total}
 use Rattle.std.specs.FinMap.Entries as sorted
 use Rattle.std.proofs.lemmas.Bool.Decides.{nat_tests, same_from_decides, Decides-like, Decides-eqb, Decides-int_eq}
-use Rattle.tt_values.specs.declared.statement.Write.{Write}
+use Rattle.tt_values.specs.declared.action.Action.{Action}
 use Rattle.tt_repair_laws.specs.declared.edit.Edit.{Edit}
 use Rattle.tt_repair_laws.specs.Edits.{slot_number, edit_of, replacement_of}
 use Rattle.tt_generations.specs.declared.edits.Replacement.{Replacement}
@@ -28,7 +28,7 @@ HasEdits-put before after e E r has action is t =
     by true same =
         let here : (t == slot_number e) ≡ true = grind (arith, nat_tests) in
         ap (λ b. cond b (Some r) (sorted.find int_cmp (pos t) before)) (int_eq-pos t (slot_number e) ∙ here)
-        ∙ ap (λ (a : Option (List Write)). Some (record { action = a })) action
+        ∙ ap (λ (a : Option Action). Some (record { action = a })) action
     by false other =
         let elsewhere : (t == slot_number e) ≡ false = grind (arith, nat_tests) in
         ap (λ b. cond b (Some r) (sorted.find int_cmp (pos t) before)) (int_eq-pos t (slot_number e) ∙ elsewhere) ∙ has t

@@ -7,13 +7,14 @@ use Rattle.std.specs.Cmp.{int_cmp_total, tied_itself}
 use Rattle.std.specs.FinMap.Entries as sorted
 use Rattle.tt_values.specs.declared.row.Row.{Row}
 use Rattle.tt_values.specs.declared.statement.Write.{Write}
+use Rattle.tt_values.specs.declared.action.Action.{Action}
 use Rattle.tt_values.specs.declared.statement.Write.TheVariants.{Insert, Update, Delete}
 use Rattle.tt_values.specs.Row.{key_of}
 use Rattle.tt_values.specs.Matches.{matches}
 use Rattle.tt_values.specs.Change.{changed}
 use Rattle.tt_values.specs.Content.{RowsByKey, Content, RowWrite, row_at, with_row_at, content_at}
 use Rattle.tt_values.specs.Effect.{table_of, effect_on, effect}
-use Rattle.tt_values.specs.Action.{content_after_write, content_after_action}
+use Rattle.tt_values.specs.Action.{content_after_write, content_after_writes, content_after_action, is_undone}
 use Rattle.tt_values.specs.ActionLaws.{IsByRisingKey}
 use Rattle.tt_values.proofs.LawProofs.{one_key_changes}
 use Rattle.tt_versions.specs.declared.side.Side.{Side}
@@ -129,11 +130,19 @@ length-after_write w X t rising = by (t == table_of w) refl
         subst (λ n. length (all_put (X t) (effect_on w (X n))) ≤ length (X t) + 1) here (length-all_put_effect w (X t) (subst T (sym (rising t)) tt))
     by false e = omega arith
 
+-- writes add as many rows as they are, at most
+pub length-after_writes : (ws : List Write) (X : Content) (t : ℕ) → IsByRisingKey X → length (content_after_writes ws X t) ≤ length (X t) + length ws
+length-after_writes [] X t rising = omega arith
+length-after_writes (w ∷ ws) X t rising =
+    omega (arith, length-after_write w X t rising, length-after_writes ws (content_after_write w X) t (IsByRisingKey-after_write w X rising))
+
 -- an action adds as many rows as it has writes, at most
-pub length-after_action : (ws : List Write) (X : Content) (t : ℕ) → IsByRisingKey X → length (content_after_action ws X t) ≤ length (X t) + length ws
-length-after_action [] X t rising = omega arith
-length-after_action (w ∷ ws) X t rising =
-    omega (arith, length-after_write w X t rising, length-after_action ws (content_after_write w X) t (IsByRisingKey-after_write w X rising))
+pub length-after_action : (a : Action) (X : Content) (t : ℕ) → IsByRisingKey X → length (content_after_action a X t) ≤ length (X t) + length a.writes
+length-after_action a X t rising = by (is_undone a X)
+  where
+    by : (b : Bool) → length (content_after_writes (cond b [] a.writes) X t) ≤ length (X t) + length a.writes
+    by true = omega arith
+    by false = length-after_writes a.writes X t rising
 
 -- tables have few rows where they have the rows of row writes, and the content that these leave is small
 pub HasFewRows-agree : (tables : TablesByPosition) (vs : List RowWrite) (time most : ℕ) → CurrentAgrees tables vs → ((t : ℕ) → length (content_at vs time t) ≤ most) → HasFewRows tables Current time most

@@ -7,6 +7,7 @@ use Rattle.std.proofs.lemmas.List.Elements.{All-nil, All-cons, All-append}
 use Rattle.std.specs.Option.{option_or}
 use Rattle.std.specs.List.{All}
 use Rattle.tt_values.specs.declared.statement.Write.{Write}
+use Rattle.tt_values.specs.declared.action.Action.{Action}
 use Rattle.tt_values.specs.declared.statement.Write.TheVariants.{Insert, Update, Delete}
 use Rattle.tt_values.specs.declared.checking.CheckError.{CheckError}
 use Rattle.tt_values.specs.declared.row.Row.{Row}
@@ -15,7 +16,7 @@ use Rattle.tt_values.specs.Tables.{Tables, IsCatalog}
 use Rattle.tt_values.specs.Check.{action_fault, first_write_fault, write_fault}
 use Rattle.tt_values.specs.Content.{Content, content_at, row_at}
 use Rattle.tt_values.specs.declared.row_id.RowId.{RowId}
-use Rattle.tt_values.specs.Action.{content_after_write, replies_of, rows_of_write, rows_of_action}
+use Rattle.tt_values.specs.Action.{content_after_write, replies_of, rows_of_write, rows_of_writes, rows_touched, kept, tried}
 use Rattle.tt_values.specs.RowWrites.{Slots, slot_after, row_writes, content_of}
 use Rattle.tt_values.proofs.LawProofs.{rows_rise, past_stays, last_content_stays, slots_follow, accepted_actions_have_keys}
 use Rattle.tt_versions.specs.declared.side.Side.{Side}
@@ -23,7 +24,7 @@ use Rattle.tt_versions.specs.declared.side.Side.TheVariants.{Current, Next}
 use Rattle.tt_versions.specs.Sides.{LineagesByKey, side_of, current_of, next_of, ListsRows}
 use Rattle.tt_repair_laws.specs.declared.edit.Edit.{Edit}
 use Rattle.tt_repair_laws.specs.Edits.{slot_number, edited_slots, HasNoFault}
-use Rattle.tt_repair_laws.specs.Due.{content_after, is_due, reexecuted_count, slot_rows_written}
+use Rattle.tt_repair_laws.specs.Due.{content_after, is_due, reexecuted_count, slot_rows_touched}
 use Rattle.tt_repair_laws.specs.NextSide.{current_side}
 use Rattle.tt_repair_laws.proofs.LawProofs.{edited_slots_are_as_many, next_side_shows_edited_slots, no_slot_is_reexecuted_at_first, due_slots_are_reexecuted, undue_slots_are_not_reexecuted}
 use Rattle.tt_generations.specs.declared.slot.KeptSlot.{KeptSlot}
@@ -37,11 +38,11 @@ use Rattle.tt_generations.specs.KeptSlots.{last_content, slot_with_replies, kept
 use Rattle.tt_generations.specs.Repair.{HasKeysIfAny, is_kept_due, next_action, repair_with_slot, next_slots, HasDoneDueSlot, HasReexecutedSlot, ReexecutesSlot, DoesSlot}
 use Rattle.tt_generations.specs.TwoGenerations.{TwoGenerations, Phase, Idle, Repairing, NamesSlot, IsWithin, done_of, next_content_in, next_content_at, next_slot_at, left_of, slots_edited_by, next_side_of, rows_on}
 use Rattle.tt_generations.specs.Generations.{phase_of, next_kept_slot, HaveBothSides, IsRepair, IsRepairIfAny, AreGenerations}
-use Rattle.tt_generations.proofs.ActionStepsLemmas.{CurrentAgrees-action}
+use Rattle.tt_generations.proofs.ActionStepsLemmas.{CurrentAgrees-writes}
 use Rattle.tt_generations.proofs.FewRowsLemmas.{HasFewRows-agree}
 use Rattle.tt_generations.proofs.KeptSlotsLemmas.{AreKept-push, kept_slot-append, kept_slot-last, actions-push, actions-kept, AreKept-all_done, AreAccepted-at, AreAccepted-push, AreAccepted-edited}
 use Rattle.tt_generations.proofs.BothSidesLemmas.{HaveBothSides-empty, HaveBothSides-idle, HaveBothSides-slot, HaveBothSides-begin, HaveBothSides-undue, HaveBothSides-switch, HaveBothSides-abort, ShowsContentBefore-next}
-use Rattle.tt_generations.proofs.RepairLemmas.{first_fault-accepted, table-faultless}
+use Rattle.tt_generations.proofs.RepairLemmas.{first_fault-accepted, first_fault-tried, table-faultless}
 use Rattle.tt_generations.proofs.RepairStepsLemmas.{length-content, IsRepair-slot, IsNewRepair, IsRepair-new, IsRepair-undue, IsRepair-due, is_due-kept, rows-kept, HaveBothSides-reexecuted, ShowsFewBefore-next, next_action-accepted}
 
 pub AreGenerations-empty : (tables : Tables) → IsCatalog tables → AreGenerations tables [] [] None
@@ -90,12 +91,12 @@ shows-side t G table Next current next = next
 -- ---- an action is added
 
 -- what an action that is carried out at the next time leaves, answers and writes
-pub record IsNextSlot (W : Slots) (action : List Write) (run : ActionRun) : Type 0 where
+pub record IsNextSlot (W : Slots) (action : Action) (run : ActionRun) : Type 0 where
   pub rows : CurrentAgrees run.rows (row_writes (W ++ Some action ∷ []) (length (W ++ Some action ∷ [])))
   pub replies : run.replies ≡ replies_of action (last_content W)
-  pub rows_written : run.rows_written ≡ rows_of_action action (last_content W)
+  pub touched : run.rows_touched ≡ rows_touched action (last_content W)
 
-pub IsNextSlot-run : (W : Slots) (action : List Write) (before : TablesByPosition) (run : ActionRun) (time : ℕ) → CurrentAgrees before (row_writes W (length W)) → time ≡ length W + 1
+pub IsNextSlot-run : (W : Slots) (action : Action) (before : TablesByPosition) (run : ActionRun) (time : ℕ) → CurrentAgrees before (row_writes W (length W)) → time ≡ length W + 1
     → CarriesOutAction time action before run → IsNextSlot W action run
 IsNextSlot-run W action before run time rows at carries =
     let n = length W in
@@ -103,35 +104,35 @@ IsNextSlot-run W action before run time rows at carries =
     let done = carries vs rows in
     let now : time ≡ suc n = omega (arith, at) in
     let now_content : content_at vs time ≡ last_content W = last_content_stays W n time (omega (arith, at)) in
-    let steps : CurrentAgrees run.rows (vs ++ step_writes (suc n) action (last_content W)) = subst (CurrentAgrees run.rows) (λ i. vs ++ step_writes (now i) action (now_content i)) done.rows in
-    let written = CurrentAgrees-action run.rows vs (suc n) action (last_content W) (λ t. rows_rise vs n t) (λ u later. last_content_stays W n u (omega (arith, later))) steps in
+    let steps : CurrentAgrees run.rows (vs ++ step_writes (suc n) (kept action (last_content W)) (last_content W)) = subst (CurrentAgrees run.rows) (λ i. vs ++ step_writes (now i) (kept action (now_content i)) (now_content i)) done.rows in
+    let added = CurrentAgrees-writes run.rows vs (suc n) (kept action (last_content W)) (last_content W) (λ t. rows_rise vs n t) (λ u later. last_content_stays W n u (omega (arith, later))) steps in
     let next : length (W ++ Some action ∷ []) ≡ suc n = omega (arith, length-append W (Some action ∷ [])) in
     let same = ap (row_writes (W ++ Some action ∷ [])) next ∙ (slots_follow W (Some action)).1 in
     record {
-      rows = subst (CurrentAgrees run.rows) (sym same) written;
+      rows = subst (CurrentAgrees run.rows) (sym same) added;
       replies = done.replies ∙ ap (replies_of action) now_content;
-      rows_written = done.rows_written ∙ ap (rows_of_action action) now_content;
+      touched = done.touched ∙ ap (rows_touched action) now_content;
     }
 
 pub phase-with_slot : (k : KeptSlot) (repair : Option Repair) → phase_of (repair_with_slot k repair) ≡ phase_of repair
 phase-with_slot k None = refl
 phase-with_slot k (Some r) = refl
 
-under_way-with_slot : (tables : Tables) (W : Slots) (s : Option (List Write)) (k : KeptSlot) (repair : Option Repair) → k ≡ kept_slot (W ++ s ∷ []) (length W) → IsRepairIfAny tables W repair
+under_way-with_slot : (tables : Tables) (W : Slots) (s : Option Action) (k : KeptSlot) (repair : Option Repair) → k ≡ kept_slot (W ++ s ∷ []) (length W) → IsRepairIfAny tables W repair
     → IsRepairIfAny tables (W ++ s ∷ []) (repair_with_slot k repair)
 under_way-with_slot tables W s k None last is = tt
 under_way-with_slot tables W s k (Some r) last is = IsRepair-slot tables W s r _ k is last refl
 
 -- an action was carried out on tables as the slot of a time, of which this is kept
-pub record IsSlotOfRun (time : ℕ) (action : List Write) (before : TablesByPosition) (run : ActionRun) (k : KeptSlot) : Type 0 where
+pub record IsSlotOfRun (time : ℕ) (action : Action) (before : TablesByPosition) (run : ActionRun) (k : KeptSlot) : Type 0 where
   pub carries : CarriesOutAction time action before run
   pub keeps : KeepsSplitRows before run.rows
   pub is_action : k.slot.action ≡ Some action
   pub replies : k.slot.replies ≡ Some run.replies
-  pub rows : k.rows ≡ run.rows_written
+  pub rows : k.rows ≡ run.rows_touched
 
-pub AreGenerations-action : (tables : Tables) (kept : List KeptSlot) (before : TablesByPosition) (repair : Option Repair) (action : List Write) (run : ActionRun) (k : KeptSlot) (time : ℕ)
-    → AreGenerations tables kept before repair → action_fault tables action ≡ None → length kept < max_slots → time ≡ length kept + 1 → IsSlotOfRun time action before run k
+pub AreGenerations-action : (tables : Tables) (kept : List KeptSlot) (before : TablesByPosition) (repair : Option Repair) (action : Action) (run : ActionRun) (k : KeptSlot) (time : ℕ)
+    → AreGenerations tables kept before repair → action_fault tables action.writes ≡ None → length kept < max_slots → time ≡ length kept + 1 → IsSlotOfRun time action before run k
     → AreGenerations tables (kept ++ k ∷ []) run.rows (repair_with_slot k repair)
 AreGenerations-action tables kept before repair action run k time are accepted room at slot = record {
   catalog = are.catalog;
@@ -160,7 +161,7 @@ AreGenerations-action tables kept before repair action run k time are accepted r
     next = IsNextSlot-run W action before run time are.rows.current (omega (arith, at, many)) slot.carries
 
     last : k ≡ kept_slot (W ++ Some action ∷ []) (length W)
-    last = kept_slot-last W (Some action) k slot.is_action (slot.replies ∙ ap Some next.replies) (slot.rows ∙ next.rows_written)
+    last = kept_slot-last W (Some action) k slot.is_action (slot.replies ∙ ap Some next.replies) (slot.rows ∙ next.touched)
 
 -- ---- a repair begins
 
@@ -188,11 +189,11 @@ reexecuted-within tables W E (suc n) = by (is_due tables W E n) refl (reexecuted
     by true due few = omega (arith, due_slots_are_reexecuted tables W E n due, few)
     by false due few = omega (arith, undue_slots_are_not_reexecuted tables W E n due, few)
 
-keys-if_any : (tables : Tables) (s : Option (List Write)) → IsCatalog tables → IsAccepted tables s → HasKeysIfAny s
+keys-if_any : (tables : Tables) (s : Option Action) → IsCatalog tables → IsAccepted tables s → HasKeysIfAny s
 keys-if_any tables None catalog is = tt
-keys-if_any tables (Some action) catalog is = accepted_actions_have_keys tables action catalog is
+keys-if_any tables (Some action) catalog is = accepted_actions_have_keys tables action.writes catalog is
 
--- the tables of the rows that an accepted action writes are there
+-- the tables of the rows that an accepted action touches are there
 abbrev IsInCatalog : Tables → RowId → Type 0
 IsInCatalog tables r = r.table < length tables
 
@@ -205,19 +206,19 @@ tables-effect : (tables : Tables) (table : ℕ) (es : List (ℤ × Option Row)) 
 tables-effect tables table [] h = All-nil (IsInCatalog tables)
 tables-effect tables table (e ∷ es) h = All-cons (IsInCatalog tables) (record { table = table; key = e.0 }) _ h (tables-effect tables table es h)
 
-tables-action : (tables : Tables) (ws : List Write) (X : Content) → first_write_fault tables ws ≡ None → All (IsInCatalog tables) (rows_of_action ws X)
-tables-action tables [] X h = All-nil (IsInCatalog tables)
-tables-action tables (w ∷ ws) X h = by (write_fault tables w) refl h (tables-action tables ws (content_after_write w X))
+tables-writes : (tables : Tables) (ws : List Write) (X : Content) → first_write_fault tables ws ≡ None → All (IsInCatalog tables) (rows_of_writes ws X)
+tables-writes tables [] X h = All-nil (IsInCatalog tables)
+tables-writes tables (w ∷ ws) X h = by (write_fault tables w) refl h (tables-writes tables ws (content_after_write w X))
   where
     by : (o : Option CheckError) → write_fault tables w ≡ o → option_or o (first_write_fault tables ws) ≡ None
-        → (first_write_fault tables ws ≡ None → All (IsInCatalog tables) (rows_of_action ws (content_after_write w X)))
-        → All (IsInCatalog tables) (rows_of_action (w ∷ ws) X)
+        → (first_write_fault tables ws ≡ None → All (IsInCatalog tables) (rows_of_writes ws (content_after_write w X)))
+        → All (IsInCatalog tables) (rows_of_writes (w ∷ ws) X)
     by None at g rest = All-append (IsInCatalog tables) (rows_of_write w X) _ (tables-effect tables (table_of w) (effect w X) (table-written tables w at)) (rest g)
     by (Some e) at g rest = cc
 
-tables-slot : (tables : Tables) (s : Option (List Write)) (X : Content) → IsAccepted tables s → All (IsInCatalog tables) (slot_rows_written s X)
+tables-slot : (tables : Tables) (s : Option Action) (X : Content) → IsAccepted tables s → All (IsInCatalog tables) (slot_rows_touched s X)
 tables-slot tables None X is = All-nil (IsInCatalog tables)
-tables-slot tables (Some action) X is = tables-action tables action X (first_fault-accepted tables action is).1
+tables-slot tables (Some action) X is = tables-writes tables (tried action X) X (first_fault-tried tables action X (first_fault-accepted tables action.writes is).1)
 
 -- what is known of the next slot of a repair
 pub record IsAtSlot (tables : Tables) (kept : List KeptSlot) (versions : TablesByPosition) (r : Repair) (k : KeptSlot) : Type 0 where
@@ -228,7 +229,7 @@ pub record IsAtSlot (tables : Tables) (kept : List KeptSlot) (versions : TablesB
   pub there : r.done < length r.slots
   pub catalog : r.dirty.catalog ≡ tables
   pub keyed : HasKeysIfAny k.slot.action
-  pub written : All (λ (row : RowId). row.table < length tables) k.rows
+  pub touched : All (λ (row : RowId). row.table < length tables) k.rows
   pub accepted : IsAccepted tables (next_action r k)
   pub shows : ShowsFewBefore versions (r.done + 1) k.rows
   pub due : is_kept_due r k ≡ is_due tables (actions_of kept) r.edits r.done
@@ -252,7 +253,7 @@ IsAtSlot-next tables kept versions r k are found inside =
       there = omega (arith, left, repair.slots.as_many);
       catalog = repair.catalog;
       keyed = subst (λ (j : KeptSlot). HasKeysIfAny j.slot.action) (sym is) (keys-if_any tables (slot_after W r.done) are.catalog (AreAccepted-at tables W are.accepted r.done));
-      written = subst (λ (j : KeptSlot). All (IsInCatalog tables) j.rows) (sym is) (tables-slot tables (slot_after W r.done) (content_of W r.done) (AreAccepted-at tables W are.accepted r.done));
+      touched = subst (λ (j : KeptSlot). All (IsInCatalog tables) j.rows) (sym is) (tables-slot tables (slot_after W r.done) (content_of W r.done) (AreAccepted-at tables W are.accepted r.done));
       accepted = subst (λ (j : KeptSlot). IsAccepted tables (next_action r j)) (sym is) (next_action-accepted tables W r repair left are.accepted);
       shows = subst (λ (j : KeptSlot). ShowsFewBefore versions (r.done + 1) j.rows) (sym is) (ShowsFewBefore-next versions tables W r repair left (omega (arith, many, are.few)) are.accepted are.rows);
       due = subst (λ (j : KeptSlot). is_kept_due r j ≡ is_due tables W r.edits r.done) (sym is) (is_due-kept tables W r repair left);
@@ -302,12 +303,12 @@ AreGenerations-due tables kept before versions r after k are at due done redoes 
     is_due_slot : is_due tables (actions_of kept) r.edits r.done ≡ true
     is_due_slot = sym at.due ∙ due
 
-    pairs : k.rows ≡ slot_rows_written (slot_after W r.done) (content_after W r.done)
+    pairs : k.rows ≡ slot_rows_touched (slot_after W r.done) (content_after W r.done)
     pairs = ap (λ (j : KeptSlot). j.rows) at.is ∙ rows-kept W r.done (omega (arith, at.left))
 
     shows : ShowsContentBefore before (r.done + 1) X k.rows
     shows = subst (ShowsContentBefore before (r.done + 1) X) (sym pairs)
-        (subst (λ m. ShowsContentBefore before m X (slot_rows_written (slot_after W r.done) (content_after W r.done))) (omega arith) (ShowsContentBefore-next before tables W r.edits r.done at.left are.rows))
+        (subst (λ m. ShowsContentBefore before m X (slot_rows_touched (slot_after W r.done) (content_after W r.done))) (omega arith) (ShowsContentBefore-next before tables W r.edits r.done at.left are.rows))
 
     reexecuted : HasReexecutedSlot r (kept_slot W r.done) before after versions X
     reexecuted = subst (λ (j : KeptSlot). HasReexecutedSlot r j before after versions X) at.is (redoes X shows)

@@ -4,7 +4,7 @@ use Rattle.std.proofs.lemmas.Bool.Decides.{nat_tests}
 use Rattle.std.proofs.lemmas.List.{length-map, map-append}
 use Rattle.std.proofs.lemmas.List.Elements.{All-nil, All-cons, recursion_from_All}
 use Rattle.std.specs.List.{All, AllByRecursion}
-use Rattle.tt_values.specs.declared.statement.Write.{Write}
+use Rattle.tt_values.specs.declared.action.Action.{Action}
 use Rattle.tt_values.specs.Content.{Content}
 use Rattle.tt_values.specs.RowWrites.{Slots, slot_after, slot_replies, content_of}
 use Rattle.tt_values.proofs.LawProofs.{added_slot_leaves_past, earlier_slots_stay, added_slot_is_next}
@@ -12,7 +12,7 @@ use Rattle.tt_repair_laws.specs.declared.edit.Edit.{Edit}
 use Rattle.tt_repair_laws.specs.declared.edit.Edit.TheVariants.{Cancel, Replace}
 use Rattle.tt_repair_laws.specs.Edits.{edit_of, edited_slots, edited_slots_from, slot_with_edit, slot_number, HasNoFault}
 use Rattle.tt_values.specs.Tables.{Tables}
-use Rattle.tt_repair_laws.specs.Due.{content_after, is_due, slot_rows_written}
+use Rattle.tt_repair_laws.specs.Due.{content_after, is_due, slot_rows_touched}
 use Rattle.tt_repair_laws.proofs.LawProofs.{edited_slots_are_as_many, later_slots_stay, no_affected_slot_is_missed, content_after_is_kept}
 use Rattle.tt_generations.specs.declared.slot.KeptSlot.{KeptSlot}
 use Rattle.tt_generations.specs.KeptSlots.{last_content, kept_slot, actions_of, AreKept, IsAccepted, AreAccepted}
@@ -71,21 +71,21 @@ AreKept-set kept at next n p k are inside same new = record {
     by i h false e = slice_get-set_other kept p k i e ∙ are.each i h ∙ ap Some (same i h e)
 
 -- the earlier slots are kept as they were
-pub kept_slot-append : (W : Slots) (s : Option (List Write)) (n : ℕ) → n < length W → kept_slot W n ≡ kept_slot (W ++ s ∷ []) n
+pub kept_slot-append : (W : Slots) (s : Option Action) (n : ℕ) → n < length W → kept_slot W n ≡ kept_slot (W ++ s ∷ []) n
 kept_slot-append W s n h =
     let slot = sym (earlier_slots_stay W (s ∷ []) n h) in
     let content = sym (added_slot_leaves_past W s n (omega arith)) in
-    λ i. record { slot = record { action = slot i; replies = slot_replies (slot i) (content i) }; rows = slot_rows_written (slot i) (content i) }
+    λ i. record { slot = record { action = slot i; replies = slot_replies (slot i) (content i) }; rows = slot_rows_touched (slot i) (content i) }
 
 -- what is kept of a slot with this action, by its replies and its rows
-pub kept_slot-is : (W : Slots) (n : ℕ) (s : Option (List Write)) (X : Content) (k : KeptSlot) → slot_after W n ≡ s → content_of W n ≡ X
-    → k.slot.action ≡ s → k.slot.replies ≡ slot_replies s X → k.rows ≡ slot_rows_written s X → k ≡ kept_slot W n
+pub kept_slot-is : (W : Slots) (n : ℕ) (s : Option Action) (X : Content) (k : KeptSlot) → slot_after W n ≡ s → content_of W n ≡ X
+    → k.slot.action ≡ s → k.slot.replies ≡ slot_replies s X → k.rows ≡ slot_rows_touched s X → k ≡ kept_slot W n
 kept_slot-is W n s X k slot content action replies rows =
     (λ i. record { slot = record { action = action i; replies = replies i }; rows = rows i })
-    ∙ (λ i. record { slot = record { action = sym slot i; replies = slot_replies (sym slot i) (sym content i) }; rows = slot_rows_written (sym slot i) (sym content i) })
+    ∙ (λ i. record { slot = record { action = sym slot i; replies = slot_replies (sym slot i) (sym content i) }; rows = slot_rows_touched (sym slot i) (sym content i) })
 
 -- a new slot is the last
-pub kept_slot-last : (W : Slots) (s : Option (List Write)) (k : KeptSlot) → k.slot.action ≡ s → k.slot.replies ≡ slot_replies s (last_content W) → k.rows ≡ slot_rows_written s (last_content W)
+pub kept_slot-last : (W : Slots) (s : Option Action) (k : KeptSlot) → k.slot.action ≡ s → k.slot.replies ≡ slot_replies s (last_content W) → k.rows ≡ slot_rows_touched s (last_content W)
     → k ≡ kept_slot (W ++ s ∷ []) (length W)
 kept_slot-last W s k = kept_slot-is (W ++ s ∷ []) (length W) s (last_content W) k (added_slot_is_next W s) (added_slot_leaves_past W s (length W) (omega arith))
 
@@ -105,14 +105,14 @@ pub no_later_edit : (W : Slots) (E : List Edit) → All (NamesSlot W) E → (t :
 no_later_edit W E all = no_later_edit-each W E (recursion_from_All (NamesSlot W) E all)
 
 -- slots that are named stay there
-NamesSlot-append : (W : Slots) (s : Option (List Write)) (e : Edit) → NamesSlot W e → NamesSlot (W ++ s ∷ []) e
+NamesSlot-append : (W : Slots) (s : Option Action) (e : Edit) → NamesSlot W e → NamesSlot (W ++ s ∷ []) e
 NamesSlot-append W s e names = (names.0, omega (arith, names.1, length-append W (s ∷ [])))
 
-named-each : (W : Slots) (s : Option (List Write)) (E : List Edit) → AllByRecursion (NamesSlot W) E → All (NamesSlot (W ++ s ∷ [])) E
+named-each : (W : Slots) (s : Option Action) (E : List Edit) → AllByRecursion (NamesSlot W) E → All (NamesSlot (W ++ s ∷ [])) E
 named-each W s [] all = All-nil (NamesSlot (W ++ s ∷ []))
 named-each W s (e ∷ E) all = All-cons (NamesSlot (W ++ s ∷ [])) e E (NamesSlot-append W s e all.0) (named-each W s E all.1)
 
-pub named-append : (W : Slots) (s : Option (List Write)) (E : List Edit) → All (NamesSlot W) E → All (NamesSlot (W ++ s ∷ [])) E
+pub named-append : (W : Slots) (s : Option Action) (E : List Edit) → All (NamesSlot W) E → All (NamesSlot (W ++ s ∷ [])) E
 named-append W s E all = named-each W s E (recursion_from_All (NamesSlot W) E all)
 
 -- the edited slots are accepted where the slots and the edits are
@@ -124,14 +124,14 @@ accepted-at tables (s ∷ W) all (suc n) = accepted-at tables W all.1 n
 pub AreAccepted-at : (tables : Tables) (W : Slots) → AreAccepted tables W → (n : ℕ) → IsAccepted tables (slot_after W n)
 AreAccepted-at tables W all = accepted-at tables W (recursion_from_All (IsAccepted tables) W all)
 
-accepted-push : (tables : Tables) (W : Slots) (s : Option (List Write)) → AllByRecursion (IsAccepted tables) W → IsAccepted tables s → All (IsAccepted tables) (W ++ s ∷ [])
+accepted-push : (tables : Tables) (W : Slots) (s : Option Action) → AllByRecursion (IsAccepted tables) W → IsAccepted tables s → All (IsAccepted tables) (W ++ s ∷ [])
 accepted-push tables [] s all is = All-cons (IsAccepted tables) s [] is (All-nil (IsAccepted tables))
 accepted-push tables (x ∷ W) s all is = All-cons (IsAccepted tables) x (W ++ s ∷ []) all.0 (accepted-push tables W s all.1 is)
 
-pub AreAccepted-push : (tables : Tables) (W : Slots) (s : Option (List Write)) → AreAccepted tables W → IsAccepted tables s → AreAccepted tables (W ++ s ∷ [])
+pub AreAccepted-push : (tables : Tables) (W : Slots) (s : Option Action) → AreAccepted tables W → IsAccepted tables s → AreAccepted tables (W ++ s ∷ [])
 AreAccepted-push tables W s all = accepted-push tables W s (recursion_from_All (IsAccepted tables) W all)
 
-accepted_edit : (tables : Tables) (E : List Edit) (t : ℕ) (s : Option (List Write)) → AllByRecursion (HasNoFault tables) E → IsAccepted tables s → IsAccepted tables (slot_with_edit (edit_of E t) s)
+accepted_edit : (tables : Tables) (E : List Edit) (t : ℕ) (s : Option Action) → AllByRecursion (HasNoFault tables) E → IsAccepted tables s → IsAccepted tables (slot_with_edit (edit_of E t) s)
 accepted_edit tables [] t s all is = is
 accepted_edit tables (Cancel n ∷ E) t s all is = by (n == t) (accepted_edit tables E t s all.1 is)
   where
@@ -152,16 +152,16 @@ pub AreAccepted-edited : (tables : Tables) (W : Slots) (E : List Edit) → AreAc
 AreAccepted-edited tables W E all edits = accepted_from tables 1 W E (recursion_from_All (IsAccepted tables) W all) (recursion_from_All (HasNoFault tables) E edits)
 
 -- slots that are added stay behind the edited ones
-pub edited-append : (W : Slots) (s : Option (List Write)) (E : List Edit) → All (NamesSlot W) E → edited_slots (W ++ s ∷ []) E ≡ edited_slots W E ++ s ∷ []
+pub edited-append : (W : Slots) (s : Option Action) (E : List Edit) → All (NamesSlot W) E → edited_slots (W ++ s ∷ []) E ≡ edited_slots W E ++ s ∷ []
 edited-append W s E named = later_slots_stay W (s ∷ []) E (no_later_edit W E named)
 
-pub next_kept_slot-append : (W : Slots) (s : Option (List Write)) (E : List Edit) (n i : ℕ) → All (NamesSlot W) E → i < length W → next_kept_slot W E n i ≡ next_kept_slot (W ++ s ∷ []) E n i
+pub next_kept_slot-append : (W : Slots) (s : Option Action) (E : List Edit) (n i : ℕ) → All (NamesSlot W) E → i < length W → next_kept_slot W E n i ≡ next_kept_slot (W ++ s ∷ []) E n i
 next_kept_slot-append W s E n i named h =
     let edited : kept_slot (edited_slots W E) i ≡ kept_slot (edited_slots (W ++ s ∷ []) E) i =
     kept_slot-append (edited_slots W E) s i (omega (arith, h, edited_slots_are_as_many W E)) ∙ ap (λ V. kept_slot V i) (sym (edited-append W s E named)) in
     λ j. if nat_lt i n then edited j else kept_slot-append W s i h j
 
-pub next_kept_slot-last : (W : Slots) (s : Option (List Write)) (E : List Edit) (n : ℕ) → n ≤ length W → kept_slot (W ++ s ∷ []) (length W) ≡ next_kept_slot (W ++ s ∷ []) E n (length W)
+pub next_kept_slot-last : (W : Slots) (s : Option Action) (E : List Edit) (n : ℕ) → n ≤ length W → kept_slot (W ++ s ∷ []) (length W) ≡ next_kept_slot (W ++ s ∷ []) E n (length W)
 next_kept_slot-last W s E n h = by (nat_lt (length W) n) refl
   where
     by : (b : Bool) → nat_lt (length W) n ≡ b → kept_slot (W ++ s ∷ []) (length W) ≡ (if b then kept_slot (edited_slots (W ++ s ∷ []) E) (length W) else kept_slot (W ++ s ∷ []) (length W))
@@ -198,7 +198,7 @@ kept_slot-undue tables W E n h undue =
     let edited = content_after_is_kept V n (omega (arith, h, edited_slots_are_as_many W E)) in
     kept_slot-is V n (slot_after V n) (content_after V n) (kept_slot W n) refl edited (sym same.slot)
     (ap (slot_replies (slot_after W n)) now ∙ sym same.replies)
-    (ap (slot_rows_written (slot_after W n)) now ∙ sym same.rows)
+    (ap (slot_rows_touched (slot_after W n)) now ∙ sym same.touched)
 
 -- once all are done, the slots are the edited ones
 slots-equal : (xs ys : Slots) → length xs ≡ length ys → ((i : ℕ) → i < length xs → slot_after xs i ≡ slot_after ys i) → xs ≡ ys

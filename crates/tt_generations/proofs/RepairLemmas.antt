@@ -11,6 +11,7 @@ use Rattle.std.proofs.lemmas.List.Sums.{fold-append}
 use Rattle.std.proofs.lemmas.List.Elements.{All-nil, All-cons, All-head, All-tail, All-append}
 use Rattle.tt_values.specs.declared.row.Row.{Row}
 use Rattle.tt_values.specs.declared.statement.Write.{Write}
+use Rattle.tt_values.specs.declared.action.Action.{Action}
 use Rattle.tt_values.specs.declared.statement.Write.TheVariants.{Insert, Update, Delete}
 use Rattle.tt_values.specs.declared.table.Column.{Column}
 use Rattle.tt_values.specs.declared.table.TableDef.{TableDef}
@@ -22,7 +23,7 @@ use Rattle.tt_values.specs.Tables.{Tables, IsCatalog, columns_at}
 use Rattle.tt_values.specs.Check.{HasKey, fault_on, write_fault, first_write_fault, action_fault}
 use Rattle.tt_values.specs.Content.{RowsByKey, Content, row_at}
 use Rattle.tt_values.specs.Effect.{matching_rows}
-use Rattle.tt_values.specs.Action.{content_after_write, content_after_action, replies_of, rows_of_action}
+use Rattle.tt_values.specs.Action.{content_after_write, content_after_action, replies_of, rows_touched, has_no_effect, up_to_no_effect, tried}
 use Rattle.tt_values.specs.RowWrites.{slot_replies}
 use Rattle.tt_values.proofs.LawProofs.{accepted_actions_have_keys}
 use Rattle.tt_versions.specs.declared.side.Side.TheVariants.{Next}
@@ -31,7 +32,7 @@ use Rattle.tt_parts.specs.declared.partition.Partition.{Partition}
 use Rattle.tt_parts.specs.Partitions.{key_partition, is_same_partition}
 use Rattle.tt_parts.specs.Dirty.{DirtySet, DirtyTables, SameMembers, columns_in, is_row_in, parts_if, with_row, with_row_in}
 use Rattle.tt_parts.proofs.LawProofs.{same_members_with_row}
-use Rattle.tt_repair_laws.specs.Due.{rows_matched, action_rows_matched, slot_rows_matched, with_row_of, slot_rows_written}
+use Rattle.tt_repair_laws.specs.Due.{rows_matched, rows_matched_by, slot_rows_matched, with_row_of, slot_rows_touched}
 use Rattle.tt_values.specs.declared.row_id.RowId.{RowId}
 use Rattle.tt_generations.specs.declared.slot.KeptSlot.{KeptSlot}
 use Rattle.tt_generations.specs.declared.reexecution.Reexecution.{Reexecution}
@@ -40,24 +41,24 @@ use Rattle.tt_generations.specs.Rows.{TablesByPosition, versions_at}
 use Rattle.tt_generations.specs.KeptSlots.{IsAccepted}
 use Rattle.tt_generations.specs.Replies.{replies_if}
 use Rattle.tt_generations.specs.Reexecution.{ShowsContentBefore, AreReexecuted, Reexecutes, ShowsFewBefore}
-use Rattle.tt_generations.specs.Repair.{next_action, writes_of, is_same_row, MayRepeat, with_rows_shown, ReexecutesSlot}
+use Rattle.tt_generations.specs.Repair.{next_action, as_action, is_same_row, MayRepeat, with_rows_shown, ReexecutesSlot}
 
 itself : (n : ℕ) → (n == n) ≡ true
 itself n = grind (arith, nat_tests)
 
--- ---- the writes of a slot, and of none where it is cancelled
+-- ---- the action of a slot, and the one of no writes where it is cancelled
 
-replies-of_writes : (action : Option (List Write)) (X : Content) → replies_if action (replies_of (writes_of action) X) ≡ slot_replies action X
-replies-of_writes None X = refl
-replies-of_writes (Some action) X = refl
+replies-of_action : (action : Option Action) (X : Content) → replies_if action (replies_of (as_action action) X) ≡ slot_replies action X
+replies-of_action None X = refl
+replies-of_action (Some action) X = refl
 
-written-of_writes : (action : Option (List Write)) (X : Content) → rows_of_action (writes_of action) X ≡ slot_rows_written action X
-written-of_writes None X = refl
-written-of_writes (Some action) X = refl
+touched-of_action : (action : Option Action) (X : Content) → rows_touched (as_action action) X ≡ slot_rows_touched action X
+touched-of_action None X = refl
+touched-of_action (Some action) X = refl
 
-matched-of_writes : (action : Option (List Write)) (X : Content) → action_rows_matched (writes_of action) X ≡ slot_rows_matched action X
-matched-of_writes None X = refl
-matched-of_writes (Some action) X = refl
+matched-of_action : (action : Option Action) (X : Content) → rows_matched_by (tried (as_action action) X) X ≡ slot_rows_matched action X
+matched-of_action None X = refl
+matched-of_action (Some action) X = refl
 
 -- ---- an action without a fault
 
@@ -70,14 +71,14 @@ first_fault-accepted tables ws h = by (nat_lt max_writes (length ws)) refl h
     by true many g = cc
     by false few g = (grind (arith, nat_tests), g)
 
-pub few_writes-accepted : (tables : Tables) (action : Option (List Write)) → IsAccepted tables action → length (writes_of action) ≤ max_writes
+pub few_writes-accepted : (tables : Tables) (action : Option Action) → IsAccepted tables action → length (as_action action).writes ≤ max_writes
 few_writes-accepted tables None h = omega arith
-few_writes-accepted tables (Some action) h = (first_fault-accepted tables action h).0
+few_writes-accepted tables (Some action) h = (first_fault-accepted tables action.writes h).0
 
 -- each of whose inserts has a key
-pub keyed-accepted : (tables : Tables) (action : Option (List Write)) → IsCatalog tables → IsAccepted tables action → All HasKey (writes_of action)
+pub keyed-accepted : (tables : Tables) (action : Option Action) → IsCatalog tables → IsAccepted tables action → All HasKey (as_action action).writes
 keyed-accepted tables None catalog h = All-nil HasKey
-keyed-accepted tables (Some action) catalog h = accepted_actions_have_keys tables action catalog h
+keyed-accepted tables (Some action) catalog h = accepted_actions_have_keys tables action.writes catalog h
 
 -- and whose tables are there
 abbrev IsInTables : Tables → RowId → Type 0
@@ -100,26 +101,52 @@ tables-matched tables (Insert table row) X h =
 tables-matched tables (Update table changes equals) X h = tables-of_rows tables table (matching_rows equals (X table)) (table-faultless tables table _ h)
 tables-matched tables (Delete table equals) X h = tables-of_rows tables table (matching_rows equals (X table)) (table-faultless tables table _ h)
 
-tables-all_matched : (tables : Tables) (ws : List Write) (X : Content) → first_write_fault tables ws ≡ None → All (IsInTables tables) (action_rows_matched ws X)
+tables-all_matched : (tables : Tables) (ws : List Write) (X : Content) → first_write_fault tables ws ≡ None → All (IsInTables tables) (rows_matched_by ws X)
 tables-all_matched tables [] X h = All-nil (IsInTables tables)
 tables-all_matched tables (w ∷ ws) X h = by (write_fault tables w) refl h (tables-all_matched tables ws (content_after_write w X))
   where
     by : (o : Option CheckError) → write_fault tables w ≡ o → option_or o (first_write_fault tables ws) ≡ None
-        → (first_write_fault tables ws ≡ None → All (IsInTables tables) (action_rows_matched ws (content_after_write w X)))
-        → All (IsInTables tables) (action_rows_matched (w ∷ ws) X)
+        → (first_write_fault tables ws ≡ None → All (IsInTables tables) (rows_matched_by ws (content_after_write w X)))
+        → All (IsInTables tables) (rows_matched_by (w ∷ ws) X)
     by None at g rest = All-append (IsInTables tables) (rows_matched w X) _ (tables-matched tables w X at) (rest g)
     by (Some e) at g rest = cc
 
-tables-accepted : (tables : Tables) (action : Option (List Write)) (X : Content) → IsAccepted tables action → All (IsInTables tables) (action_rows_matched (writes_of action) X)
-tables-accepted tables None X h = All-nil (IsInTables tables)
-tables-accepted tables (Some action) X h = tables-all_matched tables action X (first_fault-accepted tables action h).1
+-- so are the tables of the rows that its writes match as far as they are carried out
+first_faults-none : (tables : Tables) (w : Write) (ws : List Write) → first_write_fault tables (w ∷ ws) ≡ None → (write_fault tables w ≡ None) × (first_write_fault tables ws ≡ None)
+first_faults-none tables w ws h = by (write_fault tables w) refl h
+  where
+    by : (o : Option CheckError) → write_fault tables w ≡ o → option_or o (first_write_fault tables ws) ≡ None → (write_fault tables w ≡ None) × (first_write_fault tables ws ≡ None)
+    by None at g = (at, g)
+    by (Some e) at g = cc
 
--- so the tables of all rows are that a slot wrote and that its action matches
-tables-reexecuted : (tables : Tables) (written reexecuted : List RowId) (action : Option (List Write)) (X : Content) → All (λ r. r.table < length tables) written → IsAccepted tables action
-    → reexecuted ≡ written ++ action_rows_matched (writes_of action) X → All (λ r. r.table < length tables) reexecuted
-tables-reexecuted tables written reexecuted action X there h is =
+first_fault-up_to : (tables : Tables) (ws : List Write) (X : Content) → first_write_fault tables ws ≡ None → first_write_fault tables (up_to_no_effect ws X) ≡ None
+first_fault-up_to tables [] X h = refl
+first_fault-up_to tables (w ∷ ws) X h =
+    let both = first_faults-none tables w ws h in
+    ap (λ o. option_or o (first_write_fault tables (if has_no_effect w X then [] else up_to_no_effect ws (content_after_write w X)))) both.0
+    ∙ by (has_no_effect w X) (first_fault-up_to tables ws (content_after_write w X) both.1)
+  where
+    by : (b : Bool) → first_write_fault tables (up_to_no_effect ws (content_after_write w X)) ≡ None → first_write_fault tables (if b then [] else up_to_no_effect ws (content_after_write w X)) ≡ None
+    by true rest = refl
+    by false rest = rest
+
+pub first_fault-tried : (tables : Tables) (a : Action) (X : Content) → first_write_fault tables a.writes ≡ None → first_write_fault tables (tried a X) ≡ None
+first_fault-tried tables a X h = by a.whole
+  where
+    by : (b : Bool) → first_write_fault tables (if b then up_to_no_effect a.writes X else a.writes) ≡ None
+    by true = first_fault-up_to tables a.writes X h
+    by false = h
+
+tables-accepted : (tables : Tables) (action : Option Action) (X : Content) → IsAccepted tables action → All (IsInTables tables) (rows_matched_by (tried (as_action action) X) X)
+tables-accepted tables None X h = All-nil (IsInTables tables)
+tables-accepted tables (Some action) X h = tables-all_matched tables (tried action X) X (first_fault-tried tables action X (first_fault-accepted tables action.writes h).1)
+
+-- so the tables of all rows are that a slot touched and that its action matches
+tables-reexecuted : (tables : Tables) (touched reexecuted : List RowId) (action : Option Action) (X : Content) → All (λ r. r.table < length tables) touched → IsAccepted tables action
+    → reexecuted ≡ touched ++ rows_matched_by (tried (as_action action) X) X → All (λ r. r.table < length tables) reexecuted
+tables-reexecuted tables touched reexecuted action X there h is =
     subst (All (IsInTables tables)) (sym is)
-    (All-append (IsInTables tables) written _ there (tables-accepted tables action X h))
+    (All-append (IsInTables tables) touched _ there (tables-accepted tables action X h))
 
 -- ---- the rows that get dirty
 
@@ -217,7 +244,7 @@ shown-without_repeat d versions rows all time (false, is) = subst (λ (rs : List
 
 -- ---- what the tables show of a row
 
-module _ (before after : TablesByPosition) (n : ℕ) (X Y : Content) (written all : List RowId) (start : ShowsContentBefore before (suc n) X written)
+module _ (before after : TablesByPosition) (n : ℕ) (X Y : Content) (touched all : List RowId) (start : ShowsContentBefore before (suc n) X touched)
     (reexecuted : AreReexecuted before after all (suc n) Y) where
   -- a re-executed row shows the content before just before the slot, and the one after at its time
   shows_before : (t : ℕ) (key : ℤ) → next_of (versions_at after t) key n ≡ row_at (X t) key
@@ -249,12 +276,12 @@ module _ (before after : TablesByPosition) (n : ℕ) (X Y : Content) (written al
       ap (λ C. fold (with_row_shown tables after (suc n)) C rs) (λ i. with_row D t (columns_in tables t) key (first i) (shows_after t key is i))
       ∙ shown-contents tables rs (with_row_of tables X Y D r) (λ u k later. within u k (or_right _ _ later))
 
-dirty-shown : (d : DirtyTables) (before after : TablesByPosition) (time : ℕ) (X Y : Content) (written all : List RowId) (reexecuted : List RowId) → 0 < time
-    → ShowsContentBefore before time X written → AreReexecuted before after all time Y → reexecuted ≡ all
+dirty-shown : (d : DirtyTables) (before after : TablesByPosition) (time : ℕ) (X Y : Content) (touched all : List RowId) (reexecuted : List RowId) → 0 < time
+    → ShowsContentBefore before time X touched → AreReexecuted before after all time Y → reexecuted ≡ all
     → with_rows_shown d after reexecuted time ≡ fold (with_row_of d.catalog X Y) d.dirty all
-dirty-shown d before after zero X Y written all reexecuted h start rows is = let none : ⊥ = omega (arith, h) in absurd none
-dirty-shown d before after (suc n) X Y written all reexecuted h start rows is =
-    shown-contents before after n X Y written all start rows d.catalog reexecuted d.dirty (λ t key in_rows. ap (λ rs. is_row_in rs t key) (sym is) ∙ in_rows)
+dirty-shown d before after zero X Y touched all reexecuted h start rows is = let none : ⊥ = omega (arith, h) in absurd none
+dirty-shown d before after (suc n) X Y touched all reexecuted h start rows is =
+    shown-contents before after n X Y touched all start rows d.catalog reexecuted d.dirty (λ t key in_rows. ap (λ rs. is_row_in rs t key) (sym is) ∙ in_rows)
     ∙ ap (fold (with_row_of d.catalog X Y) d.dirty) is
 
 pub just_before-positive : (time : ℕ) (rows : ℕ → Option Row) → 0 < time → just_before time rows ≡ rows (time - 1)
@@ -280,29 +307,29 @@ shown-step before after versions rows n none table key first last time room cata
 
 -- ---- the next slot is re-executed
 
-pub ReexecutesSlot-done : (r after : Repair) (kept new : KeptSlot) (before : TablesByPosition) (run : Reexecution) → Reexecutes (r.done + 1) kept.rows (writes_of (next_action r kept)) before run
-    → new.slot.action ≡ next_action r kept → new.slot.replies ≡ replies_if (next_action r kept) run.replies → new.rows ≡ run.rows_written → after.slots ≡ slice_set r.slots r.done new
+pub ReexecutesSlot-done : (r after : Repair) (kept new : KeptSlot) (before : TablesByPosition) (run : Reexecution) → Reexecutes (r.done + 1) kept.rows (as_action (next_action r kept)) before run
+    → new.slot.action ≡ next_action r kept → new.slot.replies ≡ replies_if (next_action r kept) run.replies → new.rows ≡ run.rows_touched → after.slots ≡ slice_set r.slots r.done new
     → SameMembers after.dirty.dirty (with_rows_shown r.dirty run.rows run.reexecuted.items (r.done + 1)) → ReexecutesSlot r kept before after run.rows
 ReexecutesSlot-done r after kept new before run reexecutes action replies rows slots dirty X start =
     let next = next_action r kept in
-    let Y = content_after_action (writes_of next) X in
-    let written = kept.rows in
+    let Y = content_after_action (as_action next) X in
+    let touched = kept.rows in
     let has = reexecutes X start in
-    let matched = matched-of_writes next X in
-    let all = subst (λ (rs : List RowId). AreReexecuted before run.rows (written ++ rs) (r.done + 1) Y) matched has.rows in
-    let reexecuted : run.reexecuted.items ≡ written ++ slot_rows_matched next X = has.reexecuted ∙ ap (λ rs. written ++ rs) matched in
-    let answers : new.slot.replies ≡ slot_replies next X = replies ∙ ap (replies_if next) has.replies ∙ replies-of_writes next X in
-    let written_now : new.rows ≡ slot_rows_written next X = rows ∙ has.rows_written ∙ written-of_writes next X in
+    let matched = matched-of_action next X in
+    let all = subst (λ (rs : List RowId). AreReexecuted before run.rows (touched ++ rs) (r.done + 1) Y) matched has.rows in
+    let reexecuted : run.reexecuted.items ≡ touched ++ slot_rows_matched next X = has.reexecuted ∙ ap (λ rs. touched ++ rs) matched in
+    let answers : new.slot.replies ≡ slot_replies next X = replies ∙ ap (replies_if next) has.replies ∙ replies-of_action next X in
+    let touched_now : new.rows ≡ slot_rows_touched next X = rows ∙ has.touched_now ∙ touched-of_action next X in
     record {
       rows = all;
-      slots = slots ∙ (λ i. slice_set r.slots r.done (record { slot = record { action = action i; replies = answers i }; rows = written_now i }));
+      slots = slots ∙ (λ i. slice_set r.slots r.done (record { slot = record { action = action i; replies = answers i }; rows = touched_now i }));
       dirty = subst (SameMembers after.dirty.dirty)
-          (dirty-shown r.dirty before run.rows (r.done + 1) X Y written (written ++ slot_rows_matched next X) run.reexecuted.items (omega arith) start all reexecuted) dirty;
+          (dirty-shown r.dirty before run.rows (r.done + 1) X Y touched (touched ++ slot_rows_matched next X) run.reexecuted.items (omega arith) start all reexecuted) dirty;
     }
 
 -- the tables of the rows that it re-executes are there
 pub tables-of_run : (tables : Tables) (r : Repair) (kept : KeptSlot) (before : TablesByPosition) (run : Reexecution) → All (λ k. k.table < length tables) kept.rows → IsAccepted tables (next_action r kept)
-    → ShowsFewBefore before (r.done + 1) kept.rows → Reexecutes (r.done + 1) kept.rows (writes_of (next_action r kept)) before run
+    → ShowsFewBefore before (r.done + 1) kept.rows → Reexecutes (r.done + 1) kept.rows (as_action (next_action r kept)) before run
     → All (λ k. k.table < length tables) run.reexecuted.items
 tables-of_run tables r kept before run there accepted few reexecutes =
     tables-reexecuted tables kept.rows run.reexecuted.items (next_action r kept) few.content there accepted (reexecutes few.content few.shows).reexecuted

@@ -1,23 +1,23 @@
 -- What a repair keeps, before and after each event.
-use Rattle.std.proofs.Common.{◌≡◌, ℕ, zero, suc, ◌<◌, ◌≤◌, ◌+◌, ◌*◌, Bool, true, false, not, ◌||◌, ◌==◌, nat_lt, ℤ, List, [], ◌∷◌, ◌++◌, fold, length, Option, None, Some, is_some, if◌then◌else◌, refl, sym, ap, subst, ◌∙◌, arith, length-append}
+use Rattle.std.proofs.Common.{◌≡◌, ℕ, zero, suc, ◌<◌, ◌≤◌, ◌+◌, ◌*◌, Bool, true, false, ◌||◌, ◌==◌, nat_lt, ℤ, List, [], ◌∷◌, ◌++◌, fold, length, Option, None, Some, is_some, if◌then◌else◌, refl, sym, ap, subst, ◌∙◌, arith, length-append}
 use Rattle.std.proofs.lemmas.Bool.Decides.{nat_tests}
 use Rattle.std.specs.List.{All, list_any}
 use Rattle.std.specs.Option.{option_map}
-use Rattle.tt_values.specs.declared.statement.Write.{Write}
+use Rattle.tt_values.specs.declared.action.Action.{Action}
 use Rattle.tt_values.specs.declared.checking.CheckError.TheVariants as faults
 use Rattle.tt_values.specs.Tables.{Tables}
 use Rattle.tt_values.specs.Limits.{max_writes}
 use Rattle.tt_values.specs.Check.{first_write_fault}
 use Rattle.tt_values.specs.Content.{Content, with_row_write}
 use Rattle.tt_values.specs.declared.row_id.RowId.{RowId}
-use Rattle.tt_values.specs.Action.{rows_of_action, content_after_action}
+use Rattle.tt_values.specs.Action.{rows_touched, content_after_action}
 use Rattle.tt_values.specs.ActionLaws.{IsByRisingKey}
 use Rattle.tt_values.specs.RowWrites.{Slots, slot_after, slot_writes, slot_replies, row_writes, content_of}
 use Rattle.tt_values.proofs.LawProofs.{rows_rise, next_content, action_leaves_its_last_content}
 use Rattle.tt_parts.specs.Dirty.{DirtySet, DirtyTables, SameMembers, nothing_dirty, has_row}
 use Rattle.tt_repair_laws.specs.declared.edit.Edit.{Edit}
 use Rattle.tt_repair_laws.specs.Edits.{edit_of, edited_slots, slot_with_edit, replacement_of, HasNoFault}
-use Rattle.tt_repair_laws.specs.Due.{content_after, is_due, is_slot_affected, dirty_after, reexecuted_count, rows_reexecuted, slot_rows_written, slot_rows_matched, names_dirty_row, is_write_clear, with_row_of}
+use Rattle.tt_repair_laws.specs.Due.{content_after, is_due, is_slot_affected, dirty_after, reexecuted_count, rows_reexecuted, slot_rows_touched, slot_rows_matched, may_read_dirty, with_row_of}
 use Rattle.tt_repair_laws.specs.Laws.{IsSameRepair}
 use Rattle.tt_repair_laws.proofs.LawProofs.{edited_slots_are_as_many, edited_slot_is_next, later_slots_change_no_repair, content_after_is_kept, due_depends_on_members, dirty_rows_depend_on_members, nothing_is_dirty_at_first, undue_slots_dirty_nothing, due_slots_dirty_reexecuted_rows, no_slot_is_reexecuted_at_first, due_slots_are_reexecuted, undue_slots_are_not_reexecuted}
 use Rattle.tt_generations.specs.declared.slot.KeptSlot.{KeptSlot}
@@ -29,7 +29,7 @@ use Rattle.tt_generations.specs.ActionRun.{most_rows}
 use Rattle.tt_generations.specs.Reexecution.{AreReexecuted, ShowsContentBefore, ShowsFewBefore}
 use Rattle.tt_generations.specs.KeptSlots.{kept_slot, AreKept, IsAccepted, AreAccepted}
 use Rattle.tt_generations.specs.EditsByNumber.{HasEdits}
-use Rattle.tt_generations.specs.Repair.{is_kept_affected, is_kept_due, next_replacement, replaced_by, next_action, writes_of, HasReexecutedSlot, HasDoneDueSlot}
+use Rattle.tt_generations.specs.Repair.{is_kept_affected, is_kept_due, next_replacement, replaced_by, next_action, as_action, HasReexecutedSlot, HasDoneDueSlot}
 use Rattle.tt_generations.specs.TwoGenerations.{NamesSlot, Repairing}
 use Rattle.tt_generations.specs.Generations.{next_kept_slot, IsRepair, HaveBothSides}
 use Rattle.tt_generations.proofs.FewRowsLemmas.{length-after_action}
@@ -41,7 +41,7 @@ next_number n = omega arith
 
 -- ---- a slot that is added
 
-pub IsRepair-slot : (tables : Tables) (W : Slots) (s : Option (List Write)) (r after : Repair) (k : KeptSlot) → IsRepair tables W r → k ≡ kept_slot (W ++ s ∷ []) (length W)
+pub IsRepair-slot : (tables : Tables) (W : Slots) (s : Option Action) (r after : Repair) (k : KeptSlot) → IsRepair tables W r → k ≡ kept_slot (W ++ s ∷ []) (length W)
     → after ≡ record r { slots = r.slots ++ k ∷ [] } → IsRepair tables (W ++ s ∷ []) after
 IsRepair-slot tables W s r after k is last new = subst (IsRepair tables V) (sym new) (record {
   named = named-append W s E is.named;
@@ -126,12 +126,10 @@ IsRepair-undue tables W r after is room undue new = subst (IsRepair tables W) (s
 
 -- ---- whether a slot is due
 
-affected-kept : (tables : Tables) (d : DirtyTables) (s : Option (List Write)) (X : Content) → d.catalog ≡ tables → is_kept_affected d (slot_rows_written s X) s ≡ is_slot_affected tables d.dirty s X
+affected-kept : (tables : Tables) (d : DirtyTables) (s : Option Action) (X : Content) → d.catalog ≡ tables → is_kept_affected d (slot_rows_touched s X) s ≡ is_slot_affected tables d.dirty s X
 affected-kept tables d None X catalog = refl
 affected-kept tables d (Some action) X catalog = λ i.
-    list_any (λ r. has_row d.dirty r.table r.key) (rows_of_action action X)
-    || list_any (names_dirty_row d.dirty) action
-    || list_any (λ w. not (is_write_clear (catalog i) d.dirty w)) action
+    list_any (λ r. has_row d.dirty r.table r.key) (rows_touched action X) || may_read_dirty (catalog i) d.dirty action.writes
 
 is_some-map : {A B : Type 0} (f : A → B) (o : Option A) → is_some (option_map f o) ≡ is_some o
 is_some-map f None = refl
@@ -142,7 +140,7 @@ is_due-kept tables W r is room =
     let n = r.done in
     let edited : is_some (next_replacement r) ≡ is_some (edit_of r.edits (suc n)) =
     ap is_some (is.replacements (n + 1)) ∙ is_some-map (λ e. record { action = replacement_of e }) (edit_of r.edits (n + 1)) ∙ ap (λ t. is_some (edit_of r.edits t)) (next_number n) in
-    let affected : is_kept_affected r.dirty (slot_rows_written (slot_after W n) (content_of W n)) (slot_after W n) ≡ is_slot_affected tables r.dirty.dirty (slot_after W n) (content_after W n) =
+    let affected : is_kept_affected r.dirty (slot_rows_touched (slot_after W n) (content_of W n)) (slot_after W n) ≡ is_slot_affected tables r.dirty.dirty (slot_after W n) (content_after W n) =
     affected-kept tables r.dirty (slot_after W n) (content_of W n) is.catalog
     ∙ ap (is_slot_affected tables r.dirty.dirty (slot_after W n)) (content_after_is_kept W n (omega (arith, room))) in
     (λ i. edited i || affected i) ∙ due_depends_on_members tables W r.edits n r.dirty.dirty (dirty_after tables W r.edits n) is.dirty
@@ -152,7 +150,7 @@ is_due-kept tables W r is room =
 SameMembers-trans : {C D F : DirtySet} → SameMembers C D → SameMembers D F → SameMembers C F
 SameMembers-trans one two = record { rows = λ table key. one.rows table key ∙ two.rows table key; partitions = λ p. one.partitions p ∙ two.partitions p }
 
-replaced-edit : (o : Option Edit) (s : Option (List Write)) → replaced_by (option_map (λ e. record { action = replacement_of e }) o) s ≡ slot_with_edit o s
+replaced-edit : (o : Option Edit) (s : Option Action) → replaced_by (option_map (λ e. record { action = replacement_of e }) o) s ≡ slot_with_edit o s
 replaced-edit None s = refl
 replaced-edit (Some e) s = refl
 
@@ -164,15 +162,15 @@ next_action-is tables W r is room =
     ∙ ap (λ t. slot_with_edit (edit_of r.edits t) (slot_after W n)) (next_number n)
     ∙ sym (edited_slot_is_next W r.edits n room)
 
-pub rows-kept : (W : Slots) (n : ℕ) → n ≤ length W → (kept_slot W n).rows ≡ slot_rows_written (slot_after W n) (content_after W n)
-rows-kept W n h = ap (slot_rows_written (slot_after W n)) (content_after_is_kept W n h)
+pub rows-kept : (W : Slots) (n : ℕ) → n ≤ length W → (kept_slot W n).rows ≡ slot_rows_touched (slot_after W n) (content_after W n)
+rows-kept W n h = ap (slot_rows_touched (slot_after W n)) (content_after_is_kept W n h)
 
--- the content after a slot, by its writes
-after-slot : (s : Option (List Write)) (time : ℕ) (X : Content) → IsByRisingKey X → fold with_row_write X (slot_writes time s X) ≡ content_after_action (writes_of s) X
+-- the content after a slot, by its action
+after-slot : (s : Option Action) (time : ℕ) (X : Content) → IsByRisingKey X → fold with_row_write X (slot_writes time s X) ≡ content_after_action (as_action s) X
 after-slot None time X rising = refl
 after-slot (Some action) time X rising = action_leaves_its_last_content time action X rising
 
-pub content-after_slot : (W : Slots) (n : ℕ) → content_after W (suc n) ≡ content_after_action (writes_of (slot_after W n)) (content_after W n)
+pub content-after_slot : (W : Slots) (n : ℕ) → content_after W (suc n) ≡ content_after_action (as_action (slot_after W n)) (content_after W n)
 content-after_slot W n = next_content W n ∙ after-slot (slot_after W n) (suc n) (content_after W n) (rows_rise (row_writes W n) n)
 
 record ReexecutedBy : Type 0 where
@@ -202,7 +200,7 @@ HaveBothSides-reexecuted before after tables W r next is room due have done = su
     action = next_action-is tables W r is room
 
     by_step : ReexecutedBy
-    by_step = record { rows = (kept_slot W n).rows ++ slot_rows_matched (next_action r (kept_slot W n)) X; time = n + 1; content = content_after_action (writes_of (next_action r (kept_slot W n))) X }
+    by_step = record { rows = (kept_slot W n).rows ++ slot_rows_matched (next_action r (kept_slot W n)) X; time = n + 1; content = content_after_action (as_action (next_action r (kept_slot W n))) X }
 
     by_slot : ReexecutedBy
     by_slot = record { rows = rows_reexecuted W E n; time = suc n; content = content_after V (suc n) }
@@ -211,7 +209,7 @@ HaveBothSides-reexecuted before after tables W r next is room due have done = su
     same = λ i. record {
       rows = rows-kept W n (omega (arith, room)) i ++ slot_rows_matched (action i) X;
       time = next_number n i;
-      content = (ap (λ s. content_after_action (writes_of s) X) action ∙ sym (content-after_slot V n)) i;
+      content = (ap (λ s. content_after_action (as_action s) X) action ∙ sym (content-after_slot V n)) i;
     }
 
 pub IsRepair-due : (tables : Tables) (W : Slots) (r after : Repair) (before left : TablesByPosition) → IsRepair tables W r → r.done < length W → is_due tables W r.edits r.done ≡ true
@@ -243,7 +241,7 @@ IsRepair-due tables W r after before left is room due done reexecuted = record {
     X = content_after V n
 
     Y : Content
-    Y = content_after_action (writes_of (next_action r (kept_slot W n))) X
+    Y = content_after_action (as_action (next_action r (kept_slot W n))) X
 
     rows : List RowId
     rows = (kept_slot W n).rows ++ slot_rows_matched (next_action r (kept_slot W n)) X
@@ -256,24 +254,24 @@ IsRepair-due tables W r after before left is room due done reexecuted = record {
 
     dirty_now : fold (with_row_of r.dirty.catalog X Y) (dirty_after tables W E n) rows ≡ dirty_after tables W after.edits after.done
     dirty_now =
-        (λ i. fold (with_row_of (is.catalog i) X ((ap (λ s. content_after_action (writes_of s) X) action ∙ sym (content-after_slot V n)) i)) (dirty_after tables W E n) (rows-kept W n (omega (arith, room)) i ++ slot_rows_matched (action i) X))
+        (λ i. fold (with_row_of (is.catalog i) X ((ap (λ s. content_after_action (as_action s) X) action ∙ sym (content-after_slot V n)) i)) (dirty_after tables W E n) (rows-kept W n (omega (arith, room)) i ++ slot_rows_matched (action i) X))
         ∙ sym (due_slots_dirty_reexecuted_rows tables W E n due)
         ∙ (λ i. dirty_after tables W (sym done.edits i) (now i))
 
     new : KeptSlot
-    new = record { slot = record { action = next_action r (kept_slot W n); replies = slot_replies (next_action r (kept_slot W n)) X }; rows = slot_rows_written (next_action r (kept_slot W n)) X }
+    new = record { slot = record { action = next_action r (kept_slot W n); replies = slot_replies (next_action r (kept_slot W n)) X }; rows = slot_rows_touched (next_action r (kept_slot W n)) X }
 
     new_is : new ≡ kept_slot V n
     new_is = kept_slot-is V n (slot_after V n) X new refl (content_after_is_kept V n (omega (arith, room, edited_slots_are_as_many W E)))
-        action (ap (λ s. slot_replies s X) action) (ap (λ s. slot_rows_written s X) action)
+        action (ap (λ s. slot_replies s X) action) (ap (λ s. slot_rows_touched s X) action)
 
 -- ---- what the re-execution asks for
 
-IsAccepted-short : (tables : Tables) (s : Option (List Write)) → IsAccepted tables s → length (writes_of s) ≤ max_writes
+IsAccepted-short : (tables : Tables) (s : Option Action) → IsAccepted tables s → length (as_action s).writes ≤ max_writes
 IsAccepted-short tables None is = omega arith
-IsAccepted-short tables (Some action) is = by (nat_lt max_writes (length action)) refl is
+IsAccepted-short tables (Some action) is = by (nat_lt max_writes (length action.writes)) refl is
   where
-    by : (b : Bool) → nat_lt max_writes (length action) ≡ b → (if b then Some faults.TooManyWrites else first_write_fault tables action) ≡ None → length action ≤ max_writes
+    by : (b : Bool) → nat_lt max_writes (length action.writes) ≡ b → (if b then Some faults.TooManyWrites else first_write_fault tables action.writes) ≡ None → length action.writes ≤ max_writes
     by true e none = cc
     by false e none = grind (arith, nat_tests)
 
@@ -284,7 +282,7 @@ few_rows_of tables W (suc n) t all =
     let X = content_after W n in
     let s = slot_after W n in
     let few = few_rows_of tables W n t all in
-    let next = length-after_action (writes_of s) X t (rows_rise (row_writes W n) n) in
+    let next = length-after_action (as_action s) X t (rows_rise (row_writes W n) n) in
     let short = IsAccepted-short tables s (AreAccepted-at tables W all n) in
     subst (λ C. length (C t) ≤ max_writes * suc n) (sym (content-after_slot W n)) (omega (arith, few, next, short))
 
@@ -300,7 +298,7 @@ ShowsFewBefore-next versions tables W r is room few all have =
     record {
       content = content_after V n;
       shows = subst (λ (rows : List RowId). ShowsContentBefore versions (n + 1) (content_after V n) rows) (sym (rows-kept W n (omega (arith, room))))
-          (subst (λ m. ShowsContentBefore versions m (content_after V n) (slot_rows_written (slot_after W n) (content_after W n))) (sym (next_number n)) shows);
+          (subst (λ m. ShowsContentBefore versions m (content_after V n) (slot_rows_touched (slot_after W n) (content_after W n))) (sym (next_number n)) shows);
       few = λ t. length-content tables V n t (AreAccepted-edited tables W r.edits all is.accepted) (omega (arith, room, few));
     }
 

@@ -1,10 +1,11 @@
--- How the writes of an action are carried out on the current side, one after another.
-use Rattle.std.specs.Prelude.{◌≡◌, ℕ, ◌*◌, List, [], ◌∷◌, ◌++◌}
+-- How an action is carried out on the current side, write by write.
+use Rattle.std.specs.Prelude.{◌≡◌, ℕ, ◌*◌, Bool, not, List, [], ◌∷◌, ◌++◌}
 use Rattle.tt_values.specs.declared.statement.Write.{Write}
+use Rattle.tt_values.specs.declared.action.Action.{Action}
 use Rattle.tt_values.specs.Limits.{max_writes}
 use Rattle.tt_values.specs.Content.{Content, RowWrite, content_at}
 use Rattle.tt_values.specs.Effect.{table_of, effect}
-use Rattle.tt_values.specs.Action.{content_after_write, replies_of, rows_of_action}
+use Rattle.tt_values.specs.Action.{content_after_write, replies_of_writes, rows_of_writes, has_no_effect, one_has_no_effect, up_to_no_effect, kept, replies_of, rows_touched}
 use Rattle.tt_versions.specs.RowsByWrites.{as_row_writes}
 use Rattle.tt_generations.specs.declared.action_run.ActionRun.{ActionRun}
 use Rattle.tt_generations.specs.Limits.{max_slots}
@@ -18,22 +19,31 @@ step_writes time (w ∷ ws) X = as_row_writes time (table_of w) (effect w X) ++ 
 -- what writes leave, and what they answer, after they are carried out at a time on tables that have the rows of these row writes
 pub record HasCarriedOut (time : ℕ) (ws : List Write) (before after : ActionRun) (vs : List RowWrite) : Type 0 where
   pub rows : CurrentAgrees after.rows (vs ++ step_writes time ws (content_at vs time))
-  pub replies : after.replies ≡ before.replies ++ replies_of ws (content_at vs time)
-  pub rows_written : after.rows_written ≡ before.rows_written ++ rows_of_action ws (content_at vs time)
+  pub replies : after.replies ≡ before.replies ++ replies_of_writes ws (content_at vs time)
+  pub touched : after.rows_touched ≡ before.rows_touched ++ rows_of_writes ws (content_at vs time)
 
 -- writes are carried out at a time, for all row writes whose rows the tables before have
 abbrev pub CarriesOut : ℕ → List Write → ActionRun → ActionRun → Type 0
 CarriesOut time ws before after = (vs : List RowWrite) → CurrentAgrees before.rows vs → HasCarriedOut time ws before after vs
 
--- what writes leave, and what they answer, for a run that begins with these tables, before the first write
-pub record StartsAction (time : ℕ) (ws : List Write) (before : TablesByPosition) (after : ActionRun) (vs : List RowWrite) : Type 0 where
-  pub rows : CurrentAgrees after.rows (vs ++ step_writes time ws (content_at vs time))
-  pub replies : after.replies ≡ replies_of ws (content_at vs time)
-  pub rows_written : after.rows_written ≡ rows_of_action ws (content_at vs time)
+-- it is told whether a write has an effect at a time, for all row writes whose rows the tables have
+abbrev pub TellsEffect : ℕ → Write → ActionRun → Bool → Type 0
+TellsEffect time w before has_one = (vs : List RowWrite) → CurrentAgrees before.rows vs → has_one ≡ not (has_no_effect w (content_at vs time))
+
+-- writes are carried out at a time up to the first without an effect, and it is told whether each has one
+abbrev pub TriesWrites : ℕ → List Write → ActionRun → ActionRun → Bool → Type 0
+TriesWrites time ws before after all = (vs : List RowWrite) → CurrentAgrees before.rows vs → let X = content_at vs time in
+    HasCarriedOut time (up_to_no_effect ws X) before after vs × (all ≡ not (one_has_no_effect ws X))
+
+-- what an action leaves, and what it answers, for a run that begins with these tables, before its first write
+pub record StartsAction (time : ℕ) (a : Action) (before : TablesByPosition) (after : ActionRun) (vs : List RowWrite) : Type 0 where
+  pub rows : CurrentAgrees after.rows (vs ++ step_writes time (kept a (content_at vs time)) (content_at vs time))
+  pub replies : after.replies ≡ replies_of a (content_at vs time)
+  pub touched : after.rows_touched ≡ rows_touched a (content_at vs time)
 
 -- an action is carried out at a time, for all row writes whose rows the tables before have
-abbrev pub CarriesOutAction : ℕ → List Write → TablesByPosition → ActionRun → Type 0
-CarriesOutAction time ws before after = (vs : List RowWrite) → CurrentAgrees before vs → StartsAction time ws before after vs
+abbrev pub CarriesOutAction : ℕ → Action → TablesByPosition → ActionRun → Type 0
+CarriesOutAction time a before after = (vs : List RowWrite) → CurrentAgrees before vs → StartsAction time a before after vs
 
 -- how many rows a table has at most, before the last slot that there may be
 abbrev pub most_rows : ℕ

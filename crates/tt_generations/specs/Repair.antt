@@ -1,17 +1,17 @@
 -- One step of a repair: whether the next slot is due, and what its re-execution leaves.
-use Rattle.std.specs.Prelude.{◌≡◌, ℕ, ◌-◌, ◌+◌, pos, Bool, true, false, not, ◌||◌, ◌&&◌, ◌==◌, if◌then◌else◌, List, [], ◌∷◌, ◌++◌, fold, slice_set, Option, None, Some, is_some}
+use Rattle.std.specs.Prelude.{◌≡◌, ℕ, ◌-◌, ◌+◌, pos, Bool, true, false, ◌||◌, ◌&&◌, ◌==◌, if◌then◌else◌, List, [], ◌∷◌, ◌++◌, fold, slice_set, Option, None, Some, is_some}
 use Rattle.std.specs.List.{All, list_any}
 use Rattle.std.specs.Ordering.{int_cmp, int_eq}
 use Rattle.std.specs.FinMap.Entries as sorted
 use Rattle.tt_values.specs.declared.row_id.RowId.{RowId}
-use Rattle.tt_values.specs.declared.statement.Write.{Write}
+use Rattle.tt_values.specs.declared.action.Action.{Action}
 use Rattle.tt_values.specs.Check.{HasKey}
 use Rattle.tt_values.specs.Content.{Content}
-use Rattle.tt_values.specs.Action.{content_after_action}
+use Rattle.tt_values.specs.Action.{action_of, content_after_action}
 use Rattle.tt_values.specs.RowWrites.{slot_replies}
 use Rattle.tt_versions.specs.Sides.{next_of}
 use Rattle.tt_parts.specs.Dirty.{DirtySet, DirtyTables, SameMembers, columns_in, has_row, with_row}
-use Rattle.tt_repair_laws.specs.Due.{names_dirty_row, is_write_clear, slot_rows_written, slot_rows_matched, with_row_of}
+use Rattle.tt_repair_laws.specs.Due.{may_read_dirty, slot_rows_touched, slot_rows_matched, with_row_of}
 use Rattle.tt_generations.specs.declared.slot.KeptSlot.{KeptSlot}
 use Rattle.tt_generations.specs.declared.edits.Replacement.{Replacement}
 use Rattle.tt_generations.specs.declared.repair.Repair.{Repair}
@@ -19,19 +19,16 @@ use Rattle.tt_generations.specs.Rows.{TablesByPosition, versions_at}
 use Rattle.tt_generations.specs.Reexecution.{ShowsContentBefore, AreReexecuted}
 
 -- each insert of an action has a key
-abbrev pub HasKeysIfAny : Option (List Write) → Type 0
+abbrev pub HasKeysIfAny : Option Action → Type 0
 HasKeysIfAny None = Unit {0}
-HasKeysIfAny (Some action) = All HasKey action
+HasKeysIfAny (Some action) = All HasKey action.writes
 
--- whether what is dirty may affect an action that wrote these rows
-abbrev pub is_action_affected : DirtyTables → List RowId → List Write → Bool
-is_action_affected d rows action =
-    list_any (λ r. has_row d.dirty r.table r.key) rows
-    || list_any (names_dirty_row d.dirty) action
-    || list_any (λ w. not (is_write_clear d.catalog d.dirty w)) action
+-- whether what is dirty may affect an action that touched these rows
+abbrev pub is_action_affected : DirtyTables → List RowId → Action → Bool
+is_action_affected d rows action = list_any (λ r. has_row d.dirty r.table r.key) rows || may_read_dirty d.catalog d.dirty action.writes
 
--- whether what is dirty may affect a slot that wrote these rows. A cancelled slot isn't affected
-abbrev pub is_kept_affected : DirtyTables → List RowId → Option (List Write) → Bool
+-- whether what is dirty may affect a slot that touched these rows. A cancelled slot isn't affected
+abbrev pub is_kept_affected : DirtyTables → List RowId → Option Action → Bool
 is_kept_affected d rows None = false
 is_kept_affected d rows (Some action) = is_action_affected d rows action
 
@@ -44,18 +41,18 @@ abbrev pub is_kept_due : Repair → KeptSlot → Bool
 is_kept_due r kept = is_some (next_replacement r) || is_kept_affected r.dirty kept.rows kept.slot.action
 
 -- an action, unless it is replaced
-abbrev pub replaced_by : Option Replacement → Option (List Write) → Option (List Write)
+abbrev pub replaced_by : Option Replacement → Option Action → Option Action
 replaced_by None action = action
 replaced_by (Some replacement) action = replacement.action
 
 -- the action that the repair gives the next slot, of which this is kept
-abbrev pub next_action : Repair → KeptSlot → Option (List Write)
+abbrev pub next_action : Repair → KeptSlot → Option Action
 next_action r kept = replaced_by (next_replacement r) kept.slot.action
 
--- the writes of a slot. A cancelled one has none
-abbrev pub writes_of : Option (List Write) → List Write
-writes_of None = []
-writes_of (Some action) = action
+-- the action of a slot. That of a cancelled one has no writes
+abbrev pub as_action : Option Action → Action
+as_action None = action_of []
+as_action (Some action) = action
 
 -- whether two rows are the same
 abbrev pub is_same_row : RowId → RowId → Bool
@@ -72,13 +69,13 @@ with_rows_shown d versions rows time =
 
 -- what the re-execution of the next slot leaves, on tables that show a content before it
 pub record HasReexecutedSlot (r : Repair) (kept : KeptSlot) (versions : TablesByPosition) (after : Repair) (left : TablesByPosition) (X : Content) : Type 0 where
-  pub rows : AreReexecuted versions left (kept.rows ++ slot_rows_matched (next_action r kept) X) (r.done + 1) (content_after_action (writes_of (next_action r kept)) X)
+  pub rows : AreReexecuted versions left (kept.rows ++ slot_rows_matched (next_action r kept) X) (r.done + 1) (content_after_action (as_action (next_action r kept)) X)
   pub slots : after.slots ≡ slice_set r.slots r.done (record {
     slot = record { action = next_action r kept; replies = slot_replies (next_action r kept) X };
-    rows = slot_rows_written (next_action r kept) X;
+    rows = slot_rows_touched (next_action r kept) X;
   })
   pub dirty : SameMembers after.dirty.dirty
-      (fold (with_row_of r.dirty.catalog X (content_after_action (writes_of (next_action r kept)) X)) r.dirty.dirty (kept.rows ++ slot_rows_matched (next_action r kept) X))
+      (fold (with_row_of r.dirty.catalog X (content_after_action (as_action (next_action r kept)) X)) r.dirty.dirty (kept.rows ++ slot_rows_matched (next_action r kept) X))
 
 abbrev pub ReexecutesSlot : Repair → KeptSlot → TablesByPosition → Repair → TablesByPosition → Type 0
 ReexecutesSlot r kept versions after left = (X : Content) → ShowsContentBefore versions (r.done + 1) X kept.rows → HasReexecutedSlot r kept versions after left X

@@ -1,6 +1,6 @@
 -- The slots of two generations: those of the current one, and what a repair makes of them.
 use Rattle.std.specs.Prelude.{◌≡◌, ℕ, suc, ◌≤◌, ◌-◌, ℤ, Bool, true, false, List, [], ◌∷◌, ◌++◌, map, length, nat_lt, Option, None, Some, if◌then◌else◌}
-use Rattle.tt_values.specs.declared.statement.Write.{Write}
+use Rattle.tt_values.specs.declared.action.Action.{Action}
 use Rattle.tt_values.specs.Tables.{Tables}
 use Rattle.tt_values.specs.Content.{Content, RowsByKey, content_at}
 use Rattle.tt_values.specs.Effect.{matching_rows}
@@ -36,7 +36,7 @@ abbrev pub no_slots : Tables → TwoGenerations
 no_slots tables = record { catalog = tables; slots = []; phase = Idle }
 
 -- one more slot, with an action
-abbrev pub with_action : TwoGenerations → List Write → TwoGenerations
+abbrev pub with_action : TwoGenerations → Action → TwoGenerations
 with_action G action = record G { slots = G.slots ++ Some action ∷ [] }
 
 -- a repair with these edits, which has done no slot

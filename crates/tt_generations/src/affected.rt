@@ -3,20 +3,27 @@ ghost use Rattle.std.specs.Prelude.{◌≡◌, ◌||◌, not};
 ghost use Rattle.std.specs.List.{All, list_any};
 ghost use Rattle.tt_values.specs.Check.{HasKey};
 ghost use Rattle.tt_parts.specs.Dirty.{has_row};
-ghost use Rattle.tt_repair_laws.specs.Due.{is_dirty_key, has_dirty_key, names_dirty_row, is_write_clear};
+ghost use Rattle.tt_repair_laws.specs.Due.{is_dirty_key, has_dirty_key, names_dirty_row, is_write_clear, may_read_dirty};
 
 use tt_parts::Dirty;
 use tt_values::{Equal, RowId, Value, Write};
 
-/// Whether a slot that wrote these rows with these writes may be affected: it wrote a dirty row, or
-/// one of its writes names one or isn't clear.
+/// Whether a slot that touched these rows and has these writes may be affected: it touched a dirty
+/// row, or one of its writes names one or isn't clear.
 pub(crate) fn is_affected(dirty: &Dirty, rows: &[RowId], writes: &[Write]) -> bool
     requires { All HasKey writes.now }
     ensures { result ≡ (list_any (λ r. has_row dirty.now.dirty r.table r.key) rows.now
-        || list_any (names_dirty_row dirty.now.dirty) writes.now
-        || list_any (λ w. not (is_write_clear dirty.now.catalog dirty.now.dirty w)) writes.now) }
+        || may_read_dirty dirty.now.catalog dirty.now.dirty writes.now) }
 {
-    has_dirty_row(dirty, rows) || name_dirty_row(dirty, writes) || are_unclear(dirty, writes)
+    has_dirty_row(dirty, rows) || may_read_dirty(dirty, writes)
+}
+
+/// Whether one of the writes names a dirty row or isn't clear.
+fn may_read_dirty(dirty: &Dirty, writes: &[Write]) -> bool
+    requires { All HasKey writes.now }
+    ensures { result ≡ may_read_dirty dirty.now.catalog dirty.now.dirty writes.now }
+{
+    name_dirty_row(dirty, writes) || are_unclear(dirty, writes)
 }
 
 /// Whether one of the rows is dirty.

@@ -77,7 +77,7 @@ impl BoxedRepair {
         requires there { self.old.done < length self.old.slots }
         requires catalog { self.old.dirty.catalog ≡ catalog.now }
         requires keyed { HasKeysIfAny kept.now.slot.action }
-        requires written { All (λ r. r.table < length catalog.now) kept.now.rows }
+        requires touched { All (λ r. r.table < length catalog.now) kept.now.rows }
         requires accepted { IsAccepted catalog.now (next_action self.old kept.now) }
         requires few { ShowsFewBefore rows.old (self.old.done + 1) kept.now.rows }
         ensures due { IfOk result (λ due. due ≡ is_kept_due self.old kept.now) }

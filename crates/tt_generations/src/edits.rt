@@ -8,12 +8,12 @@ ghost use Rattle.tt_generations.specs.EditsByNumber.{HasEdits};
 use std::alloc::{AllocError, Global};
 use tt_pages::{Kept, PagedMap};
 use tt_repair_laws::Edit;
-use tt_values::{Items, Write};
+use tt_values::Action;
 
 /// The action that an edit puts into its slot, or none where it cancels the slot.
 #[derive(Drop)]
 pub(crate) struct Replacement {
-    pub(crate) action: Option<Items<Write>>,
+    pub(crate) action: Option<Action>,
 }
 
 impl Kept for Replacement {

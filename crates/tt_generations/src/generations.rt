@@ -29,7 +29,7 @@ use std::marker::Model;
 use std::mem;
 use tt_pages::PagedLog;
 use tt_repair_laws::Edit;
-use tt_values::{Catalog, Items, Reply, Select, Shared, Write};
+use tt_values::{Action, Catalog, Items, Reply, Select, Shared};
 use tt_versions::{Side, Table};
 
 /// The slots of the current generation with the rows that they leave, and a repair that builds the
@@ -262,10 +262,10 @@ impl Generations {
         Ok(Generations { state })
     }
 
-    /// Adds a slot for this action, and returns the replies to its writes. Without memory there are
-    /// no slots afterwards.
-    pub fn write(&mut self, action: Items<Write>) -> Result<Items<Reply>, AllocError>
-        requires accepted { action_fault self.old.catalog action ≡ None }
+    /// Adds a slot for this action, and returns the replies to its writes, of a whole action up to
+    /// the first without an effect. Without memory there are no slots afterwards.
+    pub fn write(&mut self, action: Action) -> Result<Items<Reply>, AllocError>
+        requires accepted { action_fault self.old.catalog action.writes ≡ None }
         requires room { length self.old.slots < max_slots }
         ensures state { OnOk result (self.new ≡ with_action self.old action) }
         ensures replies { IfOk result
@@ -419,10 +419,10 @@ impl State {
     }
 
     /// Adds a slot of this action, and returns the replies to its writes.
-    fn add_action(&mut self, action: Items<Write>) -> Result<Items<Reply>, AllocError>
+    fn add_action(&mut self, action: Action) -> Result<Items<Reply>, AllocError>
         requires parts { AreGenerations
             self.old.catalog self.old.slots self.old.rows self.old.repair }
-        requires accepted { action_fault self.old.catalog action ≡ None }
+        requires accepted { action_fault self.old.catalog action.writes ≡ None }
         requires room { length self.old.slots < max_slots }
         ensures parts { OnOk result
             (AreGenerations self.new.catalog self.new.slots self.new.rows self.new.repair) }
@@ -436,7 +436,7 @@ impl State {
         let time = self.slots.len() as u64 + 1;
         let rows = mem::replace(&mut self.rows, Rows::new(self.alloc));
         let catalog = self.catalog.get();
-        let run = ActionRun::of_writes(self.alloc, catalog, rows, action.as_slice(), time)?;
+        let run = ActionRun::of_action(self.alloc, catalog, rows, &action, time)?;
         let (kept, replies) = run.into_slot(action, &mut self.rows)?;
         add_to_repair(&mut self.repair, &kept)?;
         self.slots.push(kept)?;

@@ -9,7 +9,7 @@ ghost use Rattle.tt_generations.specs.Limits.{max_slots};
 ghost use Rattle.tt_generations.specs.KeptSlots.{IsAccepted};
 ghost use Rattle.tt_generations.specs.EditsByNumber.{HasEdits};
 ghost use Rattle.tt_generations.specs.Reexecution.{ShowsFewBefore};
-ghost use Rattle.tt_generations.specs.Repair.{HasKeysIfAny, is_kept_affected, is_kept_due, next_replacement, next_action, writes_of, is_same_row, MayRepeat, with_rows_shown, HasDoneDueSlot, ReexecutesSlot, DoesSlot};
+ghost use Rattle.tt_generations.specs.Repair.{HasKeysIfAny, is_kept_affected, is_kept_due, next_replacement, next_action, as_action, is_same_row, MayRepeat, with_rows_shown, HasDoneDueSlot, ReexecutesSlot, DoesSlot};
 
 use crate::affected::is_affected;
 use crate::edits::{Replacement, replacements_of};
@@ -21,7 +21,7 @@ use std::mem;
 use tt_pages::{Kept, PagedLog, PagedMap};
 use tt_parts::Dirty;
 use tt_repair_laws::Edit;
-use tt_values::{Catalog, Items, RowId, Shared, Write};
+use tt_values::{Action, Catalog, Items, RowId, Shared, Write};
 use tt_versions::Side;
 
 /// A repair under way.
@@ -140,7 +140,9 @@ impl Repair {
         ensures { result ≡ is_kept_affected self.now.dirty kept.now.rows kept.now.slot.action }
     {
         match &kept.slot.action {
-            Some(action) => is_affected(&self.dirty, kept.rows.as_slice(), action.as_slice()),
+            Some(action) => {
+                is_affected(&self.dirty, kept.rows.as_slice(), action.writes.as_slice())
+            }
             None => false,
         }
     }
@@ -156,7 +158,7 @@ impl Repair {
 
     /// The action of the next slot, which is this one in the current generation, as the repair has
     /// it: none where it is cancelled.
-    fn next_action(&self, kept: &KeptSlot) -> Result<Option<Items<Write>>, AllocError>
+    fn next_action(&self, kept: &KeptSlot) -> Result<Option<Action>, AllocError>
         requires { self.now.done < max_slots }
         ensures { IfOk result (λ action. action ≡ next_action self.now kept.now) }
     {
@@ -180,7 +182,7 @@ impl Repair {
         requires there { self.old.done < length self.old.slots }
         requires catalog { self.old.dirty.catalog ≡ catalog.now }
         requires keyed { HasKeysIfAny kept.now.slot.action }
-        requires written { All (λ r. r.table < length catalog.now) kept.now.rows }
+        requires touched { All (λ r. r.table < length catalog.now) kept.now.rows }
         requires accepted { IsAccepted catalog.now (next_action self.old kept.now) }
         requires few { ShowsFewBefore rows.old (self.old.done + 1) kept.now.rows }
         ensures due { IfOk result (λ due. due ≡ is_kept_due self.old kept.now) }
@@ -207,7 +209,7 @@ impl Repair {
         requires few_reexecuted { self.old.reexecuted ≤ self.old.done }
         requires there { self.old.done < length self.old.slots }
         requires catalog { self.old.dirty.catalog ≡ catalog.now }
-        requires written { All (λ r. r.table < length catalog.now) kept.now.rows }
+        requires touched { All (λ r. r.table < length catalog.now) kept.now.rows }
         requires accepted { IsAccepted catalog.now (next_action self.old kept.now) }
         requires few { ShowsFewBefore rows.old (self.old.done + 1) kept.now.rows }
         ensures done { OnOk result (HasDoneDueSlot self.old self.new) }
@@ -218,9 +220,10 @@ impl Repair {
         let _ = catalog.len();
         let time = self.done + 1;
         let action = self.next_action(kept)?;
-        let written = kept.rows.as_slice();
+        let (writes, whole) = (writes_of(&action), is_whole(&action));
         let taken = mem::replace(rows, Rows::new(alloc));
-        let run = Reexecution::of_slot(alloc, catalog, taken, written, writes_of(&action), time)?;
+        let touched = kept.rows.as_slice();
+        let run = Reexecution::of_slot(alloc, catalog, taken, touched, writes, whole, time)?;
         add_rows_shown(&mut self.dirty, &run.rows, &run.reexecuted, time)?;
         let slot = run.into_slot(action, rows)?;
         self.put_slot(slot)?;
@@ -246,7 +249,7 @@ impl Repair {
 }
 
 /// A copy of an action, if there is one.
-fn copy_of(action: &Option<Items<Write>>) -> Result<Option<Items<Write>>, AllocError>
+fn copy_of(action: &Option<Action>) -> Result<Option<Action>, AllocError>
     ensures { IfOk result (λ copy. copy ≡ action.now) }
 {
     match action {
@@ -259,12 +262,22 @@ fn copy_of(action: &Option<Items<Write>>) -> Result<Option<Items<Write>>, AllocE
 }
 
 /// The writes of a slot. A cancelled one has none.
-fn writes_of(action: &Option<Items<Write>>) -> &[Write]
-    ensures { result.now ≡ writes_of action.now }
+fn writes_of(action: &Option<Action>) -> &[Write]
+    ensures { result.now ≡ (as_action action.now).writes }
 {
     match action {
-        Some(action) => action.as_slice(),
+        Some(action) => action.writes.as_slice(),
         None => &[],
+    }
+}
+
+/// Whether a slot has a whole action.
+fn is_whole(action: &Option<Action>) -> bool
+    ensures { result ≡ (as_action action.now).whole }
+{
+    match action {
+        Some(action) => action.whole,
+        None => false,
     }
 }
 
@@ -287,7 +300,7 @@ fn add_rows_shown(
 }
 
 /// The first half of the rows, where the second half repeats it, else all of them. The writes of a
-/// slot mostly match the rows that it wrote before.
+/// slot mostly match the rows that it touched before.
 fn without_repeat(rows: &[RowId]) -> &[RowId]
     ensures { MayRepeat result.now rows.now }
 {

@@ -4,13 +4,13 @@ ghost use Rattle.tt_generations.specs.Replies.{replies_if};
 use crate::row_ids::RowIds;
 use std::alloc::AllocError;
 use tt_pages::Kept;
-use tt_values::{Few, Items, Reply, RowId, Write};
+use tt_values::{Action, Few, Items, Reply, RowId};
 
-/// A slot: an action, and a reply to each of its writes. Both are None where the slot was
-/// cancelled.
+/// A slot: an action, and a reply to each of its writes that were carried out. Both are None where
+/// the slot was cancelled.
 #[derive(Debug, PartialEq, Drop)]
 pub struct Slot {
-    pub action: Option<Items<Write>>,
+    pub action: Option<Action>,
     pub replies: Option<Items<Reply>>,
 }
 
@@ -33,8 +33,9 @@ impl Clone for Slot {
     }
 }
 
-/// A slot with the rows that it wrote, in the order of its writes. A row that was written twice is
-/// there twice. A repair asks for them, and needn't carry the slot out again to know them.
+/// A slot with the rows that it touched, in the order of its writes. A row that was written twice
+/// is there twice, and those of a whole action that wrote nothing are there too. A repair asks for
+/// them, and needn't carry the slot out again to know them.
 #[derive(Drop)]
 pub(crate) struct KeptSlot {
     pub(crate) slot: Slot,
@@ -42,10 +43,10 @@ pub(crate) struct KeptSlot {
 }
 
 impl KeptSlot {
-    /// A slot of this action, with the replies to its writes and the rows that they wrote. A
+    /// A slot of this action, with the replies to its writes and the rows that they touched. A
     /// cancelled slot has no replies.
     pub(crate) fn new(
-        action: Option<Items<Write>>,
+        action: Option<Action>,
         replies: &Items<Reply>,
         rows: Few<RowId>,
     ) -> Result<KeptSlot, AllocError>

@@ -21,6 +21,7 @@ use Rattle.tt_values.specs.declared.comparison.Comparison.TheVariants.{Is, IsNot
 use Rattle.tt_values.specs.declared.statement.Equal.{Equal}
 use Rattle.tt_values.specs.declared.statement.Write.{Write}
 use Rattle.tt_values.specs.declared.statement.Write.TheVariants.{Insert, Update, Delete}
+use Rattle.tt_values.specs.declared.action.Action.{Action}
 use Rattle.tt_values.specs.Limits.{max_name_bytes, max_text_bytes, max_writes}
 use Rattle.tt_values.specs.Value.{is_long_text}
 use Rattle.tt_values.specs.Change.{column_of}
@@ -29,8 +30,8 @@ use Rattle.tt_values.specs.Tables.{Tables, IsTable, IsCatalog, is_name}
 use Rattle.tt_grammar.specs.Quoting.{letter_of, hex_digit, escape_by, escape, quoted}
 use Rattle.tt_grammar.specs.Printing.{value_text, row_text}
 use Rattle.tt_grammar.specs.Comparisons.{before_value}
-use Rattle.tt_grammar.specs.JsonText.{further_item, items_text, array_text, flag_text}
-use Rattle.tt_grammar.specs.WriteText.{table_name, column_name, column_change_text, equal_text, write_text, action_text, kind_name, column_text, table_text, tables_text}
+use Rattle.tt_grammar.specs.JsonText.{further_item, items_text, array_text, member_text, members_text, flag_text}
+use Rattle.tt_grammar.specs.WriteText.{table_name, column_name, column_change_text, equal_text, write_text, writes_text, whole_members, action_members, kind_name, column_text, table_text, tables_text}
 use Rattle.tt_grammar.specs.ReadBack.{IsStorable, value_of_change, values_of_equals, values_of_write}
 use Rattle.tt_grammar.proofs.EveryLemmas.{Every, every, every-map, every-mapped, every-left, every-right, every-both, every-then, every-fails, every-holds, every-at}
 use Rattle.tt_grammar.proofs.PieceLemmas.{condition-pieces}
@@ -213,13 +214,25 @@ length-write tables (Delete table qs) catalog sound storable =
 
 -- ---- actions and tables
 
-pub length-action : (tables : Tables) (ws : List Write) → IsCatalog tables → action_fault tables ws ≡ None → All (λ w. All IsStorable (values_of_write w)) ws → length (action_text tables ws) ≤ 7000000
-length-action tables ws catalog sound storable =
+pub length-writes : (tables : Tables) (ws : List Write) → IsCatalog tables → action_fault tables ws ≡ None → All (λ w. All IsStorable (values_of_write w)) ws → length (writes_text tables ws) ≤ 7000000
+length-writes tables ws catalog sound storable =
     let parts = few_writes (nat_lt max_writes (length ws)) (first_write_fault tables ws) sound in
     let each = every-both (λ w. write_fault tables w ≡ None) (λ w. All IsStorable (values_of_write w)) (λ w. length (write_text tables w) ≤ 430000) ws (λ w none all. length-write tables w catalog none all)
     (no_write_fault tables ws parts.1) (every _ ws storable) in
     let all = length-array_of (write_text tables) 430000 16 ws each (ltb-false 16 (length ws) parts.0) in
     omega arith
+
+-- that an action is whole
+length-whole : (whole : Bool) → length (flat_map further_item (map member_text (whole_members (codes "whole") whole))) ≤ 13
+length-whole false = omega arith
+length-whole true = omega arith
+
+pub length-action : (tables : Tables) (action : Action) → IsCatalog tables → action_fault tables action.writes ≡ None → All (λ w. All IsStorable (values_of_write w)) action.writes
+    → length (members_text (action_members tables action)) ≤ 7000018
+length-action tables action catalog sound storable =
+    let writes = length-writes tables action.writes catalog sound storable in
+    let whole = length-whole action.whole in
+    simp length-append (omega (arith, length-append {A = ℕ}))
 
 length-column : (c : Column) → is_name c.name ≡ true → length (column_text c) ≤ 500
 length-column c named =

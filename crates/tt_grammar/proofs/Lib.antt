@@ -14,6 +14,7 @@ pub mod StatementReadLemmas
 pub mod WriteReadLemmas
 pub mod ActionReadLemmas
 pub mod TableReadLemmas
+pub mod KnownLemmas
 pub mod NewestVersionLemmas
 pub mod LengthLemmas
 pub mod worked_texts

@@ -1,8 +1,10 @@
 -- What has no fault in a version is read the same in the newest one.
-use Rattle.std.proofs.Common.{◌≡◌, ℕ, suc, Bool, true, false, List, [], ◌∷◌, Option, Some, None, if◌then◌else◌, Result, Ok, Err, codes, refl}
+use Rattle.std.proofs.Common.{◌≡◌, ℕ, suc, Bool, true, false, List, [], ◌∷◌, ◌++◌, Option, Some, None, if◌then◌else◌, Result, Ok, Err, codes, refl}
+use Rattle.std.specs.Bool.{⊤}
 use Rattle.serde_json.specs.Data.{Data}
 use Rattle.serde_json.specs.Find.{get}
 use Rattle.tt_values.specs.declared.statement.Write.{Write}
+use Rattle.tt_values.specs.declared.action.Action.{Action}
 use Rattle.tt_values.specs.Limits.{max_writes}
 use Rattle.tt_values.specs.Tables.{Tables}
 use Rattle.tt_grammar.specs.declared.fault.DocFault.{DocFault}
@@ -15,11 +17,13 @@ use Rattle.tt_grammar.specs.Decoder.{or_wrong_type, object, array, within_limit,
 use Rattle.tt_grammar.specs.Arrays.{each, array_of}
 use Rattle.tt_grammar.specs.Conditions.{table_named, parts_of_condition, condition}
 use Rattle.tt_grammar.specs.Changes.{change}
-use Rattle.tt_grammar.specs.Statements.{conditions, update, delete}
-use Rattle.tt_grammar.specs.Actions.{write, item_of_action, writes, action}
+use Rattle.tt_grammar.specs.Members.{is_one_of, no_members_but}
+use Rattle.tt_grammar.specs.Statements.{no_members_at, conditions, update, delete}
+use Rattle.tt_grammar.specs.Actions.{write, item_of_action, writes, is_whole, members_of_action, action}
 use Rattle.tt_grammar.specs.Edits.{no_kind_of_write, replacement_by, replacement}
 use Rattle.tt_grammar.specs.Version.{newest_version}
 use Rattle.tt_grammar.specs.NewestVersion.{ReadsTheSame, NewestVersionReadsTheSame}
+use Rattle.tt_grammar.proofs.KnownLemmas.{are_known, known-passes, known-more, not_there}
 
 -- ---- the parts of a decoder
 
@@ -146,11 +150,36 @@ writes-same version tables v =
     then-same (array v) _ _ (λ ds. then-same (within_limit max_writes ds) _ _ (λ few.
     each-same (item_of_action version tables) (item_of_action newest_version tables) 0 ds (item_of_action-same version tables)))
 
+abbrev action_with : List Write → Bool → Action
+action_with ws whole = record { writes = ws; whole = whole }
+
+-- an object that has only these members has no `whole`, and passes where `whole` is known, too
+without : (names : List (List ℕ)) (v : Data) → is_one_of names (codes "whole") ≡ false → no_members_but (is_one_of names) v ≡ Ok tt
+    → (get (codes "whole") v ≡ None) × (no_members_but (is_one_of (names ++ codes "whole" ∷ [])) v ≡ Ok tt)
+without names v other h =
+    let known = are_known (is_one_of names) v h in
+    (not_there (is_one_of names) (codes "whole") v other known, known-passes (is_one_of (names ++ codes "whole" ∷ [])) v (known-more names (codes "whole" ∷ []) v known))
+
+without_whole : (context : Context) (v : Data) → no_members_at context (codes "do" ∷ []) v ≡ Ok tt
+    → (get (codes "whole") v ≡ None) × (no_members_at context (members_of_action newest_version) v ≡ Ok tt)
+without_whole contexts.Call v h = without (codes "worker" ∷ codes "do" ∷ []) v refl h
+without_whole contexts.Request v h = without (codes "if" ∷ codes "worker" ∷ codes "do" ∷ []) v refl h
+without_whole contexts.Nested v h = without (codes "do" ∷ []) v refl h
+
+-- what stands beside `do` in versions 1 and 2, whose actions aren't whole
+beside-same : (context : Context) (v : Data) (ws : List Write) (older : Result ⊤ DocFault) → no_members_at context (codes "do" ∷ []) v ≡ older
+    → ReadsTheSame (older >>= λ _. Ok (action_with ws false)) (is_whole newest_version v >>= λ whole. no_members_at context (members_of_action newest_version) v >>= λ _. Ok (action_with ws whole))
+beside-same context v ws (Ok tt) h t e = let beside = without_whole context v h in rw (beside.0, beside.1) e
+beside-same context v ws (Err fault) h t e = cc
+
 pub action-same : (version : Version) (tables : Tables) (context : Context) (v : Data)
     → ReadsTheSame (action version tables context v) (action newest_version tables context v)
 unfolding action
-action-same version tables context v =
-    made-same _ _ _ (member-same (codes "do") (writes version tables) (writes newest_version tables) v (writes-same version tables))
+action-same versions.One tables context v =
+    bind-same _ _ _ _ (member-same (codes "do") (writes versions.One tables) (writes newest_version tables) v (writes-same versions.One tables)) (λ ws. beside-same context v ws _ refl)
+action-same versions.Two tables context v =
+    bind-same _ _ _ _ (member-same (codes "do") (writes versions.Two tables) (writes newest_version tables) v (writes-same versions.Two tables)) (λ ws. beside-same context v ws _ refl)
+action-same versions.Three tables context v = λ t e. e
 
 -- ---- an action that replaces another
 

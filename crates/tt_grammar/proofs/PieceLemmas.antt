@@ -1,9 +1,15 @@
 -- The pieces of an object or an array, one after another.
-use Rattle.std.proofs.Common.{◌≡◌, ℕ, List, [], ◌++◌, codes, ap, ◌∙◌, append_assoc, append-nil}
+use Rattle.std.proofs.Common.{◌≡◌, ℕ, List, [], ◌∷◌, ◌++◌, map, Option, Some, None, codes, refl, ap, ◌∙◌, append_assoc, append-nil}
+use Rattle.std.specs.List.{flat_map}
+use Rattle.std.proofs.lemmas.Grind.{flat_map-append}
+use Rattle.std.proofs.lemmas.List.{map-append}
 use Rattle.tt_values.specs.declared.comparison.Comparison.{Comparison}
 use Rattle.tt_values.specs.declared.comparison.Comparison.TheVariants.{Is, IsNot, Below, AtMost, Above, AtLeast}
+use Rattle.tt_values.specs.declared.action.Action.{Action}
+use Rattle.tt_values.specs.Tables.{Tables}
 use Rattle.tt_grammar.specs.Comparisons.{items_of_condition, before_value}
-use Rattle.tt_grammar.specs.JsonText.{array_text}
+use Rattle.tt_grammar.specs.JsonText.{further_item, array_text, Member, member_text, members_text}
+use Rattle.tt_grammar.specs.WriteText.{writes_text, whole_members, action_members_or_null}
 
 -- four pieces
 pub four-pieces : (out first second third all one two three four : List ℕ) → first ≡ out ++ one → second ≡ first ++ two → third ≡ second ++ three
@@ -34,3 +40,15 @@ condition-pieces Below column value = simp (append_assoc, append-nil)
 condition-pieces AtMost column value = simp (append_assoc, append-nil)
 condition-pieces Above column value = simp (append_assoc, append-nil)
 condition-pieces AtLeast column value = simp (append_assoc, append-nil)
+
+-- members behind others and before others: a comma, those members as they stand first, and the others
+further-members : (m : Member) (ms ns : List Member)
+    → flat_map further_item (map member_text ((m ∷ ms) ++ ns)) ≡ codes "," ++ (members_text (m ∷ ms) ++ flat_map further_item (map member_text ns))
+further-members m ms ns = ap (flat_map further_item) (map-append member_text (m ∷ ms) ns) ∙ flat_map-append further_item (map member_text (m ∷ ms)) (map member_text ns)
+
+-- the same of the members of an action, or of a `do` that is null
+pub further-action : (tables : Tables) (action : Option Action) (ns : List Member)
+    → flat_map further_item (map member_text (action_members_or_null tables action ++ ns))
+    ≡ codes "," ++ (members_text (action_members_or_null tables action) ++ flat_map further_item (map member_text ns))
+further-action tables None ns = refl
+further-action tables (Some action) ns = further-members (codes "do", writes_text tables action.writes) (whole_members (codes "whole") action.whole) ns

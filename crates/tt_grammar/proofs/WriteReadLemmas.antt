@@ -27,7 +27,7 @@ use Rattle.tt_grammar.specs.Arrays.{array_of}
 use Rattle.tt_grammar.specs.Conditions.{value, condition}
 use Rattle.tt_grammar.specs.Changes.{change}
 use Rattle.tt_grammar.specs.Statements.{insert, update, delete}
-use Rattle.tt_grammar.specs.Actions.{write, item_of_action}
+use Rattle.tt_grammar.specs.Actions.{write, item_of_action, action_of_one}
 use Rattle.tt_grammar.specs.Edits.{replacement_by, replacement}
 use Rattle.tt_grammar.specs.Version.{newest_version}
 use Rattle.tt_grammar.proofs.QuotingLemmas.{IsUtf8-quoted}
@@ -229,22 +229,22 @@ write-back tables (Delete table equals) catalog sound storable =
 -- ---- what replaces an action
 
 replaced : (tables : Tables) (d : Data) (cause : List ℕ) (o : Result ⊤ DocFault) (r : Result (Option Write) DocFault) (w : Write) → (o >>= λ _. r >>= or_refuse cause) ≡ Ok w
-    → (o >>= λ _. r >>= replacement_by newest_version tables d) ≡ Ok (w ∷ [])
+    → (o >>= λ _. r >>= replacement_by newest_version tables d) ≡ Ok (action_of_one w)
 replaced tables d cause (Err fault) r w e = cc
 replaced tables d cause (Ok u) (Err fault) w e = cc
 replaced tables d cause (Ok u) (Ok None) w e = cc
-replaced tables d cause (Ok u) (Ok (Some v)) w e = let same : v ≡ w = cc in ap (λ x. Ok (x ∷ [])) same
+replaced tables d cause (Ok u) (Ok (Some v)) w e = let same : v ≡ w = cc in ap (λ x. Ok (action_of_one x)) same
 
 -- an item of an action, alone, replaces an action
-item-replaces : (tables : Tables) (d : Data) (w : Write) → item_of_action newest_version tables d ≡ Ok w → replacement newest_version tables d ≡ Ok (w ∷ [])
+item-replaces : (tables : Tables) (d : Data) (w : Write) → item_of_action newest_version tables d ≡ Ok w → replacement newest_version tables d ≡ Ok (action_of_one w)
 unfolding item_of_action replacement
 item-replaces tables d w e = replaced tables d _ _ _ w e
 
 pub replacing-back : (tables : Tables) (w : Write) → IsWriteBack tables w
-    → IsReadBack 3 (json_of_write tables w) (write_text tables w) (data_of_write tables w) (replacement newest_version tables) (w ∷ [])
+    → IsReadBack 3 (json_of_write tables w) (write_text tables w) (data_of_write tables w) (replacement newest_version tables) (action_of_one w)
 replacing-back tables w back =
     let d : Data = data_of_write tables w in
-    also-back 3 (json_of_write tables w) (write_text tables w) d (item_of_action newest_version tables) w (replacement newest_version tables) (w ∷ []) back (item-replaces tables d w back.decoded)
+    also-back 3 (json_of_write tables w) (write_text tables w) d (item_of_action newest_version tables) w (replacement newest_version tables) (action_of_one w) back (item-replaces tables d w back.decoded)
 
 -- a write that can be carried out is read back
 pub writes_are_read_back : WritesAreReadBack
@@ -253,5 +253,5 @@ writes_are_read_back tables w catalog sound storable =
     let d = data_of_write tables w in
     let back = write-back tables w catalog sound storable in (
       read-back 3 j (write_text tables w) d (item_of_action newest_version tables) w back (omega arith),
-      read-back 3 j (write_text tables w) d (replacement newest_version tables) (w ∷ []) (replacing-back tables w back) (omega arith),
+      read-back 3 j (write_text tables w) d (replacement newest_version tables) (action_of_one w) (replacing-back tables w back) (omega arith),
     )

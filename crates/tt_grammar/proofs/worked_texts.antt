@@ -1,3 +1,4 @@
 pub mod Accounts
 mod ReadingBack
 mod Conditions
+mod WholeActions

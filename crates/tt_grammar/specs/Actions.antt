@@ -1,14 +1,15 @@
--- Actions: lists of writes, each an insert, an update or a delete.
-use Rattle.std.specs.Prelude.{Bool, false, List, [], ◌∷◌, Option, Some, None, if◌then◌else◌, Result, Ok, codes}
+-- Actions: writes in order, each an insert, an update or a delete, and whether they are carried out wholly or not at all.
+use Rattle.std.specs.Prelude.{ℕ, Bool, false, List, [], ◌∷◌, Option, Some, None, unwrap_or, if◌then◌else◌, Result, Ok, codes}
 use Rattle.serde_json.specs.Data.{Data}
 use Rattle.tt_values.specs.declared.statement.Write.{Write}
+use Rattle.tt_values.specs.declared.action.Action.{Action}
 use Rattle.tt_values.specs.Limits.{max_writes}
 use Rattle.tt_values.specs.Tables.{Tables}
 use Rattle.tt_grammar.specs.declared.fault.DocFault.{DocFault}
 use Rattle.tt_grammar.specs.declared.statements.Context.{Context}
 use Rattle.tt_grammar.specs.declared.statements.Context.TheVariants as contexts
 use Rattle.tt_grammar.specs.Fault.{◌>>=◌, or_refuse}
-use Rattle.tt_grammar.specs.Decoder.{object, array, within_limit, has, member}
+use Rattle.tt_grammar.specs.Decoder.{object, flag, array, within_limit, has, member, optional}
 use Rattle.tt_grammar.specs.Arrays.{each}
 use Rattle.tt_grammar.specs.declared.version.Version.{Version}
 use Rattle.tt_grammar.specs.declared.version.Version.TheVariants as versions
@@ -36,12 +37,31 @@ writes version tables v = do
   _ ← within_limit max_writes ds
   each (item_of_action version tables) 0 ds
 
--- the action of an object: the writes of its member do
-unfoldable pub action : Version → Tables → Context → Data → Result (List Write) DocFault
+-- an action of one write, which isn't whole
+abbrev pub action_of_one : Write → Action
+action_of_one write = record { writes = write ∷ []; whole = false }
+
+-- whether an action is whole: the member whole of its object, true or false, and false where it is missing. Versions 1 and 2 don't know it
+abbrev pub is_whole : Version → Data → Result Bool DocFault
+is_whole versions.One v = Ok false
+is_whole versions.Two v = Ok false
+is_whole versions.Three v = do
+  whole ← optional (codes "whole") flag v
+  Ok (unwrap_or whole false)
+
+-- the members of an action
+abbrev pub members_of_action : Version → List (List ℕ)
+members_of_action versions.One = codes "do" ∷ []
+members_of_action versions.Two = codes "do" ∷ []
+members_of_action versions.Three = codes "do" ∷ codes "whole" ∷ []
+
+-- the action of an object: the writes of its member do, and whether it is whole
+unfoldable pub action : Version → Tables → Context → Data → Result Action DocFault
 action version tables context v = do
   writes ← member (codes "do") (writes version tables) v
-  _ ← no_members_at context (codes "do" ∷ []) v
-  Ok writes
+  whole ← is_whole version v
+  _ ← no_members_at context (members_of_action version) v
+  Ok (record { writes = writes; whole = whole })
 
 -- whether an object has the kind do, which version 1 doesn't know
 abbrev pub has_action : Version → Data → Bool

@@ -1,5 +1,5 @@
 -- What is printed is read as the same: a write among the writes of an action and as a replacement, an action, and tables.
-use Rattle.std.specs.Prelude.{◌≡◌, ℕ, FitsSigned, List, [], ◌∷◌, ◌++◌, map, All, None, Result, Ok, IsUtf8, codes}
+use Rattle.std.specs.Prelude.{◌≡◌, ℕ, FitsSigned, List, ◌++◌, map, All, None, Result, Ok, IsUtf8}
 use Rattle.std.specs.Int.{w64}
 use Rattle.serde_json.specs.Data.{Data}
 use Rattle.tt_values.specs.declared.value.Value.{Value}
@@ -9,17 +9,18 @@ use Rattle.tt_values.specs.declared.statement.Change.TheVariants.{Set, Add}
 use Rattle.tt_values.specs.declared.statement.Equal.{Equal}
 use Rattle.tt_values.specs.declared.statement.Write.{Write}
 use Rattle.tt_values.specs.declared.statement.Write.TheVariants.{Insert, Update, Delete}
+use Rattle.tt_values.specs.declared.action.Action.{Action}
 use Rattle.tt_values.specs.Tables.{Tables, IsCatalog}
 use Rattle.tt_values.specs.Check.{write_fault, action_fault}
 use Rattle.tt_grammar.specs.declared.fault.DocFault.{DocFault}
 use Rattle.tt_grammar.specs.Fault.{◌>>=◌}
 use Rattle.tt_grammar.specs.TextValue.{json_of_bytes, value_of_found}
-use Rattle.tt_grammar.specs.Actions.{item_of_action, writes}
+use Rattle.tt_grammar.specs.Actions.{item_of_action, action_of_one, writes}
 use Rattle.tt_grammar.specs.Edits.{replacement}
 use Rattle.tt_grammar.specs.Tables.{catalog}
 use Rattle.tt_grammar.specs.Version.{newest_version}
 use Rattle.tt_grammar.specs.JsonText.{object_text}
-use Rattle.tt_grammar.specs.WriteText.{write_text, action_text, tables_text}
+use Rattle.tt_grammar.specs.WriteText.{write_text, writes_text, action_members, tables_text}
 
 -- an Int that fits 64 bits, or a text in UTF-8, as each value of the program is
 abbrev pub IsStorable : Value → Type 0
@@ -50,14 +51,15 @@ read_with decode bytes = value_of_found (json_of_bytes bytes) >>= decode
 abbrev pub WritesAreReadBack : Type 0
 WritesAreReadBack = (tables : Tables) (w : Write) → IsCatalog tables → write_fault tables w ≡ None → All IsStorable (values_of_write w) →
     (read_with (item_of_action newest_version tables) (write_text tables w) ≡ Ok w)
-    × (read_with (replacement newest_version tables) (write_text tables w) ≡ Ok (w ∷ []))
+    × (read_with (replacement newest_version tables) (write_text tables w) ≡ Ok (action_of_one w))
 
--- an action that can be carried out is printed as JSON that the newest version reads as the same writes, and as this action where it
--- stands under `do` and another action is to be replaced
+-- an action that can be carried out is printed as JSON that the newest version reads as the same: its writes as the same writes, and
+-- the object of its members as the same action, where another action is to be replaced
 abbrev pub ActionsAreReadBack : Type 0
-ActionsAreReadBack = (tables : Tables) (ws : List Write) → IsCatalog tables → action_fault tables ws ≡ None → All (λ w. All IsStorable (values_of_write w)) ws →
-    (read_with (writes newest_version tables) (action_text tables ws) ≡ Ok ws)
-    × (read_with (replacement newest_version tables) (object_text ((codes "do", action_text tables ws) ∷ [])) ≡ Ok ws)
+ActionsAreReadBack = (tables : Tables) (action : Action) → IsCatalog tables → action_fault tables action.writes ≡ None →
+    All (λ w. All IsStorable (values_of_write w)) action.writes →
+    (read_with (writes newest_version tables) (writes_text tables action.writes) ≡ Ok action.writes)
+    × (read_with (replacement newest_version tables) (object_text (action_members tables action)) ≡ Ok action)
 
 -- a catalog is printed as JSON that is read as the same tables
 abbrev pub TablesAreReadBack : Type 0

@@ -1,5 +1,5 @@
 -- The versions of documents and sessions. Version 2 is version 1 with another kind of call, do. Version 3 is version 2 with
--- conditions that compare.
+-- conditions that compare, and with actions that are carried out wholly or not at all.
 use Rattle.std.specs.Prelude.{ℕ, ◌==◌, Option, Some, None, if◌then◌else◌, Result, codes}
 use Rattle.serde_json.specs.Data.{Data}
 use Rattle.tt_grammar.specs.declared.version.Version.{Version}

@@ -1,5 +1,5 @@
--- Writes and tables as they are printed: as the grammar of documents writes them, each member in its place, and each table and column by its name.
-use Rattle.std.specs.Prelude.{ℕ, List, [], ◌∷◌, map, Option, unwrap_or, option_and_then, slice_get, codes}
+-- Writes, actions and tables as they are printed: as the grammar of documents writes them, each member in its place, and each table and column by its name.
+use Rattle.std.specs.Prelude.{ℕ, Bool, true, false, List, [], ◌∷◌, map, Option, Some, None, unwrap_or, option_and_then, slice_get, codes}
 use Rattle.std.specs.Option.{option_map}
 use Rattle.std.specs.Fmt.{signed_decimal}
 use Rattle.tt_values.specs.declared.value.Kind.{Kind}
@@ -11,6 +11,7 @@ use Rattle.tt_values.specs.declared.statement.Change.TheVariants.{Set, Add}
 use Rattle.tt_values.specs.declared.statement.Equal.{Equal}
 use Rattle.tt_values.specs.declared.statement.Write.{Write}
 use Rattle.tt_values.specs.declared.statement.Write.TheVariants.{Insert, Update, Delete}
+use Rattle.tt_values.specs.declared.action.Action.{Action}
 use Rattle.tt_values.specs.Tables.{Tables, columns_at}
 use Rattle.tt_grammar.specs.Quoting.{quoted}
 use Rattle.tt_grammar.specs.Printing.{value_text, row_text}
@@ -60,9 +61,27 @@ write_members tables (Delete table equals) =
 abbrev pub write_text : Tables → Write → List ℕ
 write_text tables w = object_text (write_members tables w)
 
--- an action: its writes
-abbrev pub action_text : Tables → List Write → List ℕ
-action_text tables action = array_text (map (write_text tables) action)
+-- some writes
+abbrev pub writes_text : Tables → List Write → List ℕ
+writes_text tables ws = array_text (map (write_text tables) ws)
+
+-- that an action is whole, as a member of this name. One that isn't has no such member
+abbrev pub whole_members : List ℕ → Bool → List Member
+whole_members name false = []
+whole_members name true = (name, flag_text true) ∷ []
+
+-- an action, as members of these names: its writes, and whether it is whole
+abbrev pub named_action_members : List ℕ → List ℕ → Tables → Action → List Member
+named_action_members name whole_name tables action = (name, writes_text tables action.writes) ∷ whole_members whole_name action.whole
+
+-- an action, as the members do and whole
+abbrev pub action_members : Tables → Action → List Member
+action_members tables action = named_action_members (codes "do") (codes "whole") tables action
+
+-- the same, or a do that is null where there is no action
+abbrev pub action_members_or_null : Tables → Option Action → List Member
+action_members_or_null tables None = (codes "do", codes "null") ∷ []
+action_members_or_null tables (Some action) = action_members tables action
 
 -- the name of a kind of column
 abbrev pub kind_name : Kind → List ℕ

@@ -2,17 +2,17 @@
 ghost use Rattle.std.specs.Prelude.{◌≡◌, [], ◌∷◌, IfOk, codes};
 ghost use Rattle.tt_grammar.specs.Fault.{Gives};
 ghost use Rattle.tt_grammar.specs.Statements.{no_members_at};
-ghost use Rattle.tt_grammar.specs.Actions.{write, item_of_action, writes, action, has_action};
+ghost use Rattle.tt_grammar.specs.Actions.{write, item_of_action, action_of_one, writes, is_whole, members_of_action, action, has_action};
 
 use crate::arrays::decode_items;
-use crate::decoder::{Decoder, OUT_OF_RANGE, array, has, member, object};
+use crate::decoder::{Decoder, FlagDecoder, OUT_OF_RANGE, array, has, member, object, optional};
 use crate::fault::DocFault;
 use crate::members::no_members_but;
 use crate::statements::{Context, delete, insert, update};
 use crate::version::Version;
 use std::alloc::{AllocError, Global};
 use tt_json::JsonValue;
-use tt_values::{Catalog, Items, MAX_WRITES, Write};
+use tt_values::{Action, Catalog, Items, MAX_WRITES, Write};
 
 const NO_KIND: &str = "missing one of insert, update, delete";
 
@@ -42,15 +42,16 @@ pub fn write<V: JsonValue>(
     Ok(None)
 }
 
-/// An action of one write.
-pub fn action_of_one(alloc: Global, write: Write) -> Result<Items<Write>, AllocError>
-    ensures { IfOk result (λ action. action ≡ write ∷ []) }
+/// An action of one write, which isn't whole.
+pub fn action_of_one(alloc: Global, write: Write) -> Result<Action, AllocError>
+    ensures { IfOk result (λ action. action ≡ action_of_one write) }
 {
-    Items::of(alloc, [write])
+    let writes = Items::of(alloc, [write])?;
+    Ok(Action::of(writes))
 }
 
-/// The action of an object, from its member `do`. Another member than that and those of its context
-/// is a fault.
+/// The action of an object, from its member `do` and, in version 3, its member `whole`. Another
+/// member than these and those of its context is a fault.
 #[tactic(auto, unfolding(crate::specs::Actions::action))]
 pub fn action<V: JsonValue>(
     alloc: Global,
@@ -58,12 +59,42 @@ pub fn action<V: JsonValue>(
     catalog: &Catalog,
     context: Context,
     value: &V,
-) -> Result<Items<Write>, DocFault>
+) -> Result<Action, DocFault>
     ensures { Gives result (action version catalog.now context (V.json value.now)) }
 {
     let writes = member(alloc, value, "do", &WritesDecoder { version, catalog })?;
-    no_members_but_do(alloc, context, value)?;
-    Ok(writes)
+    let whole = is_whole(alloc, version, value)?;
+    no_members_but_those_of_action(alloc, version, context, value)?;
+    Ok(Action { writes, whole })
+}
+
+/// Whether an action is carried out wholly or not at all, by the member `whole` of its object,
+/// which may be left out. Before version 3 no action is.
+fn is_whole<V: JsonValue>(alloc: Global, version: Version, object: &V) -> Result<bool, DocFault>
+    ensures { Gives result (is_whole version (V.json object.now)) }
+{
+    match version {
+        Version::One | Version::Two => Ok(false),
+        Version::Three => {
+            let whole = optional(alloc, object, "whole", &FlagDecoder)?;
+            Ok(whole.unwrap_or(false))
+        }
+    }
+}
+
+fn no_members_but_those_of_action<V: JsonValue>(
+    alloc: Global,
+    version: Version,
+    context: Context,
+    value: &V,
+) -> Result<(), DocFault>
+    ensures { Gives result
+        (no_members_at context (members_of_action version) (V.json value.now)) }
+{
+    match version {
+        Version::One | Version::Two => no_members_but_do(alloc, context, value),
+        Version::Three => no_members_but_do_and_whole(alloc, context, value),
+    }
 }
 
 fn no_members_but_do<V: JsonValue>(
@@ -77,6 +108,21 @@ fn no_members_but_do<V: JsonValue>(
         Context::Call => no_members_but(alloc, value, &["worker", "do"]),
         Context::Request => no_members_but(alloc, value, &["if", "worker", "do"]),
         Context::Nested => no_members_but(alloc, value, &["do"]),
+    }
+}
+
+fn no_members_but_do_and_whole<V: JsonValue>(
+    alloc: Global,
+    context: Context,
+    value: &V,
+) -> Result<(), DocFault>
+    ensures { Gives result
+        (no_members_at context (codes "do" ∷ codes "whole" ∷ []) (V.json value.now)) }
+{
+    match context {
+        Context::Call => no_members_but(alloc, value, &["worker", "do", "whole"]),
+        Context::Request => no_members_but(alloc, value, &["if", "worker", "do", "whole"]),
+        Context::Nested => no_members_but(alloc, value, &["do", "whole"]),
     }
 }
 

@@ -10,7 +10,7 @@ use crate::statements::Context;
 use crate::version::Version;
 use std::alloc::Global;
 use tt_json::JsonValue;
-use tt_values::{Catalog, Items, Write};
+use tt_values::{Action, Catalog};
 
 /// The action that replaces the one of a call, or of a slot.
 #[derive(Drop)]
@@ -22,12 +22,12 @@ pub struct ReplacementDecoder<'a> {
 }
 
 impl Decoder for ReplacementDecoder<'_> {
-    type Output = Items<Write>;
+    type Output = Action;
 
     ghost meaning = { λ r. replacement r.version r.catalog.now };
 
     #[tactic(auto, unfolding(crate::specs::Edits::replacement))]
-    fn decode<V: JsonValue>(&self, alloc: Global, value: &V) -> Result<Items<Write>, DocFault> {
+    fn decode<V: JsonValue>(&self, alloc: Global, value: &V) -> Result<Action, DocFault> {
         object(alloc, value)?;
         match write(alloc, self.version, self.catalog, Context::Nested, value)? {
             Some(write) => {
@@ -44,7 +44,7 @@ fn replacement_without_write<V: JsonValue>(
     version: Version,
     catalog: &Catalog,
     value: &V,
-) -> Result<Items<Write>, DocFault>
+) -> Result<Action, DocFault>
     ensures { Gives result (replacement_by version catalog.now (V.json value.now) None) }
 {
     if has_action(version, value) {

@@ -11,7 +11,7 @@ pub fn writes_are_read_back()
 {}
 
 /// An action that can be carried out is printed as JSON that the newest version reads as the same
-/// writes: under `do`, and so where it replaces the action of a slot.
+/// action: its writes under `do`, and the whole where it replaces the action of a slot.
 pub fn actions_are_read_back()
     ensures { ActionsAreReadBack }
 {}

@@ -37,7 +37,7 @@ pub use quoting::push_quoted;
 pub use session_version::SessionVersion;
 pub use table_text::push_tables;
 pub use text_value::parse_text;
-pub use write_text::{push_action, push_action_or_null};
+pub use write_text::{push_action, push_action_or_null, push_named_action};
 
 /// The largest number of edits of a repair.
 pub const MAX_EDITS: usize = 10_000;

@@ -8,7 +8,8 @@ use std::alloc::Global;
 use tt_json::JsonValue;
 
 /// The version of a document or of a session. Version 2 is version 1 with another kind of call,
-/// `do`. Version 3 is version 2 with conditions that compare.
+/// `do`. Version 3 is version 2 with conditions that compare, and with actions that are carried out
+/// wholly or not at all.
 #[derive(Clone, Copy, Debug)]
 pub enum Version {
     One,

@@ -1,16 +1,16 @@
-//! Writes as they are printed, as the grammar of documents writes them.
-ghost use Rattle.std.specs.Prelude.{◌≡◌, ◌++◌, map, OnOk};
-ghost use Rattle.std.specs.Option.{option_map};
+//! Writes and actions as they are printed, as the grammar of documents writes them.
+ghost use Rattle.std.specs.Prelude.{◌≡◌, ◌++◌, map, codes, OnOk};
 ghost use Rattle.std.specs.List.{flat_map};
 ghost use Rattle.tt_grammar.specs.Quoting.{quoted};
-ghost use Rattle.tt_grammar.specs.JsonText.{further_item, array_text, text_or_null};
-ghost use Rattle.tt_grammar.specs.WriteText.{table_name, column_name, column_change_text, equal_text, write_text, action_text};
+ghost use Rattle.tt_grammar.specs.JsonText.{further_item, array_text, member_text, members_text};
+ghost use Rattle.tt_grammar.specs.WriteText.{table_name, column_name, column_change_text, equal_text, write_text, writes_text, whole_members, named_action_members, action_members, action_members_or_null};
 
 use crate::comparisons::before_value;
 use crate::json_text::push_named;
 use crate::printing::{push_int, push_row, push_value};
+use crate::quoting::push_quoted;
 use std::alloc::AllocError;
-use tt_values::{Catalog, Change, Equal, Items, Row, Value, Write};
+use tt_values::{Action, Catalog, Change, Equal, Row, Value, Write};
 
 /// The name of the table at a position, or an empty one where there is no table.
 fn table_name(catalog: &Catalog, table: u16) -> &str
@@ -62,11 +62,74 @@ fn push_column_name(
     push_named(out, label, column_name(catalog, table, column).as_bytes())
 }
 
-/// Pushes the writes of an action as an array.
-pub fn push_action(out: &mut Vec<u8>, catalog: &Catalog, action: &[Write]) -> Result<(), AllocError>
-    ensures { OnOk result (out.new.items ≡ out.old.items ++ action_text catalog.now action.now) }
+/// Pushes an action as members of an object: its writes by the name `do`, and behind them the
+/// member `whole` where the action is whole.
+pub fn push_action(out: &mut Vec<u8>, catalog: &Catalog, action: &Action) -> Result<(), AllocError>
+    ensures { OnOk result (out.new.items
+        ≡ out.old.items ++ members_text (action_members catalog.now action.now)) }
 {
-    let [first, further @ ..] = action else {
+    push_named_action(out, "do", "whole", catalog, action)
+}
+
+/// Pushes an action as [`push_action`] does, or a `do` that is null where there is none.
+pub fn push_action_or_null(
+    out: &mut Vec<u8>,
+    catalog: &Catalog,
+    action: &Option<Action>,
+) -> Result<(), AllocError>
+    ensures { OnOk result (out.new.items
+        ≡ out.old.items ++ members_text (action_members_or_null catalog.now action.now)) }
+{
+    match action {
+        Some(action) => push_action(out, catalog, action),
+        None => out.extend_from_slice(b"\"do\":null"),
+    }
+}
+
+/// Pushes an action as members of these names: its writes, and whether it is whole.
+pub fn push_named_action(
+    out: &mut Vec<u8>,
+    name: &str,
+    whole_name: &str,
+    catalog: &Catalog,
+    action: &Action,
+) -> Result<(), AllocError>
+    ensures { OnOk result (out.new.items ≡ out.old.items
+        ++ members_text (named_action_members name.now whole_name.now catalog.now action.now)) }
+{
+    push_name(out, name)?;
+    push_writes(out, catalog, action.writes.as_slice())?;
+    push_whole(out, whole_name, action.whole)?;
+    Ok(())
+}
+
+/// Pushes, as a further member of this name, that an action is whole, where it is.
+fn push_whole(out: &mut Vec<u8>, name: &str, whole: bool) -> Result<(), AllocError>
+    ensures { OnOk result (out.new.items ≡ out.old.items
+        ++ flat_map further_item (map member_text (whole_members name.now whole))) }
+{
+    if whole {
+        out.push(b',')?;
+        push_name(out, name)?;
+        out.extend_from_slice(b"true")?;
+    }
+    Ok(())
+}
+
+/// Pushes the name of a member and a colon.
+fn push_name(out: &mut Vec<u8>, name: &str) -> Result<(), AllocError>
+    ensures { OnOk result (out.new.items ≡ out.old.items ++ (quoted name.now ++ codes ":")) }
+{
+    push_quoted(out, name.as_bytes())?;
+    out.push(b':')?;
+    Ok(())
+}
+
+/// Pushes writes as an array.
+fn push_writes(out: &mut Vec<u8>, catalog: &Catalog, writes: &[Write]) -> Result<(), AllocError>
+    ensures { OnOk result (out.new.items ≡ out.old.items ++ writes_text catalog.now writes.now) }
+{
+    let [first, further @ ..] = writes else {
         return out.extend_from_slice(b"[]");
     };
     out.push(b'[')?;
@@ -90,21 +153,6 @@ fn push_further_writes(
         push_write(out, catalog, write)?;
     }
     Ok(())
-}
-
-/// Pushes an action, or null where there is none.
-pub fn push_action_or_null(
-    out: &mut Vec<u8>,
-    catalog: &Catalog,
-    action: &Option<Items<Write>>,
-) -> Result<(), AllocError>
-    ensures { OnOk result (out.new.items ≡ out.old.items
-        ++ text_or_null (option_map (action_text catalog.now) action.now)) }
-{
-    match action {
-        Some(action) => push_action(out, catalog, action.as_slice()),
-        None => out.extend_from_slice(b"null"),
-    }
 }
 
 /// Pushes a write.

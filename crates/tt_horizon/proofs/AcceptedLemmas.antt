@@ -5,6 +5,7 @@ use Rattle.std.proofs.lemmas.List.Elements.{All-nil, All-cons}
 use Rattle.std.specs.List.{All}
 use Rattle.std.specs.Option.{option_or}
 use Rattle.tt_values.specs.declared.statement.Write.{Write}
+use Rattle.tt_values.specs.declared.action.Action.{Action}
 use Rattle.tt_values.specs.declared.checking.CheckError.{CheckError}
 use Rattle.tt_values.specs.declared.checking.CheckError.TheVariants as faults
 use Rattle.tt_values.specs.Tables.{Tables}
@@ -32,7 +33,7 @@ abbrev pub AllAccepted : Tables → Slots → Type 0
 AllAccepted tables [] = Unit {0}
 AllAccepted tables (s ∷ W) = IsAccepted tables s × AllAccepted tables W
 
-AllAccepted-push : (tables : Tables) (W : Slots) (s : Option (List Write)) → AllAccepted tables W → IsAccepted tables s → AllAccepted tables (W ++ s ∷ [])
+AllAccepted-push : (tables : Tables) (W : Slots) (s : Option Action) → AllAccepted tables W → IsAccepted tables s → AllAccepted tables (W ++ s ∷ [])
 AllAccepted-push tables [] s h a = (a, tt)
 AllAccepted-push tables (x ∷ W) s h a = (h.0, AllAccepted-push tables W s h.1 a)
 
@@ -47,20 +48,20 @@ slot_after-AllAccepted tables (s ∷ W) zero h = h.0
 slot_after-AllAccepted tables (s ∷ W) (suc n) h = slot_after-AllAccepted tables W n h.1
 
 -- slots stay so with edits whose actions have no faults
-IsAccepted-edit : (tables : Tables) (E : List Edit) (t : ℕ) (s : Option (List Write)) → edits_fault tables E ≡ None → IsAccepted tables s → IsAccepted tables (slot_with_edit (edit_of E t) s)
+IsAccepted-edit : (tables : Tables) (E : List Edit) (t : ℕ) (s : Option Action) → edits_fault tables E ≡ None → IsAccepted tables s → IsAccepted tables (slot_with_edit (edit_of E t) s)
 IsAccepted-edit tables [] t s none h = h
 IsAccepted-edit tables (Cancel k ∷ E) t s none h = by (k == t) (IsAccepted-edit tables E t s none h)
   where
     by : (b : Bool) → IsAccepted tables (slot_with_edit (edit_of E t) s) → IsAccepted tables (slot_with_edit (if b then Some (Cancel k) else edit_of E t) s)
     by true rest = tt
     by false rest = rest
-IsAccepted-edit tables (Replace k action ∷ E) t s none h = by (action_fault tables action) refl none (λ rest. IsAccepted-edit tables E t s rest h)
+IsAccepted-edit tables (Replace k action ∷ E) t s none h = by (action_fault tables action.writes) refl none (λ rest. IsAccepted-edit tables E t s rest h)
   where
-    at : (b : Bool) → action_fault tables action ≡ None → IsAccepted tables (slot_with_edit (edit_of E t) s) → IsAccepted tables (slot_with_edit (if b then Some (Replace k action) else edit_of E t) s)
+    at : (b : Bool) → action_fault tables action.writes ≡ None → IsAccepted tables (slot_with_edit (edit_of E t) s) → IsAccepted tables (slot_with_edit (if b then Some (Replace k action) else edit_of E t) s)
     at true is others = is
     at false is others = others
 
-    by : (fault : Option CheckError) → action_fault tables action ≡ fault → option_or fault (edits_fault tables E) ≡ None
+    by : (fault : Option CheckError) → action_fault tables action.writes ≡ fault → option_or fault (edits_fault tables E) ≡ None
         → (edits_fault tables E ≡ None → IsAccepted tables (slot_with_edit (edit_of E t) s))
         → IsAccepted tables (slot_with_edit (if k == t then Some (Replace k action) else edit_of E t) s)
     by None is rest others = at (k == t) is (others rest)
@@ -115,9 +116,9 @@ few_writes tables ws none = by (nat_lt max_writes (length ws)) refl none
     by true is h = cc
     by false is h = grind (arith, nat_tests)
 
-few_writes-slot : (tables : Tables) (s : Option (List Write)) → IsAccepted tables s → HasFewWrites max_writes s
+few_writes-slot : (tables : Tables) (s : Option Action) → IsAccepted tables s → HasFewWrites max_writes s
 few_writes-slot tables None h = omega arith
-few_writes-slot tables (Some ws) h = few_writes tables ws h
+few_writes-slot tables (Some action) h = few_writes tables action.writes h
 
 pub All-few_writes : (tables : Tables) (W : Slots) → AllAccepted tables W → All (HasFewWrites max_writes) W
 All-few_writes tables [] h = All-nil (HasFewWrites max_writes)

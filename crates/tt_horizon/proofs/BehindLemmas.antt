@@ -3,7 +3,8 @@ use Rattle.std.proofs.Common.{◌≡◌, ℕ, zero, suc, ◌+◌, ◌<◌, ◌�
 use Rattle.std.proofs.lemmas.Bool.Decides.{nat_tests}
 use Rattle.std.proofs.lemmas.List.{drop_all}
 use Rattle.std.proofs.lemmas.Option.{slice_get-get_or}
-use Rattle.tt_values.specs.declared.statement.Write.{Write}
+use Rattle.tt_values.specs.declared.action.Action.{Action}
+use Rattle.tt_values.specs.Action.{action_of}
 use Rattle.tt_values.specs.RowWrites.{Slots, slot_after}
 use Rattle.tt_generations.specs.declared.slot.Slot.{Slot}
 use Rattle.tt_generations.specs.KeptSlots.{slot_with_replies, slot_at}
@@ -39,14 +40,14 @@ slot-there W n there =
     at ∙ ap Some (sym (ap (λ o. unwrap_or o None) at))
 
 -- the next slot behind a time, and those behind it
-pub entries_behind-next : (db : Database) (before worker : ℕ) (action : List Write) → before < now_in db → Some worker ≡ nth_item (workers_of db.history) (before + 1)
+pub entries_behind-next : (db : Database) (before worker : ℕ) (action : Action) → before < now_in db → Some worker ≡ nth_item (workers_of db.history) (before + 1)
     → action ≡ action_at db (before + 1) → entries_behind db before ≡ entry_of worker action ∷ entries_behind db (before + 1)
 entries_behind-next db before worker action there by_worker is =
     let W = current_slots db in
     let next : before + 1 ≡ suc before = omega arith in
     let workers = drop-at (workers_of db.history) before worker (sym (by_worker ∙ ap (nth_item (workers_of db.history)) next)) in
     let slots = drop-at W before (slot_after W before) (slot-there W before there) in
-    let kept : unwrap_or (slot_after W before) [] ≡ action = sym (is ∙ ap (action_at db) next ∙ ap (λ o. unwrap_or o []) (action-at W before there)) in
+    let kept : unwrap_or (slot_after W before) (action_of []) ≡ action = sym (is ∙ ap (action_at db) next ∙ ap (λ o. unwrap_or o (action_of [])) (action-at W before there)) in
     (λ i. map entry_of_pair (zip (workers i) (slots i)))
     ∙ (λ i. entry_of worker (kept i) ∷ entries_behind db (sym next i))
 
@@ -58,7 +59,7 @@ entries_behind-last db time last =
 
 -- ---- a database in which they are carried out
 
-pub carried_out-next : (db next after : Database) (before worker : ℕ) (action : List Write) → before < now_in db → Some worker ≡ nth_item (workers_of db.history) (before + 1)
+pub carried_out-next : (db next after : Database) (before worker : ℕ) (action : Action) → before < now_in db → Some worker ≡ nth_item (workers_of db.history) (before + 1)
     → action ≡ action_at db (before + 1) → after ≡ with_entry next (entry_of worker action) → with_entries after (entries_behind db (before + 1)) ≡ with_entries next (entries_behind db before)
 carried_out-next db next after before worker action there by_worker is entered =
     let rest = entries_behind db (before + 1) in

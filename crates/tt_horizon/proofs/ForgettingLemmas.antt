@@ -1,7 +1,7 @@
 -- A database that has forgotten what lies before a time.
 use Rattle.std.proofs.Common.{◌≡◌, ℕ, ◌+◌, ◌-◌, ◌≤◌, false, List, [], ◌++◌, map, length, drop, zip, Some, refl, sym, ap, subst, ◌∙◌, arith, length-append, length-drop}
 use Rattle.std.proofs.lemmas.List.{length-map, map-append}
-use Rattle.tt_values.specs.declared.statement.Write.{Write}
+use Rattle.tt_values.specs.declared.action.Action.{Action}
 use Rattle.tt_values.specs.Tables.{IsCatalog}
 use Rattle.tt_values.specs.RowWrites.{Slots}
 use Rattle.tt_generations.specs.TwoGenerations.{Idle, is_repairing}
@@ -22,7 +22,7 @@ use Rattle.tt_horizon.proofs.HistoryLemmas.{AreActions, AreActions-append, AreAc
 use Rattle.tt_horizon.proofs.WorkerLemmas.{length-workers_of}
 
 -- the actions of the forgotten history
-abbrev actions_after : Database → ℕ → List (List Write)
+abbrev actions_after : Database → ℕ → List Action
 actions_after db time = ground_of db time ++ map action_of_pair (zip (drop time (workers_of db.history)) (drop time (current_slots db)))
 
 AreActions-forgotten : (db : Database) (time : ℕ) → AreActions (forgotten_history db time) (actions_after db time)
@@ -54,10 +54,10 @@ state-forgotten db time =
     count : 0 + length (forgotten_history db time) ≡ length (forgotten_history db time)
     count = omega arith
 
-length-on_ground : (G : List (List Write)) (W : Slots) (time : ℕ) → length (on_ground G W time) ≡ moved time (length G) (length W)
+length-on_ground : (G : List Action) (W : Slots) (time : ℕ) → length (on_ground G W time) ≡ moved time (length G) (length W)
 length-on_ground G W time =
     let parts = length-append (map Some G) (map kept_slot (drop time W)) in
-    let front = length-map G (λ (a : List Write). Some a) in
+    let front = length-map G (λ (a : Action). Some a) in
     let rest = length-map (drop time W) kept_slot in
     let behind = length-drop time W in
     omega (arith, parts, front, rest, behind)
@@ -66,7 +66,7 @@ length-on_ground G W time =
 length-forgotten : (db : Database) (time : ℕ) → length (forgotten_history db time) ≡ moved time (length (ground_of db time)) (now_in db)
 length-forgotten db time =
     length-AreActions (forgotten_history db time) (actions_after db time) (AreActions-forgotten db time)
-    ∙ sym (length-map (actions_after db time) (λ (a : List Write). Some a))
+    ∙ sym (length-map (actions_after db time) (λ (a : Action). Some a))
     ∙ ap (λ (V : Slots). length V) (slots-forgotten db time)
     ∙ length-on_ground (ground_of db time) (current_slots db) time
 
@@ -118,7 +118,7 @@ forgetting_is_sound db time catalog fits legal idle within =
 pub now-ground : (db : Database) (time : ℕ) → now_in (database_of_ground db time) ≡ length (ground_of db time)
 now-ground db time =
     let G = ground_of db time in
-    ap (λ (S : State). now_of S) (after-actions db.limits start (map (entry_of ground_worker) G) G (AreActions-ground ground_worker G)) ∙ length-map G (λ (a : List Write). Some a)
+    ap (λ (S : State). now_of S) (after-actions db.limits start (map (entry_of ground_worker) G) G (AreActions-ground ground_worker G)) ∙ length-map G (λ (a : Action). Some a)
 
 -- the ground first, and then the slots behind the time
 pub Forgets-made : (db next after : Database) (time size : ℕ) → IsCatalog db.catalog → Fits db.limits → IsLegal db.catalog db.limits db.history

@@ -1,16 +1,18 @@
 -- The actions of the ground of a legal history have no fault, and its content is one of keyed rows within the tables.
-use Rattle.std.proofs.Common.{◌≡◌, ℕ, zero, suc, ◌≤◌, ◌<◌, pos, Bool, true, false, nat_lt, List, [], ◌∷◌, ◌++◌, length, take, drop, flat_map, None, Some, unwrap_or, if◌then◌else◌, refl, ap, ◌∙◌, arith}
+use Rattle.std.proofs.Common.{◌≡◌, ℕ, zero, suc, ◌≤◌, ◌<◌, pos, Bool, true, false, nat_lt, List, [], ◌∷◌, ◌++◌, map, length, take, drop, flat_map, None, Some, unwrap_or, if◌then◌else◌, refl, ap, ◌∙◌, arith}
 use Rattle.std.proofs.lemmas.Bool.Decides.{nat_tests}
 use Rattle.std.proofs.lemmas.List.Elements.{All-from_recursion}
 use Rattle.std.specs.List.{AllByRecursion, range_with_len}
 use Rattle.std.specs.Option.{option_or}
 use Rattle.tt_values.specs.declared.statement.Write.{Write}
+use Rattle.tt_values.specs.declared.action.Action.{Action}
 use Rattle.tt_values.specs.declared.checking.CheckError.TheVariants as faults
 use Rattle.tt_values.specs.Limits.{max_writes}
 use Rattle.tt_values.specs.Row.{key_of}
 use Rattle.tt_values.specs.Tables.{Tables, IsCatalog}
 use Rattle.tt_values.specs.Check.{first_write_fault, action_fault}
 use Rattle.tt_values.specs.Content.{RowsByKey, Content}
+use Rattle.tt_values.specs.Action.{action_of}
 use Rattle.tt_values.specs.RowWrites.{row_writes}
 use Rattle.tt_values.proofs.LawProofs.{rows_rise}
 use Rattle.tt_db.specs.declared.limits.Limits.{Limits}
@@ -66,11 +68,11 @@ action_fault-none tables ws few h = by (nat_lt max_writes (length ws)) refl
     by false is = first_write_fault-none tables ws h
 
 -- actions without a fault
-abbrev pub AllActionsPass : Tables → List (List Write) → Type 0
+abbrev pub AllActionsPass : Tables → List Action → Type 0
 AllActionsPass tables [] = Unit {0}
-AllActionsPass tables (a ∷ actions) = (action_fault tables a ≡ None) × AllActionsPass tables actions
+AllActionsPass tables (a ∷ actions) = (action_fault tables a.writes ≡ None) × AllActionsPass tables actions
 
-AllActionsPass-pieces : (tables : Tables) (most n : ℕ) (ws : List Write) → n ≤ max_writes → HaveNoFaults tables ws → AllActionsPass tables (some_pieces most n ws)
+AllActionsPass-pieces : (tables : Tables) (most n : ℕ) (ws : List Write) → n ≤ max_writes → HaveNoFaults tables ws → AllActionsPass tables (map action_of (some_pieces most n ws))
 AllActionsPass-pieces tables zero n ws few h = tt
 AllActionsPass-pieces tables (suc most) n [] few h = tt
 AllActionsPass-pieces tables (suc most) n (w ∷ ws) few h =

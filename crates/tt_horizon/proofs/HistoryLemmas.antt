@@ -1,8 +1,9 @@
 -- Histories of actions alone: the state that they lead to, and that they are legal where no action has a fault and there is room.
 use Rattle.std.proofs.Common.{◌≡◌, ℕ, suc, ◌+◌, ◌≤◌, ◌<◌, List, [], ◌∷◌, ◌++◌, map, length, fold, zip, Option, None, Some, unwrap_or, option_map, refl, sym, ap, subst, ◌∙◌, arith, append-nil, append_assoc, length-append}
-use Rattle.tt_values.specs.declared.statement.Write.{Write}
+use Rattle.tt_values.specs.declared.action.Action.{Action}
 use Rattle.tt_values.specs.Tables.{Tables}
 use Rattle.tt_values.specs.Check.{action_fault}
+use Rattle.tt_values.specs.Action.{action_of}
 use Rattle.tt_values.specs.RowWrites.{Slots}
 use Rattle.tt_db.specs.declared.limits.Limits.{Limits}
 use Rattle.tt_db.specs.declared.event.Event.TheVariants as events
@@ -16,34 +17,34 @@ use Rattle.tt_horizon.proofs.AcceptedLemmas.{AllAccepted}
 use Rattle.tt_horizon.proofs.GroundLemmas.{AllActionsPass}
 
 -- entries are these actions, one each
-abbrev pub AreActions : List Entry → List (List Write) → Type 0
+abbrev pub AreActions : List Entry → List Action → Type 0
 AreActions [] [] = Unit {0}
 AreActions [] (a ∷ actions) = ⊥
 AreActions (e ∷ es) [] = ⊥
 AreActions (e ∷ es) (a ∷ actions) = (e.event ≡ events.Write a) × AreActions es actions
 
-pub AreActions-append : (es fs : List Entry) (actions bs : List (List Write)) → AreActions es actions → AreActions fs bs → AreActions (es ++ fs) (actions ++ bs)
+pub AreActions-append : (es fs : List Entry) (actions bs : List Action) → AreActions es actions → AreActions fs bs → AreActions (es ++ fs) (actions ++ bs)
 AreActions-append [] fs [] bs h k = k
 AreActions-append [] fs (a ∷ actions) bs h k = absurd h
 AreActions-append (e ∷ es) fs [] bs h k = absurd h
 AreActions-append (e ∷ es) fs (a ∷ actions) bs h k = (h.0, AreActions-append es fs actions bs h.1 k)
 
-pub AreActions-ground : (worker : ℕ) (G : List (List Write)) → AreActions (map (entry_of worker) G) G
+pub AreActions-ground : (worker : ℕ) (G : List Action) → AreActions (map (entry_of worker) G) G
 AreActions-ground worker [] = tt
 AreActions-ground worker (a ∷ G) = (refl, AreActions-ground worker G)
 
 -- the entry of a worker and a slot, and its action
-abbrev pub entry_of_pair : ℕ × Option (List Write) → Entry
-entry_of_pair p = entry_of p.0 (unwrap_or p.1 [])
+abbrev pub entry_of_pair : ℕ × Option Action → Entry
+entry_of_pair p = entry_of p.0 (unwrap_or p.1 (action_of []))
 
-abbrev pub action_of_pair : ℕ × Option (List Write) → List Write
-action_of_pair p = unwrap_or p.1 []
+abbrev pub action_of_pair : ℕ × Option Action → Action
+action_of_pair p = unwrap_or p.1 (action_of [])
 
-pub AreActions-pairs : (ps : List (ℕ × Option (List Write))) → AreActions (map entry_of_pair ps) (map action_of_pair ps)
+pub AreActions-pairs : (ps : List (ℕ × Option Action)) → AreActions (map entry_of_pair ps) (map action_of_pair ps)
 AreActions-pairs [] = tt
 AreActions-pairs (p ∷ ps) = (refl, AreActions-pairs ps)
 
-pub length-AreActions : (es : List Entry) (actions : List (List Write)) → AreActions es actions → length es ≡ length actions
+pub length-AreActions : (es : List Entry) (actions : List Action) → AreActions es actions → length es ≡ length actions
 length-AreActions [] [] h = refl
 length-AreActions [] (a ∷ actions) h = absurd h
 length-AreActions (e ∷ es) [] h = absurd h
@@ -51,7 +52,7 @@ length-AreActions (e ∷ es) (a ∷ actions) h = ap (λ n. suc n) (length-AreAct
 
 -- ---- the state that they lead to
 
-pub after-actions : (limits : Limits) (S : State) (es : List Entry) (actions : List (List Write)) → AreActions es actions
+pub after-actions : (limits : Limits) (S : State) (es : List Entry) (actions : List Action) → AreActions es actions
     → fold (λ T e. next_state limits T e.event) S es ≡ record S { slots = S.slots ++ map Some actions; events = S.events + length es }
 after-actions limits S [] [] h =
     let none : S.events ≡ S.events + 0 = omega arith in
@@ -66,14 +67,14 @@ after-actions limits S (e ∷ es) (a ∷ actions) h =
 
 -- ---- they are legal
 
-accepted : (tables : Tables) (limits : Limits) (S : State) (a : List Write) → action_fault tables a ≡ None → now_of S < limits.slots → S.events < limits.events
+accepted : (tables : Tables) (limits : Limits) (S : State) (a : Action) → action_fault tables a.writes ≡ None → now_of S < limits.slots → S.events < limits.events
     → refusal tables limits S (events.Write a) ≡ None
 accepted tables limits S a none slots entries =
     let room = full_at-below (now_of S) limits.slots slots in
     let more_room = full_at-below S.events limits.events entries in
     λ i. first_refusal (option_map errors.Statement (none i) ∷ room i ∷ more_room i ∷ [])
 
-pub IsLegal-actions : (tables : Tables) (limits : Limits) (S : State) (es : List Entry) (actions : List (List Write)) → AreActions es actions → AllActionsPass tables actions
+pub IsLegal-actions : (tables : Tables) (limits : Limits) (S : State) (es : List Entry) (actions : List Action) → AreActions es actions → AllActionsPass tables actions
     → now_of S + length es ≤ limits.slots → S.events + length es ≤ limits.events → IsLegalFrom tables limits S es
 IsLegal-actions tables limits S [] [] h pass slots entries = tt
 IsLegal-actions tables limits S [] (a ∷ actions) h pass slots entries = absurd h
@@ -87,7 +88,7 @@ IsLegal-actions tables limits S (e ∷ es) (a ∷ actions) h pass slots entries 
 
 -- ---- the slots behind a time
 
-pub AllActionsPass-append : (tables : Tables) (actions bs : List (List Write)) → AllActionsPass tables actions → AllActionsPass tables bs → AllActionsPass tables (actions ++ bs)
+pub AllActionsPass-append : (tables : Tables) (actions bs : List Action) → AllActionsPass tables actions → AllActionsPass tables bs → AllActionsPass tables (actions ++ bs)
 AllActionsPass-append tables [] bs h k = k
 AllActionsPass-append tables (a ∷ actions) bs h k = (h.0, AllActionsPass-append tables actions bs h.1 k)
 
@@ -97,7 +98,7 @@ AllActionsPass-pairs tables (worker ∷ workers) [] h = tt
 AllActionsPass-pairs tables (worker ∷ workers) (None ∷ W) h = (refl, AllActionsPass-pairs tables workers W h.1)
 AllActionsPass-pairs tables (worker ∷ workers) (Some a ∷ W) h = (h.0, AllActionsPass-pairs tables workers W h.1)
 
-kept_slot-is : (s : Option (List Write)) → Some (unwrap_or s []) ≡ kept_slot s
+kept_slot-is : (s : Option Action) → Some (unwrap_or s (action_of [])) ≡ kept_slot s
 kept_slot-is None = refl
 kept_slot-is (Some a) = refl
 

@@ -12,6 +12,7 @@ use Rattle.tt_values.specs.declared.reply.Reply.TheVariants.{Rows}
 use Rattle.tt_values.specs.declared.checking.CheckError.{CheckError}
 use Rattle.tt_values.specs.Check.{select_fault}
 use Rattle.tt_values.specs.Content.{RowsByKey, Content}
+use Rattle.tt_values.specs.Action.{action_of}
 use Rattle.tt_values.specs.Effect.{matching_rows, answer_of}
 use Rattle.tt_db.specs.declared.event.Entry.{Entry}
 use Rattle.tt_db.specs.declared.errors.ReadError.TheVariants as read_errors
@@ -21,7 +22,7 @@ use Rattle.tt_horizon_laws.specs.Ground.{inserts_of, inserts_of_tables, some_pie
 use Rattle.tt_horizon.specs.declared.ground.Ground.{Ground}
 use Rattle.tt_horizon.specs.Forgetting.{entry_of, ground_worker}
 use Rattle.tt_horizon.specs.Grounds.{is_of_ground, IsOfGround, AreGround, emptied, HasGround, IsGround}
-use Rattle.tt_horizon.specs.Laying.{AreLaid, AddsWrites, with_last, with_entries}
+use Rattle.tt_horizon.specs.Laying.{ground_entry, AreLaid, AddsWrites, with_last, with_entries}
 
 -- one more write waits
 pub AreLaid-wait : (n : ℕ) (ws : List Write) (entries : List Entry) (waiting : List Write) (w : Write) → AreLaid n ws entries waiting → length waiting + 1 < n
@@ -29,24 +30,24 @@ pub AreLaid-wait : (n : ℕ) (ws : List Write) (entries : List Entry) (waiting :
 AreLaid-wait n ws [] waiting w h room = (ap (λ vs. vs ++ w ∷ []) h.0, omega (arith, room, length-append waiting (w ∷ [])))
 AreLaid-wait n ws (e ∷ entries) waiting w h room = (
   omega (arith, h.0, length-append ws (w ∷ [])),
-  h.1 ∙ ap (entry_of ground_worker) (sym (take-append-le n ws (w ∷ []) h.0)),
+  h.1 ∙ ap ground_entry (sym (take-append-le n ws (w ∷ []) h.0)),
   subst (λ vs. AreLaid n vs entries (waiting ++ w ∷ [])) (sym (drop-append-le n ws (w ∷ []) h.0)) (AreLaid-wait n (drop n ws) entries waiting w h.2 room),
 )
 
 -- the last write of an action is added, and the action becomes an entry
 pub AreLaid-full : (n : ℕ) (ws : List Write) (entries : List Entry) (waiting : List Write) (w : Write) → AreLaid n ws entries waiting → length waiting + 1 ≡ n
-    → AreLaid n (ws ++ w ∷ []) (entries ++ entry_of ground_worker (waiting ++ w ∷ []) ∷ []) []
+    → AreLaid n (ws ++ w ∷ []) (entries ++ ground_entry (waiting ++ w ∷ []) ∷ []) []
 AreLaid-full n ws [] waiting w h full =
     let all : ws ++ w ∷ [] ≡ waiting ++ w ∷ [] = ap (λ vs. vs ++ w ∷ []) h.0 in
     let count = length-append waiting (w ∷ []) in
     let as_many : length (ws ++ w ∷ []) ≡ n = ap (λ (vs : List Write). length vs) all ∙ omega (arith, count, full) in
     let long : n ≤ length (ws ++ w ∷ []) = omega (arith, as_many) in
     let short : length (ws ++ w ∷ []) ≤ n = omega (arith, as_many) in
-    (long, ap (entry_of ground_worker) (sym (take_all n (ws ++ w ∷ []) short ∙ all)), (drop_all n (ws ++ w ∷ []) short, omega (arith, full)))
+    (long, ap ground_entry (sym (take_all n (ws ++ w ∷ []) short ∙ all)), (drop_all n (ws ++ w ∷ []) short, omega (arith, full)))
 AreLaid-full n ws (e ∷ entries) waiting w h full = (
   omega (arith, h.0, length-append ws (w ∷ [])),
-  h.1 ∙ ap (entry_of ground_worker) (sym (take-append-le n ws (w ∷ []) h.0)),
-  subst (λ vs. AreLaid n vs (entries ++ entry_of ground_worker (waiting ++ w ∷ []) ∷ []) []) (sym (drop-append-le n ws (w ∷ []) h.0))
+  h.1 ∙ ap ground_entry (sym (take-append-le n ws (w ∷ []) h.0)),
+  subst (λ vs. AreLaid n vs (entries ++ ground_entry (waiting ++ w ∷ []) ∷ []) []) (sym (drop-append-le n ws (w ∷ []) h.0))
       (AreLaid-full n (drop n ws) entries waiting w h.2 full),
 )
 
@@ -55,7 +56,7 @@ AreLaid-full n ws (e ∷ entries) waiting w h full = (
 -- the entries, and one of the writes that wait, if there are any
 abbrev pub with_last_entry : List Entry → List Write → List Entry
 with_last_entry entries [] = entries
-with_last_entry entries (w ∷ ws) = entries ++ entry_of ground_worker (w ∷ ws) ∷ []
+with_last_entry entries (w ∷ ws) = entries ++ ground_entry (w ∷ ws) ∷ []
 
 with_last_entry-cons : (e : Entry) (entries : List Entry) (waiting : List Write) → with_last_entry (e ∷ entries) waiting ≡ e ∷ with_last_entry entries waiting
 with_last_entry-cons e entries [] = refl
@@ -65,7 +66,7 @@ some_pieces-none : (most n : ℕ) → some_pieces {X = Write} most n [] ≡ []
 some_pieces-none zero n = refl
 some_pieces-none (suc most) n = refl
 
-some_pieces-short : (most n : ℕ) (ws : List Write) → length ws ≤ most → length ws < n → with_last_entry [] ws ≡ map (entry_of ground_worker) (some_pieces most n ws)
+some_pieces-short : (most n : ℕ) (ws : List Write) → length ws ≤ most → length ws < n → with_last_entry [] ws ≡ map ground_entry (some_pieces most n ws)
 some_pieces-short zero n [] few short = refl
 some_pieces-short zero n (w ∷ ws) few short = absurd (omega (arith, few))
 some_pieces-short (suc most) n [] few short = refl
@@ -73,10 +74,10 @@ some_pieces-short (suc most) n (w ∷ ws) few short =
     let all : take n (w ∷ ws) ≡ w ∷ ws = take_all n (w ∷ ws) (omega (arith, short)) in
     let none : drop n (w ∷ ws) ≡ [] = drop_all n (w ∷ ws) (omega (arith, short)) in
     let rest = sym (ap (some_pieces most n) none ∙ some_pieces-none most n) in
-    λ i. entry_of ground_worker (sym all i) ∷ map (entry_of ground_worker) (rest i)
+    λ i. ground_entry (sym all i) ∷ map ground_entry (rest i)
 
 some_pieces-laid : (most n : ℕ) (ws : List Write) (entries : List Entry) (waiting : List Write) → length ws ≤ most → 0 < n → AreLaid n ws entries waiting
-    → with_last_entry entries waiting ≡ map (entry_of ground_worker) (some_pieces most n ws)
+    → with_last_entry entries waiting ≡ map ground_entry (some_pieces most n ws)
 some_pieces-laid most n ws [] waiting few some h =
     ap (with_last_entry []) (sym h.0) ∙ some_pieces-short most n ws few (omega (arith, h.1, ap (λ (vs : List Write). length vs) h.0))
 some_pieces-laid zero n [] (e ∷ entries) waiting few some h = absurd (omega (arith, h.0, some))
@@ -88,7 +89,7 @@ some_pieces-laid (suc most) n (w ∷ ws) (e ∷ entries) waiting few some h =
     with_last_entry-cons e entries waiting ∙ (λ i. h.1 i ∷ rest i)
 
 pub in_pieces-laid : (n : ℕ) (ws : List Write) (entries : List Entry) (waiting : List Write) → 0 < n → AreLaid n ws entries waiting
-    → with_last_entry entries waiting ≡ map (entry_of ground_worker) (in_pieces n ws)
+    → with_last_entry entries waiting ≡ map ground_entry (in_pieces n ws)
 in_pieces-laid n ws entries waiting some h = some_pieces-laid (length ws) n ws entries waiting (omega arith) some h
 
 -- ---- the entries are a ground
@@ -101,8 +102,8 @@ AreGround-push db [] e ground last = (subst (λ h. IsOfGround (record db { histo
 AreGround-push db (first ∷ entries) e ground last =
     (ground.0, AreGround-push (with_entry db first) entries e ground.1 (subst (λ d. IsOfGround d e) (sym (with_entry-push db first entries)) last))
 
-pub IsGround-push : (db : Database) (ws : List Write) → IsGround db → is_of_ground db ws ≡ true → IsGround (with_entry db (entry_of ground_worker ws))
-IsGround-push db ws ground inserts = AreGround-push (emptied db) db.history (entry_of ground_worker ws) ground (ws, refl, inserts)
+pub IsGround-push : (db : Database) (ws : List Write) → IsGround db → is_of_ground db (action_of ws) ≡ true → IsGround (with_entry db (ground_entry ws))
+IsGround-push db ws ground inserts = AreGround-push (emptied db) db.history (ground_entry ws) ground (action_of ws, refl, inserts)
 
 -- and stay one with further entries behind them
 AreGround-front : (db : Database) (n : ℕ) (entries others : List Entry) → AreGround db entries → n ≡ length entries → AreGround db (take n (entries ++ others))
@@ -133,15 +134,15 @@ AddsWrites-wait a b w pushed same not_full = record {
 }
 
 -- with a write that is the last of its action, all that wait become an entry
-pub AddsWrites-full : (a b : Ground) (w : Write) (ws : List Write) → ws ≡ a.waiting.items ++ w ∷ [] → length ws ≡ 16 → b.db ≡ with_entry a.db (entry_of ground_worker ws) → is_of_ground a.db ws ≡ true
+pub AddsWrites-full : (a b : Ground) (w : Write) (ws : List Write) → ws ≡ a.waiting.items ++ w ∷ [] → length ws ≡ 16 → b.db ≡ with_entry a.db (ground_entry ws) → is_of_ground a.db (action_of ws) ≡ true
     → b.waiting.items ≡ [] → AddsWrites a b (w ∷ [])
 AddsWrites-full a b w ws pushed full entered inserts none = record {
   added = λ earlier h.
       let count : length a.waiting.items + 1 ≡ 16 = sym (length_push a.waiting.items w) ∙ ap (λ (vs : List Write). length vs) (sym pushed) ∙ full in
-      let history : b.db.history ≡ a.db.history ++ entry_of ground_worker (a.waiting.items ++ w ∷ []) ∷ [] =
-      ap (λ (d : Database). d.history) entered ∙ ap (λ vs. a.db.history ++ entry_of ground_worker vs ∷ []) pushed in
+      let history : b.db.history ≡ a.db.history ++ ground_entry (a.waiting.items ++ w ∷ []) ∷ [] =
+      ap (λ (d : Database). d.history) entered ∙ ap (λ vs. a.db.history ++ ground_entry vs ∷ []) pushed in
       subst (λ entries. AreLaid 16 (earlier ++ w ∷ []) entries b.waiting.items) (sym history)
-      (subst (λ vs. AreLaid 16 (earlier ++ w ∷ []) (a.db.history ++ entry_of ground_worker (a.waiting.items ++ w ∷ []) ∷ []) vs) (sym none)
+      (subst (λ vs. AreLaid 16 (earlier ++ w ∷ []) (a.db.history ++ ground_entry (a.waiting.items ++ w ∷ []) ∷ []) vs) (sym none)
       (AreLaid-full 16 earlier a.db.history a.waiting.items w h count));
   catalog = ap (λ (d : Database). d.catalog) entered;
   limits = ap (λ (d : Database). d.limits) entered;
@@ -176,11 +177,15 @@ with_last-is : (db : Database) (waiting : List Write) → with_last db waiting �
 with_last-is db [] = refl
 with_last-is db (w ∷ ws) = refl
 
+entries-ground : (pieces : List (List Write)) → map ground_entry pieces ≡ map (entry_of ground_worker) (map action_of pieces)
+entries-ground [] = refl
+entries-ground (ws ∷ pieces) = ap (λ es. ground_entry ws ∷ es) (entries-ground pieces)
+
 pub laid-all : (db next : Database) (waiting : List Write) (tables : ℕ) (X : Content) → next.catalog ≡ db.catalog → next.limits ≡ db.limits → tables ≡ length db.catalog
     → AreLaid ground_writes (inserts_of_tables tables X) next.history waiting
     → with_last next waiting ≡ record db { history = map (entry_of ground_worker) (ground_of_content (length db.catalog) X) }
 laid-all db next waiting tables X catalog limits all laid =
-    let pieces = in_pieces-laid ground_writes (inserts_of_tables tables X) next.history waiting (omega arith) laid ∙ ap (λ n. map (entry_of ground_worker) (ground_of_content n X)) all in
+    let pieces = in_pieces-laid ground_writes (inserts_of_tables tables X) next.history waiting (omega arith) laid ∙ entries-ground (in_pieces ground_writes (inserts_of_tables tables X)) ∙ ap (λ n. map (entry_of ground_worker) (ground_of_content n X)) all in
     with_last-is next waiting ∙ (λ i. record { catalog = catalog i; limits = limits i; history = pieces i })
 
 -- ---- the rows that a select finds

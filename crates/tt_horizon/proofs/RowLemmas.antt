@@ -19,6 +19,7 @@ use Rattle.tt_values.specs.declared.statement.Change.{Change}
 use Rattle.tt_values.specs.declared.statement.Change.TheVariants as changes
 use Rattle.tt_values.specs.declared.statement.Equal.{Equal as Condition}
 use Rattle.tt_values.specs.declared.statement.Write.{Write}
+use Rattle.tt_values.specs.declared.action.Action.{Action}
 use Rattle.tt_values.specs.declared.statement.Write.TheVariants.{Insert, Update, Delete}
 use Rattle.tt_values.specs.declared.checking.CheckError.{CheckError}
 use Rattle.tt_values.specs.declared.checking.CheckError.TheVariants as faults
@@ -32,7 +33,7 @@ use Rattle.tt_values.specs.Check.{is_wrong_change, changes_wrong_kind, has_wrong
 use Rattle.tt_values.specs.Matches.{matches}
 use Rattle.tt_values.specs.Content.{RowsByKey, Content, row_at, with_row_at, with_row_write, content_at}
 use Rattle.tt_values.specs.Effect.{table_of, matching_rows, effect_on, effect}
-use Rattle.tt_values.specs.Action.{with_rows_at, content_after_write, content_after_action}
+use Rattle.tt_values.specs.Action.{with_rows_at, content_after_write, content_after_writes, is_undone, content_after_action}
 use Rattle.tt_values.specs.ActionLaws.{IsByRisingKey}
 use Rattle.tt_values.specs.RowWrites.{Slots, row_writes, slot_writes, slot_after, content_of}
 use Rattle.tt_values.proofs.LawProofs.{rows_rise, next_content, past_stays, last_content_stays, action_leaves_its_last_content}
@@ -259,15 +260,22 @@ HaveNoFaults-action tables ws none = by (nat_lt max_writes (length ws)) none
     by true h = cc
     by false h = HaveNoFaults-first tables ws h
 
-IsPassing-after_action : (tables : Tables) (ws : List Write) (X : Content) → HaveNoFaults tables ws → IsPassing tables X → IsPassing tables (content_after_action ws X)
-IsPassing-after_action tables [] X none h = h
-IsPassing-after_action tables (w ∷ ws) X none h = IsPassing-after_action tables ws (content_after_write w X) none.1 (IsPassing-after_write tables w X none.0 h)
+IsPassing-after_writes : (tables : Tables) (ws : List Write) (X : Content) → HaveNoFaults tables ws → IsPassing tables X → IsPassing tables (content_after_writes ws X)
+IsPassing-after_writes tables [] X none h = h
+IsPassing-after_writes tables (w ∷ ws) X none h = IsPassing-after_writes tables ws (content_after_write w X) none.1 (IsPassing-after_write tables w X none.0 h)
 
-IsPassing-slot : (tables : Tables) (s : Option (List Write)) (time : ℕ) (X : Content) → IsAccepted tables s → IsByRisingKey X → IsPassing tables X
+IsPassing-after_action : (tables : Tables) (action : Action) (X : Content) → HaveNoFaults tables action.writes → IsPassing tables X → IsPassing tables (content_after_action action X)
+IsPassing-after_action tables action X none h = by (is_undone action X)
+  where
+    by : (b : Bool) → IsPassing tables (content_after_writes (if b then [] else action.writes) X)
+    by true = h
+    by false = IsPassing-after_writes tables action.writes X none h
+
+IsPassing-slot : (tables : Tables) (s : Option Action) (time : ℕ) (X : Content) → IsAccepted tables s → IsByRisingKey X → IsPassing tables X
     → IsPassing tables (fold with_row_write X (slot_writes time s X))
 IsPassing-slot tables None time X a rising h = h
 IsPassing-slot tables (Some action) time X a rising h =
-    subst (IsPassing tables) (sym (action_leaves_its_last_content time action X rising)) (IsPassing-after_action tables action X (HaveNoFaults-action tables action a) h)
+    subst (IsPassing tables) (sym (action_leaves_its_last_content time action X rising)) (IsPassing-after_action tables action X (HaveNoFaults-action tables action.writes a) h)
 
 IsPassing-slots : (tables : Tables) (W : Slots) (n : ℕ) → AllAccepted tables W → IsPassing tables (content_at (row_writes W n) n)
 unfolding row_writes

@@ -1,7 +1,8 @@
 -- A database that forgets what lies before a time: its history afterwards, and when it refuses.
 use Rattle.std.specs.Prelude.{ℕ, nat_lt, List, [], ◌++◌, map, length, drop, Option, None, Some, unwrap_or, if◌then◌else◌}
 use Rattle.std.specs.List.{filter_map, zip}
-use Rattle.tt_values.specs.declared.statement.Write.{Write}
+use Rattle.tt_values.specs.declared.action.Action.{Action}
+use Rattle.tt_values.specs.Action.{action_of}
 use Rattle.tt_db.specs.declared.event.Event.TheVariants as events
 use Rattle.tt_db.specs.declared.event.Entry.{Entry}
 use Rattle.tt_db.specs.History.{is_write}
@@ -20,20 +21,20 @@ abbrev pub workers_of : List Entry → List ℕ
 workers_of history = filter_map worker_of_write history
 
 -- the actions that insert the rows of the current generation at a time
-abbrev pub ground_of : Database → ℕ → List (List Write)
+abbrev pub ground_of : Database → ℕ → List Action
 ground_of db time = ground_of_content (length db.catalog) (current_of_db db time)
 
 -- an action as an entry of a worker
-abbrev pub entry_of : ℕ → List Write → Entry
+abbrev pub entry_of : ℕ → Action → Entry
 entry_of worker action = record { worker = worker; event = events.Write action }
 
 -- the worker of the ground
 abbrev pub ground_worker : ℕ
 ground_worker = 0
 
--- the slots behind a time as entries of their workers, each with its action in the current generation, or none
+-- the slots behind a time as entries of their workers, each with its action in the current generation, or that of no writes
 abbrev pub entries_behind : Database → ℕ → List Entry
-entries_behind db time = map (λ p. entry_of p.0 (unwrap_or p.1 [])) (zip (drop time (workers_of db.history)) (drop time (current_slots db)))
+entries_behind db time = map (λ p. entry_of p.0 (unwrap_or p.1 (action_of []))) (zip (drop time (workers_of db.history)) (drop time (current_slots db)))
 
 -- the history of a database that has forgotten what lies before a time
 abbrev pub forgotten_history : Database → ℕ → List Entry

@@ -4,11 +4,11 @@ ghost use Rattle.tt_horizon.specs.Forgetting.{entry_of};
 
 use std::alloc::AllocError;
 use tt_db::{Db, Entry, Event};
-use tt_values::{Items, Write};
+use tt_values::Action;
 
 /// Carries out an action of a worker, where a database doesn't refuse it. Without memory nothing is
 /// promised of the database.
-pub(crate) fn carry_out(db: &mut Db, worker: u32, action: Items<Write>) -> Result<(), AllocError>
+pub(crate) fn carry_out(db: &mut Db, worker: u32, action: Action) -> Result<(), AllocError>
     ensures { OnOk result (db.new ≡ with_entry db.old (entry_of worker action)) }
 {
     let entry = Entry {

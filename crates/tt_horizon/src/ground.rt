@@ -1,16 +1,16 @@
 //! The ground of a database: its rows at a time, inserted into a database that had none.
 ghost use Rattle.std.specs.Prelude.{◌≡◌, [], ◌∷◌, true, map, IfOk, OnOk};
+ghost use Rattle.tt_values.specs.Action.{action_of};
 ghost use Rattle.tt_db.specs.Database.{with_entry, current_of_db};
 ghost use Rattle.tt_horizon_laws.specs.Ground.{inserts_of};
-ghost use Rattle.tt_horizon.specs.Forgetting.{ground_worker, entry_of};
 ghost use Rattle.tt_horizon.specs.Grounds.{is_of_ground, IsGround};
-ghost use Rattle.tt_horizon.specs.Laying.{database_of_ground, AddsWrites, with_last};
+ghost use Rattle.tt_horizon.specs.Laying.{ground_entry, database_of_ground, AddsWrites, with_last};
 
 use crate::laying::lay;
 use std::alloc::{AllocError, Global};
 use std::mem;
 use tt_db::Db;
-use tt_values::{Items, Reply, Row, Select, Write};
+use tt_values::{Action, Items, Reply, Row, Select, Write};
 
 /// How many writes an action of the ground has, but for the last one.
 const GROUND_WRITES: usize = 16;
@@ -72,15 +72,15 @@ impl Ground {
     /// Carries out the writes that wait, as one action.
     fn carry_out_waiting(&mut self) -> Result<(), AllocError>
         ensures db { OnOk result (self.new.db
-            ≡ with_entry self.old.db (entry_of ground_worker self.old.waiting.items)) }
+            ≡ with_entry self.old.db (ground_entry self.old.waiting.items)) }
         ensures ground { OnOk result
-            (is_of_ground self.old.db self.old.waiting.items ≡ true) }
+            (is_of_ground self.old.db (action_of self.old.waiting.items) ≡ true) }
         ensures waiting { OnOk result (self.new.waiting.items ≡ []) }
     {
         let none = Vec::with_capacity(self.alloc, GROUND_WRITES)?;
         let waiting = mem::replace(&mut self.waiting, none);
-        let action = Items::new(self.alloc, waiting)?;
-        lay(&mut self.db, action)?;
+        let writes = Items::new(self.alloc, waiting)?;
+        lay(&mut self.db, Action::of(writes))?;
         Ok(())
     }
 

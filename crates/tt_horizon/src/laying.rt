@@ -7,18 +7,18 @@ ghost use Rattle.tt_horizon.specs.Grounds.{is_insert, is_inserted, is_empty, ins
 
 use std::alloc::AllocError;
 use tt_db::{Db, Entry, Event, Outcome};
-use tt_values::{Items, Reply, Write};
+use tt_values::{Action, Reply, Write};
 
 /// The worker whose actions the ground is.
 pub const GROUND_WORKER: u32 = 0;
 
 /// Carries out the next action of a ground: it inserts rows that aren't there yet, and does nothing
 /// else. Without memory nothing is promised of the database.
-pub(crate) fn lay(db: &mut Db, action: Items<Write>) -> Result<(), AllocError>
+pub(crate) fn lay(db: &mut Db, action: Action) -> Result<(), AllocError>
     ensures db { OnOk result (db.new ≡ with_entry db.old (entry_of ground_worker action)) }
     ensures ground { OnOk result (is_of_ground db.old action ≡ true) }
 {
-    if !inserts_alone(action.as_slice()) {
+    if !inserts_alone(&action) {
         return Err(AllocError);
     }
     let entry = Entry {
@@ -37,23 +37,24 @@ pub(crate) fn lay(db: &mut Db, action: Items<Write>) -> Result<(), AllocError>
     }
 }
 
-/// Whether an action has inserts alone, at least one.
-pub fn inserts_alone(action: &[Write]) -> bool
+/// Whether an action has inserts alone, at least one, and isn't whole.
+pub fn inserts_alone(action: &Action) -> bool
     ensures { result ≡ inserts_alone action.now }
 {
-    !is_empty(action) && are_inserts(action)
+    let writes = action.writes.as_slice();
+    !action.whole && !is_empty(writes) && are_inserts(writes)
 }
 
-fn is_empty(action: &[Write]) -> bool
-    ensures { result ≡ is_empty action.now }
+fn is_empty(writes: &[Write]) -> bool
+    ensures { result ≡ is_empty writes.now }
 {
-    action.is_empty()
+    writes.is_empty()
 }
 
-fn are_inserts(action: &[Write]) -> bool
-    ensures { result ≡ list_all is_insert action.now }
+fn are_inserts(writes: &[Write]) -> bool
+    ensures { result ≡ list_all is_insert writes.now }
 {
-    action.iter().all(is_insert)
+    writes.iter().all(is_insert)
 }
 
 fn is_insert(write: &Write) -> bool

@@ -7,7 +7,7 @@ ghost use Rattle.tt_horizon.specs.Laying.{with_entries, action_at};
 use crate::actions::carry_out;
 use std::alloc::{AllocError, Global};
 use tt_db::Db;
-use tt_values::{Items, Write};
+use tt_values::{Action, Items};
 
 /// Carries out the slots of a database behind a time in another one, in order: each as its worker,
 /// with its action in the current generation, or with none. The two share the actions.
@@ -40,8 +40,9 @@ fn worker_of(db: &Db, number: u64) -> Option<u32>
     Some(entry.worker)
 }
 
-/// The action of a slot in the current generation; that of no writes where it is cancelled.
-fn action_of(alloc: Global, db: &Db, number: u64) -> Result<Items<Write>, AllocError>
+/// The action of a slot in the current generation; that of no writes, which isn't whole, where it
+/// is cancelled.
+fn action_of(alloc: Global, db: &Db, number: u64) -> Result<Action, AllocError>
     ensures { IfOk result (λ action. action ≡ action_at db.now number) }
 {
     if let Some(slot) = db.slot(number) {
@@ -49,5 +50,6 @@ fn action_of(alloc: Global, db: &Db, number: u64) -> Result<Items<Write>, AllocE
             return action.clone();
         }
     }
-    Items::new(alloc, Vec::new(alloc))
+    let none = Items::new(alloc, Vec::new(alloc))?;
+    Ok(Action::of(none))
 }

@@ -1,8 +1,9 @@
 -- The slots that stand on a ground, and the contents after them.
 use Rattle.std.proofs.Common.{◌≡◌, ℕ, zero, suc, ◌+◌, ◌-◌, ◌≤◌, List, [], ◌∷◌, ◌++◌, length, map, drop, Option, None, Some, refl, sym, ap, subst, subst₂, ◌∙◌, arith, append_assoc, append-nil, length-append, length-drop}
 use Rattle.std.proofs.lemmas.List.{length-map, drop-append-le}
-use Rattle.tt_values.specs.declared.statement.Write.{Write}
+use Rattle.tt_values.specs.declared.action.Action.{Action}
 use Rattle.tt_values.specs.Content.{content_at}
+use Rattle.tt_values.specs.Action.{action_of}
 use Rattle.tt_values.specs.RowWrites.{Slots, slot_after, content_of}
 use Rattle.tt_values.proofs.LawProofs.{later_slots_change_nothing}
 use Rattle.tt_repair_laws.specs.Due.{content_after}
@@ -51,23 +52,23 @@ slot_past (s ∷ W) zero h = let none : ⊥ = omega (arith, h) in absurd none
 slot_past (s ∷ W) (suc n) h = slot_past W n (omega (arith, h))
 
 -- what is told of cancelled slots as of the action of no writes is the same of slots as they stand behind a ground
-kept_alike : {A : Type 0} (f : Option (List Write) → A) → f (Some []) ≡ f None → (W X : Slots) (i : ℕ) →
+kept_alike : {A : Type 0} (f : Option Action → A) → f (Some (action_of [])) ≡ f None → (W X : Slots) (i : ℕ) →
     f (slot_after (map kept_slot W ++ X) i) ≡ f (slot_after (W ++ X) i)
 kept_alike f h [] X i = refl
 kept_alike f h (None ∷ W) X zero = h
 kept_alike f h (Some action ∷ W) X zero = refl
 kept_alike f h (s ∷ W) X (suc i) = kept_alike f h W X i
 
-module _ (W : Slots) (G : List (List Write)) (time : ℕ) (X : Slots) (early : time ≤ length W) where
+module _ (W : Slots) (G : List Action) (time : ℕ) (X : Slots) (early : time ≤ length W) where
   -- what is told of cancelled slots as of the action of no writes is the same of each slot behind the horizon, with whatever slots follow
-  pub slots_alike : {A : Type 0} (f : Option (List Write) → A) → f (Some []) ≡ f None → (n : ℕ) → time ≤ n →
+  pub slots_alike : {A : Type 0} (f : Option Action → A) → f (Some (action_of [])) ≡ f None → (n : ℕ) → time ≤ n →
       f (slot_after (on_ground G W time ++ X) (moved time (length G) n)) ≡ f (slot_after (W ++ X) n)
   slots_alike f h n later =
       let kept = map kept_slot (drop time W) in
       let place = moved time (length G) n in
       let i = n - time in
       ap (λ V. f (slot_after V place)) (append_assoc (map Some G) kept X)
-      ∙ ap f (slot_behind (map Some G) (kept ++ X) i place (omega (arith, length-map G (λ (action : List Write). Some action))))
+      ∙ ap f (slot_behind (map Some G) (kept ++ X) i place (omega (arith, length-map G (λ (action : Action). Some action))))
       ∙ kept_alike f h (drop time W) X i
       ∙ ap (λ V. f (slot_after V i)) (sym (drop-append-le time W X early))
       ∙ ap f (slot_dropped time (W ++ X) i n (omega (arith, later)))
@@ -81,7 +82,7 @@ module _ (W : Slots) (G : List (List Write)) (time : ℕ) (X : Slots) (early : t
         early,
         length-append (map Some G ++ kept) X,
         length-append (map Some G) kept,
-        length-map G (λ (action : List Write). Some action),
+        length-map G (λ (action : Action). Some action),
         length-map (drop time W) kept_slot,
         length-drop time W,
         length-append W X,

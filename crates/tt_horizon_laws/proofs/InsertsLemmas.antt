@@ -1,5 +1,5 @@
 -- The inserts of the rows of a content leave the content.
-use Rattle.std.proofs.Common.{◌≡◌, ◌≢◌, ◌⊎◌, ℕ, zero, suc, ◌+◌, ◌<◌, ◌≤◌, true, cond, ℤ, List, [], ◌∷◌, ◌++◌, map, length, fold, flat_map, All, IsTrue, Option, None, Some, is_some, refl, sym, ap, subst, subst₂, ◌∙◌, inl, inr, arith, append-nil, append_assoc, eq-eqb, ne_eqb, true≢false, Ordering, Less, Equal, Greater, int_cmp, is_eq, is_lt}
+use Rattle.std.proofs.Common.{◌≡◌, ◌≢◌, ◌⊎◌, ℕ, zero, suc, ◌+◌, ◌<◌, ◌≤◌, true, cond, ℤ, [], ◌∷◌, ◌++◌, map, length, fold, flat_map, All, IsTrue, Option, None, Some, is_some, refl, sym, ap, subst, subst₂, ◌∙◌, inl, inr, arith, append-nil, append_assoc, eq-eqb, ne_eqb, true≢false, Ordering, Less, Equal, Greater, int_cmp, is_eq, is_lt}
 use Rattle.std.specs.List.{range_with_len}
 use Rattle.std.specs.Ordering.{ordering_reverse}
 use Rattle.std.specs.Cmp.{int_cmp_total}
@@ -7,18 +7,18 @@ use Rattle.std.specs.FinMap.Entries as sorted
 use Rattle.std.proofs.lemmas.Bool.{and_parts, cases_eq, cases_lt}
 use Rattle.std.proofs.lemmas.List.{length-map}
 use Rattle.tt_values.specs.declared.row.Row.{Row}
-use Rattle.tt_values.specs.declared.statement.Write.{Write}
+use Rattle.tt_values.specs.declared.action.Action.{Action}
 use Rattle.tt_values.specs.declared.statement.Write.TheVariants.{Insert}
 use Rattle.tt_values.specs.Row.{key_of}
 use Rattle.tt_values.specs.Content.{RowsByKey, Content, empty_content, row_at, with_row_at}
 use Rattle.tt_values.specs.Effect.{effect}
-use Rattle.tt_values.specs.Action.{content_after_write, content_after_action}
-use Rattle.tt_values.proofs.LawProofs.{actions_follow}
+use Rattle.tt_values.specs.Action.{content_after_write, content_after_writes}
+use Rattle.tt_values.proofs.LawProofs.{writes_follow}
 use Rattle.tt_repair_laws.specs.Due.{content_after}
 use Rattle.tt_repair_laws.proofs.LawProofs.{content_after_is_kept}
-use Rattle.tt_horizon_laws.specs.Ground.{inserts_of, inserts_of_tables, ground_writes, ground_of_content}
+use Rattle.tt_horizon_laws.specs.Ground.{inserts_of, inserts_of_tables, in_pieces, ground_writes, ground_of_content}
 use Rattle.tt_horizon_laws.specs.Laws.{AreKeyed, IsWithinTables, GroundLeavesContent}
-use Rattle.tt_horizon_laws.proofs.SlotsLemmas.{content_after_all, after_slots-actions}
+use Rattle.tt_horizon_laws.proofs.SlotsLemmas.{content_after_all, after_slots-writes}
 use Rattle.tt_horizon_laws.proofs.EditsLemmas.{All-rest}
 use Rattle.tt_horizon_laws.proofs.PiecesLemmas.{flat_map-in_pieces}
 
@@ -60,7 +60,7 @@ one_insert table Y rows e here own none =
 
 -- the inserts of rising rows put them behind those that are there
 inserts_in_turn : (table : ℕ) (es before : RowsByKey) (Y : Content) → Y table ≡ before → IsTrue (sorted.is_sorted int_cmp (before ++ es)) →
-    All (λ e. key_of e.1 ≡ e.0) es → content_after_action (inserts_of table es) Y table ≡ before ++ es
+    All (λ e. key_of e.1 ≡ e.0) es → content_after_writes (inserts_of table es) Y table ≡ before ++ es
 inserts_in_turn table [] before Y here rising own = here ∙ sym (append-nil before)
 inserts_in_turn table (e ∷ es) before Y here rising own =
     let last = put_last before e es rising in
@@ -72,7 +72,7 @@ inserts_in_turn table (e ∷ es) before Y here rising own =
     ∙ split
 
 -- inserts into a table leave the others
-others_stay : (table other : ℕ) → other ≢ table → (es : RowsByKey) (Y : Content) → content_after_action (inserts_of table es) Y other ≡ Y other
+others_stay : (table other : ℕ) → other ≢ table → (es : RowsByKey) (Y : Content) → content_after_writes (inserts_of table es) Y other ≡ Y other
 others_stay table other apart [] Y = refl
 others_stay table other apart (e ∷ es) Y =
     others_stay table other apart es (content_after_write (Insert table e.1) Y)
@@ -84,14 +84,14 @@ record HasTables (X : Content) (n : ℕ) (Y : Content) : Type 0 where
   none : (table : ℕ) → n ≤ table → Y table ≡ []
 
 -- the inserts of the rows of the next table add them
-next_table : (X : Content) (n : ℕ) (Y : Content) → AreKeyed (X n) → HasTables X n Y → HasTables X (n + 1) (content_after_action (inserts_of n (X n)) Y)
+next_table : (X : Content) (n : ℕ) (Y : Content) → AreKeyed (X n) → HasTables X n Y → HasTables X (n + 1) (content_after_writes (inserts_of n (X n)) Y)
 next_table X n Y keyed h = record {
   done = λ table before. by table before (cases_eq table n);
   none = λ table behind. others_stay n table (λ same. omega (arith, same, behind)) (X n) Y ∙ h.none table (omega (arith, behind));
 }
   where
     Z : Content
-    Z = content_after_action (inserts_of n (X n)) Y
+    Z = content_after_writes (inserts_of n (X n)) Y
 
     here : Z n ≡ X n
     here = inserts_in_turn n (X n) [] Y (h.none n (omega arith)) keyed.rising keyed.own
@@ -102,7 +102,7 @@ next_table X n Y keyed h = record {
 
 -- the inserts of the rows of so many further tables add them
 more_tables : (X : Content) → ((table : ℕ) → AreKeyed (X table)) → (more n : ℕ) (Y : Content) → HasTables X n Y →
-    HasTables X (n + more) (content_after_action (flat_map (λ table. inserts_of table (X table)) (range_with_len n more)) Y)
+    HasTables X (n + more) (content_after_writes (flat_map (λ table. inserts_of table (X table)) (range_with_len n more)) Y)
 more_tables X keyed zero n Y h =
     let here : n ≡ n + 0 = omega arith in
     subst (λ m. HasTables X m Y) here h
@@ -110,20 +110,20 @@ more_tables X keyed (suc more) n Y h =
     let first = inserts_of n (X n) in
     let rest = flat_map (λ table. inserts_of table (X table)) (range_with_len (n + 1) more) in
     let sum : (n + 1) + more ≡ n + suc more = omega arith in
-    let all = more_tables X keyed more (n + 1) (content_after_action first Y) (next_table X n Y (keyed n) h) in
-    subst₂ (HasTables X) sum (sym (actions_follow first rest Y).0) all
+    let all = more_tables X keyed more (n + 1) (content_after_writes first Y) (next_table X n Y (keyed n) h) in
+    subst₂ (HasTables X) sum (sym (writes_follow first rest Y).0) all
 
 -- the inserts of all rows of a content leave it on nothing
-pub inserts_leave_content : (tables : ℕ) (X : Content) → IsWithinTables tables X → content_after_action (inserts_of_tables tables X) empty_content ≡ X
+pub inserts_leave_content : (tables : ℕ) (X : Content) → IsWithinTables tables X → content_after_writes (inserts_of_tables tables X) empty_content ≡ X
 inserts_leave_content tables X within = λ i table. by table (cases_lt table tables) i
   where
     first : HasTables X 0 empty_content
     first = record { done = λ table before. absurd (omega (arith, before)); none = λ table behind. refl }
 
-    all : HasTables X (0 + tables) (content_after_action (inserts_of_tables tables X) empty_content)
+    all : HasTables X (0 + tables) (content_after_writes (inserts_of_tables tables X) empty_content)
     all = more_tables X within.keyed tables 0 empty_content first
 
-    by : (table : ℕ) → (table < tables) ⊎ (tables ≤ table) → content_after_action (inserts_of_tables tables X) empty_content table ≡ X table
+    by : (table : ℕ) → (table < tables) ⊎ (tables ≤ table) → content_after_writes (inserts_of_tables tables X) empty_content table ≡ X table
     by table (inl before) = all.done table (omega (arith, before))
     by table (inr behind) = all.none table (omega (arith, behind)) ∙ sym (within.none table behind)
 
@@ -131,11 +131,11 @@ inserts_leave_content tables X within = λ i table. by table (cases_lt table tab
 pub ground_leaves_content : GroundLeavesContent
 ground_leaves_content tables X within =
     let G = ground_of_content tables X in
-    let W = map (λ (action : List Write). Some action) G in
-    let all : length W ≡ length G = length-map G (λ (action : List Write). Some action) in
+    let W = map (λ (action : Action). Some action) G in
+    let all : length W ≡ length G = length-map G (λ (action : Action). Some action) in
     content_after_is_kept W (length G) (omega (arith, all))
     ∙ ap (content_after W) (sym all)
     ∙ content_after_all W
-    ∙ after_slots-actions G empty_content
-    ∙ ap (λ ws. content_after_action ws empty_content) (flat_map-in_pieces ground_writes (omega arith) (inserts_of_tables tables X))
+    ∙ after_slots-writes (in_pieces ground_writes (inserts_of_tables tables X)) empty_content
+    ∙ ap (λ ws. content_after_writes ws empty_content) (flat_map-in_pieces ground_writes (omega arith) (inserts_of_tables tables X))
     ∙ inserts_leave_content tables X within

@@ -1,6 +1,6 @@
 -- The proofs of this crate's laws. Other crates cite these lemmas of it, and no others.
-use Rattle.std.proofs.Common.{ℕ, ◌<◌, ◌≤◌, List, length, All}
-use Rattle.tt_values.specs.declared.statement.Write.{Write}
+use Rattle.std.proofs.Common.{ℕ, ◌<◌, ◌≤◌, length, All}
+use Rattle.tt_values.specs.declared.action.Action.{Action}
 use Rattle.tt_values.specs.Content.{Content}
 use Rattle.tt_horizon_laws.specs.Ground.{ground_writes, ground_of_content}
 use Rattle.tt_horizon_laws.specs.Laws.{ForgettingKeepsContents, ForgettingKeepsRepairs, GroundIsNeverDue, GroundLeavesContent, GroundIsSmall}
@@ -26,5 +26,5 @@ ground_is_small = counts.ground_is_small
 
 -- each action of a ground has 1 to 16 writes
 pub ground_actions_have_few_writes : (tables : ℕ) (X : Content) →
-    All (λ (action : List Write). (0 < length action) × (length action ≤ ground_writes)) (ground_of_content tables X)
+    All (λ (action : Action). (0 < length action.writes) × (length action.writes ≤ ground_writes)) (ground_of_content tables X)
 ground_actions_have_few_writes = counts.ground_actions_have_few_writes

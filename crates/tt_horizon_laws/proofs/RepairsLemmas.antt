@@ -1,14 +1,15 @@
 -- Repairs that edit only slots behind the horizon, with and without the slots before it.
 use Rattle.std.proofs.Common.{◌≡◌, ℕ, suc, ◌<◌, ◌≤◌, ◌||◌, List, [], ◌++◌, length, map, fold, All, Option, None, Some, is_some, option_map, if◌then◌else◌, refl, sym, ap, ◌∙◌, inl, inr, arith}
 use Rattle.std.proofs.lemmas.Bool.{cases_lt}
-use Rattle.tt_values.specs.declared.statement.Write.{Write}
+use Rattle.tt_values.specs.declared.action.Action.{Action}
 use Rattle.tt_values.specs.Tables.{Tables}
+use Rattle.tt_values.specs.Action.{action_of}
 use Rattle.tt_values.specs.RowWrites.{Slots, slot_after, content_of}
 use Rattle.tt_parts.specs.Dirty.{DirtySet}
 use Rattle.tt_repair_laws.specs.declared.edit.Edit.{Edit}
 use Rattle.tt_repair_laws.specs.declared.edit.Edit.TheVariants.{Cancel, Replace}
 use Rattle.tt_repair_laws.specs.Edits.{edit_of, slot_with_edit, edited_slots}
-use Rattle.tt_repair_laws.specs.Due.{content_after, is_slot_affected, slot_rows_written, slot_rows_matched, with_row_of, is_due_by, is_due, rows_reexecuted, dirty_after, reexecuted_count}
+use Rattle.tt_repair_laws.specs.Due.{content_after, is_slot_affected, slot_rows_touched, slot_rows_matched, with_row_of, is_due_by, is_due, rows_reexecuted, dirty_after, reexecuted_count}
 use Rattle.tt_repair_laws.proofs.LawProofs.{edited_slots_are_as_many, edited_slot_is_next}
 use Rattle.tt_horizon_laws.specs.Ground.{on_ground, moved, moved_edit}
 use Rattle.tt_horizon_laws.specs.Laws.{Leaves, IsBehind, IsSameBehind, replies_or_none, ForgettingKeepsRepairs, GroundIsNeverDue}
@@ -29,7 +30,7 @@ ground_is_never_due tables W G time X E i behind h =
     let F = map (moved_edit time k) E in
     no_slot_due_yet tables (on_ground G W time ++ X) F k (no_edit_before k F (IsBehind-moved time k E behind)) i h
 
-module _ (tables : Tables) (W : Slots) (G : List (List Write)) (time : ℕ) (X : Slots) (E : List Edit) where
+module _ (tables : Tables) (W : Slots) (G : List Action) (time : ℕ) (X : Slots) (E : List Edit) where
   -- all slots
   abbrev old : Slots
   old = W ++ X
@@ -56,14 +57,14 @@ module _ (tables : Tables) (W : Slots) (G : List (List Write)) (time : ℕ) (X :
     unedited_ground = no_edit_before (length G) moved_edits (IsBehind-moved time (length G) E behind)
 
     -- a slot with its edit is as the one behind the ground with the moved edit
-    with_edit_alike : {A : Type 0} (f : Option (List Write) → A) → f (Some []) ≡ f None → (n : ℕ) → time ≤ n → (o : Option Edit) →
+    with_edit_alike : {A : Type 0} (f : Option Action → A) → f (Some (action_of [])) ≡ f None → (n : ℕ) → time ≤ n → (o : Option Edit) →
         f (slot_with_edit (option_map (moved_edit time (length G)) o) (slot_after new (place n))) ≡ f (slot_with_edit o (slot_after old n))
     with_edit_alike f h n later None = slots_alike W G time X early f h n later
     with_edit_alike f h n later (Some (Cancel t)) = refl
     with_edit_alike f h n later (Some (Replace t action)) = refl
 
     -- what is told of cancelled slots as of the action of no writes is the same of each edited slot behind the horizon
-    edited_alike : {A : Type 0} (f : Option (List Write) → A) → f (Some []) ≡ f None → (n : ℕ) → time ≤ n →
+    edited_alike : {A : Type 0} (f : Option Action → A) → f (Some (action_of [])) ≡ f None → (n : ℕ) → time ≤ n →
         f (slot_after (edited_slots new moved_edits) (place n)) ≡ f (slot_after (edited_slots old E) n)
     edited_alike f h n later = elim (cases_lt n (length old)) [
       | inl within ↦
@@ -121,12 +122,12 @@ module _ (tables : Tables) (W : Slots) (G : List (List Write)) (time : ℕ) (X :
     same_rows n later =
         let current = same_current n later in
         let edited = same_edited n later in
-        let slot = slots_alike W G time X early (λ s. slot_rows_written s (content_after new (place n))) refl n later in
-        let written = slot ∙ (λ i. slot_rows_written (slot_after old n) (current i)) in
+        let slot = slots_alike W G time X early (λ s. slot_rows_touched s (content_after new (place n))) refl n later in
+        let touched = slot ∙ (λ i. slot_rows_touched (slot_after old n) (current i)) in
         let matched =
         edited_alike (λ s. slot_rows_matched s (content_after (edited_slots new moved_edits) (place n))) refl n later
         ∙ (λ i. slot_rows_matched (slot_after (edited_slots old E) n) (edited i)) in
-        λ i. written i ++ matched i
+        λ i. touched i ++ matched i
 
     -- what is dirty after the next slot is the same if it was before it
     dirty_next : (n : ℕ) → time ≤ n → dirty_after tables new moved_edits (place n) ≡ dirty_after tables old E n →

@@ -7,22 +7,24 @@ use Rattle.std.specs.FinMap.Entries as sorted
 use Rattle.std.proofs.lemmas.Bool.{cases_eq}
 use Rattle.std.proofs.lemmas.Cmp.{tied_itself}
 use Rattle.std.proofs.lemmas.List.{length-map}
+use Rattle.std.proofs.lemmas.List.Elements.{All-map}
 use Rattle.tt_values.specs.declared.row.Row.{Row}
 use Rattle.tt_values.specs.declared.statement.Change.{Change}
 use Rattle.tt_values.specs.declared.statement.Write.{Write}
+use Rattle.tt_values.specs.declared.action.Action.{Action}
 use Rattle.tt_values.specs.declared.statement.Write.TheVariants.{Insert, Update, Delete}
 use Rattle.tt_values.specs.Row.{key_of}
 use Rattle.tt_values.specs.Matches.{matches}
 use Rattle.tt_values.specs.Change.{changed}
 use Rattle.tt_values.specs.Content.{RowsByKey, Content, empty_content, row_at, with_row_at}
 use Rattle.tt_values.specs.Effect.{table_of, matching_rows, effect_on, effect}
-use Rattle.tt_values.specs.Action.{content_after_write, content_after_action}
+use Rattle.tt_values.specs.Action.{action_of, content_after_write, content_after_writes, content_after_action, is_undone, kept}
 use Rattle.tt_values.specs.ActionLaws.{IsByRisingKey}
 use Rattle.tt_values.specs.RowWrites.{Slots, slot_after, content_of}
 use Rattle.tt_values.proofs.LawProofs.{rows_stay_by_rising_key, one_key_changes}
 use Rattle.tt_repair_laws.specs.Due.{content_after}
 use Rattle.tt_repair_laws.proofs.LawProofs.{content_after_is_kept}
-use Rattle.tt_horizon_laws.specs.Ground.{inserts_of, inserts_of_tables, ground_writes, ground_of_content}
+use Rattle.tt_horizon_laws.specs.Ground.{inserts_of, inserts_of_tables, in_pieces, ground_writes, ground_of_content}
 use Rattle.tt_horizon_laws.specs.Laws.{HasFewWrites, GroundIsSmall}
 use Rattle.tt_horizon_laws.proofs.SlotsLemmas.{content_after_slot, content_rises, next_by_slot, first_content}
 use Rattle.tt_horizon_laws.proofs.EditsLemmas.{All-rest}
@@ -175,12 +177,20 @@ module _ (first n : ℕ) where
           ap (λ b. cond b (fold after_entry rows (effect w X)) rows) (eq-eqb (table_of w) (table_of w) refl) in
           omega (arith, ap length same, one_more_by_write w rows (rising (table_of w)))
 
-  -- an action adds at most as many rows as it has writes
-  rows_after_action : (ws : List Write) (X : Content) → IsByRisingKey X → rows_in first n (content_after_action ws X) ≤ rows_in first n X + length ws
-  rows_after_action [] X rising = omega arith
-  rows_after_action (w ∷ ws) X rising =
+  -- some writes add at most as many rows as there are writes
+  rows_after_writes : (ws : List Write) (X : Content) → IsByRisingKey X → rows_in first n (content_after_writes ws X) ≤ rows_in first n X + length ws
+  rows_after_writes [] X rising = omega arith
+  rows_after_writes (w ∷ ws) X rising =
       let next = content_after_write w X in
-      omega (arith, rows_after_action ws next (rising_after_write w X rising), rows_after_write w X rising)
+      omega (arith, rows_after_writes ws next (rising_after_write w X rising), rows_after_write w X rising)
+
+  -- no more writes of an action stay than it has
+  kept_most : (a : Action) (X : Content) → length (kept a X) ≤ length a.writes
+  kept_most a X = elim (is_undone a X) as (λ b. length (cond b [] a.writes) ≤ length a.writes) [ true ↦ omega arith | false ↦ omega arith ]
+
+  -- an action adds at most as many rows as it has writes
+  rows_after_action : (a : Action) (X : Content) → IsByRisingKey X → rows_in first n (content_after_action a X) ≤ rows_in first n X + length a.writes
+  rows_after_action a X rising = omega (arith, rows_after_writes (kept a X) X rising, kept_most a X)
 
 -- if each slot has few writes, so has the one at any place
 few_writes_at : (most : ℕ) (W : Slots) → All (HasFewWrites most) W → (n : ℕ) → HasFewWrites most (slot_after W n)
@@ -189,7 +199,7 @@ few_writes_at most (s ∷ W) few zero = few 0 s (omega arith)
 few_writes_at most (s ∷ W) few (suc n) = few_writes_at most W (All-rest (HasFewWrites most) s W few) n
 
 -- a slot of at most so many writes adds at most so many rows
-rows_after_slot : (most first n : ℕ) (s : Option (List Write)) (X : Content) → HasFewWrites most s → IsByRisingKey X →
+rows_after_slot : (most first n : ℕ) (s : Option Action) (X : Content) → HasFewWrites most s → IsByRisingKey X →
     rows_in first n (content_after_slot s X) ≤ rows_in first n X + most
 rows_after_slot most first n None X few rising = omega arith
 rows_after_slot most first n (Some action) X few rising = omega (arith, rows_after_action first n action X rising, few)
@@ -207,9 +217,14 @@ pub ground_is_small : GroundIsSmall
 ground_is_small tables W time few early =
     let rows = ap (rows_in 0 tables) (content_after_is_kept W time early) in
     let few_rows = rows_after_slots ground_writes tables W few time in
-    length-in_pieces ground_writes (omega arith) (inserts_of_tables tables (content_of W time)) time (omega (arith, rows, few_rows))
+    let pieces = in_pieces ground_writes (inserts_of_tables tables (content_of W time)) in
+    let few_pieces = length-in_pieces ground_writes (omega arith) (inserts_of_tables tables (content_of W time)) time (omega (arith, rows, few_rows)) in
+    omega (arith, length-map pieces action_of, few_pieces)
 
 -- each action of a ground has 1 to 16 writes
 pub ground_actions_have_few_writes : (tables : ℕ) (X : Content) →
-    All (λ (action : List Write). (0 < length action) × (length action ≤ ground_writes)) (ground_of_content tables X)
-ground_actions_have_few_writes tables X = length-piece ground_writes (omega arith) (length (inserts_of_tables tables X)) (inserts_of_tables tables X)
+    All (λ (action : Action). (0 < length action.writes) × (length action.writes ≤ ground_writes)) (ground_of_content tables X)
+ground_actions_have_few_writes tables X =
+    let items = inserts_of_tables tables X in
+    All-map (λ (action : Action). (0 < length action.writes) × (length action.writes ≤ ground_writes)) action_of (in_pieces ground_writes items)
+    (length-piece ground_writes (omega arith) (length items) items)

@@ -6,10 +6,11 @@ use Rattle.tt_values.specs.declared.value.Value.{Value}
 use Rattle.tt_values.specs.declared.value.Value.TheVariants as values
 use Rattle.tt_values.specs.declared.statement.Equal.{Equal}
 use Rattle.tt_values.specs.declared.statement.Write.{Write}
+use Rattle.tt_values.specs.declared.action.Action.{Action}
 use Rattle.tt_values.specs.declared.statement.Write.TheVariants.{Insert, Update, Delete}
 use Rattle.tt_values.specs.declared.row_id.RowId.{RowId}
 use Rattle.tt_values.specs.Tables.{Tables}
-use Rattle.tt_values.specs.Action.{rows_of_action}
+use Rattle.tt_values.specs.Action.{rows_touched}
 use Rattle.tt_values.specs.Content.{Content}
 use Rattle.tt_values.specs.Effect.{table_of}
 use Rattle.tt_values.specs.RowWrites.{Slots, slot_after}
@@ -48,14 +49,14 @@ clear_of_nothing table [] = refl
 clear_of_nothing table (p ∷ ps) = refl
 
 -- where nothing is dirty, no slot is affected
-unaffected : (tables : Tables) (s : Option (List Write)) (X : Content) → is_slot_affected tables nothing_dirty s X ≡ false
+unaffected : (tables : Tables) (s : Option Action) (X : Content) → is_slot_affected tables nothing_dirty s X ≡ false
 unaffected tables None X = refl
 unaffected tables (Some action) X =
-    let rows = list_any-none (λ (r : RowId). has_row nothing_dirty r.table r.key) (λ r. refl) (rows_of_action action X) in
-    let named = list_any-none (names_dirty_row nothing_dirty) no_dirty_name action in
+    let rows = list_any-none (λ (r : RowId). has_row nothing_dirty r.table r.key) (λ r. refl) (rows_touched action X) in
+    let named = list_any-none (names_dirty_row nothing_dirty) no_dirty_name action.writes in
     let read = λ (w : Write). partitions_read (columns_in tables (table_of w)) w in
-    let unclear = list_any-none (λ w. not (is_write_clear tables nothing_dirty w)) (λ w. clear_of_nothing (table_of w) (read w)) action in
-    λ i. rows i || named i || unclear i
+    let unclear = list_any-none (λ w. not (is_write_clear tables nothing_dirty w)) (λ w. clear_of_nothing (table_of w) (read w)) action.writes in
+    λ i. rows i || (named i || unclear i)
 
 module _ (tables : Tables) (W : Slots) (E : List Edit) (t : ℕ) (unedited : (i : ℕ) → i < t → edit_of E (suc i) ≡ None) where
   -- a slot without an edit isn't due where nothing is dirty

@@ -2,8 +2,10 @@
 use Rattle.std.specs.Prelude.{ℕ, zero, suc, ◌+◌, ◌-◌, List, [], ◌∷◌, ◌++◌, map, length, take, drop, Option, None, Some}
 use Rattle.std.specs.List.{flat_map, range_with_len}
 use Rattle.tt_values.specs.declared.statement.Write.{Write}
+use Rattle.tt_values.specs.declared.action.Action.{Action}
 use Rattle.tt_values.specs.declared.statement.Write.TheVariants.{Insert}
 use Rattle.tt_values.specs.Content.{RowsByKey, Content}
+use Rattle.tt_values.specs.Action.{action_of}
 use Rattle.tt_values.specs.RowWrites.{Slots}
 use Rattle.tt_repair_laws.specs.declared.edit.Edit.{Edit}
 use Rattle.tt_repair_laws.specs.declared.edit.Edit.TheVariants.{Cancel, Replace}
@@ -31,16 +33,16 @@ abbrev pub ground_writes : ℕ
 ground_writes = 16
 
 -- the actions that insert the rows of all tables below this number
-abbrev pub ground_of_content : ℕ → Content → List (List Write)
-ground_of_content tables X = in_pieces ground_writes (inserts_of_tables tables X)
+abbrev pub ground_of_content : ℕ → Content → List Action
+ground_of_content tables X = map action_of (in_pieces ground_writes (inserts_of_tables tables X))
 
 -- a slot as it stands behind the ground: one that was cancelled has the action of no writes
-abbrev pub kept_slot : Option (List Write) → Option (List Write)
-kept_slot None = Some []
+abbrev pub kept_slot : Option Action → Option Action
+kept_slot None = Some (action_of [])
 kept_slot (Some action) = Some action
 
 -- slots that stand on a ground, in the place of the slots up to a time
-abbrev pub on_ground : List (List Write) → Slots → ℕ → Slots
+abbrev pub on_ground : List Action → Slots → ℕ → Slots
 on_ground G W time = map Some G ++ map kept_slot (drop time W)
 
 -- where a time from the horizon on, or a slot behind it, comes to stand on a ground of this size

@@ -19,7 +19,7 @@ SamePartitionsAreEqual = (p q : Partition) → IsTrue (is_same_partition p q) �
 abbrev pub EachPartitionIsInItsList : Type 0
 EachPartitionIsInItsList = (ps : List Partition) → IsTrue (list_all (is_partition_in ps) ps)
 
--- a row in which every equality holds lies in the partition of each equality that is on a partition column
+-- a row in which every condition holds lies in the partition of each equality that is on a partition column
 abbrev pub MatchedRowsLieInEquatedPartitions : Type 0
 MatchedRowsLieInEquatedPartitions = (table : ℕ) (columns : List Column) (row : Row) (qs : List Equal) → IsTrue (matches qs row) →
     IsTrue (list_all (is_partition_in (parts_of table columns row)) (equated_partitions table columns qs))

@@ -11,7 +11,7 @@ use Rattle.tt_parts.specs.declared.partition.Reads.{Reads}
 use Rattle.tt_parts.specs.declared.partition.Reads.TheVariants.{All as Whole, Equated}
 use Rattle.tt_parts.specs.Partitions.{parts_of}
 
--- a write matches a row: an insert a row with the key of its own row, an update or a delete a row in which every equality holds
+-- a write matches a row: an insert a row with the key of its own row, an update or a delete a row in which every condition holds
 abbrev pub WriteMatches : Write → Row → Type 0
 WriteMatches (Insert table new) row = first_int row.values ≡ first_int new.values
 WriteMatches (Update table changes qs) row = IsTrue (matches qs row)

@@ -152,7 +152,7 @@ impl Dirty {
         }
     }
 
-    /// Whether a write with these equalities is clear.
+    /// Whether a write with these conditions is clear.
     fn is_clear_where(&self, table: u16, equals: &[Equal]) -> bool
         ensures { result ≡ is_clear self.now.dirty table
             (equated_partitions table (columns_in self.now.catalog table) equals.now) }

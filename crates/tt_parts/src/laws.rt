@@ -12,7 +12,7 @@ pub fn each_partition_is_in_its_list()
     ensures { EachPartitionIsInItsList }
 {}
 
-/// A row in which every equality of a statement holds lies in the partition of each equality that
+/// A row in which every condition of a statement holds lies in the partition of each equality that
 /// is on a partition column.
 pub fn matched_rows_lie_in_equated_partitions()
     ensures { MatchedRowsLieInEquatedPartitions }

@@ -203,7 +203,7 @@ pub(crate) fn reads_partition(columns: &[Column], equals: &[Equal]) -> bool
     equals.iter().any(|equal| equates_partition(columns, equal))
 }
 
-/// Whether the partition of one of these equalities isn't a member.
+/// Whether the partition of one of the equalities among these isn't a member.
 pub(crate) fn has_other_equated(
     members: &DirtyPartitions,
     table: u16,

@@ -25,7 +25,8 @@ impl Drop for Record {
 /// What a call asked for, and its answer.
 #[derive(Debug, PartialEq, Drop)]
 pub enum What {
-    /// An action took a slot, and has a reply to each of its writes.
+    /// An action took a slot, and has these replies to its writes, of a whole action up to the first
+    /// without an effect.
     Write {
         slot: u64,
         replies: Items<Reply>,

@@ -1,7 +1,7 @@
 -- What a worker adds to the history by several calls, among the entries of others.
 use Rattle.std.specs.Prelude.{◌≡◌, ℕ, ◌+◌, ◌<◌, ◌≤◌, List, [], ◌∷◌, ◌++◌, length, All, ◌⊎◌}
 use mathlib.Core.List.{IsPrefix}
-use Rattle.tt_values.specs.declared.statement.Write.{Write}
+use Rattle.tt_values.specs.declared.action.Action.{Action}
 use Rattle.tt_values.specs.Tables.{Tables}
 use Rattle.tt_repair_laws.specs.declared.edit.Edit.{Edit}
 use Rattle.tt_generations.specs.TwoGenerations.{Repairing}
@@ -31,7 +31,7 @@ IsMergedAt {X} place places xs ys (z ∷ zs) =
 
 -- an entry is that of an action
 abbrev pub IsWrite : Entry → Type 0
-IsWrite e = (action : List Write) × (e.event ≡ events.Write action)
+IsWrite e = (action : Action) × (e.event ≡ events.Write action)
 
 -- a repair with these edits is under way, and has done n slots
 pub record HasDone (edits : List Edit) (done : ℕ) (S : State) : Type 0 where

@@ -9,11 +9,11 @@ use Rattle.tt_values.proofs.LawProofs.{rows_rise, next_content, past_stays}
 use Rattle.tt_parts.specs.Dirty.{DirtySet, has_row}
 use Rattle.tt_repair_laws.specs.declared.edit.Edit.{Edit}
 use Rattle.tt_repair_laws.specs.Edits.{edit_of, edited_slots}
-use Rattle.tt_repair_laws.specs.Due.{content_after, slot_rows_written, is_slot_affected, is_due_by, rows_reexecuted, with_row_of, dirty_after_slot, dirty_after}
+use Rattle.tt_repair_laws.specs.Due.{content_after, slot_rows_written, slot_rows_touched, is_slot_affected, is_due_by, rows_reexecuted, with_row_of, dirty_after_slot, dirty_after}
 use Rattle.tt_repair_laws.specs.Laws.{IsSameSlot, NoAffectedSlotIsMissed, CleanRowsAgree, DirtyRowsLieInDirtyPartitions}
 use Rattle.tt_repair_laws.proofs.DirtyLemmas.{clean_before}
 use Rattle.tt_repair_laws.proofs.TrackingLemmas.{Tracks, Tracks-reexecuted}
-use Rattle.tt_repair_laws.proofs.UnaffectedLemmas.{slot_writes-unaffected, slot_replies-unaffected, slot_rows_written-unaffected, Tracks-unaffected}
+use Rattle.tt_repair_laws.proofs.UnaffectedLemmas.{slot_writes-unaffected, slot_replies-unaffected, slot_rows_written-unaffected, slot_rows_touched-unaffected, Tracks-unaffected}
 use Rattle.tt_repair_laws.proofs.EditsLemmas.{unedited_slots_stay}
 
 pub content_rises : (W : Slots) (n : ℕ) → IsByRisingKey (content_after W n)
@@ -71,6 +71,7 @@ no_affected_slot_is_missed tables W E n h =
       writes = ap (λ s. slot_writes (suc n) s Y) unedited ∙ slot_writes-unaffected tables D X Y t (content_rises W n) (content_rises V n) (suc n) (slot_after W n) (or_parts _ _ h).1;
       replies = ap (λ s. slot_replies s Y) unedited ∙ slot_replies-unaffected tables D X Y t (content_rises W n) (content_rises V n) (slot_after W n) (or_parts _ _ h).1;
       rows = ap (λ s. slot_rows_written s Y) unedited ∙ slot_rows_written-unaffected tables D X Y t (content_rises W n) (content_rises V n) (slot_after W n) (or_parts _ _ h).1;
+      touched = ap (λ s. slot_rows_touched s Y) unedited ∙ slot_rows_touched-unaffected tables D X Y t (content_rises W n) (content_rises V n) (slot_after W n) (or_parts _ _ h).1;
     } in same
 
 pub clean_rows_agree : CleanRowsAgree

@@ -7,7 +7,7 @@ use Rattle.tt_values.proofs.LawProofs.{earlier_slots_stay, later_slots_change_no
 use Rattle.tt_parts.specs.Dirty.{DirtySet}
 use Rattle.tt_repair_laws.specs.declared.edit.Edit.{Edit}
 use Rattle.tt_repair_laws.specs.Edits.{edit_of, edited_slots, edited_slots_from}
-use Rattle.tt_repair_laws.specs.Due.{is_slot_affected, slot_rows_written, slot_rows_matched, with_row_of, is_due_by, is_due, dirty_after, reexecuted_count}
+use Rattle.tt_repair_laws.specs.Due.{is_slot_affected, slot_rows_touched, slot_rows_matched, with_row_of, is_due_by, is_due, dirty_after, reexecuted_count}
 use Rattle.tt_repair_laws.specs.Laws.{IsSameRepair, LaterSlotsChangeNoRepair}
 use Rattle.tt_repair_laws.proofs.EditsLemmas.{length-edited_slots_from, edited_slots-append}
 
@@ -37,7 +37,7 @@ module _ (tables : Tables) (W X : Slots) (E : List Edit) where
       let now = same_writes n (omega (arith, h)) in
       let next = same_writes (suc n) h in
       λ i. if due i
-      then fold (with_row_of tables (content_at (now i) n) (content_at (next i) (suc n))) (D i) (slot_rows_written (slot i) (content_at (writes i) n) ++ slot_rows_matched (edits i) (content_at (now i) n))
+      then fold (with_row_of tables (content_at (now i) n) (content_at (next i) (suc n))) (D i) (slot_rows_touched (slot i) (content_at (writes i) n) ++ slot_rows_matched (edits i) (content_at (now i) n))
       else D i
 
   same_due : (n : ℕ) → n < length W → is_due tables (W ++ X) E n ≡ is_due tables W E n

@@ -1,6 +1,6 @@
 -- The proofs of this crate's laws. Other crates cite these lemmas of it, and no others.
 use Rattle.tt_repair_laws.specs.Laws.{ActionsAreAffectedByTheirWrites, NoAffectedSlotIsMissed, CleanRowsAgree, DirtyRowsLieInDirtyPartitions, LaterSlotsChangeNoRepair, EditedSlotsAreAsMany, EditedSlotIsNext, UneditedSlotsStay, LaterSlotsStay}
-use Rattle.tt_repair_laws.specs.Steps.{DueDependsOnMembers, DirtyRowsDependOnMembers, DirtyRowsGrow, NothingIsDirtyAtFirst, UndueSlotsDirtyNothing, DueSlotsDirtyReexecutedRows, NoSlotIsReexecutedAtFirst, DueSlotsAreReexecuted, UndueSlotsAreNotReexecuted, UnwrittenRowsStay, WrittenRowsAreMatched, UpdatesAndDeletesWriteWhatTheyMatch, ContentAfterIsKept}
+use Rattle.tt_repair_laws.specs.Steps.{DueDependsOnMembers, DirtyRowsDependOnMembers, DirtyRowsGrow, NothingIsDirtyAtFirst, UndueSlotsDirtyNothing, DueSlotsDirtyReexecutedRows, NoSlotIsReexecutedAtFirst, DueSlotsAreReexecuted, UndueSlotsAreNotReexecuted, UnwrittenRowsStay, UntouchedRowsStay, WrittenRowsAreTouched, WrittenRowsAreMatched, UpdatesAndDeletesWriteWhatTheyMatch, ContentAfterIsKept}
 use Rattle.tt_repair_laws.specs.NextSide.{LastRowsStay, LastEditedRowsStay, DirtyRowsAreAsEdited, CleanRowsAreAsCurrent, NextSideBeginsAsCurrent, NextSideShowsEditedSlots, UndueSlotsLeaveNextSide, DueSlotsChangeReexecutedRows, LaterSlotsLeaveDirtyRows, NextSideEndsAsEditedSlots}
 use Rattle.tt_repair_laws.proofs.EditsLemmas as edits
 use Rattle.tt_repair_laws.proofs.AffectedLemmas as affected
@@ -68,6 +68,12 @@ undue_slots_are_not_reexecuted = steps.undue_slots_are_not_reexecuted
 
 pub unwritten_rows_stay : UnwrittenRowsStay
 unwritten_rows_stay = steps.unwritten_rows_stay
+
+pub untouched_rows_stay : UntouchedRowsStay
+untouched_rows_stay = steps.untouched_rows_stay
+
+pub written_rows_are_touched : WrittenRowsAreTouched
+written_rows_are_touched = effects.written_rows_are_touched
 
 pub written_rows_are_matched : WrittenRowsAreMatched
 written_rows_are_matched = effects.written_rows_are_matched

@@ -4,11 +4,12 @@ use Rattle.std.specs.List.{list_any}
 use Rattle.tt_values.specs.declared.value.Value.{Value}
 use Rattle.tt_values.specs.declared.value.Value.TheVariants as values
 use Rattle.tt_values.specs.declared.statement.Write.{Write}
+use Rattle.tt_values.specs.declared.action.Action.{Action}
 use Rattle.tt_values.specs.declared.statement.Write.TheVariants.{Insert, Update, Delete}
 use Rattle.tt_values.specs.Row.{key_of}
 use Rattle.tt_values.specs.Matches.{equates}
 use Rattle.tt_values.specs.Tables.{Tables}
-use Rattle.tt_values.specs.Action.{rows_of_action}
+use Rattle.tt_values.specs.Action.{rows_touched}
 use Rattle.tt_values.specs.Content.{Content, row_at}
 use Rattle.tt_values.specs.Effect.{table_of}
 use Rattle.tt_values.specs.RowWrites.{slot_after}
@@ -37,13 +38,12 @@ module _ (tables : Tables) (C D : DirtySet) (same : SameMembers C D) where
   same_write_clear : (w : Write) → is_write_clear tables C w ≡ is_write_clear tables D w
   same_write_clear w = same_clear (table_of w) (partitions_read (columns_in tables (table_of w)) w)
 
-  same_affected : (action : List Write) (X : Content) → is_affected tables C action X ≡ is_affected tables D action X
+  same_affected : (action : Action) (X : Content) → is_affected tables C action X ≡ is_affected tables D action X
   same_affected action X = λ i.
-      list_any (λ r. same.rows r.table r.key i) (rows_of_action action X)
-      || list_any (λ w. same_named w i) action
-      || list_any (λ w. not (same_write_clear w i)) action
+      list_any (λ r. same.rows r.table r.key i) (rows_touched action X)
+      || (list_any (λ w. same_named w i) action.writes || list_any (λ w. not (same_write_clear w i)) action.writes)
 
-  same_slot_affected : (s : Option (List Write)) (X : Content) → is_slot_affected tables C s X ≡ is_slot_affected tables D s X
+  same_slot_affected : (s : Option Action) (X : Content) → is_slot_affected tables C s X ≡ is_slot_affected tables D s X
   same_slot_affected None X = refl
   same_slot_affected (Some action) X = same_affected action X
 

@@ -9,12 +9,12 @@ use Rattle.tt_values.proofs.LawProofs.{past_stays, next_content}
 use Rattle.tt_parts.specs.Dirty.{DirtySet, has_row}
 use Rattle.tt_repair_laws.specs.declared.edit.Edit.{Edit}
 use Rattle.tt_repair_laws.specs.Edits.{edit_of, edited_slots}
-use Rattle.tt_repair_laws.specs.Due.{content_after, is_slot_affected, slot_rows_written, slot_rows_matched, is_due, rows_reexecuted, with_row_of, dirty_after, reexecuted_count}
-use Rattle.tt_repair_laws.specs.Steps.{NothingIsDirtyAtFirst, UndueSlotsDirtyNothing, DueSlotsDirtyReexecutedRows, NoSlotIsReexecutedAtFirst, DueSlotsAreReexecuted, UndueSlotsAreNotReexecuted, UnwrittenRowsStay, ContentAfterIsKept}
+use Rattle.tt_repair_laws.specs.Due.{content_after, is_slot_affected, slot_rows_touched, slot_rows_matched, is_due, rows_reexecuted, with_row_of, dirty_after, reexecuted_count}
+use Rattle.tt_repair_laws.specs.Steps.{NothingIsDirtyAtFirst, UndueSlotsDirtyNothing, DueSlotsDirtyReexecutedRows, NoSlotIsReexecutedAtFirst, DueSlotsAreReexecuted, UndueSlotsAreNotReexecuted, UnwrittenRowsStay, UntouchedRowsStay, ContentAfterIsKept}
 use Rattle.tt_repair_laws.proofs.RowListsLemmas.{list_none-append}
 use Rattle.tt_repair_laws.proofs.DirtyLemmas.{is_row, clean_rows_differ, has_row-with_rows}
-use Rattle.tt_repair_laws.proofs.EffectsLemmas.{row_at-unwritten, slot_unmatched_unwritten}
-use Rattle.tt_repair_laws.proofs.UnaffectedLemmas.{slot_rows_written-unaffected, unaffected_writes_clean_rows}
+use Rattle.tt_repair_laws.proofs.EffectsLemmas.{row_at-unwritten, row_at-untouched, slot_unmatched_untouched}
+use Rattle.tt_repair_laws.proofs.UnaffectedLemmas.{slot_rows_touched-unaffected, unaffected_touches_clean_rows}
 use Rattle.tt_repair_laws.proofs.EditsLemmas.{unedited_slots_stay}
 use Rattle.tt_repair_laws.proofs.DueLemmas.{content_rises, no_edit, Tracks-dirty_after}
 
@@ -52,6 +52,10 @@ pub unwritten_rows_stay : UnwrittenRowsStay
 unwritten_rows_stay W n table key h =
     ap (λ Z. row_at (Z table) key) (next_content W n) ∙ row_at-unwritten (suc n) (slot_after W n) (content_after W n) table key h
 
+pub untouched_rows_stay : UntouchedRowsStay
+untouched_rows_stay W n table key h =
+    ap (λ Z. row_at (Z table) key) (next_content W n) ∙ row_at-untouched (suc n) (slot_after W n) (content_after W n) table key h
+
 pub content_after_is_kept : ContentAfterIsKept
 content_after_is_kept W n h = past_stays W n (length W) n (omega arith) h
 
@@ -68,10 +72,10 @@ module _ (tables : Tables) (W : Slots) (E : List Edit) (n : ℕ) where
       (row_at (content_after (edited_slots W E) (suc n) table) key ≡ row_at (content_after (edited_slots W E) n table) key) × (row_at (content_after W (suc n) table) key ≡ row_at (content_after W n table) key)
   others_stay table key h =
       let V = edited_slots W E in
-      let none = list_none-append (is_row table key) (slot_rows_written (slot_after W n) (content_after W n)) (slot_rows_matched (slot_after V n) (content_after V n)) h in (
+      let none = list_none-append (is_row table key) (slot_rows_touched (slot_after W n) (content_after W n)) (slot_rows_matched (slot_after V n) (content_after V n)) h in (
         ap (λ Z. row_at (Z table) key) (next_content V n)
-            ∙ row_at-unwritten (suc n) (slot_after V n) (content_after V n) table key (slot_unmatched_unwritten (slot_after V n) (content_after V n) table key none.1),
-        unwritten_rows_stay W n table key none.0,
+            ∙ row_at-untouched (suc n) (slot_after V n) (content_after V n) table key (slot_unmatched_untouched (slot_after V n) (content_after V n) table key none.1),
+        untouched_rows_stay W n table key none.0,
       )
 
   -- a slot that isn't due leaves each dirty row as it is, by the edited slots and by the old ones
@@ -85,8 +89,8 @@ module _ (tables : Tables) (W : Slots) (E : List Edit) (n : ℕ) where
       let s = slot_after W n in
       let both = or_parts (is_some (edit_of E (suc n))) (is_slot_affected tables D s X) h in
       let unedited = unedited_slots_stay W E n (no_edit (edit_of E (suc n)) both.0) in
-      let old = clean_rows_differ D (slot_rows_written s X) table key dirty (unaffected_writes_clean_rows tables D X Y (Tracks-dirty_after tables W E n) (content_rises W n) (content_rises V n) s both.1) in
-      let new = ap (list_any (is_row table key)) (slot_rows_written-unaffected tables D X Y (Tracks-dirty_after tables W E n) (content_rises W n) (content_rises V n) s both.1) ∙ old in (
-        ap (λ Z. row_at (Z table) key) (next_content V n) ∙ ap (λ v. row_at (fold with_row_write Y (slot_writes (suc n) v Y) table) key) unedited ∙ row_at-unwritten (suc n) s Y table key new,
-        unwritten_rows_stay W n table key old,
+      let old = clean_rows_differ D (slot_rows_touched s X) table key dirty (unaffected_touches_clean_rows tables D X Y (Tracks-dirty_after tables W E n) (content_rises W n) (content_rises V n) s both.1) in
+      let new = ap (list_any (is_row table key)) (slot_rows_touched-unaffected tables D X Y (Tracks-dirty_after tables W E n) (content_rises W n) (content_rises V n) s both.1) ∙ old in (
+        ap (λ Z. row_at (Z table) key) (next_content V n) ∙ ap (λ v. row_at (fold with_row_write Y (slot_writes (suc n) v Y) table) key) unedited ∙ row_at-untouched (suc n) s Y table key new,
+        untouched_rows_stay W n table key old,
       )

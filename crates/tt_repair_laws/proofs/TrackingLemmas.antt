@@ -10,6 +10,7 @@ use Rattle.tt_values.specs.declared.row_id.RowId.{RowId}
 use Rattle.tt_values.specs.declared.statement.Equal.{Equal}
 use Rattle.tt_values.specs.declared.statement.Write.{Write}
 use Rattle.tt_values.specs.declared.statement.Write.TheVariants.{Insert, Update, Delete}
+use Rattle.tt_values.specs.declared.action.Action.{Action}
 use Rattle.tt_values.specs.declared.reply.Reply.TheVariants.{Inserted, Duplicate, Updated, Deleted}
 use Rattle.tt_values.specs.Row.{key_of}
 use Rattle.tt_values.specs.Matches.{matches}
@@ -21,10 +22,10 @@ use Rattle.tt_values.specs.ActionLaws.{IsByRisingKey}
 use Rattle.tt_values.specs.RowWrites.{slot_writes}
 use Rattle.tt_parts.specs.Partitions.{parts_of, equated_partitions}
 use Rattle.tt_parts.specs.Dirty.{columns_in, DirtySet, has_row, has_partition, is_clear}
-use Rattle.tt_repair_laws.specs.Due.{is_write_affected, slot_rows_written, slot_rows_matched, with_row_of}
+use Rattle.tt_repair_laws.specs.Due.{is_write_affected, slot_rows_touched, slot_rows_matched, with_row_of}
 use Rattle.tt_repair_laws.proofs.RowListsLemmas.{if_passes, is_sorted-filter, row_at-filter, fails_at, list_any-map, list_none-append, list_all_if, same_key}
 use Rattle.tt_repair_laws.proofs.DirtyLemmas.{is_row, equated_partitions_are_dirty, not_clear, has_row-with_rows, clean_before, has_partition-with_rows, rows_lie_in_dirty_partitions}
-use Rattle.tt_repair_laws.proofs.EffectsLemmas.{row_at-unwritten, row_at-agree, slot_unmatched_unwritten}
+use Rattle.tt_repair_laws.proofs.EffectsLemmas.{row_at-untouched, row_at-agree, slot_unmatched_untouched}
 
 -- a dirty set tracks where two contents differ: they have the same clean rows, and the partitions in which a dirty row of the second lies are dirty
 pub record Tracks (tables : Tables) (D : DirtySet) (X Y : Content) : Type 0 where
@@ -99,27 +100,27 @@ module _ (tables : Tables) (D : DirtySet) (X Y : Content) (tracks : Tracks table
     parts = λ table key row dirty there. tracks.parts table key row dirty (sym (stays table key dirty) ∙ there);
   }
 
-  -- the set tracks the contents after two slots once the rows are dirty that the first wrote and those that the second matches
-  pub Tracks-reexecuted : (time : ℕ) (s v : Option (List Write)) (X2 Y2 : Content) → X2 ≡ fold with_row_write X (slot_writes time s X) → Y2 ≡ fold with_row_write Y (slot_writes time v Y) →
-      Tracks tables (fold (with_row_of tables Y Y2) D (slot_rows_written s X ++ slot_rows_matched v Y)) X2 Y2
+  -- the set tracks the contents after two slots once the rows are dirty that the first touched and those that the second matches
+  pub Tracks-reexecuted : (time : ℕ) (s v : Option Action) (X2 Y2 : Content) → X2 ≡ fold with_row_write X (slot_writes time s X) → Y2 ≡ fold with_row_write Y (slot_writes time v Y) →
+      Tracks tables (fold (with_row_of tables Y Y2) D (slot_rows_touched s X ++ slot_rows_matched v Y)) X2 Y2
   Tracks-reexecuted time s v X2 Y2 is is2 = record { agree = agree2; parts = λ table key row dirty there. parts2 table key row there (list_any (is_row table key) rows) refl dirty }
     where
       rows : List RowId
-      rows = slot_rows_written s X ++ slot_rows_matched v Y
+      rows = slot_rows_touched s X ++ slot_rows_matched v Y
 
       E : DirtySet
       E = fold (with_row_of tables Y Y2) D rows
 
       stays : (table : ℕ) (key : ℤ) → list_any (is_row table key) rows ≡ false → row_at (Y2 table) key ≡ row_at (Y table) key
       stays table key none =
-          let unmatched = (list_none-append (is_row table key) (slot_rows_written s X) (slot_rows_matched v Y) none).1 in
-          ap (λ Z. row_at (Z table) key) is2 ∙ row_at-unwritten time v Y table key (slot_unmatched_unwritten v Y table key unmatched)
+          let unmatched = (list_none-append (is_row table key) (slot_rows_touched s X) (slot_rows_matched v Y) none).1 in
+          ap (λ Z. row_at (Z table) key) is2 ∙ row_at-untouched time v Y table key (slot_unmatched_untouched v Y table key unmatched)
 
       agree2 : (table : ℕ) (key : ℤ) → has_row E table key ≡ false → row_at (X2 table) key ≡ row_at (Y2 table) key
       agree2 table key clean =
           let both = clean_before tables Y Y2 rows D table key clean in
-          let unwritten = (list_none-append (is_row table key) (slot_rows_written s X) (slot_rows_matched v Y) both.0).0 in
-          ap (λ Z. row_at (Z table) key) is ∙ row_at-unwritten time s X table key unwritten ∙ tracks.agree table key both.1 ∙ sym (stays table key both.0)
+          let untouched = (list_none-append (is_row table key) (slot_rows_touched s X) (slot_rows_matched v Y) both.0).0 in
+          ap (λ Z. row_at (Z table) key) is ∙ row_at-untouched time s X table key untouched ∙ tracks.agree table key both.1 ∙ sym (stays table key both.0)
 
       parts2 : (table : ℕ) (key : ℤ) (row : Row) → row_at (Y2 table) key ≡ Some row → (b : Bool) → list_any (is_row table key) rows ≡ b → has_row E table key ≡ true → list_all (has_partition E) (parts_of table (columns_in tables table) row) ≡ true
       parts2 table key row there true among dirty = rows_lie_in_dirty_partitions tables Y Y2 rows D table key row among there

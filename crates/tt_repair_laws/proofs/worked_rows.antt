@@ -2,3 +2,4 @@ mod Repairs
 mod DueSlots
 mod NextSides
 mod Actions
+mod WholeActions

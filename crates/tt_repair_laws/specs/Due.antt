@@ -7,12 +7,13 @@ use Rattle.tt_values.specs.declared.value.Value.TheVariants as values
 use Rattle.tt_values.specs.declared.statement.Equal.{Equal}
 use Rattle.tt_values.specs.declared.statement.Write.{Write}
 use Rattle.tt_values.specs.declared.statement.Write.TheVariants.{Insert, Update, Delete}
+use Rattle.tt_values.specs.declared.action.Action.{Action}
 use Rattle.tt_values.specs.Row.{key_of}
 use Rattle.tt_values.specs.Matches.{equates}
 use Rattle.tt_values.specs.Tables.{Tables}
 use Rattle.tt_values.specs.Content.{Content, content_at, row_at}
 use Rattle.tt_values.specs.Effect.{matching_rows, table_of}
-use Rattle.tt_values.specs.Action.{content_after_write, rows_of_write, rows_of_action}
+use Rattle.tt_values.specs.Action.{content_after_write, rows_of_write, tried, kept, rows_of_writes, rows_touched}
 use Rattle.tt_values.specs.RowWrites.{Slots, slot_after, row_writes}
 use Rattle.tt_parts.specs.Partitions.{partitions_read}
 use Rattle.tt_parts.specs.Dirty.{DirtySet, nothing_dirty, columns_in, has_row, with_row, is_clear}
@@ -55,28 +56,33 @@ is_write_affected tables D w X =
     || names_dirty_row D w
     || not (is_write_clear tables D w)
 
--- the rows that the writes of an action match, each on the content that the ones before it left
-abbrev pub action_rows_matched : List Write → Content → List RowId
-action_rows_matched [] X = []
-action_rows_matched (w ∷ ws) X = rows_matched w X ++ action_rows_matched ws (content_after_write w X)
+-- the rows that some writes match, each on the content that the ones before it left
+abbrev pub rows_matched_by : List Write → Content → List RowId
+rows_matched_by [] X = []
+rows_matched_by (w ∷ ws) X = rows_matched w X ++ rows_matched_by ws (content_after_write w X)
 
--- whether what is dirty may affect an action: it writes a dirty row, or one of its writes names one or isn't clear
-abbrev pub is_affected : Tables → DirtySet → List Write → Content → Bool
-is_affected tables D action X =
-    list_any (λ r. has_row D r.table r.key) (rows_of_action action X)
-    || list_any (names_dirty_row D) action
-    || list_any (λ w. not (is_write_clear tables D w)) action
+-- whether one of some writes names a dirty row or isn't clear
+abbrev pub may_read_dirty : Tables → DirtySet → List Write → Bool
+may_read_dirty tables D ws = list_any (names_dirty_row D) ws || list_any (λ w. not (is_write_clear tables D w)) ws
 
--- the rows that a slot writes, those that it matches, and whether it is affected. A cancelled slot writes and matches nothing, and isn't affected
-abbrev pub slot_rows_written : Option (List Write) → Content → List RowId
+-- whether what is dirty may affect an action: it touches a dirty row, or one of its writes names one or isn't clear, of those that aren't carried out too
+abbrev pub is_affected : Tables → DirtySet → Action → Content → Bool
+is_affected tables D action X = list_any (λ r. has_row D r.table r.key) (rows_touched action X) || may_read_dirty tables D action.writes
+
+-- the rows that a slot writes, those that it touches, those that its writes match as far as they are carried out, and whether it is affected. A cancelled slot writes, touches and matches nothing, and isn't affected
+abbrev pub slot_rows_written : Option Action → Content → List RowId
 slot_rows_written None X = []
-slot_rows_written (Some action) X = rows_of_action action X
+slot_rows_written (Some action) X = rows_of_writes (kept action X) X
 
-abbrev pub slot_rows_matched : Option (List Write) → Content → List RowId
+abbrev pub slot_rows_touched : Option Action → Content → List RowId
+slot_rows_touched None X = []
+slot_rows_touched (Some action) X = rows_touched action X
+
+abbrev pub slot_rows_matched : Option Action → Content → List RowId
 slot_rows_matched None X = []
-slot_rows_matched (Some action) X = action_rows_matched action X
+slot_rows_matched (Some action) X = rows_matched_by (tried action X) X
 
-abbrev pub is_slot_affected : Tables → DirtySet → Option (List Write) → Content → Bool
+abbrev pub is_slot_affected : Tables → DirtySet → Option Action → Content → Bool
 is_slot_affected tables D None X = false
 is_slot_affected tables D (Some action) X = is_affected tables D action X
 
@@ -88,10 +94,10 @@ with_row_of tables before after D r = with_row D r.table (columns_in tables r.ta
 abbrev pub is_due_by : Tables → Slots → List Edit → ℕ → DirtySet → Bool
 is_due_by tables W E n D = is_some (edit_of E (suc n)) || is_slot_affected tables D (slot_after W n) (content_after W n)
 
--- the rows that get dirty where slot n + 1 is re-executed: those that it wrote, and those that its edited action matches after the first n edited slots
+-- the rows that get dirty where slot n + 1 is re-executed: those that it touched, and those that its edited action matches after the first n edited slots
 abbrev pub rows_reexecuted : Slots → List Edit → ℕ → List RowId
 rows_reexecuted W E n =
-    slot_rows_written (slot_after W n) (content_after W n)
+    slot_rows_touched (slot_after W n) (content_after W n)
     ++ slot_rows_matched (slot_after (edited_slots W E) n) (content_after (edited_slots W E) n)
 
 -- what is dirty after slot n + 1, by what is dirty before it: if the slot is due, the re-executed rows too

@@ -1,6 +1,6 @@
 -- A list of slots with the edits of a repair.
 use Rattle.std.specs.Prelude.{◌≡◌, ℕ, suc, ◌==◌, List, [], ◌∷◌, Option, None, Some, if◌then◌else◌}
-use Rattle.tt_values.specs.declared.statement.Write.{Write}
+use Rattle.tt_values.specs.declared.action.Action.{Action}
 use Rattle.tt_values.specs.Tables.{Tables}
 use Rattle.tt_values.specs.Check.{action_fault}
 use Rattle.tt_values.specs.RowWrites.{Slots}
@@ -13,14 +13,14 @@ slot_number (Cancel t) = t
 slot_number (Replace t action) = t
 
 -- the action that an edit puts into its slot, none if it cancels the slot
-abbrev pub replacement_of : Edit → Option (List Write)
+abbrev pub replacement_of : Edit → Option Action
 replacement_of (Cancel t) = None
 replacement_of (Replace t action) = Some action
 
 -- the action of an edit, if it has one, has no fault
 abbrev pub HasNoFault : Tables → Edit → Type 0
 HasNoFault tables (Cancel t) = Unit {0}
-HasNoFault tables (Replace t action) = action_fault tables action ≡ None
+HasNoFault tables (Replace t action) = action_fault tables action.writes ≡ None
 
 -- the edit of slot t, the first if there are several
 abbrev pub edit_of : List Edit → ℕ → Option Edit
@@ -28,7 +28,7 @@ edit_of [] t = None
 edit_of (e ∷ E) t = if slot_number e == t then Some e else edit_of E t
 
 -- a slot with its edit, if it has one
-abbrev pub slot_with_edit : Option Edit → Option (List Write) → Option (List Write)
+abbrev pub slot_with_edit : Option Edit → Option Action → Option Action
 slot_with_edit None s = s
 slot_with_edit (Some e) s = replacement_of e
 

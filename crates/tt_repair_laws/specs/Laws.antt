@@ -1,32 +1,38 @@
 -- What holds of all repairs: of all tables, slots and edits.
-use Rattle.std.specs.Prelude.{◌≡◌, ℕ, suc, ◌<◌, ◌≤◌, ℤ, true, false, ◌||◌, List, [], ◌∷◌, ◌++◌, length, None, Some, IsTrue}
+use Rattle.std.specs.Prelude.{◌≡◌, ℕ, suc, ◌<◌, ◌≤◌, ℤ, Bool, true, false, ◌&&◌, ◌||◌, List, [], ◌∷◌, ◌++◌, length, None, Some, IsTrue}
 use Rattle.std.specs.List.{list_all}
 use Rattle.tt_values.specs.declared.row.Row.{Row}
 use Rattle.tt_values.specs.declared.statement.Write.{Write}
+use Rattle.tt_values.specs.declared.action.Action.{Action}
 use Rattle.tt_values.specs.Tables.{Tables}
 use Rattle.tt_values.specs.Content.{Content, content_at, row_at}
-use Rattle.tt_values.specs.Action.{content_after_write}
+use Rattle.tt_values.specs.Action.{content_after_write, has_no_effect}
 use Rattle.tt_values.specs.RowWrites.{Slots, slot_after, slot_writes, slot_replies, row_writes}
 use Rattle.tt_parts.specs.Partitions.{parts_of}
 use Rattle.tt_parts.specs.Dirty.{columns_in, DirtySet, has_row, has_partition}
 use Rattle.tt_repair_laws.specs.declared.edit.Edit.{Edit}
 use Rattle.tt_repair_laws.specs.Edits.{edit_of, slot_with_edit, edited_slots}
-use Rattle.tt_repair_laws.specs.Due.{content_after, slot_rows_written, is_write_affected, is_affected, is_due, dirty_after, reexecuted_count}
+use Rattle.tt_repair_laws.specs.Due.{content_after, slot_rows_written, slot_rows_touched, is_write_affected, may_read_dirty, is_affected, is_due, dirty_after, reexecuted_count}
 
--- an action is affected exactly where its first write is, or the others are on the content that this write leaves
+-- an action is affected exactly where its first write is, or the others are on the content that this write leaves. Where the first write of a whole action has no effect, all that counts of the others is whether one of them names a dirty row or isn't clear
 abbrev pub ActionsAreAffectedByTheirWrites : Type 0
-ActionsAreAffectedByTheirWrites = (tables : Tables) (D : DirtySet) (X : Content) →
-    (is_affected tables D [] X ≡ false)
-    × ((w : Write) (ws : List Write) → is_affected tables D (w ∷ ws) X ≡ (is_write_affected tables D w X || is_affected tables D ws (content_after_write w X)))
+ActionsAreAffectedByTheirWrites = (tables : Tables) (D : DirtySet) (whole : Bool) (X : Content) →
+    let of : List Write → Action = λ ws. record { writes = ws; whole = whole } in
+    (is_affected tables D (of []) X ≡ false)
+    × ((w : Write) (ws : List Write) → (whole && has_no_effect w X) ≡ false →
+    is_affected tables D (of (w ∷ ws)) X ≡ (is_write_affected tables D w X || is_affected tables D (of ws) (content_after_write w X)))
+    × ((w : Write) (ws : List Write) → (whole && has_no_effect w X) ≡ true →
+    is_affected tables D (of (w ∷ ws)) X ≡ (is_write_affected tables D w X || may_read_dirty tables D ws))
 
--- slot n + 1 is the same in two lists of slots, and after the slots before it in each it has the same row writes and the same replies, and writes the same rows in the same order
+-- slot n + 1 is the same in two lists of slots, and after the slots before it in each it has the same row writes and the same replies, and writes and touches the same rows in the same order
 pub record IsSameSlot (W V : Slots) (n : ℕ) : Type 0 where
   pub slot : slot_after V n ≡ slot_after W n
   pub writes : slot_writes (suc n) (slot_after V n) (content_after V n) ≡ slot_writes (suc n) (slot_after W n) (content_after W n)
   pub replies : slot_replies (slot_after V n) (content_after V n) ≡ slot_replies (slot_after W n) (content_after W n)
   pub rows : slot_rows_written (slot_after V n) (content_after V n) ≡ slot_rows_written (slot_after W n) (content_after W n)
+  pub touched : slot_rows_touched (slot_after V n) (content_after V n) ≡ slot_rows_touched (slot_after W n) (content_after W n)
 
--- a slot that isn't due is the same among the edited slots, with the same row writes and the same replies, and writes the same rows in the same order
+-- a slot that isn't due is the same among the edited slots, with the same row writes and the same replies, and writes and touches the same rows in the same order
 abbrev pub NoAffectedSlotIsMissed : Type 0
 NoAffectedSlotIsMissed = (tables : Tables) (W : Slots) (E : List Edit) (n : ℕ) → is_due tables W E n ≡ false → IsSameSlot W (edited_slots W E) n
 

@@ -1,6 +1,6 @@
 -- The next side of the tables during a repair, and at its end.
 use Rattle.std.specs.Prelude.{◌≡◌, ℕ, suc, ◌≤◌, nat_le, ℤ, true, false, List, [], ◌∷◌, ◌++◌, length, Option, if◌then◌else◌}
-use Rattle.tt_values.specs.declared.statement.Write.{Write}
+use Rattle.tt_values.specs.declared.action.Action.{Action}
 use Rattle.tt_values.specs.Tables.{Tables}
 use Rattle.tt_values.specs.Content.{row_at}
 use Rattle.tt_values.specs.RowWrites.{Slots, row_writes}
@@ -66,7 +66,7 @@ DueSlotsChangeReexecutedRows = (tables : Tables) (W : Slots) (E : List Edit) (n 
 
 -- a slot that is added during the repair leaves the dirty rows of the next side as they are; any other row is as on the current side
 abbrev pub LaterSlotsLeaveDirtyRows : Type 0
-LaterSlotsLeaveDirtyRows = (tables : Tables) (W : Slots) (s : Option (List Write)) (E : List Edit) (n table : ℕ) (key : ℤ) → n ≤ length W →
+LaterSlotsLeaveDirtyRows = (tables : Tables) (W : Slots) (s : Option Action) (E : List Edit) (n table : ℕ) (key : ℤ) → n ≤ length W →
     let V = W ++ s ∷ [] in
     next_side tables V E n table key ≡ (if has_row (dirty_after tables W E n) table key then next_side tables W E n table key else current_side V table key)
 

@@ -1,10 +1,11 @@
 -- One slot of a repair: when it is due, what gets dirty with it, and which rows it changes.
-use Rattle.std.specs.Prelude.{◌≡◌, ℕ, suc, ◌≤◌, ℤ, true, false, ◌||◌, List, fold, length}
+use Rattle.std.specs.Prelude.{◌≡◌, ℕ, suc, ◌≤◌, ℤ, true, false, ◌||◌, List, fold, length, Option}
 use Rattle.tt_values.specs.declared.row_id.RowId.{RowId}
 use Rattle.tt_values.specs.declared.statement.Equal.{Equal}
 use Rattle.tt_values.specs.declared.statement.Change.{Change}
 use Rattle.tt_values.specs.declared.statement.Write.{Write}
 use Rattle.tt_values.specs.declared.statement.Write.TheVariants.{Update, Delete}
+use Rattle.tt_values.specs.declared.action.Action.{Action}
 use Rattle.tt_values.specs.Tables.{Tables}
 use Rattle.tt_values.specs.Content.{Content, row_at}
 use Rattle.tt_values.specs.Action.{rows_of_write}
@@ -12,7 +13,7 @@ use Rattle.tt_values.specs.RowWrites.{Slots, slot_after, content_of}
 use Rattle.tt_parts.specs.Dirty.{DirtySet, SameMembers, nothing_dirty, has_row, is_row_in}
 use Rattle.tt_repair_laws.specs.declared.edit.Edit.{Edit}
 use Rattle.tt_repair_laws.specs.Edits.{edited_slots}
-use Rattle.tt_repair_laws.specs.Due.{content_after, rows_matched, slot_rows_written, with_row_of, is_due_by, is_due, rows_reexecuted, dirty_after, reexecuted_count}
+use Rattle.tt_repair_laws.specs.Due.{content_after, rows_matched, slot_rows_written, slot_rows_touched, slot_rows_matched, with_row_of, is_due_by, is_due, rows_reexecuted, dirty_after, reexecuted_count}
 
 -- whether a slot is due depends only on the members of the dirty set
 abbrev pub DueDependsOnMembers : Type 0
@@ -64,6 +65,18 @@ abbrev pub UnwrittenRowsStay : Type 0
 UnwrittenRowsStay = (W : Slots) (n table : ℕ) (key : ℤ) →
     is_row_in (slot_rows_written (slot_after W n) (content_after W n)) table key ≡ false →
     row_at (content_after W (suc n) table) key ≡ row_at (content_after W n table) key
+
+-- a slot leaves each row as it is that it doesn't touch
+abbrev pub UntouchedRowsStay : Type 0
+UntouchedRowsStay = (W : Slots) (n table : ℕ) (key : ℤ) →
+    is_row_in (slot_rows_touched (slot_after W n) (content_after W n)) table key ≡ false →
+    row_at (content_after W (suc n) table) key ≡ row_at (content_after W n table) key
+
+-- a slot touches each row that it writes, and its writes match each row that it touches
+abbrev pub WrittenRowsAreTouched : Type 0
+WrittenRowsAreTouched = (s : Option Action) (X : Content) (table : ℕ) (key : ℤ) →
+    (is_row_in (slot_rows_written s X) table key ≡ true → is_row_in (slot_rows_touched s X) table key ≡ true)
+    × (is_row_in (slot_rows_touched s X) table key ≡ true → is_row_in (slot_rows_matched s X) table key ≡ true)
 
 -- a write matches each row that it writes
 abbrev pub WrittenRowsAreMatched : Type 0

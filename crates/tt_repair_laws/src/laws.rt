@@ -1,17 +1,18 @@
 //! Laws of repairs, for the proofs of the crates above. Each is the contract of a function with an
 //! empty body.
 ghost use Rattle.tt_repair_laws.specs.Laws.{ActionsAreAffectedByTheirWrites, NoAffectedSlotIsMissed, CleanRowsAgree, DirtyRowsLieInDirtyPartitions, LaterSlotsChangeNoRepair, EditedSlotsAreAsMany, EditedSlotIsNext, UneditedSlotsStay, LaterSlotsStay};
-ghost use Rattle.tt_repair_laws.specs.Steps.{DueDependsOnMembers, DirtyRowsDependOnMembers, DirtyRowsGrow, NothingIsDirtyAtFirst, UndueSlotsDirtyNothing, DueSlotsDirtyReexecutedRows, NoSlotIsReexecutedAtFirst, DueSlotsAreReexecuted, UndueSlotsAreNotReexecuted, UnwrittenRowsStay, WrittenRowsAreMatched, UpdatesAndDeletesWriteWhatTheyMatch, ContentAfterIsKept};
+ghost use Rattle.tt_repair_laws.specs.Steps.{DueDependsOnMembers, DirtyRowsDependOnMembers, DirtyRowsGrow, NothingIsDirtyAtFirst, UndueSlotsDirtyNothing, DueSlotsDirtyReexecutedRows, NoSlotIsReexecutedAtFirst, DueSlotsAreReexecuted, UndueSlotsAreNotReexecuted, UnwrittenRowsStay, UntouchedRowsStay, WrittenRowsAreTouched, WrittenRowsAreMatched, UpdatesAndDeletesWriteWhatTheyMatch, ContentAfterIsKept};
 ghost use Rattle.tt_repair_laws.specs.NextSide.{LastRowsStay, LastEditedRowsStay, DirtyRowsAreAsEdited, CleanRowsAreAsCurrent, NextSideBeginsAsCurrent, NextSideShowsEditedSlots, UndueSlotsLeaveNextSide, DueSlotsChangeReexecutedRows, LaterSlotsLeaveDirtyRows, NextSideEndsAsEditedSlots};
 
 /// An action is affected exactly where its first write is, or the others are on the content that
-/// this write leaves.
+/// this write leaves. Where the first write of a whole action has no effect, all that counts of the
+/// others is whether one of them names a dirty row or isn't clear.
 pub fn actions_are_affected_by_their_writes()
     ensures { ActionsAreAffectedByTheirWrites }
 {}
 
 /// A slot that isn't due is the same among the edited slots, with the same row writes and the same
-/// replies, and writes the same rows in the same order.
+/// replies, and writes and touches the same rows in the same order.
 pub fn no_affected_slot_is_missed()
     ensures { NoAffectedSlotIsMissed }
 {}
@@ -100,6 +101,16 @@ pub fn undue_slots_are_not_reexecuted()
 /// A slot leaves each row as it is that it doesn't write.
 pub fn unwritten_rows_stay()
     ensures { UnwrittenRowsStay }
+{}
+
+/// A slot leaves each row as it is that it doesn't touch.
+pub fn untouched_rows_stay()
+    ensures { UntouchedRowsStay }
+{}
+
+/// A slot touches each row that it writes, and its writes match each row that it touches.
+pub fn written_rows_are_touched()
+    ensures { WrittenRowsAreTouched }
 {}
 
 /// A write matches each row that it writes.

@@ -14,7 +14,7 @@ use std::sync::{Arc, Wait};
 use tt_db::Edit;
 use tt_store::{Gate, Naming, Store, Worker};
 use tt_values::{
-    Catalog, Change, Column, Equal, Items, Reply, Row, Select, TableDef, Value, Write,
+    Action, Catalog, Change, Column, Equal, Items, Reply, Row, Select, TableDef, Value, Write,
 };
 
 /// Asserts that two values are equal. An `assert_eq!` in a test makes the test longer to prove.
@@ -45,22 +45,22 @@ fn row(rt: &impl Abort, alloc: Global, account: Account) -> Row {
 }
 
 /// An action of one write.
-fn action(rt: &impl Abort, alloc: Global, write: Write) -> Items<Write> {
-    Items::of(alloc, [write]).expect(rt, "memory")
+fn action(rt: &impl Abort, alloc: Global, write: Write) -> Action {
+    Action::of(Items::of(alloc, [write]).expect(rt, "memory"))
 }
 
-fn insert(rt: &impl Abort, alloc: Global, account: Account) -> Items<Write> {
+fn insert(rt: &impl Abort, alloc: Global, account: Account) -> Action {
     let row = row(rt, alloc, account);
     action(rt, alloc, Write::Insert { table: 0, row })
 }
 
-fn delete(rt: &impl Abort, alloc: Global, owner: &str) -> Items<Write> {
+fn delete(rt: &impl Abort, alloc: Global, owner: &str) -> Action {
     let equal = Equal::text(alloc, 1, owner).expect(rt, "memory");
     let delete = Write::delete(alloc, 0, [equal]).expect(rt, "memory");
     action(rt, alloc, delete)
 }
 
-fn add_to_all(rt: &impl Abort, alloc: Global, by: i64) -> Items<Write> {
+fn add_to_all(rt: &impl Abort, alloc: Global, by: i64) -> Action {
     let add = Change::Add { column: 2, by };
     let update = Write::update(alloc, 0, [add], []).expect(rt, "memory");
     action(rt, alloc, update)

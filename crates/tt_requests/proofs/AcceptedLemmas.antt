@@ -8,6 +8,7 @@ use Rattle.tt_values.specs.declared.checking.CheckError.TheVariants as errors
 use Rattle.tt_values.specs.declared.statement.Select.{Select}
 use Rattle.tt_values.specs.declared.statement.Write.{Write}
 use Rattle.tt_values.specs.declared.statement.Write.TheVariants.{Insert, Update, Delete}
+use Rattle.tt_values.specs.declared.action.Action.{Action}
 use Rattle.tt_values.specs.Limits.{max_writes}
 use Rattle.tt_values.specs.Tables.{Tables}
 use Rattle.tt_values.specs.Check.{write_fault, first_write_fault, action_fault, select_fault}
@@ -21,7 +22,7 @@ use Rattle.tt_grammar.specs.Arrays.{array_of}
 use Rattle.tt_grammar.specs.Conditions.{value, table_named}
 use Rattle.tt_grammar.specs.Changes.{change}
 use Rattle.tt_grammar.specs.Statements.{checked_statement, conditions, no_members_at, insert, update, delete}
-use Rattle.tt_grammar.specs.Actions.{write, item_of_action, writes, action, has_action}
+use Rattle.tt_grammar.specs.Actions.{write, item_of_action, writes, is_whole, members_of_action, action, has_action}
 use Rattle.tt_grammar.specs.Edits.{replacement_by, replacement}
 use Rattle.tt_requests.proofs.StepBackLemmas.{ok_same, step, either-ok, or_refuse-ok, within_limit-ok, member-ok, each-ok}
 
@@ -111,25 +112,30 @@ writes-accepted version tables v ws e =
     let read = each-ok (Accepts tables) (item_of_action version tables) (item-accepted version tables) 0 items.value ws within.rest in
     accepted_action tables ws (ap (nat_lt max_writes) read.as_many ∙ within_limit-ok max_writes items.value within.value within.is) read.all
 
-pub action-accepted : (version : Version) (tables : Tables) (context : Context) (v : Data) (ws : List Write) → action version tables context v ≡ Ok ws → action_fault tables ws ≡ None
+-- the writes of an action have no fault
+abbrev AcceptsAction : Tables → Action → Type 0
+AcceptsAction tables asked = action_fault tables asked.writes ≡ None
+
+pub action-accepted : (version : Version) (tables : Tables) (context : Context) (v : Data) (asked : Action) → action version tables context v ≡ Ok asked → AcceptsAction tables asked
 unfolding action
-action-accepted version tables context v ws e =
-    let read = step (member (codes "do") (writes version tables) v) _ ws e in
-    let known = step (no_members_at context (codes "do" ∷ []) v) _ ws read.rest in
+action-accepted version tables context v asked e =
+    let read = step (member (codes "do") (writes version tables) v) _ asked e in
+    let whole = step (is_whole version v) _ asked read.rest in
+    let known = step (no_members_at context (members_of_action version) v) _ asked whole.rest in
     let source = member-ok (codes "do") (writes version tables) v read.value read.is in
-    subst (λ ws. action_fault tables ws ≡ None) (ok_same known.rest) (writes-accepted version tables source.value read.value source.is)
+    subst (AcceptsAction tables) (ok_same known.rest) (writes-accepted version tables source.value read.value source.is)
 
 -- ---- an action that replaces another
 
-replacement_by-accepted : (version : Version) (tables : Tables) (v : Data) (found : Option Write) (ws : List Write) → IfSome found (Accepts tables)
-    → replacement_by version tables v found ≡ Ok ws → action_fault tables ws ≡ None
-replacement_by-accepted version tables v (Some w) ws accepted e = subst (λ ws. action_fault tables ws ≡ None) (ok_same e) (one_write-accepted tables w accepted)
-replacement_by-accepted version tables v None ws accepted e =
-    either-ok (has_action version v) _ _ ws e (action-accepted version tables contexts.Nested v ws) (λ refused. cc)
+replacement_by-accepted : (version : Version) (tables : Tables) (v : Data) (found : Option Write) (asked : Action) → IfSome found (Accepts tables)
+    → replacement_by version tables v found ≡ Ok asked → AcceptsAction tables asked
+replacement_by-accepted version tables v (Some w) asked accepted e = subst (AcceptsAction tables) (ok_same e) (one_write-accepted tables w accepted)
+replacement_by-accepted version tables v None asked accepted e =
+    either-ok (has_action version v) _ _ asked e (action-accepted version tables contexts.Nested v asked) (λ refused. cc)
 
-pub replacement-accepted : (version : Version) (tables : Tables) (v : Data) (ws : List Write) → replacement version tables v ≡ Ok ws → action_fault tables ws ≡ None
+pub replacement-accepted : (version : Version) (tables : Tables) (v : Data) (asked : Action) → replacement version tables v ≡ Ok asked → AcceptsAction tables asked
 unfolding replacement
-replacement-accepted version tables v ws e =
-    let is_object = step (object v) _ ws e in
-    let found = step (write version tables contexts.Nested v) _ ws is_object.rest in
-    replacement_by-accepted version tables v found.value ws (write-accepted version tables contexts.Nested v found.value found.is) found.rest
+replacement-accepted version tables v asked e =
+    let is_object = step (object v) _ asked e in
+    let found = step (write version tables contexts.Nested v) _ asked is_object.rest in
+    replacement_by-accepted version tables v found.value asked (write-accepted version tables contexts.Nested v found.value found.is) found.rest

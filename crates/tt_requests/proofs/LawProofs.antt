@@ -101,8 +101,8 @@ delete-judged version tables v asked e = one_write-judged tables (delete version
 several_writes-judged : (version : Version) (tables : Tables) → Judges tables (several_writes version tables)
 unfolding several_writes
 several_writes-judged version tables v asked e =
-    let writes = step (action version tables contexts.Request v) _ asked e in
-    subst (IsJudged tables) (ok_same writes.rest) (action-accepted version tables contexts.Request v writes.value writes.is)
+    let read = step (action version tables contexts.Request v) _ asked e in
+    subst (IsJudged tables) (ok_same read.rest) (action-accepted version tables contexts.Request v read.value read.is)
 
 read-judged : (version : Version) (tables : Tables) → Judges tables (read version tables)
 unfolding read

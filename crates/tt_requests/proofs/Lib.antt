@@ -7,3 +7,4 @@ pub mod LawProofs
 pub mod NewestVersionLemmas
 mod worked_lines
 mod worked_versions
+mod worked_whole_actions

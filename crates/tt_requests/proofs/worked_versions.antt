@@ -1,5 +1,5 @@
 -- What lines mean as of the versions of sessions, computed.
-use Rattle.std.specs.Prelude.{◌≡◌, ℕ, pos, List, [], ◌∷◌, None, Result, Ok, Err, codes, refl}
+use Rattle.std.specs.Prelude.{◌≡◌, ℕ, pos, false, List, [], ◌∷◌, None, Result, Ok, Err, codes, refl}
 use Rattle.std.specs.Fmt.{digits}
 use Rattle.std.specs.Char.{encode_utf8}
 use Rattle.std.specs.Str.{is_utf8, chars}
@@ -13,6 +13,7 @@ use Rattle.tt_values.specs.declared.comparison.Comparison.TheVariants.{AtLeast}
 use Rattle.tt_values.specs.declared.value.Value.TheVariants as values
 use Rattle.tt_values.specs.declared.statement.Write.{Write}
 use Rattle.tt_values.specs.declared.statement.Write.TheVariants.{Delete}
+use Rattle.tt_values.specs.declared.action.Action.{Action}
 use Rattle.tt_repair_laws.specs.declared.edit.Edit.TheVariants.{Replace}
 use Rattle.tt_grammar.specs.declared.fault.DocFault.{DocFault}
 use Rattle.tt_grammar.specs.declared.fault.DocFault.TheVariants.{At}
@@ -57,13 +58,17 @@ refused_openings = (refl, refl, refl)
 abbrev deletes : Write
 deletes = Delete 0 (record { column = 0; how = AtLeast; value = values.Int (pos 1) } ∷ [])
 
+-- the action of this write alone
+abbrev deletes_once : Action
+deletes_once = record { writes = deletes ∷ []; whole = false }
+
 abbrev delete_line : List ℕ
 delete_line = codes "{\"delete\":\"acct\",\"where\":[[\"id\",\">=\",1]]}"
 
 abbrev asks : Command → Result Request DocFault
 asks command = Ok (record { worker = 1; expected = None; command = command })
 
-deleted : (request_of Three accounts (value_of_line delete_line) ≡ asks (commands.Write (deletes ∷ [])))
+deleted : (request_of Three accounts (value_of_line delete_line) ≡ asks (commands.Write deletes_once))
     × (request_of Two accounts (value_of_line delete_line) ≡ Err (At (codes "$.where[0]") (codes "wrong type")))
 unfolding digits is_utf8 chars encode_utf8 lex content short_escape punctuate word after_number json.value json.items json.members scan_numeral number_of value_of_json value_of_line condition statements.delete one_write members_of_request
 deleted = (refl, refl)
@@ -72,12 +77,12 @@ deleted = (refl, refl)
 abbrev begin_line : List ℕ
 begin_line = codes "{\"begin\":[{\"replace\":5,\"by\":{\"delete\":\"acct\",\"where\":[[\"id\",\">=\",1]]}}]}"
 
-replaced : (request_of Three accounts (value_of_line begin_line) ≡ asks (commands.Begin (record { edits = Replace 5 (deletes ∷ []) ∷ [] })))
+replaced : (request_of Three accounts (value_of_line begin_line) ≡ asks (commands.Begin (record { edits = Replace 5 deletes_once ∷ [] })))
     × (request_of Two accounts (value_of_line begin_line) ≡ Err (At (codes "$.begin[0].by.where[0]") (codes "wrong type")))
 unfolding digits is_utf8 chars encode_utf8 lex content short_escape punctuate word after_number json.value json.items json.members scan_numeral number_of value_of_json value_of_line condition statements.delete actions.write edits.replacement replace edit begin members_of_request
 replaced = (refl, refl)
 
 -- a slot of the ground of a log
-ground : ground_action_of accounts (value_of_line (codes "{\"do\":[{\"delete\":\"acct\",\"where\":[[\"id\",\">=\",1]]}]}")) ≡ Ok (deletes ∷ [])
+ground : ground_action_of accounts (value_of_line (codes "{\"do\":[{\"delete\":\"acct\",\"where\":[[\"id\",\">=\",1]]}]}")) ≡ Ok deletes_once
 unfolding is_utf8 chars encode_utf8 lex content short_escape punctuate word after_number json.value json.items json.members scan_numeral number_of value_of_json value_of_line condition statements.delete actions.write actions.item_of_action actions.action
 ground = refl

@@ -11,7 +11,7 @@ use Rattle.tt_grammar.specs.declared.version.Version.{Version}
 use Rattle.tt_grammar.specs.Fault.{◌>>=◌, refuse, with_path, document_path}
 use Rattle.tt_grammar.specs.Decoder.{object, flag, count_within, has, member, optional}
 use Rattle.tt_grammar.specs.Statements.{no_members_at, insert, update, delete}
-use Rattle.tt_grammar.specs.Actions.{action}
+use Rattle.tt_grammar.specs.Actions.{action_of_one, action}
 use Rattle.tt_requests.specs.declared.request.Command.{Command}
 use Rattle.tt_requests.specs.declared.request.Command.TheVariants as commands
 use Rattle.tt_requests.specs.declared.request.Request.{Request}
@@ -20,13 +20,13 @@ use Rattle.tt_requests.specs.Edits.{edits}
 use Rattle.tt_requests.specs.Reads.{read, preview}
 use Rattle.tt_requests.specs.Questions.{worker_number, slots, changes}
 
--- a write of its own, as an action of one
+-- a write of its own, as an action of one, which isn't whole
 unfoldable pub one_write : Result Write DocFault → Result Command DocFault
 one_write reading = do
   write ← reading
-  Ok (commands.Write (write ∷ []))
+  Ok (commands.Write (action_of_one write))
 
--- an action of several writes
+-- an action of several writes, which may be whole
 unfoldable pub several_writes : Version → Tables → Data → Result Command DocFault
 several_writes version tables v = do
   action ← action version tables contexts.Request v

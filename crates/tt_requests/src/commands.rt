@@ -12,11 +12,11 @@ use crate::told::ToldTimeDecoder;
 use std::alloc::Global;
 use tt_grammar::DocFault;
 use tt_grammar::decoding::{
-    Context, CountDecoder, Decoder, FlagDecoder, OUT_OF_RANGE, Version, action, delete, has,
-    insert, member, no_members_but, update,
+    Context, CountDecoder, Decoder, FlagDecoder, OUT_OF_RANGE, Version, action, action_of_one,
+    delete, has, insert, member, no_members_but, update,
 };
 use tt_json::JsonValue;
-use tt_values::{Catalog, Items, Write};
+use tt_values::{Catalog, Write};
 
 const NO_KIND: &str =
     "missing one of insert, update, delete, select, preview, do, begin, step, finish, abort, status, slots, changes, tables, forget";
@@ -107,12 +107,12 @@ fn question<V: JsonValue>(alloc: Global, catalog: &Catalog, value: &V) -> Result
     Err(DocFault::here(alloc, NO_KIND))
 }
 
-/// A write of its own, as an action of one.
+/// A write of its own, as an action of one, which isn't whole.
 #[tactic(auto, unfolding(crate::specs::Requests::one_write))]
 fn one_write(alloc: Global, write: Write) -> Result<Command, DocFault>
     ensures { Gives result (one_write (Ok write)) }
 {
-    let action = Items::of(alloc, [write])?;
+    let action = action_of_one(alloc, write)?;
     Ok(Command::Write(action))
 }
 

@@ -9,7 +9,7 @@ use std::alloc::Global;
 use tt_grammar::DocFault;
 use tt_grammar::decoding::{Context, Version, action, object};
 use tt_json::{JsonValue, Scratch, root};
-use tt_values::{Catalog, Items, Write};
+use tt_values::{Action, Catalog};
 
 /// The action of a slot of the ground that a line spells, for a database with these tables, or its
 /// first fault: that the line is too long; or else that it isn't JSON; or else that an object names
@@ -21,7 +21,7 @@ pub fn ground_action_from_line(
     catalog: &Catalog,
     line: &[u8],
     scratch: &mut Scratch,
-) -> Result<Items<Write>, DocFault>
+) -> Result<Action, DocFault>
     ensures { Gives result (ground_action_of catalog.now (value_of_line line.now)) }
 {
     match parse_line(alloc, line, scratch) {
@@ -30,11 +30,7 @@ pub fn ground_action_from_line(
     }
 }
 
-fn from_json<V: JsonValue>(
-    alloc: Global,
-    catalog: &Catalog,
-    value: &V,
-) -> Result<Items<Write>, DocFault>
+fn from_json<V: JsonValue>(alloc: Global, catalog: &Catalog, value: &V) -> Result<Action, DocFault>
     ensures { Gives result (ground_action_of catalog.now (Ok (V.json value.now))) }
 {
     match from_members(alloc, catalog, value) {
@@ -48,7 +44,7 @@ fn from_members<V: JsonValue>(
     alloc: Global,
     catalog: &Catalog,
     value: &V,
-) -> Result<Items<Write>, DocFault>
+) -> Result<Action, DocFault>
     ensures { Gives result (members_of_ground_action catalog.now (V.json value.now)) }
 {
     object(alloc, value)?;

@@ -13,7 +13,7 @@ use tt_grammar::decoding::{Version, object, optional};
 use tt_json::{JsonValue, Scratch, root};
 use tt_numbers::{ToldGeneration, ToldTime};
 use tt_repair_laws::Edit;
-use tt_values::{Catalog, Items, RowId, Select, Write};
+use tt_values::{Action, Catalog, Items, RowId, Select};
 
 const USUAL_WORKER: u32 = 1;
 
@@ -31,8 +31,8 @@ pub struct Request {
 #[derive(Debug, Drop)]
 pub enum Command {
     /// An action: at most [`MAX_WRITES`](tt_values::MAX_WRITES) writes, carried out in order as
-    /// one slot.
-    Write(Items<Write>),
+    /// one slot, wholly or not at all if it is whole.
+    Write(Action),
     /// Rows of a table, in the current generation or an older one.
     Read {
         select: Select,

@@ -2,7 +2,7 @@
 use crate::error::ServiceError;
 use std::alloc::{AllocError, Global};
 use tt_values::{
-    Catalog, Change, Column, Equal, Items, Reply, Row, Select, TableDef, Value, Write,
+    Action, Catalog, Change, Column, Equal, Items, Reply, Row, Select, TableDef, Value, Write,
 };
 
 /// How many clerks book payments. Each has one account, with the clerk's number as its id.
@@ -27,21 +27,13 @@ pub(crate) fn catalog(alloc: Global) -> Result<Catalog, ServiceError> {
 }
 
 /// Opens an account with a balance of 100.
-pub(crate) fn open_account(
-    alloc: Global,
-    id: i64,
-    owner: &str,
-) -> Result<Items<Write>, AllocError> {
+pub(crate) fn open_account(alloc: Global, id: i64, owner: &str) -> Result<Action, AllocError> {
     let values = [Value::Int(id), Value::text(alloc, owner)?, Value::Int(100)];
-    Items::of(alloc, [Write::insert(alloc, ACCOUNT, values)?])
+    action(alloc, Write::insert(alloc, ACCOUNT, values)?)
 }
 
 /// Books a payment to one account, or to all of them.
-pub(crate) fn pay(
-    alloc: Global,
-    amount: i64,
-    account: Option<i64>,
-) -> Result<Items<Write>, AllocError> {
+pub(crate) fn pay(alloc: Global, amount: i64, account: Option<i64>) -> Result<Action, AllocError> {
     let changes = [Change::Add {
         column: BALANCE,
         by: amount,
@@ -50,7 +42,12 @@ pub(crate) fn pay(
         Some(id) => Write::update(alloc, ACCOUNT, changes, [Equal::int(ID, id)])?,
         None => Write::update(alloc, ACCOUNT, changes, [])?,
     };
-    Items::of(alloc, [write])
+    action(alloc, write)
+}
+
+/// An action of one write.
+fn action(alloc: Global, write: Write) -> Result<Action, AllocError> {
+    Ok(Action::of(Items::of(alloc, [write])?))
 }
 
 /// Selects one account, or all of them.

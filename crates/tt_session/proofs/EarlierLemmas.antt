@@ -3,7 +3,7 @@ use Rattle.std.proofs.Common.{◌≡◌, ℕ, ◌+◌, Bool, true, false, cond, 
 use Rattle.std.specs.Option.{option_map, unwrap_or}
 use Rattle.tt_values.specs.declared.reply.Reply.{Reply}
 use Rattle.tt_values.specs.declared.statement.Select.{Select}
-use Rattle.tt_values.specs.declared.statement.Write.{Write}
+use Rattle.tt_values.specs.declared.action.Action.{Action}
 use Rattle.tt_values.specs.Action.{replies_of}
 use Rattle.tt_db.specs.declared.event.Event.TheVariants as events
 use Rattle.tt_db.specs.declared.errors.DbError.{DbError}
@@ -68,7 +68,7 @@ refused-earlier : (earlier : List Record) (refusal : Option DbError) (a b : Answ
 refused-earlier earlier None a b is = ap Ok is
 refused-earlier earlier (Some error) a b is = refl
 
-write-earlier : (earlier : List Record) (session : OpenSession) (worker : ℕ) (action : List Write)
+write-earlier : (earlier : List Record) (session : OpenSession) (worker : ℕ) (action : Action)
     → write (with_earlier_records earlier session) worker action ≡ earlier_outcome earlier (write session worker action)
 write-earlier earlier session worker action =
     let db = session.database in

@@ -1,7 +1,7 @@
 -- An open session goes on as one, whatever it is asked.
 use Rattle.std.proofs.Common.{◌≡◌, ℕ, ◌+◌, ◌-◌, ◌≤◌, min, Bool, true, false, cond, map, List, [], ◌∷◌, ◌++◌, length, Option, None, Some, Result, Ok, Err, OnOk, IfErr, ◌≢◌, refl, sym, ap, subst, ◌∙◌, arith, length-drop}
 use Rattle.std.specs.Option.{option_or, option_map, unwrap_or}
-use Rattle.tt_values.specs.declared.statement.Write.{Write}
+use Rattle.tt_values.specs.declared.action.Action.{Action}
 use Rattle.tt_values.specs.declared.statement.Select.{Select}
 use Rattle.tt_values.specs.declared.reply.Reply.{Reply}
 use Rattle.tt_values.specs.Tables.{IsCatalog}
@@ -235,7 +235,7 @@ from_ok a b is = cc
 told : (session : OpenSession) (answer : Answer) → IsOpenSession session → AnswersOn session (Ok (record { answer = answer; session = session }))
 told session answer sound b is = to session _ b (from_ok (record { answer = answer; session = session }) b is) (same session sound)
 
-write-on : (session : OpenSession) (worker : ℕ) (action : List Write) → IsOpenSession session → AnswersOn session (write session worker action)
+write-on : (session : OpenSession) (worker : ℕ) (action : Action) → IsOpenSession session → AnswersOn session (write session worker action)
 write-on session worker action sound b is =
     let db = session.database in
     let next = with_event db worker (events.Write action) in

@@ -1,5 +1,5 @@
 -- The lines of a log that is made anew are read back, and its opening opens no session.
-use Rattle.std.proofs.Common.{◌≡◌, ℕ, ◌^◌, ◌<◌, ◌≤◌, Bool, true, false, not, nat_lt, List, [], ◌∷◌, length, filter, Option, None, Some, Result, Ok, Err, Ordering, Less, Equal, Greater, nat_cmp, codes, decimal, refl, ap, ◌∙◌, arith, length-append}
+use Rattle.std.proofs.Common.{◌≡◌, ℕ, ◌+◌, ◌^◌, ◌<◌, ◌≤◌, Bool, true, false, not, nat_lt, List, [], ◌∷◌, ◌++◌, length, filter, Option, None, Some, Result, Ok, Err, Ordering, Less, Equal, Greater, nat_cmp, codes, decimal, refl, ap, ◌∙◌, arith, length-append}
 use Rattle.std.specs.Prelude.{is_err, IsErr}
 use Rattle.std.specs.Bool.{⊤}
 use Rattle.std.specs.Ordering.{match_ordering}
@@ -18,24 +18,25 @@ use Rattle.serde_json.specs.Read.{max_depth}
 use Rattle.serde_json.proofs.Numbers.{number_of-decimal}
 use Rattle.tt_numbers.specs.Numbers.{Numbering, number_limit, IsNumbering}
 use Rattle.tt_values.specs.declared.statement.Write.{Write}
+use Rattle.tt_values.specs.declared.action.Action.{Action}
 use Rattle.tt_values.specs.Tables.{Tables, IsCatalog}
 use Rattle.tt_json.specs.Value.{member_names, least, least_unknown}
 use Rattle.tt_grammar.specs.declared.fault.DocFault.{DocFault}
 use Rattle.tt_grammar.specs.Fault.{◌>>=◌, with_path, document_path}
 use Rattle.tt_grammar.specs.Decoder.{count_within}
 use Rattle.tt_grammar.specs.Members.{is_one_of, refuse_member, no_members_but}
-use Rattle.tt_grammar.specs.JsonText.{Member, object_text}
-use Rattle.tt_grammar.specs.WriteText.{action_text}
+use Rattle.tt_grammar.specs.JsonText.{Member, number_member, member_text, members_text, object_text}
+use Rattle.tt_grammar.specs.WriteText.{action_members}
 use Rattle.tt_grammar.specs.ReadBack.{read_with}
-use Rattle.tt_grammar.specs.Actions.{action, writes}
+use Rattle.tt_grammar.specs.Actions.{action}
 use Rattle.tt_grammar.specs.declared.session_version.SessionVersion.{SessionVersion}
 use Rattle.tt_grammar.specs.SessionVersion.{number_of_version}
 use Rattle.tt_grammar.specs.Version.{newest_version}
 use Rattle.tt_grammar.specs.Edits.{replacement}
 use Rattle.tt_grammar.proofs.Utf8Lemmas.{IsUtf8-object}
-use Rattle.tt_grammar.proofs.JsonReadLemmas.{object-prints, number-prints}
+use Rattle.tt_grammar.proofs.JsonReadLemmas.{flag-prints, object-prints, number-prints}
 use Rattle.tt_grammar.proofs.ItemReadLemmas.{IsReadBack, read-back, also-back}
-use Rattle.tt_grammar.proofs.ActionReadLemmas.{json_of_action, data_of_action, do_tree, do_data, action-back, do-back}
+use Rattle.tt_grammar.proofs.ActionReadLemmas.{json_of_writes, data_of_writes, AreWritesBack, writes-back, whole_tree, whole_data, action_tree, action_data, action-back}
 use Rattle.tt_grammar.proofs.TableReadLemmas.{json_of_tables, data_of_tables, tables-back}
 use Rattle.tt_grammar.proofs.LengthLemmas.{length-action, length-tables}
 use Rattle.tt_requests.specs.declared.request.Command.TheVariants as commands
@@ -52,7 +53,7 @@ use Rattle.tt_requests.specs.Requests.{several_writes, members_of_request, reque
 use Rattle.tt_requests.proofs.StepBackLemmas.{step, with_path-ok}
 use Rattle.tt_answers.specs.LogText.{ground_members, log_opening_members, log_opening_line, ground_line, slot_line}
 use Rattle.tt_session.specs.LogReadBack.{IsTakenUp, PrintedLogOpens, PrintedGroundIsRead, PrintedSlotsAreRead, OpeningsHaveNoGround}
-use Rattle.tt_session.proofs.ReadBackLemmas.{digits-utf8, count-within, line-read, version-fits, version-digits, version-read}
+use Rattle.tt_session.proofs.ReadBackLemmas.{length-object, digits-utf8, count-within, line-read, version-fits, version-digits, version-read}
 
 -- ---- the JSON value of a line that is printed
 
@@ -196,36 +197,47 @@ printed_log_opens version tables keep records n sound few_kept few_records is fe
 
 -- ---- slots of the ground
 
-ground-action-back : (tables : Tables) (ws : List Write) → IsReadBack 4 (json_of_action tables ws) (action_text tables ws) (data_of_action tables ws) (writes newest_version tables) ws
-    → IsReadBack 5 (do_tree tables ws) (ground_line tables ws) (do_data tables ws) (members_of_ground_action tables) ws
+ground-decoded : (tables : Tables) (ws : List Write) (whole : Bool) → AreWritesBack tables ws
+    → members_of_ground_action tables (action_data tables (record { writes = ws; whole = whole })) ≡ Ok (record { writes = ws; whole = whole })
 unfolding action
-ground-action-back tables ws back =
-    also-back 5 (do_tree tables ws) (ground_line tables ws) (do_data tables ws) (replacement newest_version tables) ws (members_of_ground_action tables) ws (do-back tables ws back)
-    (simp back.decoded)
+ground-decoded tables ws false back = simp back.decoded
+ground-decoded tables ws true back = simp back.decoded
+
+ground-back-action : (tables : Tables) (action : Action) → AreWritesBack tables action.writes
+    → IsReadBack 5 (action_tree tables action) (ground_line tables action) (action_data tables action) (members_of_ground_action tables) action
+ground-back-action tables action back =
+    also-back 5 (action_tree tables action) (ground_line tables action) (action_data tables action) (replacement newest_version tables) action (members_of_ground_action tables) action
+    (action-back tables action back) (ground-decoded tables action.writes action.whole back)
 
 pub printed_ground_is_read : PrintedGroundIsRead
-printed_ground_is_read tables ws catalog sound storable =
-    let line : List ℕ = ground_line tables ws in
-    let back = ground-action-back tables ws (action-back tables ws catalog sound storable) in
-    let long = length-action tables ws catalog sound storable in
-    let within : length line ≤ max_line_bytes = simp length-append (omega (arith, length-append {A = ℕ})) in
-    let short = le-ltb max_line_bytes (length line) within in
-    let value = line-value 5 (do_tree tables ws) line (do_data tables ws) (members_of_ground_action tables) ws back (omega arith) short in
-    (ap (ground_action_of tables) value ∙ ap (with_path document_path) back.decoded, taken-up ((codes "do", action_text tables ws) ∷ []) short)
+printed_ground_is_read tables action catalog sound storable =
+    let line : List ℕ = ground_line tables action in
+    let back = ground-back-action tables action (writes-back tables action.writes catalog sound storable) in
+    let long = length-action tables action catalog sound storable in
+    let whole = length-object (action_members tables action) 7000018 long in
+    let short = le-ltb max_line_bytes (length line) (omega arith) in
+    let value = line-value 5 (action_tree tables action) line (action_data tables action) (members_of_ground_action tables) action back (omega arith) short in
+    (ap (ground_action_of tables) value ∙ ap (with_path document_path) back.decoded, taken-up (action_members tables action) short)
 
 -- ---- further slots
 
-abbrev slot_tree : Tables → ℕ → List Write → json.Members
-slot_tree tables worker ws = json.member (codes "worker") (json.number (decimal worker)) (json.member (codes "do") (json_of_action tables ws) json.no_members)
+abbrev slot_tree : Tables → ℕ → Action → json.Members
+slot_tree tables worker action =
+    json.member (codes "worker") (json.number (decimal worker)) (json.member (codes "do") (json_of_writes tables action.writes) (whole_tree action.whole json.no_members))
 
-abbrev slot_data : Tables → ℕ → List Write → Data
-slot_data tables worker ws = spec.object (member (codes "do") (data_of_action tables ws) (member (codes "worker") (number (unsigned worker)) no_members))
+abbrev slot_data : Tables → ℕ → Action → Data
+slot_data tables worker action =
+    spec.object (member (codes "do") (data_of_writes tables action.writes) (whole_data action.whole (member (codes "worker") (number (unsigned worker)) no_members)))
 
-abbrev slot_members : Tables → ℕ → List Write → List Member
-slot_members tables worker ws = (codes "worker", decimal worker) ∷ (codes "do", action_text tables ws) ∷ []
+abbrev slot_members : Tables → ℕ → Action → List Member
+slot_members tables worker action = number_member (codes "worker") worker ∷ action_members tables action
 
-abbrev the_request : ℕ → List Write → Request
-the_request worker ws = record { worker = worker; expected = None; command = commands.Write ws }
+abbrev the_request : ℕ → Action → Request
+the_request worker action = record { worker = worker; expected = None; command = commands.Write action }
+
+abbrev IsSlotBack : Tables → ℕ → Action → Type 0
+IsSlotBack tables worker action =
+    IsReadBack 5 (json.object (slot_tree tables worker action)) (slot_line tables worker action) (slot_data tables worker action) (members_of_request newest_version tables) (the_request worker action)
 
 worker-within : (worker : ℕ) → 1 ≤ worker → worker < 2 ^ 32 → count_within 1 max_worker (number (unsigned worker)) ≡ Ok worker
 worker-within worker some few =
@@ -233,32 +245,53 @@ worker-within worker some few =
     let below : nat_lt max_worker worker ≡ false = grind (arith, nat_tests) in
     rw (above, below) refl
 
-slot-back : (tables : Tables) (worker : ℕ) (ws : List Write) → 1 ≤ worker → worker < 2 ^ 32
-    → IsReadBack 4 (json_of_action tables ws) (action_text tables ws) (data_of_action tables ws) (writes newest_version tables) ws
-    → IsReadBack 5 (json.object (slot_tree tables worker ws)) (slot_line tables worker ws) (slot_data tables worker ws) (members_of_request newest_version tables) (the_request worker ws)
+slot_of-back : (tables : Tables) (worker : ℕ) (ws : List Write) (whole : Bool) → 1 ≤ worker → worker < 2 ^ 32 → AreWritesBack tables ws
+    → IsSlotBack tables worker (record { writes = ws; whole = whole })
 unfolding members_of_request several_writes action
-slot-back tables worker ws some few back =
+slot_of-back tables worker ws false some few back =
     let fits : worker < 2 ^ 64 = omega arith in
+    let slot : Action = record { writes = ws; whole = false } in
     record {
-      prints = object-prints (slot_tree tables worker ws) (slot_members tables worker ws) (refl, number-prints (decimal worker), (refl, back.prints, tt));
-      utf8 = IsUtf8-object (slot_members tables worker ws) ((IsUtf8-are_ascii (codes "worker") refl, digits-utf8 worker fits), ((IsUtf8-are_ascii (codes "do") refl, back.utf8), tt));
+      prints = object-prints (slot_tree tables worker slot) (slot_members tables worker slot) (refl, number-prints (decimal worker), (refl, back.prints, tt));
+      utf8 = IsUtf8-object (slot_members tables worker slot) ((IsUtf8-are_ascii (codes "worker") refl, digits-utf8 worker fits), ((IsUtf8-are_ascii (codes "do") refl, back.utf8), tt));
       numbers = (IsNumber-decimal worker fits, (back.numbers, tt));
       shallow = let flat = back.shallow in omega arith;
       stands = simp (number_of-decimal worker fits, back.stands);
       once = simp back.once;
       decoded = simp (worker-within worker some few, back.decoded);
     }
+slot_of-back tables worker ws true some few back =
+    let fits : worker < 2 ^ 64 = omega arith in
+    let slot : Action = record { writes = ws; whole = true } in
+    record {
+      prints = object-prints (slot_tree tables worker slot) (slot_members tables worker slot)
+          (refl, number-prints (decimal worker), (refl, back.prints, (refl, flag-prints true, tt)));
+      utf8 = IsUtf8-object (slot_members tables worker slot) (
+        (IsUtf8-are_ascii (codes "worker") refl, digits-utf8 worker fits),
+        ((IsUtf8-are_ascii (codes "do") refl, back.utf8), ((IsUtf8-are_ascii (codes "whole") refl, IsUtf8-are_ascii (codes "true") refl), tt)),
+      );
+      numbers = (IsNumber-decimal worker fits, (back.numbers, (tt, tt)));
+      shallow = let flat = back.shallow in omega arith;
+      stands = simp (number_of-decimal worker fits, back.stands);
+      once = simp back.once;
+      decoded = simp (worker-within worker some few, back.decoded);
+    }
+
+-- members behind a short one
+length-behind : (first members : List ℕ) (most : ℕ) → length first ≤ 99 → length members ≤ most → length (first ++ (codes "," ++ members)) ≤ most + 100
+length-behind first members most short few = simp length-append (omega (arith, short, few))
 
 pub printed_slots_are_read : PrintedSlotsAreRead
-printed_slots_are_read tables worker ws catalog some few sound storable =
-    let line : List ℕ = slot_line tables worker ws in
-    let back = slot-back tables worker ws some few (action-back tables ws catalog sound storable) in
-    let long = length-action tables ws catalog sound storable in
+printed_slots_are_read tables worker action catalog some few sound storable =
+    let line : List ℕ = slot_line tables worker action in
+    let back : IsSlotBack tables worker action = slot_of-back tables worker action.writes action.whole some few (writes-back tables action.writes catalog sound storable) in
+    let long = length-action tables action catalog sound storable in
     let digits = length-decimal-le 20 worker (omega arith) (omega arith) (omega arith) in
-    let within : length line ≤ max_line_bytes = simp length-append (omega (arith, length-append {A = ℕ})) in
-    let short = le-ltb max_line_bytes (length line) within in
-    let value = line-value 5 (json.object (slot_tree tables worker ws)) line (slot_data tables worker ws) (members_of_request newest_version tables) (the_request worker ws) back (omega arith) short in
-    (ap (request_of newest_version tables) value ∙ ap (with_path document_path) back.decoded, taken-up (slot_members tables worker ws) short)
+    let all = length-behind (member_text (number_member (codes "worker") worker)) (members_text (action_members tables action)) 7000018 (omega arith) long in
+    let whole = length-object (slot_members tables worker action) 7000118 all in
+    let short = le-ltb max_line_bytes (length line) (omega arith) in
+    let value = line-value 5 (json.object (slot_tree tables worker action)) line (slot_data tables worker action) (members_of_request newest_version tables) (the_request worker action) back (omega arith) short in
+    (ap (request_of newest_version tables) value ∙ ap (with_path document_path) back.decoded, taken-up (slot_members tables worker action) short)
 
 -- ---- what opens a session opens no log
 

@@ -4,7 +4,7 @@ use Rattle.std.specs.Option.{option_map}
 use Rattle.std.specs.List.{list_all}
 use Rattle.std.proofs.lemmas.Bool.{and_parts}
 use Rattle.std.proofs.lemmas.List.{length-map, take-append-drop, length-take-le, take_rest}
-use Rattle.tt_values.specs.declared.statement.Write.{Write}
+use Rattle.tt_values.specs.declared.action.Action.{Action}
 use Rattle.tt_values.specs.declared.checking.CheckError.{CheckError}
 use Rattle.tt_values.specs.Tables.{Tables, IsCatalog}
 use Rattle.tt_values.specs.Action.{replies_of}
@@ -47,22 +47,22 @@ use Rattle.tt_session.proofs.StepLemmas.{accepted_in_session}
 
 -- ---- an action that a database without a repair doesn't refuse
 
-state-push : (db : Database) (worker : ℕ) (action : List Write) → state_of (with_event db worker (events.Write action)) ≡ next_state db.limits (state_of db) (events.Write action)
+state-push : (db : Database) (worker : ℕ) (action : Action) → state_of (with_event db worker (events.Write action)) ≡ next_state db.limits (state_of db) (events.Write action)
 state-push db worker action = after-push db.limits db.history (record { worker = worker; event = events.Write action })
 
 -- there is still no repair
-idle-push : (db : Database) (worker : ℕ) (action : List Write) → is_repairing (state_of db).phase ≡ false → is_repairing (state_of (with_event db worker (events.Write action))).phase ≡ false
+idle-push : (db : Database) (worker : ℕ) (action : Action) → is_repairing (state_of db).phase ≡ false → is_repairing (state_of (with_event db worker (events.Write action))).phase ≡ false
 idle-push db worker action idle = ap (λ (S : State). is_repairing S.phase) (state-push db worker action) ∙ idle
 
-accepted : (db : Database) (action : List Write) → is_repairing (state_of db).phase ≡ false → refusal_of db (events.Write action) ≡ None → refusal_in_session db (events.Write action) ≡ None
+accepted : (db : Database) (action : Action) → is_repairing (state_of db).phase ≡ false → refusal_of db (events.Write action) ≡ None → refusal_in_session db (events.Write action) ≡ None
 accepted db action idle none = accepted_in_session db (events.Write action) none (rw idle refl)
 
 fault-none : (fault : Option CheckError) (slots entries : Option DbError) → first_refusal (option_map errors.Statement fault ∷ slots ∷ entries ∷ []) ≡ None → fault ≡ None
 fault-none None slots entries none = refl
 fault-none (Some fault) slots entries none = cc
 
-no-fault : (db : Database) (action : List Write) → refusal_of db (events.Write action) ≡ None → action_fault db.catalog action ≡ None
-no-fault db action none = fault-none (action_fault db.catalog action) _ _ none
+no-fault : (db : Database) (action : Action) → refusal_of db (events.Write action) ≡ None → action_fault db.catalog action.writes ≡ None
+no-fault db action none = fault-none (action_fault db.catalog action.writes) _ _ none
 
 is-none : {X : Type 0} → (o : Option X) → is_none o ≡ true → o ≡ None
 is-none None is = refl
@@ -84,7 +84,7 @@ record Lays (session : OpenSession) (entries : List Entry) : Type 0 where
   pub most : next.most_records ≡ session.most_records
   pub idle : is_repairing (state_of next.database).phase ≡ false
 
-lays-one : (session : OpenSession) (action : List Write) → IsCatalog session.database.catalog → is_repairing (state_of session.database).phase ≡ false
+lays-one : (session : OpenSession) (action : Action) → IsCatalog session.database.catalog → is_repairing (state_of session.database).phase ≡ false
     → is_of_ground session.database action ≡ true → IsStorableAction action
     → laid_by session (ground_line session.database.catalog action) ≡ Some (with_database session (with_event session.database ground_worker (events.Write action)))
 lays-one session action catalog idle ground storable =
@@ -108,7 +108,7 @@ lays-all session [] catalog idle ground printable = record {
 }
 lays-all session (e ∷ entries) catalog idle ground printable =
     let db = session.database in
-    let action : List Write = ground.0.0 in
+    let action : Action = ground.0.0 in
     let is : e ≡ entry_of ground_worker action = ground.0.1 in
     let same : action_in e ≡ action = ap action_in is in
     let next : OpenSession = with_database session (with_event db ground_worker (events.Write action)) in
@@ -133,12 +133,12 @@ record Repeats (session : OpenSession) (entries : List Entry) : Type 0 where
   pub database : next.database ≡ with_entries session.database entries
   pub numbering : next.numbering ≡ session.numbering
 
-write-turn : (session : OpenSession) (worker : ℕ) (action : List Write) → refusal_in_session session.database (events.Write action) ≡ None
+write-turn : (session : OpenSession) (worker : ℕ) (action : Action) → refusal_in_session session.database (events.Write action) ≡ None
     → (turn_by_request (counted session) (Ok (record { worker = worker; expected = None; command = commands.Write action }))).session ≡ Open (written (counted session) worker action).session
 write-turn session worker action none =
     ap (λ r. (turn_by_outcome (counted session) (unless_refused r (written (counted session) worker action))).session) none
 
-write-changes : (session : OpenSession) (worker : ℕ) (action : List Write) → changes_database (Open session) (Open (written (counted session) worker action).session) ≡ true
+write-changes : (session : OpenSession) (worker : ℕ) (action : Action) → changes_database (Open session) (Open (written (counted session) worker action).session) ≡ true
 write-changes session worker action =
     let h = session.database.history in
     let more : List Entry = h ++ record { worker = worker; event = events.Write action } ∷ [] in
@@ -158,7 +158,7 @@ repeats-all session (e ∷ entries) catalog idle legal printable =
     let db = session.database in
     let p = printable.0 in
     let worker : ℕ = e.worker in
-    let action : List Write = action_in e in
+    let action : Action = action_in e in
     let event_is : e.event ≡ events.Write action = ap (λ (d : Entry). d.event) p.is in
     let none : refusal_of db (events.Write action) ≡ None = ap (refusal_of db) (sym event_is) ∙ legal.0 in
     let some : 1 ≤ worker = omega (arith, p.worker refl) in

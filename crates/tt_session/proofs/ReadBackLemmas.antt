@@ -10,7 +10,8 @@ use Rattle.json.proofs.Printed.Utf8.{IsUtf8-are_ascii}
 use Rattle.serde_json.specs.Data.{Data, unsigned, number, member, no_members, no_items, item}
 use Rattle.serde_json.specs.Data as spec
 use Rattle.serde_json.proofs.Numbers.{number_of-decimal}
-use Rattle.tt_values.specs.declared.statement.Write.{Write}
+use Rattle.tt_values.specs.declared.action.Action.{Action}
+use Rattle.tt_values.specs.Action.{action_of}
 use Rattle.tt_values.specs.Tables.{Tables, IsCatalog}
 use Rattle.tt_repair_laws.specs.declared.edit.Edit.TheVariants.{Replace}
 use Rattle.tt_grammar.specs.Fault.{with_path, document_path}
@@ -29,15 +30,15 @@ use Rattle.tt_requests.specs.LineValue.{value_of_line}
 use Rattle.tt_requests.specs.Lines.{max_line_bytes, is_too_long}
 use Rattle.tt_requests.specs.Opening.{max_keep, max_records, declaration, members_of_opening, opening_of}
 use Rattle.tt_requests.specs.Requests.{begin, members_of_request, usual_worker, request_of}
-use Rattle.tt_grammar.specs.JsonText.{Member, array_text, number_member, object_text}
-use Rattle.tt_grammar.specs.WriteText.{write_text, action_text}
+use Rattle.tt_grammar.specs.JsonText.{Member, array_text, number_member, members_text, object_text}
+use Rattle.tt_grammar.specs.WriteText.{write_text, action_members}
 use Rattle.tt_answers.specs.AnswerText.{declared_members}
 use Rattle.tt_grammar.specs.ReadBack.{read_with}
 use Rattle.tt_grammar.proofs.Utf8Lemmas.{IsUtf8-array, IsUtf8-object}
 use Rattle.tt_grammar.proofs.JsonReadLemmas.{object-prints, array-prints, number-prints}
 use Rattle.tt_grammar.proofs.ItemReadLemmas.{IsReadBack, read-back}
 use Rattle.tt_grammar.proofs.WriteReadLemmas.{json_of_write, data_of_write, write-back, replacing-back}
-use Rattle.tt_grammar.proofs.ActionReadLemmas.{do_tree, do_data, action-back, do-back}
+use Rattle.tt_grammar.proofs.ActionReadLemmas.{action_tree, action_data, writes-back, action-back}
 use Rattle.tt_grammar.proofs.TableReadLemmas.{json_of_tables, data_of_tables, tables-back}
 use Rattle.tt_grammar.proofs.LengthLemmas.{length-write, length-action, length-tables}
 use Rattle.tt_session.specs.ReadBack.{opening_line, PrintedTablesOpen, Replaces, PrintedWritesReplace, replacing_text, replacing_line, PrintedActionsReplace}
@@ -56,11 +57,11 @@ edit_data slot by = spec.object (member (codes "by") by (member (codes "replace"
 abbrev edit_members : ℕ → List ℕ → List Member
 edit_members slot text = number_member (codes "replace") slot ∷ (codes "by", text) ∷ []
 
-edit-back : (tables : Tables) (slot nested : ℕ) (by : json.Json) (text : List ℕ) (d : Data) (ws : List Write) → slot < 2 ^ 64
-    → IsReadBack nested by text d (replacement newest_version tables) ws
-    → IsReadBack (suc nested) (json.object (edit_tree slot by)) (replacing_text slot text) (edit_data slot d) (edit newest_version tables) (Replace slot ws)
+edit-back : (tables : Tables) (slot nested : ℕ) (by : json.Json) (text : List ℕ) (d : Data) (action : Action) → slot < 2 ^ 64
+    → IsReadBack nested by text d (replacement newest_version tables) action
+    → IsReadBack (suc nested) (json.object (edit_tree slot by)) (replacing_text slot text) (edit_data slot d) (edit newest_version tables) (Replace slot action)
 unfolding edit replace
-edit-back tables slot nested by text d ws fits back = record {
+edit-back tables slot nested by text d action fits back = record {
   prints = object-prints (edit_tree slot by) (edit_members slot text) (refl, number-prints (decimal slot), (refl, back.prints, tt));
   utf8 = IsUtf8-object (edit_members slot text) ((IsUtf8-are_ascii (codes "replace") refl, digits-utf8 slot fits), ((IsUtf8-are_ascii (codes "by") refl, back.utf8), tt));
   numbers = (IsNumber-decimal slot fits, (back.numbers, tt));
@@ -82,14 +83,14 @@ line_data slot d = spec.object (member (codes "begin") (spec.array (item (edit_d
 abbrev line_members : ℕ → List ℕ → List Member
 line_members slot text = (codes "begin", array_text (replacing_text slot text ∷ [])) ∷ []
 
-abbrev the_request : ℕ → List Write → Request
-the_request slot ws = record { worker = usual_worker; expected = None; command = commands.Begin (record { edits = Replace slot ws ∷ [] }) }
+abbrev the_request : ℕ → Action → Request
+the_request slot action = record { worker = usual_worker; expected = None; command = commands.Begin (record { edits = Replace slot action ∷ [] }) }
 
-line-back : (tables : Tables) (slot nested : ℕ) (by : json.Json) (text : List ℕ) (d : Data) (ws : List Write)
-    → IsReadBack nested (json.object (edit_tree slot by)) (replacing_text slot text) (edit_data slot d) (edit newest_version tables) (Replace slot ws)
-    → IsReadBack (nested + 2) (json.object (line_tree slot by)) (replacing_line slot text) (line_data slot d) (members_of_request newest_version tables) (the_request slot ws)
+line-back : (tables : Tables) (slot nested : ℕ) (by : json.Json) (text : List ℕ) (d : Data) (action : Action)
+    → IsReadBack nested (json.object (edit_tree slot by)) (replacing_text slot text) (edit_data slot d) (edit newest_version tables) (Replace slot action)
+    → IsReadBack (nested + 2) (json.object (line_tree slot by)) (replacing_line slot text) (line_data slot d) (members_of_request newest_version tables) (the_request slot action)
 unfolding members_of_request begin
-line-back tables slot nested by text d ws back =
+line-back tables slot nested by text d action back =
     let printed = array-prints (line_items slot by) (replacing_text slot text ∷ []) (back.prints, tt) in
     record {
       prints = object-prints (line_tree slot by) (line_members slot text) (refl, printed, tt);
@@ -112,26 +113,30 @@ short_line slot text fits short =
     let within : length (replacing_line slot text) ≤ max_line_bytes = simp length-append (omega (arith, length-append {A = ℕ})) in
     le-ltb max_line_bytes (length (replacing_line slot text)) within
 
-replaces : (tables : Tables) (nested : ℕ) (by : json.Json) (text : List ℕ) (d : Data) (ws : List Write) → IsReadBack nested by text d (replacement newest_version tables) ws
-    → nested ≤ 100 → length text ≤ 8000000 → Replaces tables text ws
-replaces tables nested by text d ws back flat short slot fits =
+replaces : (tables : Tables) (nested : ℕ) (by : json.Json) (text : List ℕ) (d : Data) (action : Action) → IsReadBack nested by text d (replacement newest_version tables) action
+    → nested ≤ 100 → length text ≤ 8000000 → Replaces tables text action
+replaces tables nested by text d action back flat short slot fits =
     let line : List ℕ = replacing_line slot text in
-    let whole = line-back tables slot (suc nested) by text d ws (edit-back tables slot nested by text d ws fits back) in
-    let read : read_with (members_of_request newest_version tables) line ≡ Ok (the_request slot ws) =
-    read-back (suc nested + 2) (json.object (line_tree slot by)) line (line_data slot d) (members_of_request newest_version tables) (the_request slot ws) whole (omega arith) in
+    let whole = line-back tables slot (suc nested) by text d action (edit-back tables slot nested by text d action fits back) in
+    let read : read_with (members_of_request newest_version tables) line ≡ Ok (the_request slot action) =
+    read-back (suc nested + 2) (json.object (line_tree slot by)) line (line_data slot d) (members_of_request newest_version tables) (the_request slot action) whole (omega arith) in
     ap (request_of newest_version tables) (line-read line (short_line slot text fits short)) ∙ ap (with_path document_path) read
+
+-- an object is little longer than its members
+pub length-object : (ms : List Member) (most : ℕ) → length (members_text ms) ≤ most → length (object_text ms) ≤ most + 2
+length-object ms most few = simp length-append (omega (arith, few))
 
 pub printed_writes_replace : PrintedWritesReplace
 printed_writes_replace tables w catalog sound storable =
     let short = length-write tables w catalog sound storable in
-    replaces tables 3 (json_of_write tables w) (write_text tables w) (data_of_write tables w) (w ∷ []) (replacing-back tables w (write-back tables w catalog sound storable)) (omega arith) (omega arith)
+    replaces tables 3 (json_of_write tables w) (write_text tables w) (data_of_write tables w) (action_of (w ∷ [])) (replacing-back tables w (write-back tables w catalog sound storable)) (omega arith) (omega arith)
 
 pub printed_actions_replace : PrintedActionsReplace
-printed_actions_replace tables ws catalog sound storable =
-    let text : List ℕ = object_text ((codes "do", action_text tables ws) ∷ []) in
-    let action = length-action tables ws catalog sound storable in
-    let short : length text ≤ 8000000 = simp length-append (omega (arith, length-append {A = ℕ})) in
-    replaces tables 5 (do_tree tables ws) text (do_data tables ws) ws (do-back tables ws (action-back tables ws catalog sound storable)) (omega arith) short
+printed_actions_replace tables action catalog sound storable =
+    let text : List ℕ = object_text (action_members tables action) in
+    let members = length-action tables action catalog sound storable in
+    let short = length-object (action_members tables action) 7000018 members in
+    replaces tables 5 (action_tree tables action) text (action_data tables action) action (action-back tables action (writes-back tables action.writes catalog sound storable)) (omega arith) (omega arith)
 
 -- ---- an opening
 

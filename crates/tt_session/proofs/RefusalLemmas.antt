@@ -160,7 +160,7 @@ error-of : (session : OpenSession) (worker : ℕ) (command : Command) (error : D
     → carried_out session worker command ≡ Err (refusals.Event error) → answers_lines error ≡ true
 error-of session worker (commands.Write action) error sound judged is =
     let db = session.database in
-    write-error (action_fault db.catalog action) _ _ _ _ _ _ error judged (refusal-is (refusal_in_session db (events.Write action)) (written session worker action) error is)
+    write-error (action_fault db.catalog action.writes) _ _ _ _ _ _ error judged (refusal-is (refusal_in_session db (events.Write action)) (written session worker action) error is)
 error-of session worker (commands.Begin told) error sound judged is =
     let db = session.database in
     let edits = map (own_edit session.numbering) told.edits in

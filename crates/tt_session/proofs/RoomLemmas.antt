@@ -2,7 +2,7 @@
 use Rattle.std.proofs.Common.{◌≡◌, ℕ, suc, ◌+◌, ◌-◌, ◌≤◌, true, ◌&&◌, nat_lt, nat_le, List, [], ◌∷◌, ◌++◌, length, length-append, fold, Option, None, Some, refl, sym, ap, ◌∙◌, arith}
 use Rattle.std.proofs.lemmas.Bool.Decides.{nat_tests}
 use Rattle.std.specs.Option.{option_or, unwrap_or}
-use Rattle.tt_values.specs.declared.statement.Write.{Write}
+use Rattle.tt_values.specs.declared.action.Action.{Action}
 use Rattle.tt_repair_laws.specs.declared.edit.Edit.{Edit}
 use Rattle.tt_generations.specs.TwoGenerations.{Phase, Idle, Repairing, is_repairing, left_of, phase_after_step, IsWithin}
 use Rattle.tt_db.specs.declared.limits.Limits.{Limits}
@@ -36,7 +36,7 @@ begin-test limit events slots = grind (arith, nat_tests)
 step-test : (limit events n slots : ℕ) → nat_le (limit - events - 1) (slots - n - 1) ≡ nat_lt limit (events + 1 + (slots - suc n) + 1)
 step-test limit events n slots = grind (arith, nat_tests)
 
-write-room : (limits : Limits) (S : State) (phase : Phase) (action : List Write) → IsWithin phase S.slots
+write-room : (limits : Limits) (S : State) (phase : Phase) (action : Action) → IsWithin phase S.slots
     → (is_repairing phase && nat_le (limits.events - S.events - 1 - 1) (left_of phase S.slots))
     ≡ (is_repairing phase && nat_lt limits.events (S.events + 1 + left_of phase (S.slots ++ Some action ∷ []) + 1))
 write-room limits S Idle action within = refl
@@ -50,7 +50,7 @@ step-room : (limits : Limits) (S : State) (phase : Phase)
 step-room limits S Idle = refl
 step-room limits S (Repairing edits n) = step-test limits.events S.events n (length S.slots)
 
-pub no_room-write : (db : Database) (action : List Write) → IsWithin (state_of db).phase (state_of db).slots
+pub no_room-write : (db : Database) (action : Action) → IsWithin (state_of db).phase (state_of db).slots
     → (is_repairing (state_of db).phase && nat_le (db.limits.events - length db.history - 1 - 1) (slots_left (state_of db)))
     ≡ has_no_room_to_end db.limits (next_state db.limits (state_of db) (events.Write action))
 no_room-write db action within =

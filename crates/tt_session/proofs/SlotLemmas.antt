@@ -5,7 +5,7 @@ use Rattle.std.specs.Prelude.{filter_map, option_map, option_and_then}
 use Rattle.std.specs.List.{range_with_len, cons_option}
 use Rattle.std.specs.Option.{option_to_list}
 use Rattle.tt_values.specs.declared.row_id.RowId.{RowId}
-use Rattle.tt_values.specs.declared.statement.Write.{Write}
+use Rattle.tt_values.specs.declared.action.Action.{Action}
 use Rattle.tt_values.specs.RowWrites.{Slots}
 use Rattle.tt_generations.specs.declared.slot.Slot.{Slot}
 use Rattle.tt_generations.specs.KeptSlots.{slot_at, slot_with_replies}
@@ -75,7 +75,7 @@ none_asked db number place is none =
     no_slot_entry number (slot_of db number) ∙ ap (λ a. option_and_then (λ s. option_map (slot_entry number s) a) (slot_of db number)) (sym asked)
 
 -- what is told of a slot
-pub entry_asked : (db : Database) (number p : ℕ) (place : Option ℕ) (e : Entry) (action : List Write) (slot : Slot) → place ≡ place_of db number → place ≡ Some p
+pub entry_asked : (db : Database) (number p : ℕ) (place : Option ℕ) (e : Entry) (action : Action) (slot : Slot) → place ≡ place_of db number → place ≡ Some p
     → nth_item db.history p ≡ Some e → action_of e.event ≡ Some action → slot_of db number ≡ Some slot
     → Some (slot_entry number slot (asked_for e.worker action)) ≡ entry_of_slot db number
 entry_asked db number p place e action slot is there entry asks slot_is =

@@ -3,4 +3,5 @@ mod Transcript
 mod Forgetting
 mod Faults
 mod Repairs
+mod Whole
 mod Room

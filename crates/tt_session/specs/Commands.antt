@@ -1,7 +1,7 @@
 -- What an open session answers to a request, and the session after it, or why the request is refused.
-use Rattle.std.specs.Prelude.{ℕ, ◌+◌, ◌==◌, Bool, true, false, List, Option, None, Some, Result, Ok, Err, if◌then◌else◌}
+use Rattle.std.specs.Prelude.{ℕ, ◌+◌, ◌==◌, Bool, true, false, Option, None, Some, Result, Ok, Err, if◌then◌else◌}
 use Rattle.tt_values.specs.declared.row_id.RowId.{RowId}
-use Rattle.tt_values.specs.declared.statement.Write.{Write}
+use Rattle.tt_values.specs.declared.action.Action.{Action}
 use Rattle.tt_values.specs.Action.{replies_of}
 use Rattle.tt_db.specs.declared.event.Event.TheVariants as events
 use Rattle.tt_db.specs.Database.{now_in, current_of_db}
@@ -27,7 +27,7 @@ use Rattle.tt_session.specs.SlotEntries.{slot_entries}
 use Rattle.tt_session.specs.ChangeEntries.{changes, next_changes}
 
 -- an action takes the next slot: its replies are told, and recorded
-abbrev pub written : OpenSession → ℕ → List Write → Answered
+abbrev pub written : OpenSession → ℕ → Action → Answered
 written session worker action =
     let db = session.database in
     let slot = now_in db + 1 in
@@ -38,7 +38,7 @@ written session worker action =
     }
 
 -- an action takes the next slot, unless it is refused
-abbrev pub write : OpenSession → ℕ → List Write → Result Answered Refusal
+abbrev pub write : OpenSession → ℕ → Action → Result Answered Refusal
 write session worker action = unless_refused (refusal_in_session session.database (events.Write action)) (written session worker action)
 
 -- the session stays as it is

@@ -1,6 +1,7 @@
 -- The lines of a log that is made anew: an opening that tells the ground, and a line for each slot of the database.
 use Rattle.std.specs.Prelude.{ℕ, Bool, true, false, List, [], ◌∷◌, ◌++◌, map, take, drop, unwrap_or}
-use Rattle.tt_values.specs.declared.statement.Write.{Write}
+use Rattle.tt_values.specs.declared.action.Action.{Action}
+use Rattle.tt_values.specs.Action as actions
 use Rattle.tt_values.specs.Tables.{Tables}
 use Rattle.tt_db.specs.declared.event.Entry.{Entry}
 use Rattle.tt_db.specs.Database.{Database}
@@ -13,8 +14,8 @@ use Rattle.tt_session.specs.Session.{terms_of}
 use Rattle.tt_session.specs.SlotEntries.{action_of}
 
 -- the action of an entry, which has no writes where the entry is no action
-abbrev pub action_in : Entry → List Write
-action_in e = unwrap_or (action_of e.event) []
+abbrev pub action_in : Entry → Action
+action_in e = unwrap_or (action_of e.event) (actions.action_of [])
 
 -- the line of a slot, of the ground or behind it
 abbrev pub line_of_entry : Bool → Tables → Entry → List ℕ

@@ -1,7 +1,7 @@
 -- What is printed into a log that is made anew is read from it as the same; and its opening is none for an input.
 use Rattle.std.specs.Prelude.{◌≡◌, ℕ, ◌^◌, ◌<◌, ◌≤◌, false, List, All, None, Result, Ok, IsErr}
 use Rattle.tt_numbers.specs.Numbers.{Numbering, IsNumbering}
-use Rattle.tt_values.specs.declared.statement.Write.{Write}
+use Rattle.tt_values.specs.declared.action.Action.{Action}
 use Rattle.tt_values.specs.Tables.{Tables, IsCatalog}
 use Rattle.tt_values.specs.Check.{action_fault}
 use Rattle.serde_json.specs.Data.{Data}
@@ -39,15 +39,15 @@ PrintedLogOpens = (version : SessionVersion) (tables : Tables) (keep records : �
 
 -- an action of the ground that can be carried out is read as the same
 abbrev pub PrintedGroundIsRead : Type 0
-PrintedGroundIsRead = (tables : Tables) (ws : List Write) → IsCatalog tables → action_fault tables ws ≡ None → All (λ w. All IsStorable (values_of_write w)) ws →
-    (ground_action_of tables (value_of_line (ground_line tables ws)) ≡ Ok ws) × IsTakenUp (ground_line tables ws)
+PrintedGroundIsRead = (tables : Tables) (action : Action) → IsCatalog tables → action_fault tables action.writes ≡ None → All (λ w. All IsStorable (values_of_write w)) action.writes →
+    (ground_action_of tables (value_of_line (ground_line tables action)) ≡ Ok action) × IsTakenUp (ground_line tables action)
 
 -- an action of a further slot that can be carried out is read, as of the newest version, as a request of the same worker
 abbrev pub PrintedSlotsAreRead : Type 0
-PrintedSlotsAreRead = (tables : Tables) (worker : ℕ) (ws : List Write) → IsCatalog tables → 1 ≤ worker → worker < 2 ^ 32
-    → action_fault tables ws ≡ None → All (λ w. All IsStorable (values_of_write w)) ws →
-    (request_of newest_version tables (value_of_line (slot_line tables worker ws)) ≡ Ok (record { worker = worker; expected = None; command = commands.Write ws }))
-    × IsTakenUp (slot_line tables worker ws)
+PrintedSlotsAreRead = (tables : Tables) (worker : ℕ) (action : Action) → IsCatalog tables → 1 ≤ worker → worker < 2 ^ 32
+    → action_fault tables action.writes ≡ None → All (λ w. All IsStorable (values_of_write w)) action.writes →
+    (request_of newest_version tables (value_of_line (slot_line tables worker action)) ≡ Ok (record { worker = worker; expected = None; command = commands.Write action }))
+    × IsTakenUp (slot_line tables worker action)
 
 -- what opens a session opens no log
 abbrev pub OpeningsHaveNoGround : Type 0

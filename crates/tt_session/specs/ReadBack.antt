@@ -2,6 +2,8 @@
 -- an opening.
 use Rattle.std.specs.Prelude.{◌≡◌, ℕ, ◌^◌, ◌<◌, ◌≤◌, List, [], ◌∷◌, All, None, Ok, codes}
 use Rattle.tt_values.specs.declared.statement.Write.{Write}
+use Rattle.tt_values.specs.declared.action.Action.{Action}
+use Rattle.tt_values.specs.Action.{action_of}
 use Rattle.tt_values.specs.Tables.{Tables, IsCatalog}
 use Rattle.tt_values.specs.Check.{write_fault, action_fault}
 use Rattle.tt_repair_laws.specs.declared.edit.Edit.TheVariants.{Replace}
@@ -10,7 +12,7 @@ use Rattle.tt_requests.specs.LineValue.{value_of_line}
 use Rattle.tt_requests.specs.Opening.{max_keep, max_records, opening_of}
 use Rattle.tt_requests.specs.Requests.{usual_worker, request_of}
 use Rattle.tt_grammar.specs.JsonText.{array_text, number_member, object_text}
-use Rattle.tt_grammar.specs.WriteText.{write_text, action_text}
+use Rattle.tt_grammar.specs.WriteText.{write_text, action_members}
 use Rattle.tt_answers.specs.AnswerText.{declared_members}
 use Rattle.tt_grammar.specs.declared.session_version.SessionVersion.{SessionVersion}
 use Rattle.tt_grammar.specs.Version.{newest_version}
@@ -25,18 +27,18 @@ abbrev pub replacing_line : ℕ → List ℕ → List ℕ
 replacing_line slot text = object_text ((codes "begin", array_text (replacing_text slot text ∷ [])) ∷ [])
 
 -- a text, put under `by`, replaces the action of any slot by this action, in a session of the newest version
-abbrev pub Replaces : Tables → List ℕ → List Write → Type 0
+abbrev pub Replaces : Tables → List ℕ → Action → Type 0
 Replaces tables text action = (slot : ℕ) → slot < 2 ^ 64 →
     request_of newest_version tables (value_of_line (replacing_line slot text)) ≡ Ok (record { worker = usual_worker; expected = None; command = commands.Begin (record { edits = Replace slot action ∷ [] }) })
 
 -- a write that can be carried out, as it is printed, replaces an action by this write
 abbrev pub PrintedWritesReplace : Type 0
-PrintedWritesReplace = (tables : Tables) (w : Write) → IsCatalog tables → write_fault tables w ≡ None → All IsStorable (values_of_write w) → Replaces tables (write_text tables w) (w ∷ [])
+PrintedWritesReplace = (tables : Tables) (w : Write) → IsCatalog tables → write_fault tables w ≡ None → All IsStorable (values_of_write w) → Replaces tables (write_text tables w) (action_of (w ∷ []))
 
--- an action that can be carried out, as it is printed, under `do` replaces an action by the same action
+-- an action that can be carried out, with the members that it is printed as, replaces an action by the same action
 abbrev pub PrintedActionsReplace : Type 0
-PrintedActionsReplace = (tables : Tables) (ws : List Write) → IsCatalog tables → action_fault tables ws ≡ None → All (λ w. All IsStorable (values_of_write w)) ws →
-    Replaces tables (object_text ((codes "do", action_text tables ws) ∷ [])) ws
+PrintedActionsReplace = (tables : Tables) (action : Action) → IsCatalog tables → action_fault tables action.writes ≡ None → All (λ w. All IsStorable (values_of_write w)) action.writes →
+    Replaces tables (object_text (action_members tables action)) action
 
 -- a line with the members that a question about the tables is answered by
 abbrev pub opening_line : SessionVersion → Tables → ℕ → ℕ → List ℕ

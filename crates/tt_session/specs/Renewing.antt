@@ -6,7 +6,7 @@ use Rattle.tt_log.specs.Device.{Left, LeavesOnly, ShowsFirst}
 use Rattle.tt_log.specs.Lines.{logged, joined, AreLines}
 use Rattle.tt_log.specs.Log.{IsSettled, IsMaking, Keeps, KeepsEither}
 use Rattle.tt_log.specs.declared.log.Log.{Log}
-use Rattle.tt_values.specs.declared.statement.Write.{Write}
+use Rattle.tt_values.specs.declared.action.Action.{Action}
 use Rattle.tt_db.specs.declared.event.Entry.{Entry}
 use Rattle.tt_grammar.specs.ReadBack.{IsStorable, values_of_write}
 use Rattle.tt_horizon.specs.Forgetting.{entry_of}
@@ -21,8 +21,8 @@ use Rattle.tt_session.specs.OnLog.{Telling}
 use Rattle.tt_session.specs.Restoring.{IsLogOf}
 
 -- each value of an action is one that is printed and read back
-abbrev pub IsStorableAction : List Write → Type 0
-IsStorableAction action = All (λ w. All IsStorable (values_of_write w)) action
+abbrev pub IsStorableAction : Action → Type 0
+IsStorableAction action = All (λ w. All IsStorable (values_of_write w)) action.writes
 
 -- an entry is an action that is printed and read back, of a worker that may ask for one unless it is the ground's
 pub record IsPrintable (is_ground : Bool) (e : Entry) : Type 0 where

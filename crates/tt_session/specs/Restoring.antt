@@ -1,7 +1,7 @@
 -- How a session is read back from the lines of a log: the ground is laid, if there is one, and each line behind it is answered, as of the newest version, and changes the database.
 use Rattle.std.specs.Prelude.{◌≡◌, ℕ, ◌+◌, ◌<◌, ◌&&◌, Bool, true, false, is_none, List, [], ◌∷◌, ◌++◌, length, Option, None, Some, option_and_then, Result, Ok, Err, IsErr, if◌then◌else◌}
 use Rattle.std.specs.List.{list_all}
-use Rattle.tt_values.specs.declared.statement.Write.{Write}
+use Rattle.tt_values.specs.declared.action.Action.{Action}
 use Rattle.tt_values.specs.Action.{replies_of}
 use Rattle.tt_db.specs.declared.event.Event.TheVariants as events
 use Rattle.tt_db.specs.Database.{Database, now_in, current_of_db}
@@ -30,13 +30,13 @@ use Rattle.tt_session.specs.Together.{kept_line}
 abbrev pub opened_on : LogOpening → OpenSession
 opened_on o = record (opened o.opening) { numbering = o.numbering }
 
--- whether an action can be the next one of the ground of a session: it has inserts alone, the session doesn't refuse it, and each of them inserts its row
-abbrev pub can_be_laid : Database → List Write → Bool
+-- whether an action can be the next one of the ground of a session: it has inserts alone and isn't whole, the session doesn't refuse it, and each of them inserts its row
+abbrev pub can_be_laid : Database → Action → Bool
 can_be_laid db action =
     inserts_alone action && (is_none (refusal_in_session db (events.Write action)) && list_all is_inserted (replies_of action (current_of_db db (now_in db))))
 
 -- the session with a further action of the ground, if it is one
-abbrev pub with_ground : OpenSession → Result (List Write) DocFault → Option OpenSession
+abbrev pub with_ground : OpenSession → Result Action DocFault → Option OpenSession
 with_ground session (Err fault) = None
 with_ground session (Ok action) =
     if can_be_laid session.database action then Some (with_database session (with_event session.database ground_worker (events.Write action))) else None

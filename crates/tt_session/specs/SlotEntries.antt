@@ -3,8 +3,8 @@ use Rattle.std.specs.Prelude.{ℕ, ◌+◌, ◌-◌, ◌==◌, ◌&&◌, not, Bo
 use Rattle.std.specs.List.{filter_map, range_with_len}
 use Rattle.tt_values.specs.declared.row.Row.{Row}
 use Rattle.tt_values.specs.declared.row_id.RowId.{RowId}
-use Rattle.tt_values.specs.declared.statement.Write.{Write}
-use Rattle.tt_values.specs.Same.{are_same_by, is_same_row, is_same_write}
+use Rattle.tt_values.specs.declared.action.Action.{Action}
+use Rattle.tt_values.specs.Same.{is_same_row, is_same_action}
 use Rattle.tt_generations.specs.declared.slot.Slot.{Slot}
 use Rattle.tt_db.specs.declared.event.Event.{Event}
 use Rattle.tt_db.specs.declared.event.Event.TheVariants as events
@@ -15,10 +15,10 @@ use Rattle.tt_answers.specs.declared.answer.SlotEntry.{SlotEntry}
 -- an action as it was asked for, and the worker that did
 pub record Asked : Type 0 where
   pub worker : ℕ
-  pub action : List Write
+  pub action : Action
 
 -- the action that an event asks for, if it does
-abbrev pub action_of : Event → Option (List Write)
+abbrev pub action_of : Event → Option Action
 action_of (events.Write action) = Some action
 action_of (events.Begin edits) = None
 action_of events.Step = None
@@ -26,7 +26,7 @@ action_of events.Switch = None
 action_of events.Abort = None
 
 -- an action as a worker asked for it
-abbrev pub asked_for : ℕ → List Write → Asked
+abbrev pub asked_for : ℕ → Action → Asked
 asked_for worker action = record { worker = worker; action = action }
 
 -- what a worker asks for by an event, if it is an action
@@ -38,9 +38,9 @@ abbrev pub asked_in : List Entry → List Asked
 asked_in history = filter_map (λ e. asked_by e.worker e.event) history
 
 -- an action that was asked for, where its slot has another one now, or none
-abbrev pub if_replaced : List Write → Option (List Write) → Option (List Write)
+abbrev pub if_replaced : Action → Option Action → Option Action
 if_replaced asked None = Some asked
-if_replaced asked (Some action) = if are_same_by is_same_write asked action then None else Some asked
+if_replaced asked (Some action) = if is_same_action asked action then None else Some asked
 
 -- a slot by its number, with what was asked for
 abbrev pub slot_entry : ℕ → Slot → Asked → SlotEntry

@@ -58,13 +58,13 @@ pub fn next_changes_end_as_changes()
 {}
 
 /// A write that can be carried out, put under `by` as it is printed, replaces the action of a slot
-/// by this write.
+/// by this write alone.
 pub fn printed_writes_replace()
     ensures { PrintedWritesReplace }
 {}
 
-/// An action that can be carried out, put under `do` and `by` as it is printed, replaces the action
-/// of a slot by the same action.
+/// An action that can be carried out, put under `by` with the members that it is printed as,
+/// replaces the action of a slot by the same action, which is whole where that one is.
 pub fn printed_actions_replace()
     ensures { PrintedActionsReplace }
 {}

@@ -216,15 +216,15 @@ fn print_slot(
         // A database that has just forgotten has actions alone.
         return Err(AllocError);
     };
-    read_action(action.as_slice());
+    read_action(action);
     if is_ground {
-        return push_ground_line(text, catalog, action.as_slice());
+        return push_ground_line(text, catalog, action);
     }
     if worker == 0 {
         // Behind the ground no slot is one of it.
         return Err(AllocError);
     }
-    push_slot_line(text, catalog, worker, action.as_slice())
+    push_slot_line(text, catalog, worker, action)
 }
 
 /// Adds a line, and writes those that are pending once they are many bytes.

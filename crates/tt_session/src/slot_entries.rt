@@ -11,23 +11,20 @@ use crate::response::Response;
 use std::alloc::{AllocError, Global};
 use tt_answers::{Answer, SlotEntry};
 use tt_db::{Db, Entry, Event};
-use tt_values::{Items, Row, RowId, Same, Write, are_same};
+use tt_values::{Action, Items, Row, RowId, Same};
 
 /// An action that was asked for, where its slot has another one now, or none.
-fn if_replaced(
-    asked: &Items<Write>,
-    action: &Option<Items<Write>>,
-) -> Result<Option<Items<Write>>, AllocError>
+fn if_replaced(asked: &Action, action: &Option<Action>) -> Result<Option<Action>, AllocError>
     ensures { IfOk result (λ replaced. replaced ≡ if_replaced asked.now action.now) }
 {
     match action {
-        Some(action) if are_same(asked.as_slice(), action.as_slice()) => Ok(None),
-        _ => Ok(Some(asked.clone()?)),
+        Some(action) if asked.is_same(action) => Ok(None),
+        _ => Ok(Some(asked.copy()?)),
     }
 }
 
 /// The action that an entry asks for, if it does.
-fn action_of(entry: &Entry) -> Option<&Items<Write>>
+fn action_of(entry: &Entry) -> Option<&Action>
     ensures { option_copied result ≡ action_of entry.now.event }
 {
     match &entry.event {

@@ -5,13 +5,13 @@ ghost use Rattle.std.specs.Prelude.{All};
 ghost use Rattle.tt_grammar.specs.ReadBack.{IsStorable, value_of_change, values_of_write};
 ghost use Rattle.tt_session.specs.Renewing.{IsStorableAction};
 
-use tt_values::{Change, Equal, Value, Write};
+use tt_values::{Action, Change, Equal, Value, Write};
 
 /// An action.
-pub(crate) fn read_action(action: &[Write])
+pub(crate) fn read_action(action: &Action)
     ensures { IsStorableAction action.now }
 {
-    for write in action {
+    for write in action.writes.as_slice() {
         read_write(write);
     }
 }

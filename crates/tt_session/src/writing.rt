@@ -12,7 +12,7 @@ use std::alloc::AllocError;
 use tt_answers::Answer;
 use tt_db::{Event, Outcome};
 use tt_records::{Record, What};
-use tt_values::{Items, Reply, Write};
+use tt_values::{Action, Items, Reply};
 
 /// The answer to an action of a worker that took a slot, and its record.
 fn written(call: u64, worker: u32, slot: u64, replies: Items<Reply>) -> Result<Response, AllocError>
@@ -40,7 +40,7 @@ fn written(call: u64, worker: u32, slot: u64, replies: Items<Reply>) -> Result<R
 pub(crate) fn write(
     session: &mut OpenSession,
     worker: u32,
-    action: Items<Write>,
+    action: Action,
 ) -> Result<Response, Failure>
     ensures becomes { Becomes session.new result (write session.old worker action) }
     ensures stays { IfErr result (λ f. f ≢ Failure.Memory → session.new ≡ session.old) }

@@ -19,6 +19,7 @@ use Rattle.tt_values.specs.contracts.row.Row as row_type
 use Rattle.tt_values.specs.contracts.statement.Change as change_type
 use Rattle.tt_values.specs.contracts.statement.Equal as equal_type
 use Rattle.tt_values.specs.contracts.statement.Write as write_type
+use Rattle.tt_values.specs.contracts.action.Action as action_type
 use Rattle.tt_values.specs.contracts.reply.Reply as reply_type
 use Rattle.tt_values.specs.contracts.table.Column as column_type
 use Rattle.tt_values.specs.contracts.table.TableDef as table_def_type
@@ -205,6 +206,18 @@ write_send = search (items_send, items_sync, row_send, row_sync, change_send, ch
 pub write_sync : IsSync write_type.the_row
 write_sync = search (items_send, items_sync, row_send, row_sync, change_send, change_sync, equal_send, equal_sync, crosses, sendable) depth 60 fits 50000
 
+pub action_send : IsSend action_type.the_row
+action_send = search (items_send, items_sync, write_send, write_sync, crosses, sendable) depth 60 fits 50000
+
+pub action_sync : IsSync action_type.the_row
+action_sync = search (items_send, items_sync, write_send, write_sync, crosses, sendable) depth 60 fits 50000
+
+pub action_field_send : IsSend (action_type.the_field).row
+action_field_send = search (items_send, items_sync, write_send, write_sync, crosses, sendable) depth 60 fits 50000
+
+pub action_field_sync : IsSync (action_type.the_field).row
+action_field_sync = search (items_send, items_sync, write_send, write_sync, crosses, sendable) depth 60 fits 50000
+
 pub reply_send : IsSend reply_type.the_row
 reply_send = search (items_send, items_sync, row_send, row_sync, crosses, sendable) depth 60 fits 50000
 
@@ -320,16 +333,16 @@ pub dirty_sync : IsSync dirty_type.the_row
 dirty_sync = search (shared_send, shared_sync, catalog_send, catalog_sync, dirty_rows_send, dirty_rows_sync, dirty_partitions_send, dirty_partitions_sync, crosses, sendable) depth 60 fits 50000
 
 pub edit_send : IsSend edit_type.the_row
-edit_send = search (items_send, items_sync, write_send, write_sync, crosses, sendable) depth 60 fits 50000
+edit_send = search (action_field_send, action_field_sync, crosses, sendable) depth 60 fits 50000
 
 pub edit_sync : IsSync edit_type.the_row
-edit_sync = search (items_send, items_sync, write_send, write_sync, crosses, sendable) depth 60 fits 50000
+edit_sync = search (action_field_send, action_field_sync, crosses, sendable) depth 60 fits 50000
 
 pub edit_field_send : IsSend (edit_type.the_field).row
-edit_field_send = search (items_send, items_sync, write_send, write_sync, crosses, sendable) depth 60 fits 50000
+edit_field_send = search (action_field_send, action_field_sync, crosses, sendable) depth 60 fits 50000
 
 pub edit_field_sync : IsSync (edit_type.the_field).row
-edit_field_sync = search (items_send, items_sync, write_send, write_sync, crosses, sendable) depth 60 fits 50000
+edit_field_sync = search (action_field_send, action_field_sync, crosses, sendable) depth 60 fits 50000
 
 pub row_id_send : IsSend row_id_type.the_row
 row_id_send = search (crosses, sendable) depth 60 fits 50000
@@ -338,16 +351,16 @@ pub row_id_sync : IsSync row_id_type.the_row
 row_id_sync = search (crosses, sendable) depth 60 fits 50000
 
 pub slot_send : IsSend slot_type.the_row
-slot_send = search (items_send, items_sync, write_send, write_sync, reply_send, reply_sync, crosses, sendable) depth 60 fits 50000
+slot_send = search (items_send, items_sync, action_send, action_sync, reply_send, reply_sync, crosses, sendable) depth 60 fits 50000
 
 pub slot_sync : IsSync slot_type.the_row
-slot_sync = search (items_send, items_sync, write_send, write_sync, reply_send, reply_sync, crosses, sendable) depth 60 fits 50000
+slot_sync = search (items_send, items_sync, action_send, action_sync, reply_send, reply_sync, crosses, sendable) depth 60 fits 50000
 
 pub slot_field_send : IsSend (slot_type.the_field).row
-slot_field_send = search (items_send, items_sync, write_send, write_sync, reply_send, reply_sync, crosses, sendable) depth 60 fits 50000
+slot_field_send = search (items_send, items_sync, action_send, action_sync, reply_send, reply_sync, crosses, sendable) depth 60 fits 50000
 
 pub slot_field_sync : IsSync (slot_type.the_field).row
-slot_field_sync = search (items_send, items_sync, write_send, write_sync, reply_send, reply_sync, crosses, sendable) depth 60 fits 50000
+slot_field_sync = search (items_send, items_sync, action_send, action_sync, reply_send, reply_sync, crosses, sendable) depth 60 fits 50000
 
 pub row_ids_send : IsSend row_ids_type.the_row
 row_ids_send = search (items_send, items_sync, row_id_send, row_id_sync, crosses, sendable) depth 60 fits 50000
@@ -362,10 +375,10 @@ pub kept_slot_sync : IsSync kept_slot_type.the_row
 kept_slot_sync = search (slot_field_send, slot_field_sync, row_ids_send, row_ids_sync, crosses, sendable) depth 60 fits 50000
 
 pub replacement_send : IsSend replacement_type.the_row
-replacement_send = search (items_send, items_sync, write_send, write_sync, crosses, sendable) depth 60 fits 50000
+replacement_send = search (action_send, action_sync, crosses, sendable) depth 60 fits 50000
 
 pub replacement_sync : IsSync replacement_type.the_row
-replacement_sync = search (items_send, items_sync, write_send, write_sync, crosses, sendable) depth 60 fits 50000
+replacement_sync = search (action_send, action_sync, crosses, sendable) depth 60 fits 50000
 
 pub repair_send : IsSend repair_type.the_row
 repair_send = search (items_send, items_sync, edit_send, edit_sync, map_send, map_sync, replacement_send, replacement_sync, dirty_send, dirty_sync, log_send, log_sync, kept_slot_send, kept_slot_sync, crosses, sendable) depth 60 fits 50000
@@ -404,16 +417,16 @@ pub generations_sync : IsSync generations_type.the_row
 generations_sync = search (state_field_send, state_field_sync, crosses, sendable) depth 60 fits 50000
 
 pub event_send : IsSend event_type.the_row
-event_send = search (items_send, items_sync, write_send, write_sync, edit_send, edit_sync, crosses, sendable) depth 60 fits 50000
+event_send = search (items_send, items_sync, action_field_send, action_field_sync, edit_send, edit_sync, crosses, sendable) depth 60 fits 50000
 
 pub event_sync : IsSync event_type.the_row
-event_sync = search (items_send, items_sync, write_send, write_sync, edit_send, edit_sync, crosses, sendable) depth 60 fits 50000
+event_sync = search (items_send, items_sync, action_field_send, action_field_sync, edit_send, edit_sync, crosses, sendable) depth 60 fits 50000
 
 pub event_field_send : IsSend (event_type.the_field).row
-event_field_send = search (items_send, items_sync, write_send, write_sync, edit_send, edit_sync, crosses, sendable) depth 60 fits 50000
+event_field_send = search (items_send, items_sync, action_field_send, action_field_sync, edit_send, edit_sync, crosses, sendable) depth 60 fits 50000
 
 pub event_field_sync : IsSync (event_type.the_field).row
-event_field_sync = search (items_send, items_sync, write_send, write_sync, edit_send, edit_sync, crosses, sendable) depth 60 fits 50000
+event_field_sync = search (items_send, items_sync, action_field_send, action_field_sync, edit_send, edit_sync, crosses, sendable) depth 60 fits 50000
 
 pub entry_send : IsSend entry_type.the_row
 entry_send = search (event_field_send, event_field_sync, crosses, sendable) depth 60 fits 50000

@@ -1,7 +1,7 @@
 -- What the calls of a store do, of what they publish.
 use Rattle.std.proofs.Common.{◌≡◌, ℕ, zero, suc, ◌+◌, true, List, [], ◌∷◌, ◌++◌, length, Option, None, Some, IsSome, refl, sym, ap, subst, ◌∙◌, length-append}
 use Rattle.std.specs.Option.{option_or}
-use Rattle.tt_values.specs.declared.statement.Write.{Write}
+use Rattle.tt_values.specs.declared.action.Action.{Action}
 use Rattle.tt_values.specs.Tables.{Tables}
 use Rattle.tt_values.specs.RowWrites.{Slots, content_of}
 use Rattle.tt_generations.specs.TwoGenerations.{Phase, Idle, Repairing, slots_edited_by, is_repairing, phase_after_step, progress_in}
@@ -41,14 +41,14 @@ publishes_one tables limits event old new o place is at = record {
     here : place ≡ length is.front + 1
     here = at ∙ ap length is.seen ∙ length-append is.front (record { worker = old.number; event = event } ∷ [])
 
-pub outcome_of_action : (tables : Tables) (limits : Limits) (action : List Write) (old new : WorkerState) (o : Option Outcome)
+pub outcome_of_action : (tables : Tables) (limits : Limits) (action : Action) (old new : WorkerState) (o : Option Outcome)
     → Publishes tables limits (calls.One (events.Write action)) old new o → IsOfAction o
 outcome_of_action tables limits action old new o is = subst IsOfAction (sym is.outcome_is) tt
 
 some_is : {X : Type 0} (x y : X) → ◌≡◌ {A = Option X} (Some x) (Some y) → x ≡ y
 some_is x y h = cc h
 
-pub wrote : (tables : Tables) (limits : Limits) (action : List Write) (old new : WorkerState) (o : Option Outcome) (w : Written)
+pub wrote : (tables : Tables) (limits : Limits) (action : Action) (old new : WorkerState) (o : Option Outcome) (w : Written)
     → Publishes tables limits (calls.One (events.Write action)) old new o → o ≡ Some (outcomes.Written w.slot w.replies) → w.place ≡ length new.seen → Wrote tables limits action old new w
 wrote tables limits action old new o w is outcome_is at = record {
   front = is.front;

@@ -1,7 +1,7 @@
 -- What the calls of a store do, in a worker's own terms.
 use Rattle.std.specs.Prelude.{◌≡◌, ℕ, ◌+◌, List, [], ◌∷◌, ◌++◌, length, Option, None, Some}
 use mathlib.Core.List.{IsPrefix}
-use Rattle.tt_values.specs.declared.statement.Write.{Write}
+use Rattle.tt_values.specs.declared.action.Action.{Action}
 use Rattle.tt_values.specs.Tables.{Tables}
 use Rattle.tt_generations.specs.declared.progress.Progress.{Progress}
 use Rattle.tt_generations.specs.TwoGenerations.{slots_edited_by}
@@ -33,7 +33,7 @@ pub record PublishesOne (tables : Tables) (limits : Limits) (event : Event) (old
   pub entries : own_entries new ≡ own_entries old ++ record { worker = old.number; event = event } ∷ []
 
 -- an action was carried out: this is its slot, and these are its replies, at the front
-pub record Wrote (tables : Tables) (limits : Limits) (action : List Write) (old new : WorkerState) (w : Written) : Type 0 where
+pub record Wrote (tables : Tables) (limits : Limits) (action : Action) (old new : WorkerState) (w : Written) : Type 0 where
   pub front : List Entry
   pub published : PublishesOne tables limits (events.Write action) old new front w.place
   pub outcome : outcome_of tables (after limits front) (events.Write action) ≡ outcomes.Written w.slot w.replies

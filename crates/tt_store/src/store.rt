@@ -15,7 +15,7 @@ use crate::worker::Worker;
 use std::alloc::{AllocError, Global};
 use std::sync::{Mutex, Wait};
 use tt_db::{Edit, Event, Outcome, Progress};
-use tt_values::{Items, Write};
+use tt_values::{Action, Items};
 
 /// How often a call that publishes builds its state without the lock, before it does so under it.
 const TRIES: u32 = 4;
@@ -64,14 +64,14 @@ impl<L: Naming, G: Gate + Drop, R: Wait + Drop> Store<L, G, R> {
         (alloc, core.into_inner(), gate)
     }
 
-    /// Carries out an action, as one slot: all of its writes in order. Returns the place of its
-    /// entry, its slot and the replies to its writes.
+    /// Carries out an action, as one slot: its writes in order. Returns the place of its entry, its
+    /// slot and the replies to its writes, of a whole action up to the first without an effect.
     #[tactic(auto, using(crate::proofs::PublicLemmas::wrote, crate::proofs::PublicLemmas::outcome_of_action))]
     pub fn write(
         &self,
         rt: &impl Wait,
         worker: &mut Worker<L>,
-        action: Items<Write>,
+        action: Action,
     ) -> Result<Written, StoreError>
         ensures wrote { IfOk result (λ w.
             Wrote L.tables L.limits action worker.old worker.new w) }

@@ -1,7 +1,9 @@
 //! The table of accounts, and the statements on it.
 use crate::error::BenchError;
 use std::alloc::{AllocError, Global};
-use tt_values::{Catalog, Change, Column, Equal, Items, Select, TableDef, Text, Value, Write};
+use tt_values::{
+    Action, Catalog, Change, Column, Equal, Items, Select, TableDef, Text, Value, Write,
+};
 
 /// The position of the table `account`.
 const ACCOUNT: u16 = 0;
@@ -27,21 +29,26 @@ fn columns(alloc: Global) -> Result<TableDef, AllocError> {
 }
 
 /// Opens an account; each owner has ten of them.
-pub(crate) fn open_account(alloc: Global, id: u32) -> Result<Items<Write>, AllocError> {
+pub(crate) fn open_account(alloc: Global, id: u32) -> Result<Action, AllocError> {
     let owner = format!(in alloc; "owner{}", id / 10)?;
     let owner = Value::Text(Text::new(alloc, owner)?);
     let values = [Value::Int(i64::from(id)), owner, Value::Int(0)];
-    Items::of(alloc, [Write::insert(alloc, ACCOUNT, values)?])
+    action(alloc, Write::insert(alloc, ACCOUNT, values)?)
 }
 
 /// Books a payment of 1 to an account.
-pub(crate) fn pay(alloc: Global, id: u32) -> Result<Items<Write>, AllocError> {
+pub(crate) fn pay(alloc: Global, id: u32) -> Result<Action, AllocError> {
     let change = Change::Add {
         column: BALANCE,
         by: 1,
     };
     let update = Write::update(alloc, ACCOUNT, [change], [is_account(id)])?;
-    Items::of(alloc, [update])
+    action(alloc, update)
+}
+
+/// An action of one write.
+fn action(alloc: Global, write: Write) -> Result<Action, AllocError> {
+    Ok(Action::of(Items::of(alloc, [write])?))
 }
 
 /// Selects one account.

@@ -31,7 +31,7 @@ use std::sync::{Arc, Wait};
 use tt_db::{Edit, Limits};
 use tt_store::{Naming, NoGate, OpenError, Opened, Store, Worker};
 use tt_values::{
-    Catalog, Change, Column, Equal, Items, Reply, Row, Select, TableDef, Value, Write,
+    Action, Catalog, Change, Column, Equal, Items, Reply, Row, Select, TableDef, Value, Write,
 };
 use whole_repairs::repairs_at_once;
 use writes::writes_five;
@@ -168,21 +168,26 @@ fn row(rt: &impl Abort, alloc: Global, account: Account) -> Row {
     Row::of(alloc, values).expect(rt, "memory")
 }
 
-fn insert(rt: &impl Abort, alloc: Global, account: Account) -> Items<Write> {
-    let row = row(rt, alloc, account);
-    items(rt, alloc, [Write::Insert { table: 0, row }])
+/// An action of one write.
+fn action(rt: &impl Abort, alloc: Global, write: Write) -> Action {
+    Action::of(items(rt, alloc, [write]))
 }
 
-fn delete(rt: &impl Abort, alloc: Global, owner: &str) -> Items<Write> {
+fn insert(rt: &impl Abort, alloc: Global, account: Account) -> Action {
+    let row = row(rt, alloc, account);
+    action(rt, alloc, Write::Insert { table: 0, row })
+}
+
+fn delete(rt: &impl Abort, alloc: Global, owner: &str) -> Action {
     let equal = Equal::text(alloc, 1, owner).expect(rt, "memory");
     let delete = Write::delete(alloc, 0, [equal]).expect(rt, "memory");
-    items(rt, alloc, [delete])
+    action(rt, alloc, delete)
 }
 
-fn add_to_all(rt: &impl Abort, alloc: Global, by: i64) -> Items<Write> {
+fn add_to_all(rt: &impl Abort, alloc: Global, by: i64) -> Action {
     let add = Change::Add { column: 2, by };
     let update = Write::update(alloc, 0, [add], []).expect(rt, "memory");
-    items(rt, alloc, [update])
+    action(rt, alloc, update)
 }
 
 fn all(rt: &impl Abort, alloc: Global) -> Select {
@@ -199,7 +204,7 @@ fn rows(rt: &impl Abort, alloc: Global, accounts: &[Account]) -> Reply {
 }
 
 /// Three inserts, a delete of two rows, and an update of the row that is left.
-fn five_actions(rt: &impl Abort, alloc: Global) -> [Items<Write>; 5] {
+fn five_actions(rt: &impl Abort, alloc: Global) -> [Action; 5] {
     [
         insert(rt, alloc, (1, "ann", 5)),
         insert(rt, alloc, (2, "ann", 6)),

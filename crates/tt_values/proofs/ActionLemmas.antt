@@ -1,319 +1,209 @@
--- The laws of actions: the contents that they leave, and the rows that they write.
-use Rattle.std.proofs.Common.{◌≡◌, ℕ, Bool, true, false, cond, ◌&&◌, ◌||◌, ◌==◌, ℤ, List, [], ◌∷◌, ◌++◌, map, filter, fold, IsTrue, T, Option, None, Some, is_some, if◌then◌else◌, refl, sym, ap, subst, ◌∙◌, append-nil, append_assoc}
-use Rattle.std.specs.Bool.{⊤}
-use Rattle.std.specs.List.{list_any}
-use Rattle.std.specs.declared.cmp.Ordering.{Ordering}
-use Rattle.std.specs.declared.cmp.Ordering.TheVariants.{Less, Equal, Greater}
-use Rattle.std.specs.Ordering.{nat_cmp, int_cmp, int_eq, ordering_then, is_eq, is_lt, eq_by_cmp}
-use Rattle.std.specs.Cmp.{IsTotalOrder, both_tied, unsigned_ties, Equal-is}
-use Rattle.std.specs.FinMap.{nat_cmp-IsAntisymmetric, int_cmp-IsAntisymmetric}
-use Rattle.std.specs.FinMap.Entries as sorted
-use Rattle.std.proofs.lemmas.Cmp.{then_total, on_total, nat_cmp_total, int_cmp_total, tied_itself}
-use Rattle.std.proofs.lemmas.Bool.{or_parts, and_parts}
-use Rattle.std.proofs.lemmas.List.Folds.{list_any-append}
-use Rattle.tt_values.specs.declared.row.Row.{Row}
+-- The laws of actions, by those of their writes that are carried out and that stay.
+use Rattle.std.proofs.Common.{◌≡◌, Bool, true, false, cond, not, ◌&&◌, ◌||◌, ◌==◌, ℤ, Option, List, [], ◌∷◌, ◌++◌, map, length, refl, sym, ap, ◌∙◌, arith, true≢false}
+use Rattle.std.proofs.lemmas.Bool.{or_parts, and_parts, or_left, eqb-true}
 use Rattle.tt_values.specs.declared.statement.Write.{Write}
-use Rattle.tt_values.specs.declared.statement.Write.TheVariants.{Insert, Update, Delete}
-use Rattle.tt_values.specs.Row.{key_of}
-use Rattle.tt_values.specs.Matches.{matches}
-use Rattle.tt_values.specs.Change.{changed}
-use Rattle.tt_values.specs.Content.{RowsByKey, Content, RowWrite, row_at, with_row_at, with_row_write}
-use Rattle.tt_values.specs.Effect.{table_of, effect, effect_on, matching_rows, reply_of}
+use Rattle.tt_values.specs.declared.action.Action.{Action}
+use Rattle.tt_values.specs.declared.row.Row.{Row}
 use Rattle.tt_values.specs.declared.row_id.RowId.{RowId}
-use Rattle.tt_values.specs.Action.{content_after_write, content_after_action, rows_of_write, rows_of_action, is_among, row_id_cmp, with_row_once, each_row_once, effect_of_action, action_writes}
-use Rattle.tt_values.specs.ActionLaws.{ActionLeavesItsLastContent, ActionOfOneWrite, ActionWritesEachRowOnce, ActionsFollow}
-use Rattle.tt_values.proofs.ContentLemmas.{one_key_changes, row_write_changes_one_row, is_sorted-with_row_at, is_sorted-fold, true_from_T}
+use Rattle.tt_values.specs.Content.{Content, row_at}
+use Rattle.tt_values.specs.Effect.{table_of, effect}
+use Rattle.tt_values.specs.Action.{action_of, whole_of, with_rows_at, content_after_write, content_after_writes, replies_of_writes, rows_of_writes, effect_of_writes, is_among, has_no_effect, one_has_no_effect, up_to_no_effect, each_row_once, effect_at_time, tried, is_undone, kept, content_after_action, replies_of, rows_touched}
+use Rattle.tt_values.specs.ActionLaws.{ActionLeavesItsLastContent, ActionOfOneWrite, DoTheSame, FewWritesAreWhole, IdleWritesChangeNothing, EffectiveWritesAreWhole, UndoneActionsChangeNothing, AllWritesAreTried, UndoneActionsStop, ActionWritesEachRowOnce, WrittenRowsAreTouched, ActionsFollow, UndoneActionsStayUndone}
+use Rattle.tt_values.proofs.WritesLemmas.{writes_leave_their_last_content, row_writes_of_one_write, writes_write_each_row_once, writes_follow}
 
--- the order of rows
-
-abbrev id : ℕ → ℤ → RowId
-id table key = record { table = table; key = key }
-
-row_id_cmp_total : IsTotalOrder row_id_cmp
-row_id_cmp_total = then_total (on_total (λ (r : RowId). r.table) nat_cmp_total) (on_total (λ (r : RowId). r.key) int_cmp_total)
-
--- rows that the order doesn't tell apart are the same
-one_row : (r s : RowId) → row_id_cmp r s ≡ Equal → r ≡ s
-one_row r s e = by (nat_cmp r.table s.table) refl e
-  where
-    by : (o : Ordering) → nat_cmp r.table s.table ≡ o → ordering_then o (int_cmp r.key s.key) ≡ Equal → r ≡ s
-    by Less p h = cc
-    by Equal p h = λ i. record { table = nat_cmp-IsAntisymmetric r.table s.table p i; key = int_cmp-IsAntisymmetric r.key s.key h i }
-    by Greater p h = cc
-
-is_row : (r s : RowId) → ((r.table == s.table) && int_eq r.key s.key) ≡ eq_by_cmp row_id_cmp r s
-is_row r s = both_tied _ _ _ _ (unsigned_ties r.table s.table) refl
-
-same_row : (r s : RowId) → ((r.table == s.table) && int_eq r.key s.key) ≡ true → r ≡ s
-same_row r s h = one_row r s ((Equal-is (row_id_cmp r s)).0 (sym (is_row r s) ∙ h))
-
-is_among-order : (r : RowId) (rs : List RowId) → is_among r rs ≡ list_any (eq_by_cmp row_id_cmp r) rs
-is_among-order r [] = refl
-is_among-order r (s ∷ rs) = λ i. is_row r s i || is_among-order r rs i
-
--- each row of a list once
-
-abbrev Entries : Type 0
-Entries = List (RowId × ⊤)
-
-abbrev with_all : Entries → List RowId → Entries
-with_all es rs = fold with_row_once es rs
-
-shadowed : {A : Type 0} (a b : Bool) (x y : A) → cond a x (cond b x y) ≡ cond (b || a) x y
-shadowed true true x y = refl
-shadowed true false x y = refl
-shadowed false true x y = refl
-shadowed false false x y = refl
-
-find-with_all : (rs : List RowId) (es : Entries) (q : RowId) → sorted.find row_id_cmp q (with_all es rs) ≡ cond (list_any (eq_by_cmp row_id_cmp q) rs) (Some tt) (sorted.find row_id_cmp q es)
-find-with_all [] es q = refl
-find-with_all (r ∷ rs) es q =
-    find-with_all rs (sorted.put row_id_cmp r tt es) q
-    ∙ ap (cond (list_any (eq_by_cmp row_id_cmp q) rs) (Some tt)) (sorted.find-put row_id_cmp row_id_cmp_total q r tt es)
-    ∙ shadowed (list_any (eq_by_cmp row_id_cmp q) rs) (eq_by_cmp row_id_cmp q r) (Some tt) (sorted.find row_id_cmp q es)
-
-is_sorted-with_all : (rs : List RowId) (es : Entries) → T (sorted.is_sorted row_id_cmp es) → T (sorted.is_sorted row_id_cmp (with_all es rs))
-is_sorted-with_all [] es h = h
-is_sorted-with_all (r ∷ rs) es h = is_sorted-with_all rs (sorted.put row_id_cmp r tt es) (sorted.is_sorted-put row_id_cmp row_id_cmp_total r tt es h)
-
-is_some-cond : (b : Bool) → is_some {T = ⊤} (cond b (Some tt) None) ≡ b
-is_some-cond true = refl
-is_some-cond false = refl
-
--- a row is in the list with each row once exactly if it is in the list
-is_among-each_row_once : (r : RowId) (rs : List RowId) → is_among r (each_row_once rs) ≡ is_among r rs
-is_among-each_row_once r rs =
-    is_among-order r (each_row_once rs)
-    ∙ sym (sorted.is_some-find row_id_cmp r (with_all [] rs))
-    ∙ ap is_some (find-with_all rs [] r)
-    ∙ is_some-cond (list_any (eq_by_cmp row_id_cmp r) rs)
-    ∙ sym (is_among-order r rs)
-
--- images of entries whose keys stand in the same order
-
-below-image : {K J X Y : Type 0} (R : K → K → Ordering) (S : J → J → Ordering) (f : K × X → J × Y) → ((d e : K × X) → S (f d).0 (f e).0 ≡ R d.0 e.0) → (d : K × X) (es : List (K × X)) → sorted.below_all S (f d).0 (map f es) ≡ sorted.below_all R d.0 es
-below-image R S f same d [] = refl
-below-image R S f same d (e ∷ es) = λ i. is_lt (same d e i) && below-image R S f same d es i
-
-is_sorted-image : {K J X Y : Type 0} (R : K → K → Ordering) (S : J → J → Ordering) (f : K × X → J × Y) → ((d e : K × X) → S (f d).0 (f e).0 ≡ R d.0 e.0) → (es : List (K × X)) → sorted.is_sorted S (map f es) ≡ sorted.is_sorted R es
-is_sorted-image R S f same [] = refl
-is_sorted-image R S f same (e ∷ es) = λ i. below-image R S f same e es i && is_sorted-image R S f same es i
-
-map-map : {A B C : Type 0} (g : B → C) (f : A → B) (xs : List A) → map g (map f xs) ≡ map (λ x. g (f x)) xs
-map-map g f [] = refl
-map-map g f (x ∷ xs) = ap (λ ys. g (f x) ∷ ys) (map-map g f xs)
-
-map-same : {A : Type 0} (f : A → A) → ((x : A) → f x ≡ x) → (xs : List A) → map f xs ≡ xs
-map-same f same [] = refl
-map-same f same (x ∷ xs) = λ i. same x i ∷ map-same f same xs i
-
-is_sorted-effect_of_action : (ws : List Write) (X : Content) → IsTrue (sorted.is_sorted row_id_cmp (effect_of_action ws X))
-is_sorted-effect_of_action ws X =
-    let rs = rows_of_action ws X in
-    let row = λ (r : RowId). row_at (content_after_action ws X r.table) r.key in
-    ap (sorted.is_sorted row_id_cmp) (map-map (λ r. (r, row r)) (λ (e : RowId × ⊤). e.0) (with_all [] rs))
-    ∙ is_sorted-image row_id_cmp row_id_cmp (λ e. (e.0, row e.0)) (λ d e. refl) (with_all [] rs)
-    ∙ true_from_T _ (is_sorted-with_all rs [] tt)
-
-pub action_writes_each_row_once : ActionWritesEachRowOnce
-action_writes_each_row_once ws X =
-    let rs = rows_of_action ws X in
-    let row = λ (r : RowId). row_at (content_after_action ws X r.table) r.key in
-    let rows : map (λ e. e.0) (effect_of_action ws X) ≡ each_row_once rs = map-map (λ (e : RowId × Option Row). e.0) (λ r. (r, row r)) (each_row_once rs) ∙ map-same (λ r. r) (λ r. refl) (each_row_once rs) in
-    (is_sorted-effect_of_action ws X, λ r. ap (is_among r) rows ∙ is_among-each_row_once r rs)
-
--- the content after an action
-
--- the rows of one table, after those of some keys are set, or removed
-abbrev after_all : RowsByKey → List (ℤ × Option Row) → RowsByKey
-after_all rows es = fold (λ rows e. with_row_at rows e.0 e.1) rows es
-
-is_sorted-after_all : (es : List (ℤ × Option Row)) (rows : RowsByKey) → T (sorted.is_sorted int_cmp rows) → T (sorted.is_sorted int_cmp (after_all rows es))
-is_sorted-after_all [] rows h = h
-is_sorted-after_all (e ∷ es) rows h = is_sorted-after_all es (with_row_at rows e.0 e.1) (is_sorted-with_row_at rows e.0 e.1 h)
-
-is_sorted-after_write : (w : Write) (X : Content) (table : ℕ) → T (sorted.is_sorted int_cmp (X table)) → T (sorted.is_sorted int_cmp (content_after_write w X table))
-is_sorted-after_write w X table h = by (table == table_of w)
-  where
-    by : (b : Bool) → T (sorted.is_sorted int_cmp (if b then after_all (X table) (effect w X) else X table))
-    by true = is_sorted-after_all (effect w X) (X table) h
-    by false = h
-
-is_sorted-after_action : (ws : List Write) (X : Content) (table : ℕ) → T (sorted.is_sorted int_cmp (X table)) → T (sorted.is_sorted int_cmp (content_after_action ws X table))
-is_sorted-after_action [] X table h = h
-is_sorted-after_action (w ∷ ws) X table h = is_sorted-after_action ws (content_after_write w X) table (is_sorted-after_write w X table h)
-
--- a key that none of the entries has keeps its row
-kept_by_all : (q : ℤ) (es : List (ℤ × Option Row)) (rows : RowsByKey) → list_any (λ e. int_eq q e.0) es ≡ false → row_at (after_all rows es) q ≡ row_at rows q
-kept_by_all q [] rows h = refl
-kept_by_all q (e ∷ es) rows h =
-    let other = or_parts (int_eq q e.0) (list_any (λ d. int_eq q d.0) es) h in
-    kept_by_all q es (with_row_at rows e.0 e.1) other.1
-    ∙ one_key_changes rows e.0 e.1 q
-    ∙ ap (λ b. cond b e.1 (row_at rows q)) other.0
-
-is_among-rows : (table written : ℕ) (q : ℤ) (es : List (ℤ × Option Row)) → is_among (id table q) (map (λ e. id written e.0) es) ≡ list_any (λ e. (table == written) && int_eq q e.0) es
-is_among-rows table written q [] = refl
-is_among-rows table written q (e ∷ es) = ap (λ b. ((table == written) && int_eq q e.0) || b) (is_among-rows table written q es)
-
--- a row that a write doesn't write stays
-kept_by_write : (w : Write) (X : Content) (table : ℕ) (q : ℤ) → is_among (id table q) (rows_of_write w X) ≡ false → row_at (content_after_write w X table) q ≡ row_at (X table) q
-kept_by_write w X table q h = by (table == table_of w) (sym (is_among-rows table (table_of w) q (effect w X)) ∙ h)
-  where
-    by : (b : Bool) → list_any (λ e. b && int_eq q e.0) (effect w X) ≡ false → row_at (if b then after_all (X table) (effect w X) else X table) q ≡ row_at (X table) q
-    by true g = kept_by_all q (effect w X) (X table) g
-    by false g = refl
-
--- a row that no write of an action writes stays
-kept_by_action : (ws : List Write) (X : Content) (table : ℕ) (q : ℤ) → is_among (id table q) (rows_of_action ws X) ≡ false → row_at (content_after_action ws X table) q ≡ row_at (X table) q
-kept_by_action [] X table q h = refl
-kept_by_action (w ∷ ws) X table q h =
-    let next = content_after_write w X in
-    let split = list_any-append (λ s. (table == s.table) && int_eq q s.key) (rows_of_write w X) (rows_of_action ws next) in
-    let other = or_parts (is_among (id table q) (rows_of_write w X)) (is_among (id table q) (rows_of_action ws next)) (sym split ∙ h) in
-    kept_by_action ws next table q other.1 ∙ kept_by_write w X table q other.0
-
--- the row of a content at an id
-abbrev row_of : Content → RowId → Option Row
-row_of Y r = row_at (Y r.table) r.key
-
--- row writes of some rows, as a content has them
-abbrev writes_of : ℕ → Content → List RowId → List RowWrite
-writes_of time Y rs = map (λ (e : RowId × Option Row). record { time = time; table = e.0.table; key = e.0.key; row = e.1 }) (map (λ r. (r, row_of Y r)) rs)
-
-last_wins : {A : Type 0} (later now : Bool) (new same old : A) → (now ≡ true → same ≡ new) → cond later new (cond now same old) ≡ cond (now || later) new old
-last_wins true true new same old h = refl
-last_wins true false new same old h = refl
-last_wins false true new same old h = h refl
-last_wins false false new same old h = refl
-
--- they give the rows that they are for as that content has them, and leave the others
-row_after_writes_of : (rs : List RowId) (time : ℕ) (X Y : Content) (table : ℕ) (q : ℤ) → row_at (fold with_row_write X (writes_of time Y rs) table) q ≡ cond (is_among (id table q) rs) (row_at (Y table) q) (row_at (X table) q)
-row_after_writes_of [] time X Y table q = refl
-row_after_writes_of (r ∷ rs) time X Y table q =
-    let first : RowWrite = record { time = time; table = r.table; key = r.key; row = row_of Y r } in
-    let now = (table == r.table) && int_eq q r.key in
-    row_after_writes_of rs time (with_row_write X first) Y table q
-    ∙ ap (cond (is_among (id table q) rs) (row_at (Y table) q)) (row_write_changes_one_row X first table q)
-    ∙ last_wins (is_among (id table q) rs) now (row_at (Y table) q) (row_of Y r) (row_at (X table) q) (λ h. ap (row_of Y) (sym (same_row (id table q) r h)))
+-- an action of these writes
+abbrev of : List Write → Bool → Action
+of ws whole = record { writes = ws; whole = whole }
 
 pub action_leaves_its_last_content : ActionLeavesItsLastContent
-action_leaves_its_last_content time ws X rising = λ i table. same_rows table i
+action_leaves_its_last_content time a X rising = writes_leave_their_last_content time (kept a X) X rising
+
+-- writes that all have an effect are all carried out
+up_to_no_effect-all : (ws : List Write) (X : Content) → one_has_no_effect ws X ≡ false → up_to_no_effect ws X ≡ ws
+up_to_no_effect-all [] X h = refl
+up_to_no_effect-all (w ∷ ws) X h =
+    let next = content_after_write w X in
+    let both = or_parts (has_no_effect w X) (one_has_no_effect ws next) h in
+    ap (λ b. w ∷ cond b [] (up_to_no_effect ws next)) both.0 ∙ ap (λ vs. w ∷ vs) (up_to_no_effect-all ws next both.1)
+
+pub all_writes_are_tried : AllWritesAreTried
+all_writes_are_tried a X = by a.whole
   where
-    -- a row that is among those written has its last row, and any other its old one, which it kept
-    by : (table : ℕ) (q : ℤ) (b : Bool) → is_among (id table q) (rows_of_action ws X) ≡ b → cond b (row_at (content_after_action ws X table) q) (row_at (X table) q) ≡ row_at (content_after_action ws X table) q
-    by table q true h = refl
-    by table q false h = sym (kept_by_action ws X table q h)
+    by : (b : Bool) → (b && one_has_no_effect a.writes X) ≡ false → cond b (up_to_no_effect a.writes X) a.writes ≡ a.writes
+    by true h = up_to_no_effect-all a.writes X h
+    by false h = refl
 
-    same_row_at : (table : ℕ) (q : ℤ) → row_at (fold with_row_write X (action_writes time ws X) table) q ≡ row_at (content_after_action ws X table) q
-    same_row_at table q =
-        let old = row_at (X table) q in
-        let new = row_at (content_after_action ws X table) q in
-        row_after_writes_of (each_row_once (rows_of_action ws X)) time X (content_after_action ws X) table q
-        ∙ ap (λ b. cond b new old) (is_among-each_row_once (id table q) (rows_of_action ws X))
-        ∙ by table q (is_among (id table q) (rows_of_action ws X)) refl
+kept-all : (a : Action) (X : Content) → is_undone a X ≡ false → kept a X ≡ a.writes
+kept-all a X h = ap (λ b. cond b [] a.writes) h
 
-    same_rows : (table : ℕ) → fold with_row_write X (action_writes time ws X) table ≡ content_after_action ws X table
-    same_rows table =
-        let before : T (sorted.is_sorted int_cmp (X table)) = subst T (sym (rising table)) tt in
-        sorted.same_entries int_cmp int_cmp_total int_cmp-IsAntisymmetric _ _ (is_sorted-fold (action_writes time ws X) X table before) (is_sorted-after_action ws X table before) (same_row_at table)
+kept-none : (a : Action) (X : Content) → is_undone a X ≡ true → kept a X ≡ []
+kept-none a X h = ap (λ b. cond b [] a.writes) h
 
--- an action of one write
+pub effective_writes_are_whole : EffectiveWritesAreWhole
+effective_writes_are_whole ws X h =
+    let a = whole_of ws in
+    let stay = kept-all a X h in
+    let made = all_writes_are_tried a X h in
+    let same : DoTheSame a (action_of ws) X = record {
+      effect = ap (λ vs. effect_of_writes vs X) stay;
+      replies = ap (λ vs. replies_of_writes vs X) made;
+      rows = ap (λ vs. rows_of_writes vs X) made;
+      content = ap (λ vs. content_after_writes vs X) stay;
+    } in same
 
--- the entries that pass a test stand in the same order
-below-filter : (p : ℤ × Row → Bool) (key : ℤ) (es : RowsByKey) → IsTrue (sorted.below_all int_cmp key es) → IsTrue (sorted.below_all int_cmp key (filter p es))
-below-filter p key [] h = refl
-below-filter p key (e ∷ es) h =
-    let parts = and_parts (is_lt (int_cmp key e.0)) (sorted.below_all int_cmp key es) h in
-    let rest = below-filter p key es parts.1 in
-    elim (p e) as (λ b. IsTrue (sorted.below_all int_cmp key (cond b (e ∷ filter p es) (filter p es)))) [ true ↦ λ i. parts.0 i && rest i | false ↦ rest ]
+pub undone_actions_change_nothing : UndoneActionsChangeNothing
+undone_actions_change_nothing a X h =
+    let none = kept-none a X h in (ap (λ vs. content_after_writes vs X) none, ap (λ vs. effect_of_writes vs X) none)
 
-is_sorted-filter : (p : ℤ × Row → Bool) (es : RowsByKey) → IsTrue (sorted.is_sorted int_cmp es) → IsTrue (sorted.is_sorted int_cmp (filter p es))
-is_sorted-filter p [] h = refl
-is_sorted-filter p (e ∷ es) h =
-    let parts = and_parts (sorted.below_all int_cmp e.0 es) (sorted.is_sorted int_cmp es) h in
-    let below = below-filter p e.0 es parts.0 in
-    let rest = is_sorted-filter p es parts.1 in
-    elim (p e) as (λ b. IsTrue (sorted.is_sorted int_cmp (cond b (e ∷ filter p es) (filter p es)))) [ true ↦ λ i. below i && rest i | false ↦ rest ]
+-- an effect without rows
+empty : {A : Type 0} (es : List A) → length es ≡ 0 → es ≡ []
+empty [] h = refl
+empty (e ∷ es) h = let none : ⊥ = omega (arith, h) in absurd none
 
-is_sorted-effect_on : (w : Write) (rows : RowsByKey) → IsTrue (sorted.is_sorted int_cmp rows) → IsTrue (sorted.is_sorted int_cmp (effect_on w rows))
-is_sorted-effect_on (Insert table row) rows h =
-    elim (is_some (row_at rows (key_of row))) as (λ b. IsTrue (sorted.is_sorted int_cmp (if b then [] else (key_of row, Some row) ∷ []))) [ true ↦ refl | false ↦ refl ]
-is_sorted-effect_on (Update table changes equals) rows h =
-    is_sorted-image int_cmp int_cmp (λ e. (e.0, Some (changed e.1 changes))) (λ d e. refl) (matching_rows equals rows) ∙ is_sorted-filter (λ e. matches equals e.1) rows h
-is_sorted-effect_on (Delete table equals) rows h =
-    is_sorted-image {Y = Option Row} int_cmp int_cmp (λ e. (e.0, None)) (λ d e. refl) (matching_rows equals rows) ∙ is_sorted-filter (λ e. matches equals e.1) rows h
+effect-none : (w : Write) (X : Content) → has_no_effect w X ≡ true → effect w X ≡ []
+effect-none w X h = empty (effect w X) (eqb-true (length (effect w X)) 0 h)
 
--- a list of rows that rise has each of them once
-abbrev as_entries : List RowId → Entries
-as_entries rs = map (λ r. (r, tt)) rs
+either_way : {A : Type 0} (b : Bool) (x : A) → cond b x x ≡ x
+either_way true x = refl
+either_way false x = refl
 
-either : {A : Type 0} (a b : Bool) (x y : A) → cond a x (cond b x y) ≡ cond (a || b) x y
-either true b x y = refl
-either false b x y = refl
+pub idle_writes_change_nothing : IdleWritesChangeNothing
+idle_writes_change_nothing w X h =
+    let none = effect-none w X h in (
+      ap (map (λ (e : ℤ × Option Row). record { table = table_of w; key = e.0 })) none,
+      ap (λ es. with_rows_at (table_of w) es X) none ∙ (λ i table. either_way (table == table_of w) (X table) i),
+    )
 
-find-as_entries : (rs : List RowId) (q : RowId) → sorted.find row_id_cmp q (as_entries rs) ≡ cond (list_any (eq_by_cmp row_id_cmp q) rs) (Some tt) None
-find-as_entries [] q = refl
-find-as_entries (r ∷ rs) q =
-    ap (cond (eq_by_cmp row_id_cmp q r) (Some tt)) (find-as_entries rs q) ∙ either (eq_by_cmp row_id_cmp q r) (list_any (eq_by_cmp row_id_cmp q) rs) (Some tt) None
+-- the one write of an action that is undone has no effect
+few_writes_are_whole-one : (w : Write) (X : Content) (b : Bool) → has_no_effect w X ≡ b → DoTheSame (whole_of (w ∷ [])) (action_of (w ∷ [])) X
+few_writes_are_whole-one w X true h =
+    let a = whole_of (w ∷ []) in
+    let none = undone_actions_change_nothing a X (or_left (has_no_effect w X) false h) in
+    let idle = idle_writes_change_nothing w X h in
+    let made : tried a X ≡ w ∷ [] = ap (λ vs. w ∷ vs) (either_way (has_no_effect w X) []) in
+    let same : DoTheSame a (action_of (w ∷ [])) X = record {
+      effect = none.1 ∙ ap (λ rs. map (λ (r : RowId). (r, row_at (content_after_write w X r.table) r.key)) (each_row_once (rs ++ []))) (sym idle.0);
+      replies = ap (λ vs. replies_of_writes vs X) made;
+      rows = ap (λ vs. rows_of_writes vs X) made;
+      content = none.0 ∙ sym idle.1;
+    } in same
+few_writes_are_whole-one w X false h = effective_writes_are_whole (w ∷ []) X (ap (λ b. b || false) h)
 
-each_row_once-rising : (rs : List RowId) → IsTrue (sorted.is_sorted row_id_cmp (as_entries rs)) → each_row_once rs ≡ rs
-each_row_once-rising rs h =
-    let same = sorted.same_entries row_id_cmp row_id_cmp_total one_row (with_all [] rs) (as_entries rs) (is_sorted-with_all rs [] tt) (subst T (sym h) tt) (λ q. find-with_all rs [] q ∙ sym (find-as_entries rs q)) in
-    ap (map (λ e. e.0)) same ∙ map-map (λ (e : RowId × ⊤). e.0) (λ r. (r, tt)) rs ∙ map-same (λ r. r) (λ r. refl) rs
-
--- the rows of rising keys of one table rise
-rows_rise : (table : ℕ) (es : List (ℤ × Option Row)) → IsTrue (sorted.is_sorted int_cmp es) → IsTrue (sorted.is_sorted row_id_cmp (as_entries (map (λ e. id table e.0) es)))
-rows_rise table es h =
-    ap (sorted.is_sorted row_id_cmp) (map-map (λ r. (r, tt)) (λ (e : ℤ × Option Row). id table e.0) es)
-    ∙ is_sorted-image int_cmp row_id_cmp (λ e. (id table e.0, tt)) (λ d e. ap (λ o. ordering_then o (int_cmp d.0 e.0)) (tied_itself nat_cmp_total table)) es
-    ∙ h
-
-not_equal : (o : Ordering) → is_lt o ≡ true → is_eq o ≡ false
-not_equal Less h = refl
-not_equal Equal h = sym h
-not_equal Greater h = refl
-
--- a key below all others isn't one of them
-none_below : (key : ℤ) (es : List (ℤ × Option Row)) → IsTrue (sorted.below_all int_cmp key es) → list_any (λ e. int_eq key e.0) es ≡ false
-none_below key [] h = refl
-none_below key (e ∷ es) h =
-    let parts = and_parts (is_lt (int_cmp key e.0)) (sorted.below_all int_cmp key es) h in
-    let rest = none_below key es parts.1 in
-    λ i. not_equal (int_cmp key e.0) parts.0 i || rest i
-
--- after rising keys are set, each of them has its row
-rows_as_set : (table : ℕ) (es : List (ℤ × Option Row)) (rows : RowsByKey) → IsTrue (sorted.is_sorted int_cmp es) → map {B = RowId × Option Row} (λ e. (id table e.0, row_at (after_all rows es) e.0)) es ≡ map (λ e. (id table e.0, e.1)) es
-rows_as_set table [] rows h = refl
-rows_as_set table (e ∷ es) rows h =
-    let parts = and_parts (sorted.below_all int_cmp e.0 es) (sorted.is_sorted int_cmp es) h in
-    let next = with_row_at rows e.0 e.1 in
-    let first : row_at (after_all next es) e.0 ≡ e.1 =
-    kept_by_all e.0 es next (none_below e.0 es parts.0)
-    ∙ one_key_changes rows e.0 e.1 e.0
-    ∙ ap (λ o. cond (is_eq o) e.1 (row_at rows e.0)) (tied_itself int_cmp_total e.0) in
-    λ i. (id table e.0, first i) ∷ rows_as_set table es next parts.1 i
+pub few_writes_are_whole : FewWritesAreWhole
+few_writes_are_whole [] X h = effective_writes_are_whole [] X refl
+few_writes_are_whole (w ∷ []) X h = few_writes_are_whole-one w X (has_no_effect w X) refl
+few_writes_are_whole (w ∷ v ∷ ws) X h = let none : ⊥ = omega (arith, h) in absurd none
 
 pub action_of_one_write : ActionOfOneWrite
-action_of_one_write time w X rising =
-    let es = effect w X in
-    let table = table_of w in
-    let rises = is_sorted-effect_on w (X table) (rising table) in
-    let itself = unsigned_ties table table ∙ ap is_eq (tied_itself nat_cmp_total table) in
-    let as_written : RowId × Option Row → RowWrite = λ e. record { time = time; table = e.0.table; key = e.0.key; row = e.1 } in
-    let row : Content → RowId → RowId × Option Row = λ Y r. (r, row_of Y r) in
-    let rows =
-    ap (map (row (content_after_write w X))) (ap each_row_once (append-nil (rows_of_write w X)) ∙ each_row_once-rising (rows_of_write w X) (rows_rise table es rises))
-    ∙ map-map (row (content_after_write w X)) (λ (e : ℤ × Option Row). id table e.0) es
-    ∙ ap (λ b. map {B = RowId × Option Row} (λ (e : ℤ × Option Row). (id table e.0, row_at (if b then after_all (X table) es else X table) e.0)) es) itself
-    ∙ rows_as_set table es (X table) rises in
-    (ap (map as_written) rows ∙ map-map as_written (λ (e : ℤ × Option Row). (id table e.0, e.1)) es, refl)
+action_of_one_write time w false X rising = (row_writes_of_one_write time w X rising, refl)
+action_of_one_write time w true X rising =
+    let same = few_writes_are_whole (w ∷ []) X (omega arith) in
+    (ap (effect_at_time time) same.effect ∙ row_writes_of_one_write time w X rising, same.replies)
+
+-- where the writes stop of which one has no effect
+abbrev StopsAt : List Write → Content → Type 0
+StopsAt us X =
+    (ws : List Write) × (w : Write) × (vs : List Write)
+    × (us ≡ ws ++ w ∷ vs)
+    × (up_to_no_effect us X ≡ ws ++ w ∷ [])
+    × (one_has_no_effect ws X ≡ false)
+    × (has_no_effect w (content_after_writes ws X) ≡ true)
+
+stops_at : (us : List Write) (X : Content) → one_has_no_effect us X ≡ true → StopsAt us X
+stops_at [] X h = absurd (true≢false (sym h))
+stops_at (w ∷ ws) X h = by (has_no_effect w X) refl h (stops_at ws next)
+  where
+    next : Content
+    next = content_after_write w X
+
+    by : (b : Bool) → has_no_effect w X ≡ b → (b || one_has_no_effect ws next) ≡ true → (one_has_no_effect ws next ≡ true → StopsAt ws next) → StopsAt (w ∷ ws) X
+    by true e g rest = ([], w, ws, refl, ap (λ b. w ∷ cond b [] (up_to_no_effect ws next)) e, refl, e)
+    by false e g rest =
+        let later = rest g in (
+          w ∷ later.0,
+          later.1,
+          later.2,
+          ap (λ vs. w ∷ vs) later.3,
+          ap (λ b. w ∷ cond b [] (up_to_no_effect ws next)) e ∙ ap (λ vs. w ∷ vs) later.4,
+          ap (λ b. b || one_has_no_effect later.0 next) e ∙ later.5,
+          later.6,
+        )
+
+pub undone_actions_stop : UndoneActionsStop
+undone_actions_stop a X h =
+    let both = and_parts a.whole (one_has_no_effect a.writes X) h in
+    let at = stops_at a.writes X both.1 in
+    (at.0, at.1, at.2, at.3, ap (λ b. cond b (up_to_no_effect a.writes X) a.writes) both.0 ∙ at.4, at.5, at.6)
+
+pub action_writes_each_row_once : ActionWritesEachRowOnce
+action_writes_each_row_once a X = let once = writes_write_each_row_once (kept a X) X in (once.0, λ r. once.1 r ∙ by r (is_undone a X) refl)
+  where
+    by : (r : RowId) (b : Bool) → is_undone a X ≡ b → is_among r (rows_of_writes (cond b [] a.writes) X) ≡ (not b && is_among r (rows_touched a X))
+    by r true e = refl
+    by r false e = ap (λ vs. is_among r (rows_of_writes vs X)) (sym (all_writes_are_tried a X e))
+
+pub written_rows_are_touched : WrittenRowsAreTouched
+written_rows_are_touched a X r h =
+    let once = action_writes_each_row_once a X in
+    (and_parts (not (is_undone a X)) (is_among r (rows_touched a X)) (sym (once.1 r) ∙ h)).1
 
 -- actions one after another
 
-pub actions_follow : ActionsFollow
-actions_follow [] vs X = (refl, refl, refl)
-actions_follow (w ∷ ws) vs X =
+up_to_no_effect-append : (ws vs : List Write) (X : Content) → one_has_no_effect ws X ≡ false → up_to_no_effect (ws ++ vs) X ≡ ws ++ up_to_no_effect vs (content_after_writes ws X)
+up_to_no_effect-append [] vs X h = refl
+up_to_no_effect-append (w ∷ ws) vs X h =
     let next = content_after_write w X in
-    let rest = actions_follow ws vs next in
-    (rest.0, ap (λ rs. reply_of w X ∷ rs) rest.1, ap (λ rs. rows_of_write w X ++ rs) rest.2 ∙ sym (append_assoc (rows_of_write w X) (rows_of_action ws next) _))
+    let both = or_parts (has_no_effect w X) (one_has_no_effect ws next) h in
+    ap (λ b. w ∷ cond b [] (up_to_no_effect (ws ++ vs) next)) both.0 ∙ ap (λ us. w ∷ us) (up_to_no_effect-append ws vs next both.1)
+
+tried-append : (ws vs : List Write) (whole : Bool) (X : Content) → is_undone (of ws whole) X ≡ false → tried (of (ws ++ vs) whole) X ≡ ws ++ tried (of vs whole) (content_after_writes ws X)
+tried-append ws vs true X h = up_to_no_effect-append ws vs X h
+tried-append ws vs false X h = refl
+
+is_undone-append : (ws vs : List Write) (whole : Bool) (X : Content) → is_undone (of ws whole) X ≡ false → is_undone (of (ws ++ vs) whole) X ≡ is_undone (of vs whole) (content_after_writes ws X)
+is_undone-append ws vs true X h =
+    let follow = writes_follow ws vs X in
+    follow.3 ∙ ap (λ b. b || one_has_no_effect vs (content_after_writes ws X)) h
+is_undone-append ws vs false X h = refl
+
+pub actions_follow : ActionsFollow
+actions_follow ws vs whole X h =
+    let a = of ws whole in
+    let b = of vs whole in
+    let both = of (ws ++ vs) whole in
+    let Z = content_after_writes ws X in
+    let all = all_writes_are_tried a X h in
+    let end : content_after_action a X ≡ Z = ap (λ us. content_after_writes us X) (kept-all a X h) in
+    let made = tried-append ws vs whole X h in
+    let undone = is_undone-append ws vs whole X h in
+    let follow = writes_follow ws (tried b Z) X in (
+      made ∙ ap (λ Y. ws ++ tried b Y) (sym end),
+      ap (λ us. replies_of_writes us X) made ∙ follow.1 ∙ (λ i. replies_of_writes (sym all i) X ++ replies_of b (sym end i)),
+      ap (λ us. rows_of_writes us X) made ∙ follow.2 ∙ (λ i. rows_of_writes (sym all i) X ++ rows_touched b (sym end i)),
+      undone ∙ ap (is_undone b) (sym end),
+      λ g.
+          let stays = ap (is_undone b) (sym end) ∙ g in
+          let last = writes_follow ws vs X in
+          ap (λ us. content_after_writes us X) (kept-all both X (undone ∙ stays))
+          ∙ last.0
+          ∙ ap (λ us. content_after_writes us Z) (sym (kept-all b Z stays))
+          ∙ ap (content_after_action b) (sym end),
+    )
+
+up_to_no_effect-stopped : (ws vs : List Write) (X : Content) → one_has_no_effect ws X ≡ true → up_to_no_effect (ws ++ vs) X ≡ up_to_no_effect ws X
+up_to_no_effect-stopped [] vs X h = absurd (true≢false (sym h))
+up_to_no_effect-stopped (w ∷ ws) vs X h = by (has_no_effect w X) h (up_to_no_effect-stopped ws vs next)
+  where
+    next : Content
+    next = content_after_write w X
+
+    by : (b : Bool) → (b || one_has_no_effect ws next) ≡ true → (one_has_no_effect ws next ≡ true → up_to_no_effect (ws ++ vs) next ≡ up_to_no_effect ws next)
+        → w ∷ cond b [] (up_to_no_effect (ws ++ vs) next) ≡ w ∷ cond b [] (up_to_no_effect ws next)
+    by true g rest = refl
+    by false g rest = ap (λ us. w ∷ us) (rest g)
+
+pub undone_actions_stay_undone : UndoneActionsStayUndone
+undone_actions_stay_undone ws vs true X h =
+    let follow = writes_follow ws vs X in
+    (follow.3 ∙ or_left (one_has_no_effect ws X) (one_has_no_effect vs (content_after_writes ws X)) h, up_to_no_effect-stopped ws vs X h)
+undone_actions_stay_undone ws vs false X h = absurd (true≢false (sym h))

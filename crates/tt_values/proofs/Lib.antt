@@ -4,6 +4,7 @@ mod CatalogLemmas
 mod ContentLemmas
 mod RowWritesLemmas
 mod CheckLemmas
+mod WritesLemmas
 mod ActionLemmas
 mod SameLemmas
 pub mod LawProofs

@@ -4,7 +4,7 @@ use Rattle.std.proofs.lemmas.List.Sums.{fold-append}
 use Rattle.std.proofs.lemmas.Bool.Decides.{nat_tests}
 use Rattle.std.specs.Option.{unwrap_or}
 use Rattle.tt_values.specs.declared.row.Row.{Row}
-use Rattle.tt_values.specs.declared.statement.Write.{Write}
+use Rattle.tt_values.specs.declared.action.Action.{Action}
 use Rattle.tt_values.specs.Content.{Content, RowWrite, with_row_write, content_at, empty_content, up_to}
 use Rattle.tt_values.specs.declared.row_id.RowId.{RowId}
 use Rattle.tt_values.specs.Action.{effect_of_action}
@@ -60,7 +60,7 @@ up_to-before_effect time later h (e ∷ es) =
     let first : RowWrite = record { time = later; table = e.0.table; key = e.0.key; row = e.1 } in
     ap (λ b. cond b (first ∷ up_to time rest) (up_to time rest)) (nat_le-false time later h) ∙ up_to-before_effect time later h es
 
-up_to-before_slot : (time later : ℕ) → time < later → (s : Option (List Write)) (X : Content) → up_to time (slot_writes later s X) ≡ []
+up_to-before_slot : (time later : ℕ) → time < later → (s : Option Action) (X : Content) → up_to time (slot_writes later s X) ≡ []
 up_to-before_slot time later h None X = refl
 up_to-before_slot time later h (Some action) X = up_to-before_effect time later h (effect_of_action action X)
 
@@ -93,7 +93,7 @@ up_to-after_effect time earlier h (e ∷ es) =
     let first : RowWrite = record { time = earlier; table = e.0.table; key = e.0.key; row = e.1 } in
     ap (λ b. cond b (first ∷ up_to time rest) (up_to time rest)) (nat_le-true time earlier h) ∙ ap (λ r. first ∷ r) (up_to-after_effect time earlier h es)
 
-up_to-after_slot : (time earlier : ℕ) → earlier ≤ time → (s : Option (List Write)) (X : Content) → up_to time (slot_writes earlier s X) ≡ slot_writes earlier s X
+up_to-after_slot : (time earlier : ℕ) → earlier ≤ time → (s : Option Action) (X : Content) → up_to time (slot_writes earlier s X) ≡ slot_writes earlier s X
 up_to-after_slot time earlier h None X = refl
 up_to-after_slot time earlier h (Some action) X = up_to-after_effect time earlier h (effect_of_action action X)
 

@@ -1,5 +1,6 @@
--- Values, rows, statements and replies are the same exactly where they are equal.
+-- Values, rows, statements, actions and replies are the same exactly where they are equal.
 use Rattle.std.proofs.Common.{◌≡◌, ◌≢◌, ℕ, suc, Bool, true, false, ◌==◌, ◌&&◌, Decides, List, [], ◌∷◌, length, refl, ap, arith}
+use Rattle.std.specs.Bool.{beq}
 use Rattle.std.specs.Ordering.{int_eq}
 use Rattle.std.proofs.lemmas.Bool.Decides.{Decides-eqb, Decides-int_eq}
 use Rattle.std.proofs.lemmas.Slice.Eq.{bytes_eq-Decides}
@@ -16,7 +17,8 @@ use Rattle.tt_values.specs.declared.statement.Change.TheVariants.{Set, Add}
 use Rattle.tt_values.specs.declared.statement.Equal.{Equal}
 use Rattle.tt_values.specs.declared.statement.Write.{Write}
 use Rattle.tt_values.specs.declared.statement.Write.TheVariants.{Insert, Update, Delete}
-use Rattle.tt_values.specs.Same.{are_same_by, is_same_row, is_same_reply, is_same_comparison, is_same_equal, is_same_change, is_same_write, SameRepliesAreEqual, SameWritesAreEqual}
+use Rattle.tt_values.specs.declared.action.Action.{Action}
+use Rattle.tt_values.specs.Same.{are_same_by, is_same_row, is_same_reply, is_same_comparison, is_same_equal, is_same_change, is_same_write, is_same_action, SameRepliesAreEqual, SameWritesAreEqual, SameActionsAreEqual}
 
 first_true : (a b : Bool) → (a && b) ≡ true → a ≡ true
 first_true true b h = refl
@@ -242,3 +244,22 @@ write_decides (Delete t ps) (Update u ds qs) = (λ e. absurd (cc e), λ e. absur
 
 pub same_writes_are_equal : SameWritesAreEqual
 same_writes_are_equal first second = by_decides is_same_write write_decides first second
+
+bool_decides : (a b : Bool) → Decides (beq a b) (a ≡ b)
+bool_decides true true = (λ e. refl, λ e. refl)
+bool_decides true false = (λ e. absurd (cc e), λ e. absurd (cc e))
+bool_decides false true = (λ e. absurd (cc e), λ e. absurd (cc e))
+bool_decides false false = (λ e. refl, λ e. refl)
+
+pub same_actions_are_equal : SameActionsAreEqual
+same_actions_are_equal a b = (are_equal, are_same)
+  where
+    are_equal : is_same_action a b ≡ true → a ≡ b
+    are_equal e =
+        let whole : a.whole ≡ b.whole = (bool_decides a.whole b.whole).0 (first_true _ _ e) in
+        let writes : a.writes ≡ b.writes = (same_writes_are_equal a.writes b.writes).0 (second_true (beq a.whole b.whole) _ e) in
+        λ i. record { writes = writes i; whole = whole i }
+
+    are_same : a ≡ b → is_same_action a b ≡ true
+    are_same e =
+        both_true _ _ ((bool_decides a.whole b.whole).1 (ap (λ (x : Action). x.whole) e)) ((same_writes_are_equal a.writes b.writes).1 (ap (λ (x : Action). x.writes) e))

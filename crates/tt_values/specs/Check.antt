@@ -32,23 +32,23 @@ row_tests columns vs =
     ∷ (list_any is_long_text vs, errors.TextTooLong)
     ∷ []
 
--- whether an equality is on a column past the last
+-- whether a condition is on a column past the last
 abbrev pub has_no_column : List Column → List Equal → Bool
 has_no_column columns qs = list_any (λ q. nat_le (length columns) q.column) qs
 
--- whether an equality is on a column of another kind than its value
+-- whether a condition is on a column of another kind than its value
 abbrev pub has_wrong_kind : List Column → List Equal → Bool
 has_wrong_kind columns qs = list_any (λ q. is_wrong_kind (slice_get columns q.column) q.value) qs
 
--- whether an equality has too long a text
+-- whether a condition has too long a text
 abbrev pub has_long_text : List Equal → Bool
 has_long_text qs = list_any (λ q. is_long_text q.value) qs
 
--- whether there are too many equalities
+-- whether there are too many conditions
 abbrev pub has_too_many : List Equal → Bool
 has_too_many qs = nat_lt max_equals (length qs)
 
--- the tests of the equalities of a statement, in order
+-- the tests of the conditions of a statement, in order
 abbrev pub equals_tests : List Column → List Equal → List (Bool × CheckError)
 equals_tests columns qs =
     (has_no_column columns qs, errors.NoColumn)

@@ -5,7 +5,7 @@ use Rattle.std.specs.FinMap.Entries as sorted
 use Rattle.tt_values.specs.declared.row.Row.{Row}
 use Rattle.tt_values.specs.declared.statement.Equal.{Equal}
 use Rattle.tt_values.specs.declared.statement.Change.{Change}
-use Rattle.tt_values.specs.declared.statement.Write.{Write}
+use Rattle.tt_values.specs.declared.action.Action.{Action}
 use Rattle.tt_values.specs.declared.statement.Write.TheVariants.{Insert, Update}
 use Rattle.tt_values.specs.Row.{first_int}
 use Rattle.tt_values.specs.Change.{changed}
@@ -27,7 +27,7 @@ RowsRise = (ws : List RowWrite) (time table : ℕ) → IsTrue (sorted.is_sorted 
 
 -- without slots there are no row writes; a further slot adds its own, on the content before it
 abbrev pub SlotsFollow : Type 0
-SlotsFollow = (W : Slots) (s : Option (List Write)) → let n = length W in
+SlotsFollow = (W : Slots) (s : Option Action) → let n = length W in
     (row_writes [] 0 ≡ [])
     × (row_writes (W ++ s ∷ []) (suc n) ≡ row_writes W n ++ slot_writes (suc n) s (content_at (row_writes W n) n))
 
@@ -76,11 +76,11 @@ EarlierSlotsStay = (W V : Slots) (n : ℕ) → n < length W → slot_after (W ++
 
 -- a slot that is added to a list is the one after all others
 abbrev pub AddedSlotIsNext : Type 0
-AddedSlotIsNext = (W : Slots) (s : Option (List Write)) → slot_after (W ++ s ∷ []) (length W) ≡ s
+AddedSlotIsNext = (W : Slots) (s : Option Action) → slot_after (W ++ s ∷ []) (length W) ≡ s
 
 -- a slot that is added doesn't change the contents up to now
 abbrev pub AddedSlotLeavesPast : Type 0
-AddedSlotLeavesPast = (W : Slots) (s : Option (List Write)) (time : ℕ) → time ≤ length W →
+AddedSlotLeavesPast = (W : Slots) (s : Option Action) (time : ℕ) → time ≤ length W →
     content_of (W ++ s ∷ []) time ≡ content_of W time
 
 -- an insert without a fault has a row with a key

@@ -17,7 +17,7 @@ max_name_bytes = 64
 abbrev pub max_text_bytes : ℕ
 max_text_bytes = 1024
 
--- the largest number of equalities in a statement
+-- the largest number of conditions in a statement
 abbrev pub max_equals : ℕ
 max_equals = 32
 

@@ -4,26 +4,26 @@
 -- time 0 is before the first write. Positions of tables, columns and items count from 0.
 use Rattle.std.specs.Prelude.{ℕ, zero, suc, List, [], ◌++◌, length, Option, None, Some, slice_get}
 use Rattle.std.specs.Option.{unwrap_or}
-use Rattle.tt_values.specs.declared.statement.Write.{Write}
+use Rattle.tt_values.specs.declared.action.Action.{Action}
 use Rattle.tt_values.specs.declared.reply.Reply.{Reply}
 use Rattle.tt_values.specs.Content.{Content, RowWrite, content_at}
 use Rattle.tt_values.specs.Action.{replies_of, action_writes}
 
 -- a list of slots. Slot n + 1 is at position n, and writes at time n + 1
 abbrev pub Slots : Type 0
-Slots = List (Option (List Write))
+Slots = List (Option Action)
 
 -- slot n + 1, the one after the first n
-abbrev pub slot_after : Slots → ℕ → Option (List Write)
+abbrev pub slot_after : Slots → ℕ → Option Action
 slot_after W n = unwrap_or (slice_get W n) None
 
 -- the effect of a slot on a content, as row writes at this time
-abbrev pub slot_writes : ℕ → Option (List Write) → Content → List RowWrite
+abbrev pub slot_writes : ℕ → Option Action → Content → List RowWrite
 slot_writes time None X = []
 slot_writes time (Some action) X = action_writes time action X
 
 -- the replies to a slot on a content: a cancelled slot has none, and an empty action the empty list
-abbrev pub slot_replies : Option (List Write) → Content → Option (List Reply)
+abbrev pub slot_replies : Option Action → Content → Option (List Reply)
 slot_replies None X = None
 slot_replies (Some action) X = Some (replies_of action X)
 

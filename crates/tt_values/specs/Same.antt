@@ -1,5 +1,6 @@
--- Whether values, rows, statements and replies are the same.
+-- Whether values, rows, statements, actions and replies are the same.
 use Rattle.std.specs.Prelude.{◌≡◌, ◌↔◌, Bool, true, false, ◌==◌, ◌&&◌, List, length}
+use Rattle.std.specs.Bool.{beq}
 use Rattle.std.specs.List.{list_all, zip}
 use Rattle.std.specs.Ordering.{int_eq}
 use Rattle.tt_values.specs.declared.row.Row.{Row}
@@ -12,6 +13,7 @@ use Rattle.tt_values.specs.declared.statement.Change.TheVariants.{Set, Add}
 use Rattle.tt_values.specs.declared.statement.Equal.{Equal}
 use Rattle.tt_values.specs.declared.statement.Write.{Write}
 use Rattle.tt_values.specs.declared.statement.Write.TheVariants.{Insert, Update, Delete}
+use Rattle.tt_values.specs.declared.action.Action.{Action}
 use Rattle.tt_values.specs.Value.{is_same}
 
 -- whether two lists are as long as one another, and the same item by item
@@ -59,6 +61,10 @@ is_same_write (Update t cs ps) (Update u ds qs) = (t == u) && are_same_by is_sam
 is_same_write (Delete t ps) (Delete u qs) = (t == u) && are_same_by is_same_equal ps qs
 is_same_write a b = false
 
+-- whether two actions have the same writes, and both are whole or neither is
+abbrev pub is_same_action : Action → Action → Bool
+is_same_action a b = beq a.whole b.whole && are_same_by is_same_write a.writes b.writes
+
 -- two lists of replies are the same exactly if they are equal
 abbrev pub SameRepliesAreEqual : Type 0
 SameRepliesAreEqual = (first second : List Reply) → (are_same_by is_same_reply first second ≡ true) ↔ (first ≡ second)
@@ -66,3 +72,7 @@ SameRepliesAreEqual = (first second : List Reply) → (are_same_by is_same_reply
 -- two lists of writes are the same exactly if they are equal
 abbrev pub SameWritesAreEqual : Type 0
 SameWritesAreEqual = (first second : List Write) → (are_same_by is_same_write first second ≡ true) ↔ (first ≡ second)
+
+-- two actions are the same exactly if they are equal
+abbrev pub SameActionsAreEqual : Type 0
+SameActionsAreEqual = (first second : Action) → (is_same_action first second ≡ true) ↔ (first ≡ second)

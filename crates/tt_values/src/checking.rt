@@ -7,6 +7,7 @@ ghost use Rattle.tt_values.specs.Check.{row_tests, equals_tests, update_tests, w
 
 mod changes;
 
+use crate::action::Action;
 use crate::catalog::Catalog;
 use crate::items::item_at;
 use crate::statement::{Change, Equal, Select, Write};
@@ -41,7 +42,7 @@ pub enum CheckError {
     /// Two changes are of the same column.
     #[error("column changed twice")]
     SameColumnTwice,
-    /// The statement has more than 32 equalities.
+    /// The statement has more than 32 conditions.
     #[error("too many equalities")]
     TooManyEquals,
     /// The action has more than 16 writes.
@@ -84,12 +85,13 @@ pub fn check(catalog: &Catalog, write: &Write) -> Result<(), CheckError>
     }
 }
 
-/// Whether an action, a list of writes, can run on the tables of a catalog. Its writes are counted
-/// first; then the first write that can't run decides. Allocates nothing.
-pub fn check_action(catalog: &Catalog, writes: &[Write]) -> Result<(), CheckError>
-    ensures fault { ReportsFault result (action_fault catalog.now writes.now) }
-    ensures keys { OnOk result (All HasKey writes.now) }
+/// Whether an action can run on the tables of a catalog. All its writes are judged, also if it is
+/// whole: they are counted first; then the first write that can't run decides. Allocates nothing.
+pub fn check_action(catalog: &Catalog, action: &Action) -> Result<(), CheckError>
+    ensures fault { ReportsFault result (action_fault catalog.now action.now.writes) }
+    ensures keys { OnOk result (All HasKey action.now.writes) }
 {
+    let writes = action.writes.as_slice();
     if writes.len() > MAX_WRITES {
         return Err(CheckError::TooManyWrites);
     }

@@ -67,7 +67,7 @@ impl<T: Drop> Items<T> {
         }
     }
 
-    /// A list of the items of an array, in order: `Items::of(alloc, [write])?` is an action of one
+    /// A list of the items of an array, in order: `Items::of(alloc, [write])?` is a list of one
     /// write.
     pub fn of<const N: usize>(alloc: Global, items: [T; N]) -> Result<Self, AllocError>
         ensures { IfOk result (λ list. list ≡ items) }

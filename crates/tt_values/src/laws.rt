@@ -1,8 +1,8 @@
 //! Laws of the definitions in this crate's contracts and in those of the crates above. Each law is
 //! the contract of a function with an empty body.
 ghost use Rattle.tt_values.specs.Laws.{ShowsLastRowWrite, RowsRise, SlotsFollow, LaterSlotsChangeNothing, PastStays, LastContentStays, NextContent, OneKeyChanges, RowsStayByRisingKey, RowWriteChangesOneRow, LastRowWriteCounts, EarlierSlotsStay, AddedSlotIsNext, AddedSlotLeavesPast, AcceptedInsertsHaveKeys, AcceptedUpdatesKeepKeys, CatalogsGrow};
-ghost use Rattle.tt_values.specs.ActionLaws.{ActionLeavesItsLastContent, ActionOfOneWrite, ActionWritesEachRowOnce, ActionsFollow, AcceptedActionsHaveKeys};
-ghost use Rattle.tt_values.specs.Same.{SameRepliesAreEqual, SameWritesAreEqual};
+ghost use Rattle.tt_values.specs.ActionLaws.{WritesLeaveTheirLastContent, ActionLeavesItsLastContent, ActionOfOneWrite, FewWritesAreWhole, EffectiveWritesAreWhole, IdleWritesChangeNothing, UndoneActionsChangeNothing, AllWritesAreTried, UndoneActionsStop, WritesWriteEachRowOnce, ActionWritesEachRowOnce, WrittenRowsAreTouched, WritesFollow, ActionsFollow, UndoneActionsStayUndone, AcceptedActionsHaveKeys};
+ghost use Rattle.tt_values.specs.Same.{SameRepliesAreEqual, SameWritesAreEqual, SameActionsAreEqual};
 
 /// At each time, table and key the content has the row of the last row write so far, or no row if
 /// there is no row write or the last one is a delete.
@@ -86,25 +86,84 @@ pub fn accepted_updates_keep_keys()
     ensures { AcceptedUpdatesKeepKeys }
 {}
 
-/// The row writes of an action leave the content after its writes, one after another.
+/// The row writes of some writes leave the content after these, one after another.
+pub fn writes_leave_their_last_content()
+    ensures { WritesLeaveTheirLastContent }
+{}
+
+/// The row writes of an action leave the content after it.
 pub fn action_leaves_its_last_content()
     ensures { ActionLeavesItsLastContent }
 {}
 
-/// An action of one write makes the row writes of that write, and has its reply.
+/// An action of one write, whole or not, makes the row writes of that write, and has its reply.
 pub fn action_of_one_write()
     ensures { ActionOfOneWrite }
 {}
 
-/// The effect of an action has the rows that its writes write, and no others, each once: by
+/// Of an action of at most one write it doesn't matter whether it is whole.
+pub fn few_writes_are_whole()
+    ensures { FewWritesAreWhole }
+{}
+
+/// Of an action of which each write has an effect it doesn't matter whether it is whole.
+pub fn effective_writes_are_whole()
+    ensures { EffectiveWritesAreWhole }
+{}
+
+/// A write without an effect writes no rows, and leaves the content as it was.
+pub fn idle_writes_change_nothing()
+    ensures { IdleWritesChangeNothing }
+{}
+
+/// An undone action, a whole one of which a write has no effect, leaves the content as it was, and
+/// has no effect.
+pub fn undone_actions_change_nothing()
+    ensures { UndoneActionsChangeNothing }
+{}
+
+/// Of an action that isn't undone all writes are carried out.
+pub fn all_writes_are_tried()
+    ensures { AllWritesAreTried }
+{}
+
+/// Of an undone action the writes are carried out up to the first without an effect: each before it
+/// has one.
+pub fn undone_actions_stop()
+    ensures { UndoneActionsStop }
+{}
+
+/// The effect of some writes has the rows that they write, and no others, each once: by table, then
+/// by key.
+pub fn writes_write_each_row_once()
+    ensures { WritesWriteEachRowOnce }
+{}
+
+/// The effect of an action has the rows that it touches, or none if it is undone, each once: by
 /// table, then by key.
 pub fn action_writes_each_row_once()
     ensures { ActionWritesEachRowOnce }
 {}
 
-/// The writes at the end of an action are carried out on the content that those before them left.
+/// An action touches each row that it writes.
+pub fn written_rows_are_touched()
+    ensures { WrittenRowsAreTouched }
+{}
+
+/// The last of some writes are carried out on the content that those before them left.
+pub fn writes_follow()
+    ensures { WritesFollow }
+{}
+
+/// The writes at the end of an action are carried out on the content that those before them left,
+/// unless these undo it.
 pub fn actions_follow()
     ensures { ActionsFollow }
+{}
+
+/// An action is undone as soon as its first writes are, and the others aren't carried out.
+pub fn undone_actions_stay_undone()
+    ensures { UndoneActionsStayUndone }
 {}
 
 /// Each insert of an action without a fault has a row with a key.
@@ -120,6 +179,11 @@ pub fn same_replies_are_equal()
 /// Two lists of writes are the same, item by item, exactly where they are equal.
 pub fn same_writes_are_equal()
     ensures { SameWritesAreEqual }
+{}
+
+/// Two actions are the same exactly where they are equal.
+pub fn same_actions_are_equal()
+    ensures { SameActionsAreEqual }
 {}
 
 /// A catalog stays one as a table without a fault is added.

@@ -1,10 +1,11 @@
 //! Values, rows, statements and the catalog of a small time-travel database.
 //!
-//! A statement is one line, and so is an action, which is a list of writes:
+//! A statement is one line, and so is an action, which has a list of writes:
 //! `let write = Write::insert(alloc, 0, [Value::Int(1), Value::text(alloc, "ann")?])?;`
-//! `let action = Items::of(alloc, [write])?;`
+//! `let action = Action::of(Items::of(alloc, [write])?);`
 #![tactic(auto)]
 
+mod action;
 mod catalog;
 mod changing;
 mod checking;
@@ -26,6 +27,7 @@ mod table;
 mod text;
 mod value;
 
+pub use action::Action;
 pub use catalog::{Catalog, CatalogError};
 pub use changing::changed;
 pub use checking::{CheckError, check, check_action, check_select};

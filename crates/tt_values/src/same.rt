@@ -1,16 +1,18 @@
-//! Whether values, rows, statements and replies are the same.
+//! Whether values, rows, statements, actions and replies are the same.
 ghost use Rattle.std.specs.Prelude.{◌≡◌};
 ghost use Rattle.std.specs.List.{list_all, zip};
 ghost use Rattle.tt_values.specs.Same.{are_same_by};
 
+use crate::action::Action;
 use crate::comparison::Comparison;
 use crate::reply::Reply;
 use crate::row::Row;
 use crate::statement::{Change, Equal, Write};
 use crate::value::Value;
 
-/// What can be compared without taking memory. The laws `same_replies_are_equal` and
-/// `same_writes_are_equal` say that two are the same exactly where they are equal.
+/// What can be compared without taking memory. The laws `same_replies_are_equal`,
+/// `same_writes_are_equal` and `same_actions_are_equal` say that two are the same exactly where
+/// they are equal.
 pub trait Same {
     ghost use Rattle.std.specs.Prelude.{Bool};
 
@@ -183,5 +185,16 @@ impl Same for Write {
             ) => table == other && are_same(equals.as_slice(), other_equals.as_slice()),
             _ => false,
         }
+    }
+}
+
+/// The same writes, and both whole or neither.
+impl Same for Action {
+    ghost use Rattle.tt_values.specs.Same.{is_same_action};
+
+    ghost same = { is_same_action };
+
+    fn is_same(&self, other: &Action) -> bool {
+        self.whole == other.whole && are_same(self.writes.as_slice(), other.writes.as_slice())
     }
 }

@@ -1,6 +1,6 @@
 -- One call of a worker: what a store does for it is what was asked for.
 use Rattle.std.proofs.Common.{◌≡◌, ℕ, zero, suc, ◌+◌, ◌-◌, ◌≤◌, nat_lt, Bool, true, false, if◌then◌else◌, List, [], ◌∷◌, ◌++◌, take, length, Option, None, Some, Result, Ok, Err, refl, sym, ap, subst, ◌∙◌, arith, length-append, append-nil}
-use Rattle.tt_values.specs.declared.statement.Write.{Write}
+use Rattle.tt_values.specs.declared.action.Action.{Action}
 use Rattle.tt_values.specs.declared.statement.Select.{Select}
 use Rattle.tt_values.specs.declared.reply.Reply.{Reply}
 use Rattle.tt_values.specs.declared.checking.CheckError.{CheckError}
@@ -48,12 +48,12 @@ take_longer zero xs ys le = refl
 take_longer (suc n) [] ys le = absurd (omega arith)
 take_longer (suc n) (x ∷ xs) ys le = ap (λ zs. x ∷ zs) (take_longer n xs ys (omega arith))
 
-what_written : (action : List Write) (S : State) (slot : ℕ) (replies : List Reply) → ◌≡◌ {A = Outcome} (outcomes.Written (now_of S + 1) (replies_of action (current_at S (now_of S)))) (outcomes.Written slot replies)
+what_written : (action : Action) (S : State) (slot : ℕ) (replies : List Reply) → ◌≡◌ {A = Outcome} (outcomes.Written (now_of S + 1) (replies_of action (current_at S (now_of S)))) (outcomes.Written slot replies)
     → whats.Write slot replies ≡ answer_in S (asks.Write action)
 what_written action S slot replies h = cc
 
 -- an action that the store has carried out
-pub made_action : (tables : Tables) (limits : Limits) (action : List Write) (old new : WorkerState) (w : Written) → Wrote tables limits action old new w
+pub made_action : (tables : Tables) (limits : Limits) (action : Action) (old new : WorkerState) (w : Written) → Wrote tables limits action old new w
     → IsMade limits (asks.Write action) old new (whats.Write w.slot w.replies) (w.place - 1)
 made_action tables limits action old new w wrote =
     let p = wrote.published in

@@ -20,7 +20,7 @@ use Rattle.tt_workload.specs.contracts.options.Options as options_type
 use Rattle.tt_workload.specs.contracts.run_fault.RunFault as fault_type
 use Rattle.tt_workers.specs.contracts.answered_call.AnsweredCall as answered_type
 use Rattle.tt_workers.specs.contracts.run_context.RunContext as context_type
-use Rattle.tt_store.proofs.Crossing.{text_send, text_sync, items_send, items_sync, equal_send, equal_sync, write_send, write_sync, reply_send, reply_sync, store_sync}
+use Rattle.tt_store.proofs.Crossing.{text_send, text_sync, items_send, items_sync, equal_send, equal_sync, action_send, action_sync, action_field_send, action_field_sync, reply_send, reply_sync, store_sync}
 
 pub select_send : IsSend select_type.the_row
 select_send = search (items_send, items_sync, equal_send, equal_sync, crosses, sendable) depth 60 fits 50000
@@ -35,10 +35,10 @@ pub select_field_sync : IsSync (select_type.the_field).row
 select_field_sync = search (items_send, items_sync, equal_send, equal_sync, crosses, sendable) depth 60 fits 50000
 
 pub ask_sync : IsSync ask_type.the_row
-ask_sync = search (items_send, items_sync, write_send, write_sync, select_send, select_sync, select_field_send, select_field_sync, crosses, sendable) depth 60 fits 50000
+ask_sync = search (items_send, items_sync, action_send, action_sync, action_field_send, action_field_sync, select_send, select_sync, select_field_send, select_field_sync, crosses, sendable) depth 60 fits 50000
 
 pub ask_field_sync : IsSync (ask_type.the_field).row
-ask_field_sync = search (items_send, items_sync, write_send, write_sync, select_send, select_sync, select_field_send, select_field_sync, crosses, sendable) depth 60 fits 50000
+ask_field_sync = search (items_send, items_sync, action_send, action_sync, action_field_send, action_field_sync, select_send, select_sync, select_field_send, select_field_sync, crosses, sendable) depth 60 fits 50000
 
 pub call_sync : IsSync call_type.the_row
 call_sync = search (ask_sync, ask_field_sync, crosses, sendable) depth 60 fits 50000

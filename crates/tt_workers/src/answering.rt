@@ -19,7 +19,7 @@ use tt_db::ReadError;
 use tt_document::{Ask, Call};
 use tt_repair::{Record, What};
 use tt_store::{Answer, Gate, Naming, Worker, Written};
-use tt_values::{Items, Select, Write};
+use tt_values::{Action, Select};
 use tt_workload::RunFault;
 
 /// What is recorded of a call, and the length of the front at which this is right.
@@ -76,7 +76,7 @@ fn make<L: Naming, G: Gate + Drop, R: Wait>(
 fn write<L: Naming, G: Gate + Drop, R: Wait>(
     context: &RunContext<'_, '_, L, G, R>,
     worker: &mut Worker<L>,
-    action: &Items<Write>,
+    action: &Action,
 ) -> Result<Made, RunFault>
     ensures made { IfOk result (λ m. IsMade L.limits (Ask.Write action.now)
         worker.old worker.new m.what m.front) }

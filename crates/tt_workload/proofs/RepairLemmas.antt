@@ -2,7 +2,7 @@
 use Rattle.std.proofs.Common.{◌≡◌, ℕ, suc, ◌+◌, ◌-◌, ◌<◌, ◌≤◌, ◌==◌, Bool, true, false, if◌then◌else◌, List, [], ◌∷◌, ◌++◌, length, replicate, Option, Some, None, refl, sym, ap, subst, ◌∙◌, arith, append-nil, append_assoc, length-append}
 use Rattle.std.proofs.lemmas.Bool.Decides.{nat_tests}
 use Rattle.std.proofs.lemmas.List.{replicate-append-replicate}
-use Rattle.tt_values.specs.declared.statement.Write.{Write}
+use Rattle.tt_values.specs.declared.action.Action.{Action}
 use Rattle.tt_values.specs.RowWrites.{Slots}
 use Rattle.tt_values.specs.Check.{action_fault}
 use Rattle.tt_repair_laws.specs.declared.edit.Edit.{Edit}
@@ -23,7 +23,7 @@ use Rattle.tt_workload.specs.Room.{HasRoom, IsBefore, IsUnderWay}
 use Rattle.tt_db.proofs.EntryLemmas.{after-push, full_at-below, is_after_step}
 
 -- where there is room, an action that the tables accept isn't refused
-pub is_accepted : (db : Database) (action : List Write) → action_fault db.catalog action ≡ None → HasRoom db → refusal_of db (events.Write action) ≡ None
+pub is_accepted : (db : Database) (action : Action) → action_fault db.catalog action.writes ≡ None → HasRoom db → refusal_of db (events.Write action) ≡ None
 is_accepted db action accepted room =
     let slots = full_at-below (now_of (state_of db)) db.limits.slots room.slots in
     let entries = full_at-below (state_of db).events db.limits.events room.events in
@@ -39,11 +39,11 @@ record IsAfterAsk (S T : State) : Type 0 where
   left : slots_left T ≤ slots_left S + (now_of T - now_of S)
   more : now_of S ≤ now_of T
 
-left-push : (p : Phase) (W : Slots) (action : List Write) → left_of p (W ++ Some action ∷ []) ≤ left_of p W + 1
+left-push : (p : Phase) (W : Slots) (action : Action) → left_of p (W ++ Some action ∷ []) ≤ left_of p W + 1
 left-push Idle W action = omega arith
 left-push (Repairing edits n) W action = omega (arith, length-append W (Some action ∷ []))
 
-is_after_action : (limits : Limits) (S : State) (action : List Write) → IsAfterAsk S (next_state limits S (events.Write action))
+is_after_action : (limits : Limits) (S : State) (action : Action) → IsAfterAsk S (next_state limits S (events.Write action))
 is_after_action limits S action =
     let longer = length-append S.slots (Some action ∷ []) in
     record {

@@ -1,7 +1,6 @@
 -- Lines of a report, one after another.
 use Rattle.std.proofs.Common.{◌≡◌, ℕ, zero, suc, ◌<◌, ◌+◌, ◌==◌, Bool, true, false, List, [], ◌∷◌, ◌++◌, drop, Option, Some, None, Result, Ok, Err, IsErrAnd, IfErr, if◌then◌else◌, slice_get, refl, sym, ap, ◌∙◌, arith, append_assoc, codes}
 use Rattle.std.proofs.lemmas.Bool.Decides.{nat_tests}
-use Rattle.tt_values.specs.declared.statement.Write.{Write}
 use Rattle.tt_values.specs.Check.{action_fault}
 use Rattle.tt_values.specs.declared.table.TableDef.{TableDef}
 use Rattle.tt_values.specs.Tables.{Tables}

@@ -15,7 +15,7 @@ use std::alloc::{AllocError, Global};
 use tt_db::{Db, Entry, Event, Outcome, ReadError};
 use tt_document::{Ask, Call};
 use tt_records::{Record, What};
-use tt_values::{Items, Select, Write};
+use tt_values::{Action, Select};
 
 /// Carries out an event that isn't refused, and returns its outcome.
 pub(crate) fn carry_out(db: &mut Db, entry: Entry) -> Result<Outcome, RunFault>
@@ -32,8 +32,8 @@ pub(crate) fn carry_out(db: &mut Db, entry: Entry) -> Result<Outcome, RunFault>
 }
 
 /// Carries out an action. Returns the slot with the replies.
-fn make_action(db: &mut Db, worker: u32, action: Items<Write>) -> Result<What, RunFault>
-    requires accepted { action_fault db.old.catalog action ≡ None }
+fn make_action(db: &mut Db, worker: u32, action: Action) -> Result<What, RunFault>
+    requires accepted { action_fault db.old.catalog action.writes ≡ None }
     requires room { HasRoom db.old }
     ensures state { OnOk result
         (db.new ≡ with_entries db.old (entries_of_ask worker (Ask.Write action))) }

@@ -5,7 +5,7 @@ use std::alloc::Global;
 use std::process::Abort;
 use tt_document::{Ask, Call, DocFault, Document};
 use tt_grammar::push_quoted;
-use tt_values::{Catalog, Change, Column, Comparison, Equal, Items, Select, Value, Write};
+use tt_values::{Action, Catalog, Change, Column, Comparison, Equal, Items, Select, Value, Write};
 
 const STORED: &str =
     r#"{"version":1,"tables":[{"name":"acct","columns":[{"name":"id","kind":"int"},{"name":"owner","kind":"text","partition":true},{"name":"bal","kind":"int"}]}],"workers":1,"calls":[
@@ -37,7 +37,8 @@ fn call(ask: Ask) -> Call {
 }
 
 fn call_of<const N: usize>(rt: &impl Abort, alloc: Global, writes: [Write; N]) -> Call {
-    call(Ask::Write(Items::of(alloc, writes).expect(rt, "memory")))
+    let writes = Items::of(alloc, writes).expect(rt, "memory");
+    call(Ask::Write(Action::of(writes)))
 }
 
 fn insert_of_ann(rt: &impl Abort, alloc: Global) -> Write {

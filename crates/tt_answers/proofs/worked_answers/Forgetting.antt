@@ -3,6 +3,7 @@ use Rattle.std.specs.Prelude.{◌≡◌, pos, [], ◌∷◌, ◌++◌, None, Som
 use Rattle.std.specs.Fmt.{digits}
 use Rattle.tt_numbers.specs.Numbers.{Numbering}
 use Rattle.tt_values.specs.declared.reply.Reply.TheVariants as replies
+use Rattle.tt_values.specs.Action.{action_of}
 use Rattle.tt_values.specs.declared.statement.Write.TheVariants as writes
 use Rattle.tt_db.specs.declared.errors.DbError.TheVariants as errors
 use Rattle.tt_db.specs.declared.errors.ReadError.TheVariants as read_errors
@@ -61,7 +62,7 @@ slots : call_text accounts behind 15 (answers.Slots 4 (
     record {
       number = 2;
       worker = 1;
-      slot = record { action = Some (writes.Insert 0 (account (pos 1) (codes "ann") (pos 10)) ∷ []); replies = Some (replies.Inserted ∷ []) };
+      slot = record { action = Some (action_of (writes.Insert 0 (account (pos 1) (codes "ann") (pos 10)) ∷ [])); replies = Some (replies.Inserted ∷ []) };
       asked = None;
     }
     ∷ []))

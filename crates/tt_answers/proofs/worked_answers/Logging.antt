@@ -4,6 +4,7 @@ use Rattle.std.specs.Fmt.{digits}
 use Rattle.tt_values.specs.declared.value.Value.TheVariants as values
 use Rattle.tt_values.specs.declared.statement.Change.TheVariants as changes
 use Rattle.tt_values.specs.declared.statement.Write.TheVariants as writes
+use Rattle.tt_values.specs.Action.{action_of, whole_of}
 use Rattle.tt_grammar.specs.declared.session_version.SessionVersion.TheVariants.{Three}
 use Rattle.tt_values.specs.declared.comparison.Comparison.TheVariants.{Is}
 use Rattle.tt_grammar.proofs.worked_texts.Accounts.{accounts, account}
@@ -16,11 +17,16 @@ opening : log_opening_line Three accounts 4 100000 (record { horizon = 7; ground
 unfolding digits
 opening = refl
 
-ground_slot : ground_line accounts (writes.Insert 0 (account (pos 1) (codes "ann") (pos 10)) ∷ []) ≡ codes "{\"do\":[{\"insert\":\"acct\",\"row\":[1,\"ann\",10]}]}"
+ground_slot : ground_line accounts (action_of (writes.Insert 0 (account (pos 1) (codes "ann") (pos 10)) ∷ [])) ≡ codes "{\"do\":[{\"insert\":\"acct\",\"row\":[1,\"ann\",10]}]}"
 unfolding digits
 ground_slot = refl
 
-further_slot : slot_line accounts 3 (writes.Update 0 (changes.Add 2 (negsuc 2) ∷ []) (record { column = 0; how = Is; value = values.Int (pos 1) } ∷ []) ∷ [])
+further_slot : slot_line accounts 3 (action_of (writes.Update 0 (changes.Add 2 (negsuc 2) ∷ []) (record { column = 0; how = Is; value = values.Int (pos 1) } ∷ []) ∷ []))
     ≡ codes "{\"worker\":3,\"do\":[{\"update\":\"acct\",\"change\":[[\"add\",\"bal\",-3]],\"where\":[[\"id\",1]]}]}"
 unfolding digits
 further_slot = refl
+
+whole_slot : slot_line accounts 3 (whole_of (writes.Insert 0 (account (pos 1) (codes "ann") (pos 10)) ∷ []))
+    ≡ codes "{\"worker\":3,\"do\":[{\"insert\":\"acct\",\"row\":[1,\"ann\",10]}],\"whole\":true}"
+unfolding digits
+whole_slot = refl

@@ -6,6 +6,7 @@ use Rattle.tt_values.specs.declared.value.Value.TheVariants as values
 use Rattle.tt_values.specs.declared.statement.Change.TheVariants as changes
 use Rattle.tt_values.specs.declared.statement.Write.TheVariants as writes
 use Rattle.tt_values.specs.declared.reply.Reply.TheVariants as replies
+use Rattle.tt_values.specs.Action.{action_of, whole_of}
 use Rattle.tt_grammar.specs.declared.session_version.SessionVersion.TheVariants.{Two}
 use Rattle.tt_values.specs.declared.comparison.Comparison.TheVariants.{Is, AtLeast}
 use Rattle.tt_grammar.proofs.worked_texts.Accounts.{accounts, account}
@@ -16,14 +17,14 @@ slots : call_text accounts nothing_forgotten 18 (answers.Slots 4 (
     record {
       number = 1;
       worker = 1;
-      slot = record { action = Some (writes.Insert 0 (account (pos 1) (codes "ann") (pos 10)) ∷ []); replies = Some (replies.Inserted ∷ []) };
+      slot = record { action = Some (action_of (writes.Insert 0 (account (pos 1) (codes "ann") (pos 10)) ∷ [])); replies = Some (replies.Inserted ∷ []) };
       asked = None;
     }
     ∷ record {
       number = 3;
       worker = 1;
       slot = record {
-        action = Some (writes.Update 0 (changes.Add 2 (pos 1) ∷ []) (record { column = 0; how = Is; value = values.Int (pos 1) } ∷ []) ∷ []);
+        action = Some (action_of (writes.Update 0 (changes.Add 2 (pos 1) ∷ []) (record { column = 0; how = Is; value = values.Int (pos 1) } ∷ []) ∷ []));
         replies = Some (replies.Updated 1 ∷ []);
       };
       asked = None;
@@ -40,7 +41,7 @@ cancelled : call_text accounts nothing_forgotten 19 (answers.Slots 4 (
       number = 2;
       worker = 2;
       slot = record { action = None; replies = None };
-      asked = Some (writes.Update 0 (changes.Set 2 (values.Int (pos 0)) ∷ []) [] ∷ []);
+      asked = Some (action_of (writes.Update 0 (changes.Set 2 (values.Int (pos 0)) ∷ []) [] ∷ []));
     }
     ∷ []))
     ≡ (codes "{\"call\":19,\"time\":4,\"slots\":[{\"slot\":2,\"worker\":2,\"do\":null,\"replies\":null,\"asked\":[{\"update\":\"acct\",\"change\":[[\"set\","
@@ -54,12 +55,12 @@ replaced : call_text accounts nothing_forgotten 25 (answers.Slots 4 (
       number = 2;
       worker = 2;
       slot = record {
-        action = Some (
+        action = Some (action_of (
             writes.Delete 0 (record { column = 1; how = Is; value = values.Text (codes "bob") } ∷ record { column = 2; how = AtLeast; value = values.Int (pos 0) } ∷ [])
-            ∷ writes.Update 0 (changes.Set 1 (values.Text (codes "eve")) ∷ changes.Add 2 (pos 5) ∷ []) [] ∷ []);
+            ∷ writes.Update 0 (changes.Set 1 (values.Text (codes "eve")) ∷ changes.Add 2 (pos 5) ∷ []) [] ∷ []));
         replies = Some (replies.Deleted 0 ∷ replies.Updated 2 ∷ []);
       };
-      asked = Some [];
+      asked = Some (action_of []);
     }
     ∷ []))
     ≡ (codes "{\"call\":25,\"time\":4,\"slots\":[{\"slot\":2,\"worker\":2,\"do\":[{\"delete\":\"acct\",\"where\":[[\"owner\",\"bob\"],[\"bal\",\">=\",0]]},"
@@ -67,6 +68,32 @@ replaced : call_text accounts nothing_forgotten 25 (answers.Slots 4 (
     ++ codes "\"asked\":[]}]}\n")
 unfolding digits
 replaced = refl
+
+-- a whole action
+whole_slot : call_text accounts nothing_forgotten 26 (answers.Slots 4 (
+    record {
+      number = 1;
+      worker = 1;
+      slot = record { action = Some (whole_of (writes.Insert 0 (account (pos 1) (codes "ann") (pos 10)) ∷ [])); replies = Some (replies.Inserted ∷ []) };
+      asked = None;
+    }
+    ∷ []))
+    ≡ (codes "{\"call\":26,\"time\":4,\"slots\":[{\"slot\":1,\"worker\":1,\"do\":[{\"insert\":\"acct\",\"row\":[1,\"ann\",10]}],\"whole\":true,"
+    ++ codes "\"replies\":[\"inserted\"]}]}\n")
+unfolding digits
+whole_slot = refl
+
+-- a whole action that a repair cancelled, and one that it replaced by the same writes
+asked_whole : call_text accounts nothing_forgotten 27 (answers.Slots 4 (
+    record { number = 2; worker = 2; slot = record { action = None; replies = None }; asked = Some (whole_of []) }
+    ∷ record { number = 3; worker = 1; slot = record { action = Some (action_of []); replies = Some [] }; asked = Some (whole_of []) }
+    ∷ record { number = 4; worker = 1; slot = record { action = Some (whole_of []); replies = Some [] }; asked = Some (action_of []) }
+    ∷ []))
+    ≡ (codes "{\"call\":27,\"time\":4,\"slots\":[{\"slot\":2,\"worker\":2,\"do\":null,\"replies\":null,\"asked\":[],\"asked_whole\":true},"
+    ++ codes "{\"slot\":3,\"worker\":1,\"do\":[],\"replies\":[],\"asked\":[],\"asked_whole\":true},"
+    ++ codes "{\"slot\":4,\"worker\":1,\"do\":[],\"whole\":true,\"replies\":[],\"asked\":[]}]}\n")
+unfolding digits
+asked_whole = refl
 
 tables : call_text accounts nothing_forgotten 21 (answers.Declared Two 4 100000)
     ≡ (codes "{\"call\":21,\"version\":2,\"tables\":[{\"name\":\"acct\",\"columns\":[{\"name\":\"id\",\"kind\":\"int\",\"partition\":false},{\"name\":\"owner\","

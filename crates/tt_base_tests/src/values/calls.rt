@@ -7,8 +7,8 @@ use std::alloc::Global;
 use std::process::Abort;
 use std::sync::Arc;
 use tt_values::{
-    Catalog, CatalogError, Change, CheckError, Items, Kind, Reply, Same, Select, Shared, Text,
-    Value, Write, are_same, changed, check, check_action, check_select, matches,
+    Action, Catalog, CatalogError, Change, CheckError, Items, Kind, Reply, Same, Select, Shared,
+    Text, Value, Write, are_same, changed, check, check_action, check_select, matches,
 };
 
 #[test]
@@ -114,7 +114,8 @@ fn writes(rt: HostRuntime) {
 #[test]
 fn actions(rt: HostRuntime) {
     let alloc = rt.alloc();
-    let action = [insert(&rt, alloc), insert(&rt, alloc)];
+    let writes = [insert(&rt, alloc), insert(&rt, alloc)];
+    let action = Action::of(Items::of(alloc, writes).expect(&rt, "memory"));
     same(&rt, &check_action(&catalog(&rt, alloc), &action), &Ok(()));
     let no_table = Err(CheckError::NoTable);
     same(&rt, &check_action(&Catalog::new(alloc), &action), &no_table);

@@ -5,6 +5,7 @@ use Rattle.tt_values.specs.declared.statement.Select.{Select}
 use Rattle.tt_values.specs.declared.reply.Reply.{Reply}
 use Rattle.tt_values.specs.declared.reply.Reply.TheVariants.{Rows}
 use Rattle.tt_values.specs.declared.checking.CheckError.TheVariants as faults
+use Rattle.tt_values.specs.Action.{action_of}
 use Rattle.tt_values.specs.RowWrites.{row_writes}
 use Rattle.tt_values.proofs.worked_rows.Accounts.{tables, ann, bob, account, of_owner, balance_to, balance_by, insert, update, delete, select}
 use Rattle.tt_repair_laws.specs.declared.edit.Edit.{Edit}
@@ -27,7 +28,7 @@ after_events limits history = after limits (map (λ event. record { worker = 1; 
 
 -- an action of one write
 abbrev write : Write → Event
-write w = events.Write (w ∷ [])
+write w = events.Write (action_of (w ∷ []))
 
 -- a repair with these edits over five slots
 abbrev repair : List Edit → List Event
@@ -41,7 +42,7 @@ repaired =
     ∷ write (insert 3 bob 7)
     ∷ write (delete (of_owner ann))
     ∷ write (update (balance_by 1) [])
-    ∷ repair (Replace 4 (delete (of_owner bob) ∷ []) ∷ [])
+    ∷ repair (Replace 4 (action_of (delete (of_owner bob) ∷ [])) ∷ [])
 
 abbrev all : Select
 all = select []

@@ -7,9 +7,11 @@ use Rattle.tt_values.specs.declared.statement.Write.TheVariants.{Insert}
 use Rattle.tt_values.specs.declared.statement.Select.{Select}
 use Rattle.tt_values.specs.declared.value.Value.TheVariants as values
 use Rattle.tt_values.specs.declared.reply.Reply.TheVariants.{Inserted, Duplicate, Updated, Deleted, Rows}
+use Rattle.tt_values.specs.declared.action.Action.{Action}
 use Rattle.tt_values.specs.declared.checking.CheckError.TheVariants as faults
 use Rattle.tt_values.specs.Tables.{Tables}
 use Rattle.tt_values.specs.Row.{first_int}
+use Rattle.tt_values.specs.Action.{action_of, whole_of}
 use Rattle.tt_values.specs.RowWrites.{row_writes}
 use Rattle.tt_values.specs.Content.{row_at}
 use Rattle.tt_values.proofs.worked_rows.Accounts.{tables, ann, bob, zed, min_int, account, account_of, narrow_account, of_id, of_owner, balance_to, balance_by, insert, update, delete, select, two_inserts_of_a_key, insert_and_update, insert_after_delete}
@@ -39,19 +41,19 @@ IsRun tables limits before [] (answer ∷ answers) last = ⊥
 IsRun tables limits before (e ∷ entries) [] last = ⊥
 
 -- an entry of an action
-abbrev action_entry : ℕ → List Write → Entry
+abbrev action_entry : ℕ → Action → Entry
 action_entry worker action = record { worker = worker; event = events.Write action }
 
 -- the history of actions by worker 1, and the state after it
-abbrev history_of_actions : List (List Write) → List Entry
+abbrev history_of_actions : List Action → List Entry
 history_of_actions actions = map (action_entry 1) actions
 
-abbrev state_after_actions : List (List Write) → State
+abbrev state_after_actions : List Action → State
 state_after_actions actions = after max_limits (history_of_actions actions)
 
 -- an action of one write; the history of such actions, and the state after it
-abbrev only : Write → List Write
-only w = w ∷ []
+abbrev only : Write → Action
+only w = action_of (w ∷ [])
 
 abbrev history_of : List Write → List Entry
 history_of writes = history_of_actions (map only writes)
@@ -210,8 +212,8 @@ unfolding row_writes
 updated_row = (refl, refl)
 
 -- an action of three writes takes one slot. Each write is answered on the rows that the ones before it left
-abbrev insert_sum_insert : List Write
-insert_sum_insert = insert 1 ann 10 ∷ update (balance_by 5) (of_id 1) ∷ insert 1 bob 1 ∷ []
+abbrev insert_sum_insert : Action
+insert_sum_insert = action_of (insert 1 ann 10 ∷ update (balance_by 5) (of_id 1) ∷ insert 1 bob 1 ∷ [])
 
 action_accepted : refusal tables max_limits (after max_limits []) (events.Write insert_sum_insert) ≡ None
 action_accepted = refl
@@ -236,15 +238,15 @@ reads_around_an_action = (refl, refl)
 
 -- an action without writes takes a slot too
 empty_action :
-    (refusal tables max_limits (after max_limits []) (events.Write []) ≡ None)
-    × (outcome_of tables (after max_limits []) (events.Write []) ≡ Written 1 [])
-    × (slot_at (state_after_actions ([] ∷ [])).slots 1 ≡ Some (record { action = Some []; replies = Some [] }))
+    (refusal tables max_limits (after max_limits []) (events.Write (action_of [])) ≡ None)
+    × (outcome_of tables (after max_limits []) (events.Write (action_of [])) ≡ Written 1 [])
+    × (slot_at (state_after_actions (action_of [] ∷ [])).slots 1 ≡ Some (record { action = Some (action_of []); replies = Some [] }))
 unfolding row_writes
 empty_action = (refl, refl, refl)
 
 -- a row that an action inserts and deletes is at no time
-abbrev insert_delete : List Write
-insert_delete = insert 1 ann 1 ∷ delete (of_id 1) ∷ []
+abbrev insert_delete : Action
+insert_delete = action_of (insert 1 ann 1 ∷ delete (of_id 1) ∷ [])
 
 insert_and_delete :
     (outcome_of tables (after max_limits []) (events.Write insert_delete) ≡ Written 1 (Inserted ∷ Deleted 1 ∷ []))
@@ -252,16 +254,33 @@ insert_and_delete :
 unfolding row_writes
 insert_and_delete = (refl, refl)
 
+-- a whole action takes a slot also where it writes nothing. Its writes up to the first without an effect are answered
+abbrev insert_twice_insert : Action
+insert_twice_insert = whole_of (insert 1 ann 1 ∷ insert 1 bob 2 ∷ insert 2 bob 3 ∷ [])
+
+undone_action :
+    (refusal tables max_limits (after max_limits []) (events.Write insert_twice_insert) ≡ None)
+    × (outcome_of tables (after max_limits []) (events.Write insert_twice_insert) ≡ Written 1 (Inserted ∷ Duplicate ∷ []))
+    × (slot_at (state_after_actions (insert_twice_insert ∷ [])).slots 1 ≡ Some (record { action = Some insert_twice_insert; replies = Some (Inserted ∷ Duplicate ∷ []) }))
+    × (right_select_at tables (state_after_actions (insert_twice_insert ∷ [])) all 1 ≡ Ok (Rows []))
+unfolding row_writes
+undone_action = (refl, refl, refl, refl)
+
 -- an action is refused where a later write of it has a fault, or where it has too many. Nothing of it is carried out
-abbrev insert_set_key : List Write
-insert_set_key = insert 1 ann 1 ∷ update (Set 0 (values.Int (pos 2))) [] ∷ []
+abbrev insert_set_key : Action
+insert_set_key = action_of (insert 1 ann 1 ∷ update (Set 0 (values.Int (pos 2))) [] ∷ [])
+
+-- so is a whole action with a fault behind a write without an effect
+abbrev undone_before_fault : Action
+undone_before_fault = whole_of (update (balance_by 1) [] ∷ update (Set 0 (values.Int (pos 2))) [] ∷ [])
 
 faulty_actions :
     (refusal tables max_limits (after max_limits []) (events.Write insert_set_key) ≡ Some (errors.Statement faults.SetsKey))
-    × (refusal tables max_limits (after max_limits []) (events.Write (replicate 16 (insert 1 ann 1))) ≡ None)
-    × (refusal tables max_limits (after max_limits []) (events.Write (replicate 17 (insert 1 ann 1))) ≡ Some (errors.Statement faults.TooManyWrites))
-faulty_actions = (refl, refl, refl)
+    × (refusal tables max_limits (after max_limits []) (events.Write undone_before_fault) ≡ Some (errors.Statement faults.SetsKey))
+    × (refusal tables max_limits (after max_limits []) (events.Write (action_of (replicate 16 (insert 1 ann 1)))) ≡ None)
+    × (refusal tables max_limits (after max_limits []) (events.Write (action_of (replicate 17 (insert 1 ann 1)))) ≡ Some (errors.Statement faults.TooManyWrites))
+faulty_actions = (refl, refl, refl, refl)
 
-run_of_faulty_actions : IsRun tables max_limits [] (history_of_actions (insert_set_key ∷ replicate 17 (insert 1 ann 1) ∷ []))
+run_of_faulty_actions : IsRun tables max_limits [] (history_of_actions (insert_set_key ∷ action_of (replicate 17 (insert 1 ann 1)) ∷ []))
     (Err (errors.Statement faults.SetsKey) ∷ Err (errors.Statement faults.TooManyWrites) ∷ []) []
 run_of_faulty_actions = (refl, (refl, refl))

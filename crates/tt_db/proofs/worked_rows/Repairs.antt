@@ -1,13 +1,15 @@
 -- Histories with repairs, computed.
-use Rattle.std.proofs.Common.{◌≡◌, pos, true, false, List, [], ◌∷◌, ◌++◌, map, None, Some, Ok, Err, refl}
+use Rattle.std.proofs.Common.{◌≡◌, ℕ, pos, true, false, List, [], ◌∷◌, ◌++◌, map, None, Some, Ok, Err, refl}
+use Rattle.tt_values.specs.declared.comparison.Comparison.TheVariants.{AtLeast}
 use Rattle.tt_values.specs.declared.statement.Write.{Write}
 use Rattle.tt_values.specs.declared.statement.Change.TheVariants.{Set}
 use Rattle.tt_values.specs.declared.statement.Select.{Select}
 use Rattle.tt_values.specs.declared.value.Value.TheVariants as values
 use Rattle.tt_values.specs.declared.reply.Reply.TheVariants.{Inserted, Updated, Rows}
 use Rattle.tt_values.specs.declared.checking.CheckError.TheVariants as faults
+use Rattle.tt_values.specs.Action.{action_of, whole_of}
 use Rattle.tt_values.specs.RowWrites.{row_writes}
-use Rattle.tt_values.proofs.worked_rows.Accounts.{tables, ann, bob, eve, account, of_id, of_owner, owner_to, balance_to, balance_by, insert, update, delete, select}
+use Rattle.tt_values.proofs.worked_rows.Accounts.{tables, ann, bob, eve, sold, account, id_is, of_id, of_owner, owner_to, balance_to, balance_by, balance_less, balance_compares, insert, update, delete, select}
 use Rattle.tt_repair_laws.specs.declared.edit.Edit.{Edit}
 use Rattle.tt_repair_laws.specs.declared.edit.Edit.TheVariants.{Cancel, Replace}
 use Rattle.tt_repair_laws.specs.Due.{dirty_after, reexecuted_count}
@@ -30,7 +32,7 @@ after_events history = after max_limits (map (λ event. record { worker = 1; eve
 
 -- an action of one write
 abbrev write : Write → Event
-write w = events.Write (w ∷ [])
+write w = events.Write (action_of (w ∷ []))
 
 abbrev step : Event
 step = events.Step
@@ -56,7 +58,7 @@ cancelled_insert_before_duplicate :
     (outcome_of tables (after_events duplicate_repaired) events.Switch ≡ Switched 1 2 2)
     × (right_select_at tables S all 2 ≡ Ok (Rows (account 1 bob 20 ∷ [])))
     × (slot_at S.slots 1 ≡ Some (record { action = None; replies = None }))
-    × (slot_at S.slots 2 ≡ Some (record { action = Some (insert 1 bob 20 ∷ []); replies = Some (Inserted ∷ []) }))
+    × (slot_at S.slots 2 ≡ Some (record { action = Some (action_of (insert 1 bob 20 ∷ [])); replies = Some (Inserted ∷ []) }))
 unfolding row_writes dirty_after reexecuted_count
 cancelled_insert_before_duplicate = (refl, refl, refl, refl)
 
@@ -74,10 +76,25 @@ cancelled_move :
     let S = after_events (move_repaired ++ events.Switch ∷ []) in
     (outcome_of tables (after_events move_repaired) events.Switch ≡ Switched 1 4 3)
     × (right_select_at tables S all 4 ≡ Ok (Rows (account 1 ann 17 ∷ [])))
-    × (slot_at S.slots 3 ≡ Some (record { action = Some (update (balance_to 0) (of_owner eve) ∷ []); replies = Some (Updated 0 ∷ []) }))
-    × (slot_at S.slots 4 ≡ Some (record { action = Some (update (balance_by 7) (of_owner ann) ∷ []); replies = Some (Updated 1 ∷ []) }))
+    × (slot_at S.slots 3 ≡ Some (record { action = Some (action_of (update (balance_to 0) (of_owner eve) ∷ [])); replies = Some (Updated 0 ∷ []) }))
+    × (slot_at S.slots 4 ≡ Some (record { action = Some (action_of (update (balance_by 7) (of_owner ann) ∷ [])); replies = Some (Updated 1 ∷ []) }))
 unfolding row_writes dirty_after reexecuted_count
 cancelled_move = (refl, refl, refl, refl)
+
+-- there is enough for one of two sales. The first is cancelled, so the second is carried out
+abbrev sale : ℕ → Event
+sale id = events.Write (whole_of (update (balance_less 8) (id_is 1 ∷ balance_compares AtLeast 8 ∷ []) ∷ insert id sold 8 ∷ []))
+
+abbrev sale_repaired : List Event
+sale_repaired = write (insert 1 ann 10) ∷ sale 2 ∷ sale 3 ∷ events.Begin (Cancel 2 ∷ []) ∷ step ∷ step ∷ step ∷ []
+
+cancelled_sale :
+    let S = after_events (sale_repaired ++ events.Switch ∷ []) in
+    (outcome_of tables (after_events sale_repaired) events.Switch ≡ Switched 1 3 2)
+    × (right_select_at tables (after_events sale_repaired) all 3 ≡ Ok (Rows (account 1 ann 2 ∷ account 2 sold 8 ∷ [])))
+    × (right_select_at tables S all 3 ≡ Ok (Rows (account 1 ann 2 ∷ account 3 sold 8 ∷ [])))
+unfolding row_writes dirty_after reexecuted_count
+cancelled_sale = (refl, refl, refl)
 
 -- five slots, of which the fourth is replaced
 abbrev five_slots : List Event
@@ -90,7 +107,7 @@ five_slots =
     ∷ []
 
 abbrev delete_of_bob : Event
-delete_of_bob = events.Begin (Replace 4 (delete (of_owner bob) ∷ []) ∷ [])
+delete_of_bob = events.Begin (Replace 4 (action_of (delete (of_owner bob) ∷ [])) ∷ [])
 
 -- after four steps, and an insert meanwhile
 abbrev four_steps : List Event
@@ -179,7 +196,7 @@ abbrev begun : List Event
 begun = one_slot ++ events.Begin [] ∷ []
 
 abbrev bad_edit : Edit
-bad_edit = Replace 9 (update (Set 0 (values.Int (pos 2))) [] ∷ [])
+bad_edit = Replace 9 (action_of (update (Set 0 (values.Int (pos 2))) [] ∷ []))
 
 order_of_refusals :
     (refusal tables max_limits (after_events one_slot) step ≡ Some errors.NotRepairing)

@@ -9,10 +9,10 @@ use super::{
 use std::alloc::Global;
 use std::process::Abort;
 use tt_db::{Db, DbError, Edit, Event, Limits, MAX_EVENTS, MAX_KEEP, MAX_SLOTS, Outcome};
-use tt_values::{Change, CheckError, Items, Reply, Value, Write};
+use tt_values::{Action, Change, CheckError, Items, Reply, Value, Write};
 
 /// An insert, and an update that sets the key of every account.
-fn insert_and_set_key(rt: &impl Abort, alloc: Global) -> Items<Write> {
+fn insert_and_set_key(rt: &impl Abort, alloc: Global) -> Action {
     let set_key = Change::Set {
         column: 0,
         value: Value::Int(2),
@@ -25,14 +25,14 @@ fn insert_and_set_key(rt: &impl Abort, alloc: Global) -> Items<Write> {
 }
 
 /// An action of this many inserts, the first one into this table and the others into `acct`.
-fn inserts(rt: &impl Abort, alloc: Global, table: u16, count: u32) -> Items<Write> {
+fn inserts(rt: &impl Abort, alloc: Global, table: u16, count: u32) -> Action {
     let mut writes = Vec::new(alloc);
     for id in 0..count {
         let table = if id == 0 { table } else { ACCT };
         let insert = insert(rt, alloc, table, (i64::from(id), "ann", 1));
         writes.push(insert).expect(rt, "memory");
     }
-    Items::new(alloc, writes).expect(rt, "memory")
+    Action::of(Items::new(alloc, writes).expect(rt, "memory"))
 }
 
 /// The replies to this many inserts.

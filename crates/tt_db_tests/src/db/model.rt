@@ -6,11 +6,8 @@ use std::alloc::Global;
 use std::process::Abort;
 use tt_db::{Edit, Event, Outcome, Progress, Slot};
 use tt_values::{
-    Catalog, Change, Comparison, Equal, Items, Reply, Row, Select, Shared, Value, Write,
+    Action, Catalog, Change, Comparison, Equal, Items, Reply, Row, Select, Shared, Value, Write,
 };
-
-/// The action of a slot, or None where the slot is cancelled.
-type Action = Option<Items<Write>>;
 
 /// The table and the key of a row.
 type Key = (u16, i64);
@@ -33,10 +30,12 @@ struct Partition {
 /// A slot that was carried out.
 #[derive(Drop)]
 struct SlotRun {
-    action: Action,
+    /// None where it is cancelled.
+    action: Option<Action>,
     replies: Items<Reply>,
-    /// The rows that it wrote, and those that it matched: an insert matches the row of its key.
-    wrote: Vec<Key>,
+    /// The rows that its writes wrote, of an undone action too, and those that they matched: an
+    /// insert matches the row of its key.
+    touched: Vec<Key>,
     matched: Vec<Key>,
     /// All rows after it, by table and key.
     rows: Vec<TableRow>,
@@ -74,9 +73,9 @@ pub(super) struct Model {
     repair: Option<Repair>,
 }
 
-fn copy_of(rt: &impl Abort, action: &Action) -> Action {
+fn copy_of(rt: &impl Abort, action: &Option<Action>) -> Option<Action> {
     match action {
-        Some(writes) => Some(writes.clone().expect(rt, "memory")),
+        Some(action) => Some(action.clone().expect(rt, "memory")),
         None => None,
     }
 }
@@ -123,6 +122,24 @@ fn is_match(equals: &[Equal], row: &Row) -> bool {
         }
     }
     true
+}
+
+/// Whether this is the reply to a write without an effect.
+fn has_no_effect(reply: &Reply) -> bool {
+    match reply {
+        Reply::Duplicate => true,
+        Reply::Updated(count) | Reply::Deleted(count) => *count == 0,
+        Reply::Inserted | Reply::Rows(_) => false,
+    }
+}
+
+/// Copies of these rows.
+fn copies(rt: &impl Abort, alloc: Global, rows: &[TableRow]) -> Vec<TableRow> {
+    let mut copies = Vec::new(alloc);
+    for row in rows {
+        copies.push(row.copy(rt)).expect(rt, "memory");
+    }
+    copies
 }
 
 /// A row with these changes.
@@ -209,26 +226,41 @@ impl TableRow {
 
 impl SlotRun {
     /// A slot of this action, on the rows that the slots before it left.
-    fn of(rt: &impl Abort, alloc: Global, rows: &[TableRow], action: &Action) -> SlotRun {
+    fn of(rt: &impl Abort, alloc: Global, rows: &[TableRow], action: &Option<Action>) -> SlotRun {
         let mut run = SlotRun {
             action: copy_of(rt, action),
             replies: Items::of(alloc, []).expect(rt, "memory"),
-            wrote: Vec::new(alloc),
+            touched: Vec::new(alloc),
             matched: Vec::new(alloc),
-            rows: Vec::new(alloc),
+            rows: copies(rt, alloc, rows),
         };
-        for row in rows {
-            run.rows.push(row.copy(rt)).expect(rt, "memory");
-        }
-        if let Some(writes) = action {
-            let mut replies = Vec::new(alloc);
-            for write in writes.as_slice() {
-                let reply = run.write(rt, alloc, write);
-                replies.push(reply).expect(rt, "memory");
-            }
+        if let Some(action) = action {
+            let replies = run.carry_out(rt, alloc, rows, action);
             run.replies = Items::new(alloc, replies).expect(rt, "memory");
         }
         run
+    }
+
+    /// Carries out the writes of an action in order. If one of a whole action has no effect, the
+    /// rows are again those from before, and the writes after it aren't carried out.
+    fn carry_out(
+        &mut self,
+        rt: &impl Abort,
+        alloc: Global,
+        before: &[TableRow],
+        action: &Action,
+    ) -> Vec<Reply> {
+        let mut replies = Vec::new(alloc);
+        for write in action.writes.as_slice() {
+            let reply = self.write(rt, alloc, write);
+            let is_undone = action.whole && has_no_effect(&reply);
+            replies.push(reply).expect(rt, "memory");
+            if is_undone {
+                self.rows = copies(rt, alloc, before);
+                break;
+            }
+        }
+        replies
     }
 
     /// Carries out a write on the rows that the writes before it left.
@@ -259,7 +291,7 @@ impl SlotRun {
         if row_of(self.rows.as_slice(), key).is_some() {
             return Reply::Duplicate;
         }
-        self.wrote.push(key).expect(rt, "memory");
+        self.touched.push(key).expect(rt, "memory");
         let mut rows = Vec::new(alloc);
         for row in self.rows.as_slice() {
             if is_before(row.key(), key) {
@@ -294,7 +326,7 @@ impl SlotRun {
                 continue;
             }
             count = count.saturating_add(1);
-            self.wrote.push(row.key()).expect(rt, "memory");
+            self.touched.push(row.key()).expect(rt, "memory");
             self.matched.push(row.key()).expect(rt, "memory");
             if let Some(changes) = changes {
                 let row = changed(rt, alloc, &row.row, changes);
@@ -330,7 +362,7 @@ impl Generation {
     }
 
     /// Carries out one more slot.
-    fn push(&mut self, rt: &impl Abort, alloc: Global, action: &Action) {
+    fn push(&mut self, rt: &impl Abort, alloc: Global, action: &Option<Action>) {
         let slot = SlotRun::of(rt, alloc, self.rows_at(self.len()), action);
         self.slots.push(slot).expect(rt, "memory");
     }
@@ -403,13 +435,13 @@ impl Dirty {
 
     /// Whether a slot that has no edit is due.
     fn affects(&self, catalog: &Catalog, slot: &SlotRun) -> bool {
-        for key in &slot.wrote {
+        for key in &slot.touched {
             if self.has_row(*key) {
                 return true;
             }
         }
-        if let Some(writes) = &slot.action {
-            for write in writes.as_slice() {
+        if let Some(action) = &slot.action {
+            for write in action.writes.as_slice() {
                 if self.affects_write(catalog, write) {
                     return true;
                 }
@@ -475,7 +507,7 @@ impl Repair {
         let edit = edit_of(self.edits.as_slice(), number);
         let action = match edit {
             Some(Edit::Cancel(_)) => None,
-            Some(Edit::Replace(_, writes)) => Some(writes.clone().expect(rt, "memory")),
+            Some(Edit::Replace(_, action)) => Some(action.clone().expect(rt, "memory")),
             None => copy_of(rt, &slot.action),
         };
         let is_due = edit.is_some() || self.dirty.affects(catalog, slot);
@@ -487,12 +519,12 @@ impl Repair {
         is_due
     }
 
-    /// Adds to what is dirty the rows that a slot which was due wrote, and those that it matches
+    /// Adds to what is dirty the rows that a slot which was due touched, and those that it matches
     /// now, with the partitions in which they lie just before it and after it.
     fn dirty_by(&mut self, rt: &impl Abort, catalog: &Catalog, old: &SlotRun, number: u64) {
         let new = self.next.slot(number).expect(rt, "a slot");
         let before = self.next.rows_at(number.saturating_sub(1));
-        for keys in [&old.wrote, &new.matched] {
+        for keys in [&old.touched, &new.matched] {
             for key in keys {
                 self.dirty.add_row(rt, *key);
                 for rows in [before, new.rows.as_slice()] {
@@ -533,7 +565,7 @@ impl Model {
         event: &Event,
     ) -> Option<Outcome> {
         match event {
-            Event::Write(writes) => self.write(rt, alloc, writes),
+            Event::Write(action) => self.write(rt, alloc, action),
             Event::Begin(edits) => self.begin(rt, alloc, edits),
             Event::Step => self.step(rt, alloc),
             Event::Switch => self.switch(),
@@ -544,8 +576,8 @@ impl Model {
         }
     }
 
-    fn write(&mut self, rt: &impl Abort, alloc: Global, writes: &Items<Write>) -> Option<Outcome> {
-        let action = Some(writes.clone().expect(rt, "memory"));
+    fn write(&mut self, rt: &impl Abort, alloc: Global, action: &Action) -> Option<Outcome> {
+        let action = Some(action.clone().expect(rt, "memory"));
         self.current.push(rt, alloc, &action);
         let slot = self.now();
         let run = self.current.slot(slot)?;

@@ -4,7 +4,7 @@ use super::{ACCT, add, delete, insert, set_balance, set_owner};
 use std::alloc::Global;
 use std::process::Abort;
 use tt_db::{Edit, Event};
-use tt_values::{Change, Comparison, Equal, Items, Value, Write};
+use tt_values::{Action, Change, Comparison, Equal, Items, Value, Write};
 
 /// Numbers that look random, and are the same in each run of the tests.
 #[derive(Drop)]
@@ -100,13 +100,17 @@ impl Random {
         }
     }
 
-    /// An action of 0 to 3 writes.
-    fn action(&mut self, rt: &impl Abort, alloc: Global) -> Items<Write> {
+    /// An action of 0 to 3 writes, whole or not.
+    fn action(&mut self, rt: &impl Abort, alloc: Global) -> Action {
         let mut writes = Vec::new(alloc);
         for _ in 0..self.below(4) {
             writes.push(self.write(rt, alloc)).expect(rt, "memory");
         }
-        Items::new(alloc, writes).expect(rt, "memory")
+        let writes = Items::new(alloc, writes).expect(rt, "memory");
+        match self.below(2) {
+            0 => Action::of(writes),
+            _ => Action::whole(writes),
+        }
     }
 
     /// An edit of one of the first `slots` slots.

@@ -1,10 +1,12 @@
 -- The ground of some accounts, and the slots that stand on it.
-use Rattle.std.proofs.Common.{◌≡◌, ℕ, pos, List, [], ◌∷◌, ◌++◌, None, Some, map, refl}
+use Rattle.std.proofs.Common.{◌≡◌, ℕ, pos, List, [], ◌∷◌, ◌++◌, None, map, refl}
 use Rattle.std.specs.List.{range_with_len}
 use Rattle.tt_values.specs.declared.statement.Write.{Write}
+use Rattle.tt_values.specs.declared.action.Action.{Action}
 use Rattle.tt_values.specs.declared.statement.Write.TheVariants.{Insert}
+use Rattle.tt_values.specs.Action.{action_of, whole_of}
 use Rattle.tt_values.specs.RowWrites.{Slots, row_writes, content_of}
-use Rattle.tt_values.proofs.worked_rows.Accounts.{ann, bob, eve, account, of_id, of_owner, owner_to, balance_by, insert, update, delete, slot_of, slots_of}
+use Rattle.tt_values.proofs.worked_rows.Accounts.{ann, bob, eve, account, of_id, of_owner, owner_to, balance_by, insert, update, delete, slot_of, slot_of_writes, whole_slot_of, slots_of, two_inserts_of_a_key}
 use Rattle.tt_repair_laws.specs.declared.edit.Edit.TheVariants.{Cancel, Replace}
 use Rattle.tt_horizon_laws.specs.Ground.{inserts_of_tables, in_pieces, ground_of_content, on_ground, moved, moved_edit}
 
@@ -17,8 +19,8 @@ accounts_and_more =
     ∷ []
 
 -- one action with the accounts after the first five slots, by key
-abbrev pub two_accounts : List (List Write)
-two_accounts = (insert 1 ann 15 ∷ insert 2 bob 20 ∷ []) ∷ []
+abbrev pub two_accounts : List Action
+two_accounts = action_of (insert 1 ann 15 ∷ insert 2 bob 20 ∷ []) ∷ []
 
 -- it is their ground
 ground_of_accounts : ground_of_content 1 (content_of accounts_and_more 5) ≡ two_accounts
@@ -41,11 +43,11 @@ abbrev pub accounts_on_ground : Slots
 accounts_on_ground = on_ground two_accounts accounts_and_more 5
 
 -- the cancelled slot is an action of no writes there
-slots_on_ground : accounts_on_ground ≡ Some (insert 1 ann 15 ∷ insert 2 bob 20 ∷ []) ∷ Some [] ∷ slot_of (update (owner_to eve) (of_owner ann)) ∷ []
+slots_on_ground : accounts_on_ground ≡ slot_of_writes (insert 1 ann 15 ∷ insert 2 bob 20 ∷ []) ∷ slot_of_writes [] ∷ slot_of (update (owner_to eve) (of_owner ann)) ∷ []
 slots_on_ground = refl
 
 -- time 5 comes to stand at 1, time 7 at 3
-places : (moved 5 1 5 ≡ 1) × (moved 5 1 6 ≡ 2) × (moved 5 1 7 ≡ 3) × (moved_edit 5 1 (Cancel 7) ≡ Cancel 3) × (moved_edit 5 1 (Replace 6 []) ≡ Replace 2 [])
+places : (moved 5 1 5 ≡ 1) × (moved 5 1 6 ≡ 2) × (moved 5 1 7 ≡ 3) × (moved_edit 5 1 (Cancel 7) ≡ Cancel 3) × (moved_edit 5 1 (Replace 6 (whole_of [])) ≡ Replace 2 (whole_of []))
 places = (refl, refl, refl, refl, refl)
 
 -- from time 5 on the accounts are the same
@@ -56,6 +58,16 @@ same_accounts :
     × (content_of accounts_and_more 7 0 ≡ (pos 1, account 1 eve 15) ∷ (pos 2, account 2 bob 20) ∷ [])
 unfolding row_writes
 same_accounts = (refl, refl, refl, refl)
+
+-- a whole action stays whole behind a ground, and leaves no row in one if it wrote nothing
+abbrev whole_slot_last : Slots
+whole_slot_last = slot_of (insert 2 eve 3) ∷ whole_slot_of two_inserts_of_a_key ∷ []
+
+whole_slots_stay :
+    (on_ground (ground_of_content 1 (content_of whole_slot_last 1)) whole_slot_last 1 ≡ whole_slot_last)
+    × (ground_of_content 1 (content_of whole_slot_last 2) ≡ action_of (insert 2 eve 3 ∷ []) ∷ [])
+unfolding row_writes
+whole_slots_stay = (refl, refl)
 
 -- no rows have no ground; the last piece may have fewer items, and none is empty
 pieces :
@@ -70,6 +82,6 @@ abbrev many_accounts : List Write
 many_accounts = map (λ id. insert id ann 0) (range_with_len 1 17)
 
 -- their ground has an action of 16 of them and one of the last
-ground_of_many : ground_of_content 1 (content_of (slots_of many_accounts) 17) ≡ map (λ id. insert id ann 0) (range_with_len 1 16) ∷ (insert 17 ann 0 ∷ []) ∷ []
+ground_of_many : ground_of_content 1 (content_of (slots_of many_accounts) 17) ≡ action_of (map (λ id. insert id ann 0) (range_with_len 1 16)) ∷ action_of (insert 17 ann 0 ∷ []) ∷ []
 unfolding row_writes
 ground_of_many = refl

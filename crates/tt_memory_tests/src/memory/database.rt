@@ -5,7 +5,7 @@ use super::{add_to_all, delete, everything, insert, items, new_db, same};
 use std::alloc::{AllocError, Global};
 use std::process::Abort;
 use tt_db::{Db, DbError, Edit, Entry, Event, Outcome, ReadError};
-use tt_values::{Items, Reply, Write};
+use tt_values::{Action, Items, Reply, Write};
 
 pub(super) fn entry(event: Event) -> Entry {
     Entry { worker: 1, event }
@@ -37,7 +37,7 @@ fn all(rt: &impl Abort, alloc: Global, db: &Db) -> Reply {
 }
 
 pub(super) fn write(rt: &impl Abort, alloc: Global, write: Write) -> Event {
-    Event::Write(items(rt, alloc, [write]))
+    Event::Write(Action::of(items(rt, alloc, [write])))
 }
 
 pub(super) fn written(rt: &impl Abort, alloc: Global, slot: u64, reply: Reply) -> Outcome {
@@ -49,7 +49,7 @@ pub(super) fn written(rt: &impl Abort, alloc: Global, slot: u64, reply: Reply) -
 
 /// The edit that replaces the delete of slot 4.
 pub(super) fn delete_bob(rt: &impl Abort, alloc: Global) -> Items<Edit> {
-    let action = items(rt, alloc, [delete(rt, alloc, "bob")]);
+    let action = Action::of(items(rt, alloc, [delete(rt, alloc, "bob")]));
     items(rt, alloc, [Edit::Replace(4, action)])
 }
 

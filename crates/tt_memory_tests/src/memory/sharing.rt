@@ -5,7 +5,7 @@ use super::{insert, items, new_db, same};
 use std::alloc::Global;
 use std::process::Abort;
 use tt_db::{Db, DbError, Entry, Event};
-use tt_values::Write;
+use tt_values::{Action, Write};
 
 /// The number of rows.
 const ROWS: i64 = 5_000;
@@ -13,7 +13,7 @@ const ROWS: i64 = 5_000;
 fn entry(rt: &impl Abort, alloc: Global, write: Write) -> Entry {
     Entry {
         worker: 1,
-        event: Event::Write(items(rt, alloc, [write])),
+        event: Event::Write(Action::of(items(rt, alloc, [write]))),
     }
 }
 

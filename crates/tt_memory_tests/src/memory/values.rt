@@ -4,8 +4,8 @@ use super::{account_columns, add_to_all, delete, everything, insert, items, owne
 use std::alloc::{AllocError, Global};
 use std::process::Abort;
 use tt_values::{
-    Catalog, CatalogError, Change, CheckError, Column, Comparison, Equal, Items, Kind, Row, Same,
-    Select, Shared, TableDef, Text, Value, Write, are_same, changed, check, check_action,
+    Action, Catalog, CatalogError, Change, CheckError, Column, Comparison, Equal, Items, Kind, Row,
+    Same, Select, Shared, TableDef, Text, Value, Write, are_same, changed, check, check_action,
     check_select, digest, matches,
 };
 
@@ -143,7 +143,8 @@ fn values_that_are_made_in_one_call(rt: HostRuntime) {
     let update = made(&rt, update, update_of_ann(alloc));
     let mut catalog = Catalog::new(alloc);
     catalog.add("acct", def).expect(&rt, "a table");
-    same(&rt, &check_action(&catalog, &[insert, update]), &Ok(()));
+    let action = Action::of(items(&rt, alloc, [insert, update]));
+    same(&rt, &check_action(&catalog, &action), &Ok(()));
 }
 
 /// The row of ann with one more, though the first call may find no memory.
@@ -262,11 +263,12 @@ fn judges_writes(rt: &impl Abort, alloc: Global, catalog: &Catalog) {
         delete(rt, alloc, "ann"),
         add_to_all(rt, alloc, 1),
     ];
+    let action = Action::of(items(rt, alloc, writes));
     let missing = Write::delete(alloc, 1, []).expect(rt, "memory");
     quiet(alloc);
-    same(rt, &check_action(catalog, &writes), &Ok(()));
+    same(rt, &check_action(catalog, &action), &Ok(()));
     same(rt, &check(catalog, &missing), &Err(CheckError::NoTable));
-    for write in &writes {
+    for write in action.writes.as_slice() {
         same(rt, &write.table(), &0);
         same(rt, &write.copy().expect(rt, "an owner"), write);
     }

@@ -2,8 +2,9 @@
 use Rattle.std.proofs.Common.{◌≡◌, pos, true, false, List, [], ◌∷◌, None, Some, refl}
 use Rattle.tt_values.specs.declared.row_id.RowId.{RowId}
 use Rattle.tt_values.specs.declared.reply.Reply.TheVariants.{Inserted, Duplicate, Updated, Deleted}
+use Rattle.tt_values.specs.Action.{action_of}
 use Rattle.tt_values.specs.RowWrites.{Slots, slot_after, row_writes}
-use Rattle.tt_values.proofs.worked_rows.Accounts.{tables, ann, bob, eve, account, of_id, of_owner, owner_to, balance_to, balance_by, insert, update, delete, slot_of}
+use Rattle.tt_values.proofs.worked_rows.Accounts.{tables, ann, bob, eve, account, of_id, of_owner, owner_to, balance_to, balance_by, insert, update, delete, slot_of, slot_of_writes}
 use Rattle.tt_repair_laws.specs.declared.edit.Edit.{Edit}
 use Rattle.tt_repair_laws.specs.declared.edit.Edit.TheVariants.{Cancel, Replace}
 use Rattle.tt_repair_laws.specs.Edits.{edited_slots}
@@ -12,7 +13,7 @@ use Rattle.tt_repair_laws.proofs.worked_rows.Repairs.{due_slots, replies, accoun
 
 -- an insert is cancelled: an action whose second write sees what its first one left is due, and an insert of another key isn't
 abbrev moved_account : Slots
-moved_account = slot_of (insert 1 ann 10) ∷ Some (update (owner_to eve) (of_owner ann) ∷ update (balance_to 0) (of_owner eve) ∷ []) ∷ slot_of (insert 2 ann 1) ∷ []
+moved_account = slot_of (insert 1 ann 10) ∷ slot_of_writes (update (owner_to eve) (of_owner ann) ∷ update (balance_to 0) (of_owner eve) ∷ []) ∷ slot_of (insert 2 ann 1) ∷ []
 
 insert_before_action_cancelled :
     (replies moved_account ≡ Some (Inserted ∷ []) ∷ Some (Updated 1 ∷ Updated 1 ∷ []) ∷ Some (Inserted ∷ []) ∷ [])
@@ -29,7 +30,7 @@ abbrev no_account_of_eve : Slots
 no_account_of_eve = slot_of (insert 1 ann 10) ∷ slot_of (update (balance_by 1) (of_owner eve)) ∷ []
 
 abbrev insert_for_eve : List Edit
-insert_for_eve = Replace 1 (insert 1 ann 10 ∷ update (owner_to eve) (of_id 1) ∷ []) ∷ []
+insert_for_eve = Replace 1 (action_of (insert 1 ann 10 ∷ update (owner_to eve) (of_id 1) ∷ [])) ∷ []
 
 insert_replaced_by_action :
     (replies no_account_of_eve ≡ Some (Inserted ∷ []) ∷ Some (Updated 0 ∷ []) ∷ [])
@@ -46,7 +47,7 @@ account_1 = record { table = 0; key = pos 1 }
 -- an action inserts a row and deletes it: it wrote the row, and once it is cancelled each later action on the row is due
 abbrev insert_and_delete : Slots
 insert_and_delete =
-    Some (insert 1 ann 10 ∷ delete (of_id 1) ∷ [])
+    slot_of_writes (insert 1 ann 10 ∷ delete (of_id 1) ∷ [])
     ∷ slot_of (insert 1 bob 5)
     ∷ slot_of (update (balance_by 1) (of_owner bob))
     ∷ slot_of (update (balance_by 1) (of_owner ann))
@@ -63,7 +64,7 @@ deleted_row_is_written = (refl, refl, refl, refl)
 
 -- an insert is cancelled: due is an action that inserts its key and deletes the row, as its replies change
 abbrev insert_and_delete_again : Slots
-insert_and_delete_again = slot_of (insert 1 bob 5) ∷ Some (insert 1 ann 10 ∷ delete (of_owner ann) ∷ []) ∷ []
+insert_and_delete_again = slot_of (insert 1 bob 5) ∷ slot_of_writes (insert 1 ann 10 ∷ delete (of_owner ann) ∷ []) ∷ []
 
 insert_before_delete_cancelled :
     (replies insert_and_delete_again ≡ Some (Inserted ∷ []) ∷ Some (Duplicate ∷ Deleted 0 ∷ []) ∷ [])
@@ -79,7 +80,7 @@ abbrev one_account : Slots
 one_account = slot_of (insert 1 ann 10) ∷ slot_of (delete (of_owner bob)) ∷ slot_of (update (balance_by 1) (of_owner ann)) ∷ slot_of (insert 1 eve 2) ∷ []
 
 abbrev delete_for_bob : List Edit
-delete_for_bob = Replace 2 (update (owner_to bob) (of_owner ann) ∷ delete (of_owner bob) ∷ []) ∷ []
+delete_for_bob = Replace 2 (action_of (update (owner_to bob) (of_owner ann) ∷ delete (of_owner bob) ∷ [])) ∷ []
 
 writes_match_in_their_turn :
     (slot_rows_matched (slot_after (edited_slots one_account delete_for_bob) 1) (content_after (edited_slots one_account delete_for_bob) 1) ≡ account_1 ∷ account_1 ∷ [])
@@ -92,11 +93,11 @@ writes_match_in_their_turn = (refl, refl, refl, refl, refl)
 
 -- an action without writes isn't affected, and in place of an insert it leaves no row
 abbrev insert_then_nothing : Slots
-insert_then_nothing = slot_of (insert 1 ann 10) ∷ Some [] ∷ []
+insert_then_nothing = slot_of (insert 1 ann 10) ∷ slot_of_writes [] ∷ []
 
 replaced_by_no_writes :
-    (due_slots insert_then_nothing (Replace 1 [] ∷ []) ≡ true ∷ false ∷ [])
-    × (replies (edited_slots insert_then_nothing (Replace 1 [] ∷ [])) ≡ Some [] ∷ Some [] ∷ [])
-    × (accounts (edited_slots insert_then_nothing (Replace 1 [] ∷ [])) ≡ [])
+    (due_slots insert_then_nothing (Replace 1 (action_of []) ∷ []) ≡ true ∷ false ∷ [])
+    × (replies (edited_slots insert_then_nothing (Replace 1 (action_of []) ∷ [])) ≡ Some [] ∷ Some [] ∷ [])
+    × (accounts (edited_slots insert_then_nothing (Replace 1 (action_of []) ∷ [])) ≡ [])
 unfolding row_writes dirty_after
 replaced_by_no_writes = (refl, refl, refl)

@@ -3,6 +3,7 @@ use Rattle.std.proofs.Common.{◌≡◌, pos, negsuc, true, false, List, [], ◌
 use Rattle.tt_values.specs.declared.comparison.Comparison.TheVariants.{IsNot, Below, Above, AtLeast}
 use Rattle.tt_values.specs.declared.statement.Change.TheVariants.{Add}
 use Rattle.tt_values.specs.declared.reply.Reply.TheVariants.{Inserted, Updated}
+use Rattle.tt_values.specs.Action.{action_of}
 use Rattle.tt_values.specs.RowWrites.{Slots, row_writes}
 use Rattle.tt_values.proofs.worked_rows.Accounts.{ann, bob, eve, zed, account, id_is, owner_is, id_compares, owner_compares, balance_compares, of_id, of_owner, owner_to, balance_to, balance_by, insert, update, slot_of, slots_of, two_inserts_of_a_key}
 use Rattle.tt_repair_laws.specs.declared.edit.Edit.{Edit}
@@ -29,7 +30,7 @@ goes_to_bob =
     )
 
 abbrev to_eve : List Edit
-to_eve = Replace 2 (update (owner_to eve) (of_id 1) ∷ []) ∷ []
+to_eve = Replace 2 (action_of (update (owner_to eve) (of_id 1) ∷ [])) ∷ []
 
 three_owners_due :
     (due_slots goes_to_bob to_eve ≡ false ∷ true ∷ true ∷ true ∷ true ∷ true ∷ false ∷ false ∷ false ∷ [])
@@ -38,13 +39,13 @@ unfolding row_writes dirty_after
 three_owners_due = (refl, refl)
 
 -- of two edits of one slot the first counts
-first_edit_counts : edited_slots (slots_of two_inserts_of_a_key) (Cancel 1 ∷ Replace 1 (insert 1 eve 1 ∷ []) ∷ []) ≡ None ∷ slot_of (insert 1 bob 20) ∷ []
+first_edit_counts : edited_slots (slots_of two_inserts_of_a_key) (Cancel 1 ∷ Replace 1 (action_of (insert 1 eve 1 ∷ [])) ∷ []) ≡ None ∷ slot_of (insert 1 bob 20) ∷ []
 first_edit_counts = refl
 
 -- a slot that is cancelled already is due only with an edit
 cancelled_slots :
     (due_slots (None ∷ slot_of (insert 1 bob 20) ∷ []) (Cancel 2 ∷ []) ≡ false ∷ true ∷ [])
-    × (due_slots (slot_of (insert 2 ann 10) ∷ None ∷ []) (Replace 2 (insert 1 bob 20 ∷ []) ∷ []) ≡ false ∷ true ∷ [])
+    × (due_slots (slot_of (insert 2 ann 10) ∷ None ∷ []) (Replace 2 (action_of (insert 1 bob 20 ∷ [])) ∷ []) ≡ false ∷ true ∷ [])
 unfolding row_writes dirty_after
 cancelled_slots = (refl, refl)
 
@@ -63,8 +64,8 @@ abbrev two_keys : Slots
 two_keys = slots_of (insert 1 ann 10 ∷ insert 2 bob 20 ∷ update (balance_by 1) (of_id 1) ∷ [])
 
 account_of_key_is_dirty :
-    (due_slots two_keys (Replace 2 (insert 1 eve 1 ∷ []) ∷ []) ≡ false ∷ true ∷ true ∷ [])
-    × (accounts (edited_slots two_keys (Replace 2 (insert 1 eve 1 ∷ []) ∷ [])) ≡ (pos 1, account 1 ann 11) ∷ [])
+    (due_slots two_keys (Replace 2 (action_of (insert 1 eve 1 ∷ [])) ∷ []) ≡ false ∷ true ∷ true ∷ [])
+    × (accounts (edited_slots two_keys (Replace 2 (action_of (insert 1 eve 1 ∷ [])) ∷ [])) ≡ (pos 1, account 1 ann 11) ∷ [])
 unfolding row_writes dirty_after
 account_of_key_is_dirty = (refl, refl)
 
@@ -95,7 +96,7 @@ compares_all =
     )
 
 abbrev richer : List Edit
-richer = Replace 1 (insert 1 ann 9 ∷ []) ∷ []
+richer = Replace 1 (action_of (insert 1 ann 9 ∷ [])) ∷ []
 
 comparisons_name_no_row :
     (due_slots compares_all richer ≡ true ∷ false ∷ true ∷ true ∷ true ∷ [])

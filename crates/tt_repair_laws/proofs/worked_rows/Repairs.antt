@@ -3,6 +3,7 @@ use Rattle.std.proofs.Common.{◌≡◌, ℕ, zero, suc, pos, Bool, true, false,
 use Rattle.tt_values.specs.declared.reply.Reply.{Reply}
 use Rattle.tt_values.specs.declared.reply.Reply.TheVariants.{Inserted, Duplicate, Updated, Deleted}
 use Rattle.tt_values.specs.Content.{RowsByKey}
+use Rattle.tt_values.specs.Action.{action_of}
 use Rattle.tt_values.specs.RowWrites.{Slots, slot_after, slot_replies, row_writes}
 use Rattle.tt_values.proofs.worked_rows.Accounts.{tables, ann, bob, eve, account, of_id, of_owner, owner_to, balance_by, insert, update, delete, slot_of, slots_of, two_inserts_of_a_key, insert_and_update, change_of_owner, insert_after_delete, three_accounts}
 use Rattle.tt_repair_laws.specs.declared.edit.Edit.{Edit}
@@ -65,7 +66,7 @@ abbrev deletion : Slots
 deletion = slots_of (three_accounts ++ delete (of_owner ann) ∷ update (balance_by 1) [] ∷ [])
 
 abbrev delete_bob : List Edit
-delete_bob = Replace 4 (delete (of_owner bob) ∷ []) ∷ []
+delete_bob = Replace 4 (action_of (delete (of_owner bob) ∷ [])) ∷ []
 
 delete_replaced :
     (replies deletion ≡ answered Inserted ∷ answered Inserted ∷ answered Inserted ∷ answered (Deleted 2) ∷ answered (Updated 1) ∷ [])

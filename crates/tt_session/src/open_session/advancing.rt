@@ -12,7 +12,7 @@ use crate::room::{leaves_no_room, refusal_without_room};
 use std::alloc::AllocError;
 use tt_db::{DbError, Entry, Event, Outcome};
 use tt_horizon::{GROUND_WORKER, has_inserted, inserts_alone};
-use tt_values::{Items, Write};
+use tt_values::Action;
 
 impl OpenSession {
     /// Carries out an event of a worker in place, or stays and returns why a session refuses it.
@@ -38,12 +38,12 @@ impl OpenSession {
 
     /// Carries out an action as the next one of the ground. Returns whether it is one of a ground;
     /// where it isn't, or without memory, nothing is promised of the database.
-    pub(crate) fn lay(&mut self, action: Items<Write>) -> Result<bool, AllocError>
+    pub(crate) fn lay(&mut self, action: Action) -> Result<bool, AllocError>
         ensures laid { IfOk result (λ is_laid. with_ground self.old (Ok action)
             ≡ (if is_laid then Some self.new else None)) }
         ensures rest { self.new ≡ with_database self.old self.new.database }
     {
-        if !inserts_alone(action.as_slice()) {
+        if !inserts_alone(&action) {
             return Ok(false);
         }
         match self.advance(GROUND_WORKER, Event::Write(action)) {

@@ -6,7 +6,7 @@ use std::alloc::Global;
 use std::io::Cursor;
 use std::process::Abort;
 use tt_document::{Ask, Call, DocFault, Document};
-use tt_values::{Items, Write};
+use tt_values::Action;
 use tt_workload::{Options, RunFault, run_alone};
 
 /// An insert, an update that is cancelled, and three calls meanwhile.
@@ -39,7 +39,7 @@ const FAULTY: &str =
 {"worker":1,"insert":"other","row":[1]}]}"#;
 
 /// A call of worker 1 that writes.
-fn is_write(rt: &impl Abort, call: Option<&Call>, action: Items<Write>) {
+fn is_write(rt: &impl Abort, call: Option<&Call>, action: Action) {
     let want = Call {
         worker: 1,
         ask: Ask::Write(action),

@@ -7,7 +7,7 @@ use std::process::Abort;
 use std::sync::Wait;
 use std::test::*;
 use tt_store::{Naming, NoGate, Store, StoreError, Worker};
-use tt_values::{Items, Write};
+use tt_values::Action;
 
 #[test]
 fn writes_are_made(rt: HostRuntime) {
@@ -37,7 +37,7 @@ fn writes<L: Naming, T: Wait + Abort>(
     alloc: Global,
     store: &Store<L, NoGate, &T>,
     worker: &mut Worker<L>,
-    action: Items<Write>,
+    action: Action,
 ) {
     let again = action.clone().expect(rt, "an owner");
     let before = Looks::of(rt, alloc, worker);

@@ -1,6 +1,6 @@
 -- A catalog with one table, `acct`, and statements on it: the fixture of the worked rows of every
 -- crate. Ids and amounts are natural numbers, except in `account_of`.
-use Rattle.std.proofs.Common.{Option, ℕ, ℤ, pos, negsuc, true, false, List, [], ◌∷◌, codes, map, Some}
+use Rattle.std.proofs.Common.{Option, ℕ, pred, ℤ, pos, negsuc, true, false, List, [], ◌∷◌, codes, map, Some}
 use Rattle.tt_values.specs.declared.value.Kind.TheVariants as kinds
 use Rattle.tt_values.specs.declared.value.Value.TheVariants as values
 use Rattle.tt_values.specs.declared.table.Column.{Column}
@@ -13,7 +13,9 @@ use Rattle.tt_values.specs.declared.statement.Change.TheVariants.{Set, Add}
 use Rattle.tt_values.specs.declared.statement.Select.{Select}
 use Rattle.tt_values.specs.declared.statement.Write.{Write}
 use Rattle.tt_values.specs.declared.statement.Write.TheVariants.{Insert, Update, Delete}
+use Rattle.tt_values.specs.declared.action.Action.{Action}
 use Rattle.tt_values.specs.Tables.{Tables}
+use Rattle.tt_values.specs.Action.{action_of, whole_of}
 use Rattle.tt_values.specs.RowWrites.{Slots}
 
 -- the columns: id, owner (a partition column) and balance
@@ -39,6 +41,10 @@ eve = codes "eve"
 
 abbrev pub zed : List ℕ
 zed = codes "zed"
+
+-- the owner of what is sold
+abbrev pub sold : List ℕ
+sold = codes "sold"
 
 -- the bounds of an `i64`
 abbrev pub max_int : ℤ
@@ -98,6 +104,10 @@ balance_to balance = Set 2 (values.Int (pos balance))
 abbrev pub balance_by : ℕ → Change
 balance_by amount = Add 2 (pos amount)
 
+-- the change that takes an amount above 0
+abbrev pub balance_less : ℕ → Change
+balance_less amount = Add 2 (negsuc (pred amount))
+
 -- writes: of one row, with one change, and of the accounts with these equalities
 abbrev pub insert : ℕ → List ℕ → ℕ → Write
 insert id owner balance = Insert 0 (account id owner balance)
@@ -111,9 +121,16 @@ delete equals = Delete 0 equals
 abbrev pub select : List Equal → Select
 select equals = record { table = 0; equals = equals }
 
+-- actions of these writes, as slots: one of which each write is carried out, and a whole one
+abbrev pub slot_of_writes : List Write → Option Action
+slot_of_writes ws = Some (action_of ws)
+
+abbrev pub whole_slot_of : List Write → Option Action
+whole_slot_of ws = Some (whole_of ws)
+
 -- an action of one write, as a slot
-abbrev pub slot_of : Write → Option (List Write)
-slot_of w = Some (w ∷ [])
+abbrev pub slot_of : Write → Option Action
+slot_of w = slot_of_writes (w ∷ [])
 
 -- slots of one write each, of which none is cancelled
 abbrev pub slots_of : List Write → Slots

@@ -3,7 +3,7 @@ use super::history::At;
 use tt_db::{Entry, Event};
 use tt_document::{Ask, Call};
 use tt_repair::What;
-use tt_values::{Items, Write};
+use tt_values::Action;
 
 /// Whether an answer fits its call and what the history has come to. A write has made the next
 /// entry and its slot; a select tells the time that was asked for, or that it is still to come; a
@@ -35,14 +35,14 @@ pub(super) fn fits(at: At, next: Option<&Entry>, call: &Call, what: &What) -> bo
 }
 
 /// Whether an entry is of this worker and this action.
-fn is_made(entry: Option<&Entry>, worker: u32, action: &Items<Write>) -> bool {
+fn is_made(entry: Option<&Entry>, worker: u32, action: &Action) -> bool {
     match entry {
         Some(entry) => entry.worker == worker && is_of_action(&entry.event, action),
         None => false,
     }
 }
 
-fn is_of_action(event: &Event, action: &Items<Write>) -> bool {
+fn is_of_action(event: &Event, action: &Action) -> bool {
     match event {
         Event::Write(made) => made == action,
         _ => false,

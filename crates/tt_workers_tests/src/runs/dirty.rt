@@ -91,7 +91,7 @@ impl Dirty {
         }
     }
 
-    /// Adds the rows that a slot which is due wrote, and those that it matches now, with the
+    /// Adds the rows that a slot which is due touched, and those that it matches now, with the
     /// partitions in which they lie just before it and after it.
     pub(super) fn add(
         &mut self,
@@ -100,7 +100,7 @@ impl Dirty {
         (old, new): (&Effect, &Effect),
         (before, after): (&Rows, &Rows),
     ) {
-        for keys in [&old.wrote, &new.matched] {
+        for keys in [&old.touched, &new.matched] {
             for key in keys {
                 self.add_row(rt, *key);
                 for rows in [before, after] {
@@ -112,15 +112,15 @@ impl Dirty {
         }
     }
 
-    /// Whether a slot that has no edit is due: it wrote a dirty row, or has a write that names one
+    /// Whether a slot that has no edit is due: it touched a dirty row, or has a write that names one
     /// by its key, or that isn't clear.
-    pub(super) fn affects(&self, catalog: &Catalog, action: &[Write], old: &Effect) -> bool {
-        for key in &old.wrote {
+    pub(super) fn affects(&self, catalog: &Catalog, writes: &[Write], old: &Effect) -> bool {
+        for key in &old.touched {
             if self.has_row(*key) {
                 return true;
             }
         }
-        for write in action {
+        for write in writes {
             if self.affects_write(catalog, write) {
                 return true;
             }

@@ -7,7 +7,7 @@ use std::alloc::Global;
 use std::process::Abort;
 use tt_db::Edit;
 use tt_repair::{After, Changed, What};
-use tt_values::{Catalog, Items, Reply, Select, Write};
+use tt_values::{Action, Catalog, Items, Reply, Select};
 
 /// Both generations after as many slots.
 #[derive(Drop)]
@@ -24,10 +24,10 @@ pub(super) struct Generations {
 }
 
 /// The action of a slot as edited; none where it is cancelled.
-fn edited<'a>(action: &'a [Write], edit: Option<&'a Edit>) -> Option<&'a [Write]> {
+fn edited<'a>(action: &'a Action, edit: Option<&'a Edit>) -> Option<&'a Action> {
     match edit {
         Some(Edit::Cancel(_)) => None,
-        Some(Edit::Replace(_, by)) => Some(by.as_slice()),
+        Some(Edit::Replace(_, by)) => Some(by),
         None => Some(action),
     }
 }
@@ -55,19 +55,22 @@ impl Generations {
         slot: u64,
     ) -> bool {
         let position = slot.saturating_sub(1) as usize;
-        let action = history.actions.get(position).expect(rt, "an action");
+        let action = *history.actions.get(position).expect(rt, "an action");
         let edit = history.edit(slot);
-        let old = self.old.carry_out(rt, alloc, action.as_slice());
+        let old = self.old.carry_out(rt, alloc, action);
         let is_repaired = slot <= history.switch.slots;
         let is_due = is_repaired
-            && (edit.is_some() || self.dirty.affects(catalog, action.as_slice(), &old));
-        let action = edited(action.as_slice(), edit);
+            && (edit.is_some() || self.dirty.affects(catalog, action.writes.as_slice(), &old));
+        let action = edited(action, edit);
         let before = if is_due {
             self.new.copy(rt, alloc)
         } else {
             Rows::new(alloc)
         };
-        let new = self.new.carry_out(rt, alloc, action.unwrap_or(&[]));
+        let new = match action {
+            Some(action) => self.new.carry_out(rt, alloc, action),
+            None => Effect::new(alloc),
+        };
         if is_due {
             self.rerun = self.rerun.saturating_add(1);
             self.dirty
@@ -169,7 +172,7 @@ impl Generations {
 fn replies_of(effect: Effect) -> Vec<Reply> {
     let Effect {
         replies,
-        wrote: _,
+        touched: _,
         matched: _,
     } = effect;
     replies

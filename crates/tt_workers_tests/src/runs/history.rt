@@ -2,7 +2,7 @@
 use std::alloc::Global;
 use std::process::Abort;
 use tt_db::{Db, Edit, Entry, Event};
-use tt_values::{Items, Write};
+use tt_values::Action;
 
 /// What a history has come to at a front.
 #[derive(Clone, Copy, Debug, PartialEq, Eq)]
@@ -30,7 +30,7 @@ pub(super) struct History<'a> {
     /// What it has come to at each front, from the empty one on.
     fronts: Vec<At>,
     /// The actions of its slots.
-    pub(super) actions: Vec<&'a Items<Write>>,
+    pub(super) actions: Vec<&'a Action>,
     pub(super) edits: &'a [Edit],
     /// The place of the entry that begins the repair.
     pub(super) begin: u64,

@@ -4,7 +4,7 @@
 use std::alloc::Global;
 use std::mem;
 use std::process::Abort;
-use tt_values::{Change, Comparison, Equal, Items, Reply, Row, Select, Value, Write};
+use tt_values::{Action, Change, Comparison, Equal, Items, Reply, Row, Select, Value, Write};
 
 /// The table and the key of a row.
 pub(super) type Key = (u16, i64);
@@ -16,12 +16,12 @@ struct TableRow {
     row: Row,
 }
 
-/// What a slot did: its replies, the rows that it wrote, and those that it matched. An insert
-/// matches the row of its key.
+/// What a slot did: its replies, the rows that its writes wrote, of an undone action too, and those
+/// that they matched. An insert matches the row of its key.
 #[derive(Drop)]
 pub(super) struct Effect {
     pub(super) replies: Vec<Reply>,
-    pub(super) wrote: Vec<Key>,
+    pub(super) touched: Vec<Key>,
     pub(super) matched: Vec<Key>,
 }
 
@@ -75,6 +75,15 @@ fn is_match(equals: &[Equal], row: &Row) -> bool {
     true
 }
 
+/// Whether this is the reply to a write without an effect.
+fn has_no_effect(reply: &Reply) -> bool {
+    match reply {
+        Reply::Duplicate => true,
+        Reply::Updated(count) | Reply::Deleted(count) => *count == 0,
+        Reply::Inserted | Reply::Rows(_) => false,
+    }
+}
+
 /// A row with these changes.
 fn changed(rt: &impl Abort, alloc: Global, row: &Row, changes: &[Change]) -> Row {
     let mut values = Vec::new(alloc);
@@ -120,10 +129,11 @@ impl TableRow {
 }
 
 impl Effect {
-    fn new(alloc: Global) -> Effect {
+    /// Nothing was done.
+    pub(super) fn new(alloc: Global) -> Effect {
         Effect {
             replies: Vec::new(alloc),
-            wrote: Vec::new(alloc),
+            touched: Vec::new(alloc),
             matched: Vec::new(alloc),
         }
     }
@@ -131,7 +141,7 @@ impl Effect {
     /// A row that is there was matched, and written.
     fn write(&mut self, rt: &impl Abort, key: Key) {
         self.matched.push(key).expect(rt, "memory");
-        self.wrote.push(key).expect(rt, "memory");
+        self.touched.push(key).expect(rt, "memory");
     }
 }
 
@@ -182,12 +192,23 @@ impl Rows {
         position == told.len()
     }
 
-    /// Carries out a slot: the writes of its action in order.
-    pub(super) fn carry_out(&mut self, rt: &impl Abort, alloc: Global, action: &[Write]) -> Effect {
+    /// Carries out the writes of an action in order. If one of a whole action has no effect, the
+    /// rows are again those from before, and the writes after it aren't carried out.
+    pub(super) fn carry_out(&mut self, rt: &impl Abort, alloc: Global, action: &Action) -> Effect {
+        let before = if action.whole {
+            self.copy(rt, alloc)
+        } else {
+            Rows::new(alloc)
+        };
         let mut effect = Effect::new(alloc);
-        for write in action {
+        for write in action.writes.as_slice() {
             let reply = self.write(rt, alloc, write, &mut effect);
+            let is_undone = action.whole && has_no_effect(&reply);
             effect.replies.push(reply).expect(rt, "memory");
+            if is_undone {
+                *self = before;
+                return effect;
+            }
         }
         effect
     }

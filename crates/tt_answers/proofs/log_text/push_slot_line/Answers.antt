@@ -1,13 +1,14 @@
 -- The pieces of the line, one after another.
 use Rattle.std.proofs.Common.{◌++◌, ap, ◌∙◌, codes}
 use Rattle.std.specs.Fmt.{decimal}
-use Rattle.tt_grammar.specs.WriteText.{action_text}
-use Rattle.tt_answers.proofs.PieceLemmas.{number-value-object}
+use Rattle.tt_grammar.specs.JsonText.{members_text}
+use Rattle.tt_grammar.specs.WriteText.{action_members}
+use Rattle.tt_answers.proofs.PieceLemmas.{number-members-object}
 use Rattle.tt_answers.proofs.log_text.push_slot_line.Goals as goal
 
 pub returns : goal.returns
 returns c =
-    number-value-object c.args.out.now.items c.push_labelled.new.out.items c.extend_from_slice.new.self.items c.push_action.new.out.items c.push.new.self.items
-    (codes "{\"worker\":") (decimal c.args.worker) (codes ",\"do\":") (action_text c.args.catalog.now c.args.action.now) (codes "}")
+    number-members-object c.args.out.now.items c.push_labelled.new.out.items c.push.new.self.items c.push_action.new.out.items c.push-2.new.self.items
+    (codes "{\"worker\":") (decimal c.args.worker) (codes ",") (members_text (action_members c.args.catalog.now c.args.action.now)) (codes "}")
     (c.in_ok-push_labelled.ensures ∙ ap (λ n. c.args.out.now.items ++ (codes "{\"worker\":" ++ decimal n)) c.from.ensures)
-    c.in_ok-extend_from_slice.ensures.items c.in_ok-push_action.ensures c.in_ok-push.ensures.items
+    c.in_ok-push.ensures.items c.in_ok-push_action.ensures c.in_ok-push-2.ensures.items

@@ -4,4 +4,4 @@ use Rattle.tt_grammar.specs.ReadBack.{IsStorable, values_of_write}
 use Rattle.tt_session.proofs.storable.read_action.Given as goal
 
 abbrev pub invariant-loop-write : goal.invariant-loop-write
-invariant-loop-write l = All (λ w. All IsStorable (values_of_write w)) (take l.write-index l.action)
+invariant-loop-write l = All (λ w. All IsStorable (values_of_write w)) (take l.write-index l.action.writes)

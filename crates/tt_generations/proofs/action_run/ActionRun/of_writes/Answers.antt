@@ -2,6 +2,7 @@
 use Rattle.std.proofs.Common.{◌≡◌, suc, ◌+◌, List, ◌∷◌, drop, subst, sym, ◌∙◌, arith, drop-cons}
 use Rattle.std.proofs.lemmas.List.{drop_all}
 use Rattle.tt_values.specs.declared.statement.Write.{Write}
+use Rattle.tt_values.specs.Action.{action_of}
 use Rattle.tt_values.specs.Limits.{max_writes}
 use Rattle.tt_versions.specs.declared.side.Side.TheVariants.{Current}
 use Rattle.tt_generations.specs.Rows.{TablesByPosition, HasFewRows, KeepsSplitRows}
@@ -16,8 +17,8 @@ loop-write-init c =
     let new = c.in_ok-run.ensures in
     let run = c.in_ok-run.run' in
     record {
-      done = λ after all. subst (λ (r : TablesByPosition). CarriesOutAction c.args.time c.args.writes.now r after) new.rows
-          (CarriesOutAction-start c.args.time c.args.writes.now run after new.replies new.rows_written all);
+      done = λ after all. subst (λ (r : TablesByPosition). CarriesOutAction c.args.time (action_of c.args.writes.now) r after) new.rows
+          (CarriesOutAction-start c.args.time c.args.writes.now run after new.replies new.rows_touched all);
       few = subst (λ (r : TablesByPosition). HasFewRows r Current c.args.time (most_rows + 0)) (sym new.rows)
           (HasFewRows-more c.args.rows Current c.args.time most_rows (most_rows + 0) (omega arith) c.requires.few);
       split = subst (λ (r : TablesByPosition). KeepsSplitRows c.args.rows r) (sym new.rows) (KeepsSplitRows-none c.args.rows);

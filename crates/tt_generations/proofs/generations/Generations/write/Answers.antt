@@ -8,7 +8,7 @@ use Rattle.tt_generations.specs.TwoGenerations.{TwoGenerations, with_action}
 use Rattle.tt_generations.proofs.generations.Generations.write.Goals as goal
 
 pub add_action-requires-clause-accepted : goal.add_action-requires-clause-accepted
-add_action-requires-clause-accepted c = subst (λ (G : TwoGenerations). action_fault G.catalog c.args.action ≡ None) (sym c.self.view_is) c.requires.accepted
+add_action-requires-clause-accepted c = subst (λ (G : TwoGenerations). action_fault G.catalog c.args.action.writes ≡ None) (sym c.self.view_is) c.requires.accepted
 
 pub add_action-requires-clause-room : goal.add_action-requires-clause-room
 add_action-requires-clause-room c =

@@ -1,9 +1,7 @@
 -- The slots with one more, and the tables with its rows.
-use Rattle.std.proofs.Common.{◌+◌, ◌++◌, ◌∷◌, [], List, Option, ap, subst, sym, ◌∙◌, arith}
-use Rattle.std.specs.List.{All}
+use Rattle.std.proofs.Common.{◌+◌, ◌++◌, ◌∷◌, [], Option, ap, subst, sym, ◌∙◌, arith}
 use Rattle.std.proofs.lemmas.List.{length-map}
-use Rattle.tt_values.specs.declared.statement.Write.{Write}
-use Rattle.tt_values.specs.Check.{HasKey}
+use Rattle.tt_values.specs.declared.action.Action.{Action}
 use Rattle.tt_values.proofs.LawProofs.{accepted_actions_have_keys}
 use Rattle.tt_versions.specs.declared.side.Side.TheVariants.{Current}
 use Rattle.tt_generations.specs.Rows.{TablesByPosition, HasFewRows, KeepsSplitRows}
@@ -13,13 +11,13 @@ use Rattle.tt_generations.proofs.KeptSlotsLemmas.{actions-push}
 use Rattle.tt_generations.proofs.GenerationsLemmas.{AreGenerations-action, IsNextSlot-run, HasFewRows-slots, phase-with_slot}
 use Rattle.tt_generations.proofs.generations.State.add_action.Goals as goal
 
-pub of_writes-requires-clause-keyed : goal.of_writes-requires-clause-keyed
-of_writes-requires-clause-keyed c =
+pub of_action-requires-clause-keyed : goal.of_action-requires-clause-keyed
+of_action-requires-clause-keyed c =
     let g = c.args.self.now in
-    subst (λ (ws : List Write). All HasKey ws) (sym c.as_slice.ensures) (accepted_actions_have_keys g.catalog c.args.action c.requires.parts.catalog c.requires.accepted)
+    accepted_actions_have_keys g.catalog c.args.action.writes c.requires.parts.catalog c.requires.accepted
 
-pub of_writes-requires-clause-few : goal.of_writes-requires-clause-few
-of_writes-requires-clause-few c =
+pub of_action-requires-clause-few : goal.of_action-requires-clause-few
+of_action-requires-clause-few c =
     let g = c.args.self.now in
     subst (λ (r : TablesByPosition). HasFewRows r Current (c.len.result + 1) most_rows) (sym c.replace-rows.ensures.value)
     (HasFewRows-slots g.catalog g.slots g.rows g.repair (c.len.result + 1) c.requires.parts (omega (arith, c.len.ensures)))
@@ -27,8 +25,7 @@ of_writes-requires-clause-few c =
 -- the run, on the rows as they were
 carries : (c : goal.In_ok-push) → CarriesOutAction (c.len.result + 1) c.args.action c.args.self.now.rows c.in_ok-run.run'
 carries c =
-    subst (λ (ws : List Write). CarriesOutAction (c.len.result + 1) ws c.args.self.now.rows c.in_ok-run.run') c.as_slice.ensures
-    (subst (λ (r : TablesByPosition). CarriesOutAction (c.len.result + 1) c.as_slice.result.now r c.in_ok-run.run') c.replace-rows.ensures.value c.in_ok-run.ensures.current)
+    subst (λ (r : TablesByPosition). CarriesOutAction (c.len.result + 1) c.args.action r c.in_ok-run.run') c.replace-rows.ensures.value c.in_ok-run.ensures.current
 
 pub returns-clause-parts : goal.returns-clause-parts
 returns-clause-parts c =
@@ -38,12 +35,12 @@ returns-clause-parts c =
     let split = subst (λ (r : TablesByPosition). KeepsSplitRows r run.rows) c.replace-rows.ensures.value c.in_ok-run.ensures.split in
     rw (c.in_ok-push.ensures.ok, c.in_ok-add_to_repair.ensures, c.into_slot.ensures.rows)
     (AreGenerations-action g.catalog g.slots g.rows g.repair c.args.action run c.in_ok-kept.kept (c.len.result + 1) c.requires.parts c.requires.accepted c.requires.room
-    (omega (arith, c.len.ensures)) (record { carries = carries c; keeps = split; is_action = new.action; replies = new.kept_replies; rows = new.rows_written }))
+    (omega (arith, c.len.ensures)) (record { carries = carries c; keeps = split; is_action = new.action; replies = new.kept_replies; rows = new.rows_touched }))
 
 pub returns-clause-slots : goal.returns-clause-slots
 returns-clause-slots c =
     let g = c.args.self.now in
-    ap actions_of c.in_ok-push.ensures.ok ∙ actions-push g.slots c.in_ok-kept.kept ∙ ap (λ (s : Option (List Write)). actions_of g.slots ++ s ∷ []) c.in_ok-kept.ensures.action
+    ap actions_of c.in_ok-push.ensures.ok ∙ actions-push g.slots c.in_ok-kept.kept ∙ ap (λ (s : Option Action). actions_of g.slots ++ s ∷ []) c.in_ok-kept.ensures.action
 
 pub returns-clause-phase : goal.returns-clause-phase
 returns-clause-phase c = rw (c.in_ok-add_to_repair.ensures) (phase-with_slot c.in_ok-kept.kept c.args.self.now.repair)

@@ -24,11 +24,11 @@ step-requires-clause-keyed c =
     let at = IsAtSlot-found g.catalog g.slots g.rows g.repair c.in-Some.repair c.in-Some-get.kept.now c.requires.parts c.in-Some.is (subst (λ (r : Repair). slice_get g.slots r.done ≡ Some c.in-Some-get.kept.now) c.deref.ensures (sym c.get.ensures ∙ ap option_copied c.in-Some-get.is)) in
     at.keyed
 
-pub step-requires-clause-written : goal.step-requires-clause-written
-step-requires-clause-written c =
+pub step-requires-clause-touched : goal.step-requires-clause-touched
+step-requires-clause-touched c =
     let g = c.args.self.now in
     let at = IsAtSlot-found g.catalog g.slots g.rows g.repair c.in-Some.repair c.in-Some-get.kept.now c.requires.parts c.in-Some.is (subst (λ (r : Repair). slice_get g.slots r.done ≡ Some c.in-Some-get.kept.now) c.deref.ensures (sym c.get.ensures ∙ ap option_copied c.in-Some-get.is)) in
-    subst (λ (tables : Tables). All (λ (row : RowId). row.table < length tables) c.in-Some-get.kept.now.rows) (sym c.get-2.ensures) at.written
+    subst (λ (tables : Tables). All (λ (row : RowId). row.table < length tables) c.in-Some-get.kept.now.rows) (sym c.get-2.ensures) at.touched
 
 pub step-requires-clause-accepted : goal.step-requires-clause-accepted
 step-requires-clause-accepted c =
