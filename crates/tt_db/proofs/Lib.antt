@@ -4,6 +4,7 @@ pub mod ClosedLemmas
 pub mod DatabaseLemmas
 pub mod HistoryLemmas
 pub mod CurrentLemmas
+pub mod StepsLemmas
 pub mod KeyLemmas
 pub mod PageLemmas
 pub mod LawProofs

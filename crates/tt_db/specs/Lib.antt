@@ -4,6 +4,7 @@ pub mod Errors
 pub mod RightAnswers
 pub mod History
 pub mod Database
+pub mod Steps
 pub mod Transition
 pub mod Laws
 pub mod Pages

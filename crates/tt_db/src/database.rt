@@ -1,7 +1,7 @@
 ghost use Rattle.std.specs.Prelude.{◌≡◌, ◌≢◌, ◌<◌, ◌≤◌, ◌↔◌, IsSome, IsOk, IfSome, [], ◌∷◌, ◌++◌, length, None, Some, OnOk, OnErr, IfOk, IfErr};
 ghost use Rattle.std.specs.Option.{option_copied, option_map};
 ghost use Rattle.tt_versions.specs.Sides.{current_of, next_of, is_split};
-ghost use Rattle.tt_generations.specs.TwoGenerations.{done_of, is_repairing, IsWithin};
+ghost use Rattle.tt_generations.specs.TwoGenerations.{no_slots, done_of, is_repairing, IsWithin};
 ghost use Rattle.tt_db.specs.Limits.{Fits, max_limits};
 ghost use Rattle.tt_db.specs.Errors.{refusal_of_error};
 ghost use Rattle.tt_db.specs.State.{IsLegal, full_at, slots_in, slots_left};
@@ -10,6 +10,7 @@ ghost use Rattle.tt_db.specs.RightAnswers.{Answers, RowsHaveRisingKeys};
 ghost use Rattle.tt_db.specs.Transition.{Allows, IsTransition, closed_after};
 
 mod page;
+mod steps;
 
 use crate::closed::{ClosedGeneration, closed_of, oldest_of, with_closed};
 use crate::errors::{DbError, ReadError};
@@ -436,10 +437,7 @@ impl Db {
         match self.parts.carry_out(entry) {
             Ok(outcome) => Ok(outcome),
             Err(AllocError) => {
-                self.parts.history = History::new(self.parts.alloc);
-                self.parts.generations.clear();
-                self.parts.generation = 0;
-                self.parts.closed = PagedLog::new(self.parts.alloc);
+                self.parts.clear();
                 Err(AllocError)
             }
         }
@@ -628,6 +626,21 @@ impl Parts {
         let outcome = carry_out(&mut self.generations, &mut self.generation, &entry.event)?;
         self.history.push(self.alloc, entry)?;
         Ok(outcome)
+    }
+
+    /// Leaves nothing but the catalog and the limits. Takes no memory.
+    fn clear(&mut self)
+        ensures { self.new ≡ record self.old {
+          history = [];
+          generations = no_slots self.old.generations.catalog;
+          generation = 0;
+          closed = [];
+        } }
+    {
+        self.history = History::new(self.alloc);
+        self.generations.clear();
+        self.generation = 0;
+        self.closed = PagedLog::new(self.alloc);
     }
 
     /// Closes the current generation where the event is a switch.

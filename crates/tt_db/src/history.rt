@@ -1,7 +1,8 @@
 //! The history: the accepted entries in order, and at which places the slots were made.
-ghost use Rattle.std.specs.Prelude.{◌≡◌, ◌<◌, ◌+◌, [], ◌++◌, ◌∷◌, length, slice_get, take, drop, IfOk, OnOk, IsTrue, IsFalse};
+ghost use Rattle.std.specs.Prelude.{◌≡◌, ◌<◌, ◌+◌, [], ◌++◌, ◌∷◌, length, slice_get, take, drop, replicate, IfOk, OnOk, IsTrue, IsFalse};
 ghost use Rattle.std.specs.Option.{option_copied};
 ghost use Rattle.tt_db.specs.Database.{nth_item};
+ghost use Rattle.tt_db.specs.Steps.{step_by};
 ghost use Rattle.tt_db.specs.History.{is_write, write_places, writes_before_others, AllBelow, NoneBelow, IsCut};
 
 use crate::event::{Entry, Event};
@@ -78,6 +79,23 @@ impl History {
         pushed
     }
 
+    /// Adds this many steps of a worker. Without memory there are no entries afterwards.
+    pub(crate) fn push_steps(
+        &mut self,
+        alloc: Global,
+        worker: u32,
+        count: u64,
+    ) -> Result<(), AllocError>
+        ensures { OnOk result (self.new ≡ self.old ++ replicate count (step_by worker)) }
+    {
+        let pushed = push_steps(&mut self.entries, &mut self.write_counts, worker, count);
+        if pushed.is_err() {
+            self.entries = PagedLog::new(alloc);
+            self.write_counts = PagedLog::new(alloc);
+        }
+        pushed
+    }
+
     /// The place, counted from 1, of the write of a number, counted from 1. Takes no memory, and
     /// time logarithmic in the number of entries that are no writes.
     pub(crate) fn place_of_write(&self, number: u64) -> Option<u64>
@@ -139,6 +157,25 @@ fn push_entry(
         write_counts.push(writes as u64)?;
     }
     entries.push(entry)?;
+    Ok(())
+}
+
+/// Adds this many steps of a worker, as [`push_entry`] adds one.
+fn push_steps(
+    entries: &mut PagedLog<Entry>,
+    write_counts: &mut PagedLog<u64>,
+    worker: u32,
+    count: u64,
+) -> Result<(), AllocError>
+    requires { write_counts.old ≡ writes_before_others 0 entries.old }
+    ensures entries { OnOk result
+        (entries.new ≡ entries.old ++ replicate count (step_by worker)) }
+    ensures counts { OnOk result (write_counts.new ≡ writes_before_others 0 entries.new) }
+{
+    for _ in 0..count {
+        let event = Event::Step;
+        push_entry(entries, write_counts, Entry { worker, event })?;
+    }
     Ok(())
 }
 

@@ -1,3 +1,4 @@
+use crate::errors::DbError;
 use tt_values::{Items, Reply};
 
 /// The outcome of an accepted event.
@@ -25,4 +26,15 @@ pub enum Outcome {
     },
     /// The repair was given up.
     Aborted,
+}
+
+/// Steps of a repair that were made together.
+#[derive(Debug, PartialEq, Drop)]
+pub struct StepsMade {
+    /// How many.
+    pub count: u64,
+    /// The outcome of the last of them.
+    pub last: Option<Outcome>,
+    /// Where more were asked for, why the next one is refused.
+    pub refusal: Option<DbError>,
 }

@@ -16,6 +16,7 @@ mod repairs;
 mod repeated_repairs;
 mod runs;
 mod sharing;
+mod steps_together;
 mod unfinished_repairs;
 mod versions;
 mod whole_actions;

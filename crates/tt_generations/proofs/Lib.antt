@@ -12,3 +12,4 @@ pub mod KeptSlotsLemmas
 pub mod BothSidesLemmas
 pub mod RepairStepsLemmas
 pub mod GenerationsLemmas
+pub mod RunLemmas

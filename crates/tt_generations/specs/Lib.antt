@@ -6,6 +6,7 @@ pub mod ActionRun
 pub mod Reexecution
 pub mod Replies
 pub mod TwoGenerations
+pub mod Runs
 pub mod KeptSlots
 pub mod EditsByNumber
 pub mod Repair

@@ -1,4 +1,4 @@
-ghost use Rattle.std.specs.Prelude.{◌≡◌, ◌<◌, ◌≤◌, ◌+◌, ◌∷◌, [], ◌++◌, length, IfOk, OnOk};
+ghost use Rattle.std.specs.Prelude.{◌≡◌, ◌<◌, ◌≤◌, ◌+◌, ◌∷◌, [], ◌++◌, length, not, IfOk, OnOk, IsTrue, IsFalse};
 ghost use Rattle.std.specs.List.{All};
 ghost use Rattle.tt_generations.specs.Limits.{max_slots};
 ghost use Rattle.tt_generations.specs.KeptSlots.{IsAccepted};
@@ -62,6 +62,17 @@ impl BoxedRepair {
             (self.new ≡ record self.old { slots = self.old.slots ++ kept.now ∷ [] }) }
     {
         self.repair.add_slot(kept)
+    }
+
+    /// As [`Repair::pass`].
+    pub(crate) fn pass(&mut self, kept: &KeptSlot) -> bool
+        requires room { self.old.done < max_slots }
+        requires keyed { HasKeysIfAny kept.now.slot.action }
+        ensures undue { result ≡ not (is_kept_due self.old kept.now) }
+        ensures done { IsTrue result → self.new ≡ record self.old { done = self.old.done + 1 } }
+        ensures stays { IsFalse result → self.new ≡ self.old }
+    {
+        self.repair.pass(kept)
     }
 
     /// As [`Repair::step`].

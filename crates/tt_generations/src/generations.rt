@@ -1,4 +1,4 @@
-ghost use Rattle.std.specs.Prelude.{◌≡◌, ◌<◌, ◌≤◌, ◌+◌, ◌++◌, [], ◌∷◌, length, None, Some, IfOk, OnOk, OnErr};
+ghost use Rattle.std.specs.Prelude.{◌≡◌, ◌<◌, ◌≤◌, ◌+◌, ◌++◌, [], ◌∷◌, length, None, Some, IfOk, OnOk, OnErr, IsTrue, IsFalse};
 ghost use Rattle.std.specs.List.{All};
 ghost use Rattle.std.specs.Option.{option_copied};
 ghost use Rattle.tt_values.specs.Tables.{IsCatalog};
@@ -13,6 +13,7 @@ ghost use Rattle.tt_generations.specs.Limits.{max_slots};
 ghost use Rattle.tt_generations.specs.KeptSlots.{slot_at, last_content, actions_of};
 ghost use Rattle.tt_generations.specs.Repair.{repair_with_slot, next_slots};
 ghost use Rattle.tt_generations.specs.TwoGenerations.{no_slots, with_action, with_repair, after_step, after_switch, after_abort, is_repairing, done_of, left_of, reexecuted_of, is_next_due, is_due_in, phase_after_step, next_content_of, next_content_at, next_slot_at, rows_on, AnswersOn, IsWithin, progress_of, next_side_of, dirty_rows_of, NamesSlot, Phase};
+ghost use Rattle.tt_generations.specs.Runs.{after_steps, is_undue_in, is_next_undue, undue_run, is_last_due};
 ghost use Rattle.tt_generations.specs.Generations.{phase_of, AreGenerations};
 
 mod page;
@@ -43,6 +44,15 @@ impl Drop for Generations {
     fn drop(self) {
         let Generations { state: _ } = self;
     }
+}
+
+/// Slots that a repair has done together.
+#[derive(Clone, Copy)]
+struct Run {
+    /// How many.
+    count: u64,
+    /// Whether the last of them was due.
+    is_last_due: bool,
 }
 
 /// What generations consist of. While it is changed, its parts needn't fit together.
@@ -307,6 +317,73 @@ impl Generations {
         }
     }
 
+    /// Does the next slots that aren't due, up to `most` of them: stops before the first that is, or
+    /// where none is left. Returns how many it passed over. Takes no memory.
+    pub fn pass_over(&mut self, most: u64) -> u64
+        ensures count { result ≡ undue_run most self.old }
+        ensures few { result ≤ most }
+        ensures state { self.new ≡ after_steps result self.old }
+    {
+        for passed in 0..most {
+            if !self.pass_next() {
+                return passed;
+            }
+        }
+        most
+    }
+
+    /// Does the next slot, if it is there and isn't due. Returns whether it is so.
+    fn pass_next(&mut self) -> bool
+        ensures undue { result ≡ is_next_undue self.old }
+        ensures done { IsTrue result → self.new ≡ after_step self.old }
+        ensures stays { IsFalse result → self.new ≡ self.old }
+    {
+        self.state.pass_next()
+    }
+
+    /// Does this many slots of the repair, one after another: each is re-executed where it is due.
+    /// Returns whether the last one was. Without memory there are no slots afterwards.
+    pub fn steps(&mut self, count: u64) -> Result<bool, AllocError>
+        requires { count ≤ left_of self.old.phase self.old.slots }
+        ensures state { OnOk result (self.new ≡ after_steps count self.old) }
+        ensures due { IfOk result (λ due. due ≡ is_last_due count self.old) }
+        ensures memory { OnErr result (self.new ≡ no_slots self.old.catalog) }
+    {
+        let mut left = count;
+        let mut is_due = false;
+        while left > 0 {
+            let run = self.run(left)?;
+            left -= run.count;
+            is_due = run.is_last_due;
+        }
+        Ok(is_due)
+    }
+
+    /// Does the next slots that aren't due, and the one behind them, but at most `most`. Without
+    /// memory there are no slots afterwards.
+    fn run(&mut self, most: u64) -> Result<Run, AllocError>
+        requires some { 0 < most }
+        requires left { most ≤ left_of self.old.phase self.old.slots }
+        ensures some { IfOk result (λ run. 0 < run.count) }
+        ensures few { IfOk result (λ run. run.count ≤ most) }
+        ensures state { IfOk result (λ run. self.new ≡ after_steps run.count self.old) }
+        ensures due { IfOk result (λ run. run.is_last_due ≡ is_last_due run.count self.old) }
+        ensures memory { OnErr result (self.new ≡ no_slots self.old.catalog) }
+    {
+        let passed = self.pass_over(most);
+        if passed == most {
+            return Ok(Run {
+                count: passed,
+                is_last_due: false,
+            });
+        }
+        let is_last_due = self.step()?;
+        Ok(Run {
+            count: passed + 1,
+            is_last_due,
+        })
+    }
+
     /// The next generation becomes the current one. Takes time for the split rows alone. Without
     /// memory there are no slots afterwards.
     pub fn switch(&mut self) -> Result<(), AllocError>
@@ -465,6 +542,29 @@ impl State {
         };
         let is_due = repair.step(self.alloc, self.catalog.get(), &mut self.rows, kept)?;
         Ok(is_due)
+    }
+
+    /// Does the next slot of the repair, if it is there and isn't due. Returns whether it is so.
+    fn pass_next(&mut self) -> bool
+        requires parts { AreGenerations
+            self.old.catalog self.old.slots self.old.rows self.old.repair }
+        ensures parts { AreGenerations
+            self.new.catalog self.new.slots self.new.rows self.new.repair }
+        ensures catalog { self.new.catalog ≡ self.old.catalog }
+        ensures slots { self.new.slots ≡ self.old.slots }
+        ensures undue { result ≡ is_undue_in self.old.catalog (phase_of self.old.repair)
+            (actions_of self.old.slots) }
+        ensures done { IsTrue result
+            → phase_of self.new.repair ≡ phase_after_step (phase_of self.old.repair) }
+        ensures stays { IsFalse result → phase_of self.new.repair ≡ phase_of self.old.repair }
+    {
+        let Some(repair) = &mut self.repair else {
+            return false;
+        };
+        let Some(kept) = self.slots.get(repair.done as usize) else {
+            return false;
+        };
+        repair.pass(kept)
     }
 }
 

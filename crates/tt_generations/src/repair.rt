@@ -1,6 +1,6 @@
 //! A repair under way: its edits, how far it is, what is dirty, and the slots of the next
 //! generation.
-ghost use Rattle.std.specs.Prelude.{◌≡◌, ◌<◌, ◌≤◌, ◌+◌, [], ◌∷◌, ◌++◌, length, slice_set, IsTrue, IfOk, OnOk};
+ghost use Rattle.std.specs.Prelude.{◌≡◌, ◌<◌, ◌≤◌, ◌+◌, [], ◌∷◌, ◌++◌, length, slice_set, not, IsTrue, IsFalse, IfOk, OnOk};
 ghost use Rattle.std.specs.List.{All, list_all, zip};
 ghost use Rattle.std.specs.Option.{option_copied};
 ghost use Rattle.tt_parts.specs.Dirty.{SameMembers, nothing_dirty};
@@ -168,6 +168,22 @@ impl Repair {
         }
     }
 
+    /// Does the next slot, which is this one in the current generation, if it isn't due. Returns
+    /// whether it is so.
+    pub(crate) fn pass(&mut self, kept: &KeptSlot) -> bool
+        requires room { self.old.done < max_slots }
+        requires keyed { HasKeysIfAny kept.now.slot.action }
+        ensures undue { result ≡ not (is_kept_due self.old kept.now) }
+        ensures done { IsTrue result → self.new ≡ record self.old { done = self.old.done + 1 } }
+        ensures stays { IsFalse result → self.new ≡ self.old }
+    {
+        if self.is_due(kept) {
+            return false;
+        }
+        self.done += 1;
+        true
+    }
+
     /// Does the next slot, which is this one in the current generation. Returns whether it was
     /// due. Without memory nothing is promised of the repair and the rows.
     pub(crate) fn step(
@@ -189,8 +205,7 @@ impl Repair {
         ensures step { IfOk result (λ due.
             DoesSlot self.old kept.now rows.old due self.new rows.new) }
     {
-        if !self.is_due(kept) {
-            self.done += 1;
+        if self.pass(kept) {
             return Ok(false);
         }
         self.reexecute(alloc, catalog, rows, kept)?;

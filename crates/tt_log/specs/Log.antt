@@ -46,6 +46,6 @@ KeepsEither old new shown left = Keeps old shown left ⊎ Keeps new shown left
 abbrev pub IsMaking : {D : Type 0} → (D → List ℕ) → Log D → Type 0
 IsMaking new_file log = log.new_end ≡ length (new_file log.device)
 
--- the length of a file with room behind so many bytes of lines: the least multiple of 1,048,576 bytes that has them
+-- the length of a file with room behind lines of this many bytes: the least multiple of 1,048,576 bytes that holds them
 abbrev pub length_with_room : ℕ → ℕ
 length_with_room end = next_multiple_of end 1048576

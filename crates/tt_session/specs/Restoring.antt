@@ -26,7 +26,7 @@ use Rattle.tt_session.specs.Together.{kept_line}
 
 -- ---- the ground
 
--- the session that the opening of such a log opens, before the ground is laid
+-- the session that the first line of a log with a ground opens, before the ground is laid
 abbrev pub opened_on : LogOpening → OpenSession
 opened_on o = record (opened o.opening) { numbering = o.numbering }
 

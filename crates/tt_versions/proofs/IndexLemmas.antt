@@ -1,13 +1,13 @@
 -- What an index lists, as it grows, and what a search of it finds.
-use Rattle.std.proofs.Common.{◌≡◌, ℕ, zero, suc, ◌+◌, ◌<◌, ◌≤◌, ◌==◌, ◌⊎◌, ℤ, Bool, true, false, cond, List, [], ◌∷◌, ◌++◌, length, filter, fold, slice_get, slice_set, slice_index_or, take, drop, Option, None, Some, IsTrue, IfSome, IfNone, is_some, nat_le, nat_lt, refl, sym, ap, subst, ◌∙◌, arith, inl, inr}
+use Rattle.std.proofs.Common.{◌≡◌, ℕ, zero, suc, ◌+◌, ◌<◌, ◌≤◌, ◌==◌, ◌⊎◌, ℤ, Bool, true, false, cond, ◌||◌, List, [], ◌∷◌, ◌++◌, length, filter, fold, slice_get, slice_index_or, drop, Option, None, Some, IsTrue, IfSome, IfNone, is_some, option_map, nat_le, nat_lt, refl, sym, ap, subst, ◌∙◌, arith, inl, inr}
 use Rattle.std.proofs.lemmas.Bool.Decides.{Decides-int_eq}
 use Rattle.std.proofs.lemmas.Grind.{common_steps}
 use Rattle.std.proofs.lemmas.Option.{slice_get-get_or}
 use Rattle.std.specs.Borrow.{Bor}
 use Rattle.std.proofs.lemmas.Slice.Eq.{bytes_eq-Decides}
+use Rattle.std.specs.List.{All}
 use Rattle.std.specs.Option.{unwrap_or, option_copied}
 use Rattle.std.specs.Ordering.{int_cmp, int_eq}
-use Rattle.std.specs.Cmp.{int_cmp_total}
 use Rattle.std.specs.FinMap.Entries as sorted
 use Rattle.tt_values.specs.declared.value.Value.{Value}
 use Rattle.tt_values.specs.declared.value.Value.TheVariants as values
@@ -24,67 +24,24 @@ use Rattle.tt_versions.specs.declared.side.Side.TheVariants.{Current, Next}
 use Rattle.tt_versions.specs.declared.version.Version.{Version}
 use Rattle.tt_versions.specs.declared.lineage.Lineage.{Lineage}
 use Rattle.tt_versions.specs.declared.indexed_column.IndexedColumn.{IndexedColumn}
-use Rattle.tt_versions.specs.Versions.{started_by, started_before, visible_row, with_write}
-use Rattle.tt_versions.specs.Lineage.{unwritten, chain_on, with_write_on, split_back}
-use Rattle.tt_versions.specs.Sides.{LineagesByKey, lineage_at, side_of, is_split, StaysSplit, UnsplitsRows}
+use Rattle.tt_versions.specs.Versions.{started_by, started_before, visible_row, last_row, with_write}
+use Rattle.tt_versions.specs.Lineage.{unwritten, chain_on, with_write_on, split_back, unsplit}
+use Rattle.tt_versions.specs.Sides.{LineagesByKey, lineage_at, side_of}
 use Rattle.tt_values.specs.Digest.{digest_of}
-use Rattle.tt_versions.specs.Index.{KeySet, has_key, keys_under, KeepsKeys, ColumnLists, ColumnsList, IndexState, ListsRow, KeepsRows, CoversEqual, CoversMatches, keys_with, keys_equated, IsAtMost, IsSmallest, SayNoSet, IsKeyOfMatches, ChainHas, LineageHas, ListsTable, HaveKeysIn, HaveKey}
-use Rattle.tt_versions.specs.declared.lineages.IndexedEntries.{IndexedEntries}
-use Rattle.tt_versions.specs.IndexedEntries.{IsConsistent}
+use Rattle.tt_versions.specs.declared.reach.Reach.{Reach}
+use Rattle.tt_versions.specs.declared.reach.Reach.TheVariants.{Latest, Any}
+use Rattle.tt_versions.specs.declared.keys.Keys.{Keys}
+use Rattle.tt_versions.specs.Keys.{merged, size}
+use Rattle.tt_versions.specs.Index.{KeySet, keys_under, size_together, has_now, has_past, is_digest, ListsCurrent, ColumnLists, ColumnsList, IndexState, ListsRow, CoversEqual, CoversMatches, past_keys, size_with, size_equated, IsAtMost, IsSmallest, SayNoSet, IsKeyOfMatches, ChainHas, LineageHas, ListsTable, IsIndexed, HaveKeysIn, HaveKey}
 use Rattle.tt_versions.proofs.EntriesLemmas.{first, second}
-use Rattle.tt_versions.proofs.SidesLemmas.{same_key, lineage_at-put, is_split-write_on}
-
--- ---- sets of keys
-
-has_key-put : (keys : KeySet) (key : ℤ) (u : Unit {0}) (q : ℤ) → IsTrue (has_key keys q) → IsTrue (has_key (sorted.put int_cmp key u keys) q)
-has_key-put keys key u q h = ap is_some (sorted.find-put int_cmp int_cmp_total q key u keys) ∙ by (int_eq q key)
-  where
-    by : (b : Bool) → is_some (cond b (Some u) (sorted.find int_cmp q keys)) ≡ true
-    by true = refl
-    by false = h
-
-has_key-new : (keys : KeySet) (key : ℤ) (u : Unit {0}) → IsTrue (has_key (sorted.put int_cmp key u keys) key)
-has_key-new keys key u =
-    ap is_some (sorted.find-put int_cmp int_cmp_total key key u keys) ∙ ap (λ b. is_some (cond b (Some u) (sorted.find int_cmp key keys))) ((Decides-int_eq key key).1 refl)
-
-keys_under-put : (sets : List (ℤ × KeySet)) (digest : ℤ) (keys : KeySet) (d : ℤ) → keys_under d (sorted.put int_cmp digest keys sets) ≡ cond (int_eq d digest) keys (keys_under d sets)
-keys_under-put sets digest keys d = ap (λ o. unwrap_or o []) (sorted.find-put int_cmp int_cmp_total d digest keys sets) ∙ by (int_eq d digest)
-  where
-    by : (b : Bool) → unwrap_or (cond b (Some keys) (sorted.find int_cmp d sets)) [] ≡ cond b keys (keys_under d sets)
-    by true = refl
-    by false = refl
-
--- the set under one digest gets a key
-KeepsKeys-put : (sets : List (ℤ × KeySet)) (digest key : ℤ) (u : Unit {0}) → KeepsKeys sets (sorted.put int_cmp digest (sorted.put int_cmp key u (keys_under digest sets)) sets)
-KeepsKeys-put sets digest key u d q h =
-    ap (λ ks. has_key ks q) (keys_under-put sets digest (sorted.put int_cmp key u (keys_under digest sets)) d) ∙ by (int_eq d digest) refl
-  where
-    by : (b : Bool) → int_eq d digest ≡ b → has_key (cond b (sorted.put int_cmp key u (keys_under digest sets)) (keys_under d sets)) q ≡ true
-    by true is = has_key-put (keys_under digest sets) key u q (subst (λ e. IsTrue (has_key (keys_under e sets) q)) (same_key d digest is) h)
-    by false is = h
-
-has_key-under_put : (sets : List (ℤ × KeySet)) (digest key : ℤ) (u : Unit {0}) → IsTrue (has_key (keys_under digest (sorted.put int_cmp digest (sorted.put int_cmp key u (keys_under digest sets)) sets)) key)
-has_key-under_put sets digest key u =
-    ap (λ ks. has_key ks key) (keys_under-put sets digest (sorted.put int_cmp key u (keys_under digest sets)) digest
-    ∙ ap (λ b. cond b (sorted.put int_cmp key u (keys_under digest sets)) (keys_under digest sets)) ((Decides-int_eq digest digest).1 refl))
-    ∙ has_key-new (keys_under digest sets) key u
+use Rattle.tt_versions.proofs.SidesLemmas.{same_key, lineage_at-put}
+use Rattle.tt_versions.proofs.KeysLemmas.{has_key-merged}
+use Rattle.tt_versions.proofs.MoveLemmas.{itself, All-at}
+use Rattle.tt_versions.proofs.StartLemmas.{visible_row-latest}
 
 pub is_some-copied : {X : Type 0} (o : Option (Bor X)) → is_some o ≡ is_some (option_copied o)
 is_some-copied None = refl
 is_some-copied (Some x) = refl
-
--- sets of which one got a key have it, and all keys that they had
-pub record GetsKey (digest key : ℤ) (before after : List (ℤ × KeySet)) : Type 0 where
-  pub keeps : KeepsKeys before after
-  pub lists : IsTrue (has_key (keys_under digest after) key)
-
-pub gets-key : (digest key : ℤ) (u : Unit {0}) (before after : List (ℤ × KeySet)) (keys : KeySet) → keys_under digest before ≡ keys → after ≡ sorted.put int_cmp digest (sorted.put int_cmp key u keys) before → GetsKey digest key before after
-gets-key digest key u before after keys had is =
-    let put = is ∙ ap (λ ks. sorted.put int_cmp digest (sorted.put int_cmp key u ks) before) (sym had) in
-    record {
-      keeps = subst (λ sets. KeepsKeys before sets) (sym put) (KeepsKeys-put before digest key u);
-      lists = subst (λ sets. IsTrue (has_key (keys_under digest sets) key)) (sym put) (has_key-under_put before digest key u);
-    }
 
 -- ---- columns
 
@@ -92,71 +49,10 @@ pub IfSome-map : {X : Type 0} (o : Option X) (P Q : X → Type 0) → ((x : X) �
 IfSome-map None P Q f h = tt
 IfSome-map (Some x) P Q f h = f x h
 
-ColumnLists-keeps : (c d : IndexedColumn) (key : ℤ) (row : Row) → d.position ≡ c.position → KeepsKeys c.sets d.sets → ColumnLists c key row → ColumnLists d key row
-ColumnLists-keeps c d key row same keeps h =
-    subst (λ p. IfSome (slice_get row.values p) (λ v. IsTrue (has_key (keys_under (digest_of v) d.sets) key))) (sym same)
-    (IfSome-map (slice_get row.values c.position) (λ v. IsTrue (has_key (keys_under (digest_of v) c.sets) key)) (λ v. IsTrue (has_key (keys_under (digest_of v) d.sets) key)) (λ v. keeps (digest_of v) key) h)
-
--- one column lists more rows
-pub ColumnsList-set : (cs : List IndexedColumn) (n : ℕ) (c d : IndexedColumn) (key : ℤ) (row : Row) → slice_get cs n ≡ Some c → d.position ≡ c.position → KeepsKeys c.sets d.sets → ColumnsList cs key row → ColumnsList (slice_set cs n d) key row
-ColumnsList-set [] n c d key row there same keeps h = tt
-ColumnsList-set (b ∷ cs) zero c d key row there same keeps h = let is : b ≡ c = cc in (ColumnLists-keeps c d key row same keeps (subst (λ x. ColumnLists x key row) is h.0), h.1)
-ColumnsList-set (b ∷ cs) (suc n) c d key row there same keeps h = (h.0, ColumnsList-set cs n c d key row there same keeps h.1)
-
-ColumnsList-set_suc : (cs : List IndexedColumn) (n : ℕ) (c d : IndexedColumn) (key : ℤ) (row : Row) → slice_get cs n ≡ Some c → ColumnsList (take n cs) key row → ColumnLists d key row → ColumnsList (take (suc n) (slice_set cs n d)) key row
-ColumnsList-set_suc [] n c d key row there h last = cc
-ColumnsList-set_suc (b ∷ cs) zero c d key row there h last = (last, tt)
-ColumnsList-set_suc (b ∷ cs) (suc n) c d key row there h last = (h.0, ColumnsList-set_suc cs n c d key row there h.1 last)
-
--- the columns up to one that lists the row now
-pub ColumnsList-set_take : (cs : List IndexedColumn) (n : ℕ) (c d : IndexedColumn) (key : ℤ) (row : Row) → slice_get cs n ≡ Some c → ColumnsList (take n cs) key row → ColumnLists d key row → ColumnsList (take (n + 1) (slice_set cs n d)) key row
-ColumnsList-set_take cs n c d key row there h last =
-    let next : suc n ≡ n + 1 = omega arith in
-    subst (λ m. ColumnsList (take m (slice_set cs n d)) key row) next (ColumnsList-set_suc cs n c d key row there h last)
-
 pub ColumnsList-at : (cs : List IndexedColumn) (n : ℕ) (c : IndexedColumn) (key : ℤ) (row : Row) → slice_get cs n ≡ Some c → ColumnsList cs key row → ColumnLists c key row
 ColumnsList-at [] n c key row there h = cc
 ColumnsList-at (d ∷ cs) zero c key row there h = let same : d ≡ c = cc in subst (λ x. ColumnLists x key row) same h.0
 ColumnsList-at (d ∷ cs) (suc n) c key row there h = ColumnsList-at cs n c key row there h.1
-
-ColumnsList-take_suc : (cs : List IndexedColumn) (n : ℕ) (c : IndexedColumn) (key : ℤ) (row : Row) → slice_get cs n ≡ Some c → ColumnsList (take n cs) key row → ColumnLists c key row → ColumnsList (take (suc n) cs) key row
-ColumnsList-take_suc [] n c key row there h last = cc
-ColumnsList-take_suc (d ∷ cs) zero c key row there h last = let same : c ≡ d = cc in (subst (λ x. ColumnLists x key row) same last, tt)
-ColumnsList-take_suc (d ∷ cs) (suc n) c key row there h last = (h.0, ColumnsList-take_suc cs n c key row there h.1 last)
-
--- one more column lists the row
-pub ColumnsList-take : (cs : List IndexedColumn) (n : ℕ) (c : IndexedColumn) (key : ℤ) (row : Row) → slice_get cs n ≡ Some c → ColumnsList (take n cs) key row → ColumnLists c key row → ColumnsList (take (n + 1) cs) key row
-ColumnsList-take cs n c key row there h last =
-    let next : suc n ≡ n + 1 = omega arith in
-    subst (λ m. ColumnsList (take m cs) key row) next (ColumnsList-take_suc cs n c key row there h last)
-
--- ---- rows with the same values
-
-ColumnLists-same : (c : IndexedColumn) (key : ℤ) (old new : Row) → slice_get old.values c.position ≡ slice_get new.values c.position → ColumnLists c key old → ColumnLists c key new
-ColumnLists-same c key old new same h = subst (λ o. IfSome o (λ v. IsTrue (has_key (keys_under (digest_of v) c.sets) key))) same h
-
--- one more column has the same value in both rows
-pub ColumnsList-take_same : (cs : List IndexedColumn) (n : ℕ) (c : IndexedColumn) (key : ℤ) (old new : Row) → slice_get cs n ≡ Some c → slice_get old.values c.position ≡ slice_get new.values c.position
-    → (ColumnsList cs key old → ColumnsList (take n cs) key new) → ColumnsList cs key old → ColumnsList (take (n + 1) cs) key new
-ColumnsList-take_same cs n c key old new there same so_far h =
-    ColumnsList-take cs n c key new there (so_far h) (ColumnLists-same c key old new same (ColumnsList-at cs n c key old there h))
-
-first_int-same : (vs ws : List Value) → slice_get vs 0 ≡ slice_get ws 0 → first_int vs ≡ first_int ws
-first_int-same [] [] same = refl
-first_int-same [] (w ∷ ws) same = cc
-first_int-same (v ∷ vs) [] same = cc
-first_int-same (values.Int m ∷ vs) (values.Int n ∷ ws) same = cc
-first_int-same (values.Int m ∷ vs) (values.Text t ∷ ws) same = cc
-first_int-same (values.Text s ∷ vs) (values.Int n ∷ ws) same = cc
-first_int-same (values.Text s ∷ vs) (values.Text t ∷ ws) same = refl
-
--- an index lists a row that has the same values as one that it lists
-pub ListsRow-same : (index : IndexState) (key : ℤ) (old new : Row) → (ColumnsList index.columns key old → ColumnsList index.columns key new)
-    → (IsTrue index.is_keyed → slice_get old.values 0 ≡ slice_get new.values 0) → ListsRow index key old → ListsRow index key new
-ListsRow-same index key old new columns first h = record {
-  columns = columns h.columns;
-  first = λ keyed. sym (first_int-same old.values new.values (first keyed)) ∙ h.first keyed;
-}
 
 -- ---- conditions
 
@@ -173,9 +69,14 @@ holds-at (p ∷ equals) zero q row there h = let same : p ≡ q = cc in subst (�
 holds-at (p ∷ equals) (suc n) q row there h = holds-at equals n q row there (second _ _ h)
 
 -- where the equality is on a column, the column's set has the key
-lists_equal : (o : Option Value) (v : Value) (sets : List (ℤ × KeySet)) (key : ℤ) → IfSome o (λ w. IsTrue (has_key (keys_under (digest_of w) sets) key)) → IsTrue (is_compared Is v o) → IsTrue (has_key (keys_under (digest_of v) sets) key)
-lists_equal None v sets key h is = cc
-lists_equal (Some w) v sets key h is = subst (λ x. IsTrue (has_key (keys_under (digest_of x) sets) key)) (sym (equal_values v w is)) h
+lists_equal : (o : Option Value) (v : Value) (has : ℤ → Bool) → IfSome o (λ w. IsTrue (has (digest_of w))) → IsTrue (is_compared Is v o) → IsTrue (has (digest_of v))
+lists_equal None v has h is = cc
+lists_equal (Some w) v has h is = subst (λ x. IsTrue (has (digest_of x))) (sym (equal_values v w is)) h
+
+-- and so has the set of the current rows, where the row is the current one
+current_equal : (o : Option Value) (v : Value) → IsTrue (is_compared Is v o) → is_digest (digest_of v) (option_map digest_of o) ≡ true
+current_equal None v is = cc
+current_equal (Some w) v is = ap (λ x. int_eq (digest_of v) (digest_of x)) (sym (equal_values v w is)) ∙ itself (digest_of v)
 
 is_the_same : (how : Comparison) → IsTrue (is_equality how) → how ≡ Is
 is_the_same Is h = refl
@@ -189,46 +90,61 @@ is_the_same AtLeast h = cc
 holds-equality : (equal : Equal) (row : Row) → IsTrue (equates equal) → IsTrue (holds equal row) → IsTrue (is_compared Is equal.value (slice_get row.values equal.column))
 holds-equality equal row equality h = subst (λ how. IsTrue (is_compared how equal.value (slice_get row.values equal.column))) (is_the_same equal.how equality) h
 
-pub CoversEqual-column : (index : IndexState) (n : ℕ) (c : IndexedColumn) (equal : Equal) → slice_get index.columns n ≡ Some c → c.position ≡ equal.column → IsTrue (equates equal)
-    → CoversEqual index (keys_under (digest_of equal.value) c.sets) equal
-CoversEqual-column index n c equal there at equality key row listed h =
-    let column : ColumnLists c key row = ColumnsList-at index.columns n c key row there listed.columns in
-    lists_equal (slice_get row.values equal.column) equal.value c.sets key (subst (λ p. IfSome (slice_get row.values p) (λ w. IsTrue (has_key (keys_under (digest_of w) c.sets) key))) at column) (holds-equality equal row equality h)
+-- the keys of a column that a search reads
+abbrev pub keys_read : Reach → ℤ → IndexedColumn → KeySet
+keys_read reach digest c = merged (keys_under digest c.current) (past_keys reach digest c)
 
-pub CoversMatches-equal : (index : IndexState) (keys : KeySet) (equals : List Equal) (n : ℕ) (equal : Equal) → slice_get equals n ≡ Some equal → CoversEqual index keys equal → CoversMatches index keys equals
-CoversMatches-equal index keys equals n equal there covers key row listed h = covers key row listed (holds-at equals n equal row there h)
+pub CoversEqual-column : (reach : Reach) (index : IndexState) (n : ℕ) (c : IndexedColumn) (equal : Equal) → slice_get index.columns n ≡ Some c → c.position ≡ equal.column → IsTrue (equates equal)
+    → CoversEqual reach index (keys_read reach (digest_of equal.value) c) equal
+CoversEqual-column Latest index n c equal there at equality key row current h =
+    let column : ListsCurrent key (Some row) c = All-at (ListsCurrent key (Some row)) index.columns n c there current in
+    let digest = digest_of equal.value in
+    let same = current_equal (slice_get row.values equal.column) equal.value (holds-equality equal row equality h) in
+    has_key-merged (keys_under digest c.current) [] key
+    ∙ ap (λ b. b || false) (column.now digest ∙ ap (λ p. is_digest digest (option_map digest_of (slice_get row.values p))) at ∙ same)
+CoversEqual-column Any index n c equal there at equality key row listed h =
+    let column : ColumnLists c key row = ColumnsList-at index.columns n c key row there listed.columns in
+    let has : ℤ → Bool = λ digest. has_now c digest key || has_past c digest key in
+    let here = subst (λ p. IfSome (slice_get row.values p) (λ w. IsTrue (has (digest_of w)))) at column in
+    has_key-merged (keys_under (digest_of equal.value) c.current) (keys_under (digest_of equal.value) c.past) key
+    ∙ lists_equal (slice_get row.values equal.column) equal.value has here (holds-equality equal row equality h)
+
+pub CoversMatches-equal : (reach : Reach) (index : IndexState) (keys : KeySet) (equals : List Equal) (n : ℕ) (equal : Equal) → slice_get equals n ≡ Some equal → CoversEqual reach index keys equal → CoversMatches reach index keys equals
+CoversMatches-equal reach index keys equals n equal there covers key row within h = covers key row within (holds-at equals n equal row there h)
 
 -- ---- the sets that equalities say
 
--- the keys under a value, by the columns from one on
-pub keys_with-here : (cs : List IndexedColumn) (n : ℕ) (c : IndexedColumn) (equal : Equal) → slice_get cs n ≡ Some c → (c.position == equal.column) ≡ true
-    → keys_with (drop n cs) equal ≡ Some (keys_under (digest_of equal.value) c.sets)
-keys_with-here [] n c equal there is = cc
-keys_with-here (d ∷ cs) zero c equal there is =
+-- how many keys are under a value, by the columns from one on
+pub size_with-here : (reach : Reach) (cs : List IndexedColumn) (n : ℕ) (c : IndexedColumn) (equal : Equal) → slice_get cs n ≡ Some c → (c.position == equal.column) ≡ true
+    → size_with reach (drop n cs) equal ≡ Some (size_together (keys_under (digest_of equal.value) c.current) (past_keys reach (digest_of equal.value) c))
+size_with-here reach [] n c equal there is = cc
+size_with-here reach (d ∷ cs) zero c equal there is =
     let same : d ≡ c = cc in
-    ap (λ (x : IndexedColumn). cond (x.position == equal.column) (Some (keys_under (digest_of equal.value) x.sets)) (keys_with cs equal)) same
-    ∙ ap (λ b. cond b (Some (keys_under (digest_of equal.value) c.sets)) (keys_with cs equal)) is
-keys_with-here (d ∷ cs) (suc n) c equal there is = keys_with-here cs n c equal there is
+    let size : IndexedColumn → ℕ = λ x. size_together (keys_under (digest_of equal.value) x.current) (past_keys reach (digest_of equal.value) x) in
+    ap (λ (x : IndexedColumn). cond (x.position == equal.column) (Some (size x)) (size_with reach cs equal)) same
+    ∙ ap (λ b. cond b (Some (size c)) (size_with reach cs equal)) is
+size_with-here reach (d ∷ cs) (suc n) c equal there is = size_with-here reach cs n c equal there is
 
-keys_with-skip_suc : (cs : List IndexedColumn) (n : ℕ) (c : IndexedColumn) (equal : Equal) → slice_get cs n ≡ Some c → (c.position == equal.column) ≡ false
-    → keys_with (drop (suc n) cs) equal ≡ keys_with (drop n cs) equal
-keys_with-skip_suc [] n c equal there is = cc
-keys_with-skip_suc (d ∷ cs) zero c equal there is =
+size_with-skip_suc : (reach : Reach) (cs : List IndexedColumn) (n : ℕ) (c : IndexedColumn) (equal : Equal) → slice_get cs n ≡ Some c → (c.position == equal.column) ≡ false
+    → size_with reach (drop (suc n) cs) equal ≡ size_with reach (drop n cs) equal
+size_with-skip_suc reach [] n c equal there is = cc
+size_with-skip_suc reach (d ∷ cs) zero c equal there is =
     let same : d ≡ c = cc in
-    sym (ap (λ (x : IndexedColumn). cond (x.position == equal.column) (Some (keys_under (digest_of equal.value) x.sets)) (keys_with cs equal)) same
-    ∙ ap (λ b. cond b (Some (keys_under (digest_of equal.value) c.sets)) (keys_with cs equal)) is)
-keys_with-skip_suc (d ∷ cs) (suc n) c equal there is = keys_with-skip_suc cs n c equal there is
+    let size : IndexedColumn → ℕ = λ x. size_together (keys_under (digest_of equal.value) x.current) (past_keys reach (digest_of equal.value) x) in
+    sym (ap (λ (x : IndexedColumn). cond (x.position == equal.column) (Some (size x)) (size_with reach cs equal)) same
+    ∙ ap (λ b. cond b (Some (size c)) (size_with reach cs equal)) is)
+size_with-skip_suc reach (d ∷ cs) (suc n) c equal there is = size_with-skip_suc reach cs n c equal there is
 
--- a column with another position says no set
-pub keys_with-skip : (cs : List IndexedColumn) (n : ℕ) (c : IndexedColumn) (equal : Equal) → slice_get cs n ≡ Some c → (c.position == equal.column) ≡ false
-    → keys_with (drop (n + 1) cs) equal ≡ keys_with (drop n cs) equal
-keys_with-skip cs n c equal there is =
+-- a column with another position says no keys
+pub size_with-skip : (reach : Reach) (cs : List IndexedColumn) (n : ℕ) (c : IndexedColumn) (equal : Equal) → slice_get cs n ≡ Some c → (c.position == equal.column) ≡ false
+    → size_with reach (drop (n + 1) cs) equal ≡ size_with reach (drop n cs) equal
+size_with-skip reach cs n c equal there is =
     let next : suc n ≡ n + 1 = omega arith in
-    ap (λ m. keys_with (drop m cs) equal) (sym next) ∙ keys_with-skip_suc cs n c equal there is
+    ap (λ m. size_with reach (drop m cs) equal) (sym next) ∙ size_with-skip_suc reach cs n c equal there is
 
--- the set that an equality says
-pub keys_equated-equality : (cs : List IndexedColumn) (equal : Equal) → equates equal ≡ true → keys_equated cs equal ≡ keys_with cs equal
-keys_equated-equality cs equal equality = ap (λ b. cond b (keys_with cs equal) None) equality
+-- how many keys an equality says
+pub size_equated-equality : (reach : Reach) (cs : List IndexedColumn) (equal : Equal) → equates equal ≡ true → size_equated reach cs equal ≡ size_with reach cs equal
+size_equated-equality reach cs equal equality = ap (λ b. cond b (size_with reach cs equal) None) equality
 
 pub IfSome-copied : {X : Type 0} (o : Option (Bor X)) (P : X → Type 0) → IfSome o (λ x. P x.now) → IfSome (option_copied o) P
 IfSome-copied None P h = tt
@@ -238,51 +154,51 @@ pub IfSome-uncopied : {X : Type 0} (o : Option (Bor X)) (P : X → Type 0) → I
 IfSome-uncopied None P h = tt
 IfSome-uncopied (Some x) P h = h
 
-IsAtMost-trans : (a b c : Option KeySet) → IsAtMost a b → IsAtMost b c → IsAtMost a c
+IsAtMost-trans : (a b c : Option ℕ) → IsAtMost a b → IsAtMost b c → IsAtMost a c
 IsAtMost-trans a b None h g = tt
 IsAtMost-trans a None (Some z) h g = absurd g
 IsAtMost-trans None (Some y) (Some z) h g = absurd h
 IsAtMost-trans (Some x) (Some y) (Some z) h g = omega (arith, h, g)
 
 -- no equality of those before a position says a smaller set
-abbrev pub IsLeastBefore : ℕ → Option KeySet → List IndexedColumn → List Equal → Type 0
-IsLeastBefore n least cs equals = (k : ℕ) (e : Equal) → slice_get equals k ≡ Some e → k < n → IsAtMost least (keys_equated cs e)
+abbrev pub IsLeastBefore : Reach → ℕ → Option ℕ → List IndexedColumn → List Equal → Type 0
+IsLeastBefore reach n least cs equals = (k : ℕ) (e : Equal) → slice_get equals k ≡ Some e → k < n → IsAtMost least (size_equated reach cs e)
 
-pub IsLeastBefore-start : (least : Option KeySet) (cs : List IndexedColumn) (equals : List Equal) → IsLeastBefore 0 least cs equals
-IsLeastBefore-start least cs equals k e at below = absurd (omega (arith, below))
+pub IsLeastBefore-start : (reach : Reach) (least : Option ℕ) (cs : List IndexedColumn) (equals : List Equal) → IsLeastBefore reach 0 least cs equals
+IsLeastBefore-start reach least cs equals k e at below = absurd (omega (arith, below))
 
 -- one more equality
-pub IsLeastBefore-more : (cs : List IndexedColumn) (equals : List Equal) (n : ℕ) (q : Equal) (before after said : Option KeySet) → slice_get equals n ≡ Some q → said ≡ keys_equated cs q
-    → IsAtMost after before → IsAtMost after said → IsLeastBefore n before cs equals → IsLeastBefore (n + 1) after cs equals
-IsLeastBefore-more cs equals n q before after said there says less this h k e at below = by (nat_lt k n) refl
+pub IsLeastBefore-more : (reach : Reach) (cs : List IndexedColumn) (equals : List Equal) (n : ℕ) (q : Equal) (before after said : Option ℕ) → slice_get equals n ≡ Some q → said ≡ size_equated reach cs q
+    → IsAtMost after before → IsAtMost after said → IsLeastBefore reach n before cs equals → IsLeastBefore reach (n + 1) after cs equals
+IsLeastBefore-more reach cs equals n q before after said there says less this h k e at below = by (nat_lt k n) refl
   where
-    by : (b : Bool) → nat_lt k n ≡ b → IsAtMost after (keys_equated cs e)
-    by true y = let lower : k < n = grind (arith, common_steps) in IsAtMost-trans after before (keys_equated cs e) less (h k e at lower)
+    by : (b : Bool) → nat_lt k n ≡ b → IsAtMost after (size_equated reach cs e)
+    by true y = let lower : k < n = grind (arith, common_steps) in IsAtMost-trans after before (size_equated reach cs e) less (h k e at lower)
     by false y =
         let same : k ≡ n = grind (arith, common_steps) in
         let here : slice_get equals n ≡ Some e = subst (λ m. slice_get equals m ≡ Some e) same at in
         let one : q ≡ e = cc in
-        subst (λ s. IsAtMost after s) (says ∙ ap (keys_equated cs) one) this
+        subst (λ s. IsAtMost after s) (says ∙ ap (size_equated reach cs) one) this
 
-at_most : (keys : KeySet) (said : Option KeySet) → IsAtMost (Some keys) said → IfSome said (λ set. length keys ≤ length set)
+at_most : (keys : ℕ) (said : Option ℕ) → IsAtMost (Some keys) said → IfSome said (λ other. keys ≤ other)
 at_most keys None h = tt
-at_most keys (Some set) h = h
+at_most keys (Some other) h = h
 
-nothing : (said : Option KeySet) → IsAtMost None said → said ≡ None
+nothing : (said : Option ℕ) → IsAtMost None said → said ≡ None
 nothing None h = refl
 nothing (Some set) h = absurd h
 
-pub IsSmallest-all : (index : IndexState) (equals : List Equal) (n : ℕ) (o : Option (Bor KeySet)) → length equals ≤ n → IsLeastBefore n (option_copied o) index.columns equals → IfSome o (λ keys. IsSmallest index keys.now equals)
-IsSmallest-all index equals n None all h = tt
-IsSmallest-all index equals n (Some x) all h = λ k d below.
+pub IsSmallest-all : (reach : Reach) (index : IndexState) (equals : List Equal) (n : ℕ) (o : Option Keys) → length equals ≤ n → IsLeastBefore reach n (option_map size o) index.columns equals → IfSome o (λ keys. IsSmallest reach index (size keys) equals)
+IsSmallest-all reach index equals n None all h = tt
+IsSmallest-all reach index equals n (Some keys) all h = λ k d below.
     let lower : k < n = omega (arith, below, all) in
-    at_most x.now (keys_equated index.columns (slice_index_or equals k d)) (h k (slice_index_or equals k d) (slice_get-get_or equals k d below) lower)
+    at_most (size keys) (size_equated reach index.columns (slice_index_or equals k d)) (h k (slice_index_or equals k d) (slice_get-get_or equals k d below) lower)
 
-pub SayNoSet-all : (index : IndexState) (equals : List Equal) (n : ℕ) (o : Option (Bor KeySet)) → length equals ≤ n → IsLeastBefore n (option_copied o) index.columns equals → IfNone o (SayNoSet index equals)
-SayNoSet-all index equals n (Some x) all h = tt
-SayNoSet-all index equals n None all h = λ k d below.
+pub SayNoSet-all : (reach : Reach) (index : IndexState) (equals : List Equal) (n : ℕ) (o : Option Keys) → length equals ≤ n → IsLeastBefore reach n (option_map size o) index.columns equals → IfNone o (SayNoSet reach index equals)
+SayNoSet-all reach index equals n (Some keys) all h = tt
+SayNoSet-all reach index equals n None all h = λ k d below.
     let lower : k < n = omega (arith, below, all) in
-    nothing (keys_equated index.columns (slice_index_or equals k d)) (h k (slice_index_or equals k d) (slice_get-get_or equals k d below) lower)
+    nothing (size_equated reach index.columns (slice_index_or equals k d)) (h k (slice_index_or equals k d) (slice_get-get_or equals k d below) lower)
 
 -- what holds of both holds of the one that is picked
 pub IfSome-either : {X : Type 0} (picked one other : Option X) (P : X → Type 0) → (picked ≡ one) ⊎ (picked ≡ other) → IfSome one P → IfSome other P → IfSome picked P
@@ -355,14 +271,13 @@ LineageHas-write P Next row time l h last = (h.0, ChainHas-write P row time (cha
 pub LineageHas-split_back : (P : Row → Type 0) (time : ℕ) (l : Lineage) → LineageHas P l → LineageHas P (split_back time l)
 LineageHas-split_back P time l h = (h.0, ChainHas-filter P (λ v. nat_lt v.start time) (chain_on Next l) (chain_on-has P Next l h))
 
+pub LineageHas-unsplit : (P : Row → Type 0) (side : Side) (l : Lineage) → LineageHas P l → LineageHas P (unsplit side l)
+LineageHas-unsplit P side l h = (chain_on-has P side l h, tt)
+
 -- ---- tables
 
 pub ListsTable-empty : (index : IndexState) → ListsTable index []
 ListsTable-empty index key = LineageHas-unwritten (ListsRow index key)
-
--- an index that keeps its rows still lists a table
-pub ListsTable-keeps : (before after : IndexState) (t : LineagesByKey) → KeepsRows before after → ListsTable before t → ListsTable after t
-ListsTable-keeps before after t keeps listed key = LineageHas-map (ListsRow before key) (ListsRow after key) (λ row. keeps key row) (lineage_at t key) (listed key)
 
 pub ListsTable-put : (key : ℤ) (index : IndexState) (t : LineagesByKey) (l : Lineage) → ListsTable index t → LineageHas (ListsRow index key) l → ListsTable index (sorted.put int_cmp key l t)
 ListsTable-put key index t l others here q = subst (λ x. LineageHas (ListsRow index q) x) (sym (lineage_at-put t key l q)) (by (int_eq q key) refl)
@@ -371,33 +286,31 @@ ListsTable-put key index t l others here q = subst (λ x. LineageHas (ListsRow i
     by true e = subst (λ k. LineageHas (ListsRow index k) l) (sym (same_key q key e)) here
     by false e = others q
 
-pub ListsTable-unsplit : (side : Side) (index : IndexState) (t after : LineagesByKey) → UnsplitsRows side t after → ListsTable index t → ListsTable index after
-ListsTable-unsplit side index t after h listed q =
-    subst (λ l. LineageHas (ListsRow index q) l) (sym (h.each q)) (chain_on-has (ListsRow index q) side (lineage_at t q) (listed q), tt)
-
 pub shown : (P : Row → Type 0) (o : Option Row) (row : Row) → o ≡ Some row → IfSome o P → P row
 shown P None row is h = cc
 shown P (Some r) row is h = let same : r ≡ row = cc in subst P same h
 
-pub HaveKeysIn-covers : (index : IndexState) (keys : KeySet) (equals : List Equal) (t : LineagesByKey) → ListsTable index t → CoversMatches index keys equals → HaveKeysIn t keys equals
+-- what a search of the rows of any time and side finds
+HaveKeysIn-any : (index : IndexState) (latest : ℕ) (keys : KeySet) (equals : List Equal) (t : LineagesByKey) (side : Side) (time : ℕ) → IsIndexed index latest t → CoversMatches Any index keys equals → HaveKeysIn t side time keys equals
 unfolding side_of
-HaveKeysIn-covers index keys equals t listed covers side key time row is m =
-    covers key row (shown (ListsRow index key) (visible_row time (chain_on side (lineage_at t key))) row is (visible_row-has (ListsRow index key) side (lineage_at t key) time (listed key))) m
+HaveKeysIn-any index latest keys equals t side time indexed covers key row is m =
+    covers key row (shown (ListsRow index key) (visible_row time (chain_on side (lineage_at t key))) row is (visible_row-has (ListsRow index key) side (lineage_at t key) time (indexed.listed key))) m
+
+-- and one of the current rows
+HaveKeysIn-latest : (index : IndexState) (latest : ℕ) (keys : KeySet) (equals : List Equal) (t : LineagesByKey) (time : ℕ) → latest ≤ time → IsIndexed index latest t → CoversMatches Latest index keys equals → HaveKeysIn t Current time keys equals
+unfolding side_of
+HaveKeysIn-latest index latest keys equals t time upto indexed covers key row is m =
+    let chain = (lineage_at t key).current in
+    let last : last_row chain ≡ Some row = sym (visible_row-latest latest time chain upto (indexed.starts key).0) ∙ is in
+    covers key row (subst (λ o. All (ListsCurrent key o) index.columns) last (indexed.current key)) m
+
+pub HaveKeysIn-covers : (reach : Reach) (index : IndexState) (latest : ℕ) (keys : KeySet) (equals : List Equal) (t : LineagesByKey) (side : Side) (time : ℕ) → (reach ≡ Latest → (side ≡ Current) × (latest ≤ time)) → IsIndexed index latest t
+    → CoversMatches reach index keys equals → HaveKeysIn t side time keys equals
+HaveKeysIn-covers Latest index latest keys equals t side time reaches indexed covers =
+    subst (λ s. HaveKeysIn t s time keys equals) (sym (reaches refl).0) (HaveKeysIn-latest index latest keys equals t time (reaches refl).1 indexed covers)
+HaveKeysIn-covers Any index latest keys equals t side time reaches indexed covers = HaveKeysIn-any index latest keys equals t side time indexed covers
 
 pub HaveKey-covers : (index : IndexState) (only : ℤ) (equals : List Equal) (t : LineagesByKey) → ListsTable index t → IsKeyOfMatches index only equals → HaveKey t only equals
 unfolding side_of
 HaveKey-covers index only equals t listed covers side key time row is m =
     covers key row (shown (ListsRow index key) (visible_row time (chain_on side (lineage_at t key))) row is (visible_row-has (ListsRow index key) side (lineage_at t key) time (listed key))) m
-
--- a write on a side, once the index lists its row
-pub IsConsistent-write : (side : Side) (key : ℤ) (before after : IndexedEntries) (row : Option Row) (time : ℕ)
-    → StaysSplit side (is_split before.entries) key → IsConsistent before → after.split_keys ≡ before.split_keys → KeepsRows before.index after.index → IfSome row (ListsRow after.index key)
-    → after.entries ≡ sorted.put int_cmp key (with_write_on side row time (lineage_at before.entries key)) before.entries → IsConsistent after
-IsConsistent-write side key before after row time stays stored same keeps lists is = record {
-  split = λ q. ap (λ (keys : KeySet). is_some (sorted.find int_cmp q keys)) same ∙ stored.split q
-      ∙ (λ i. sym (is_split-write_on side before.entries key row time stays) i q) ∙ ap (λ (t : LineagesByKey). is_split t q) (sym is);
-  listed = let listed = ListsTable-keeps before.index after.index before.entries keeps stored.listed in
-      subst (λ (t : LineagesByKey). ListsTable after.index t) (sym is)
-      (ListsTable-put key after.index before.entries (with_write_on side row time (lineage_at before.entries key)) listed
-      (LineageHas-write (ListsRow after.index key) side row time (lineage_at before.entries key) (listed key) lists));
-}

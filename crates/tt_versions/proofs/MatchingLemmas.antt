@@ -138,7 +138,7 @@ row_at-among equals rows (e ∷ es) q h = by (int_eq q e.0) refl (row_at-among e
         ∙ ap (λ k. if_matching equals (rows k)) (sym (same_key q e.0 is))
     by false is h' = with_first-other e.0 o rest q is ∙ h'
 
-pub lists_matches-among : (equals : List Equal) (es : RowsByKey) (t : LineagesByKey) (keys : KeySet) (time : ℕ) (side : Side) → HaveKeysIn t keys equals → IsTrue (sorted.is_sorted int_cmp keys)
+pub lists_matches-among : (equals : List Equal) (es : RowsByKey) (t : LineagesByKey) (keys : KeySet) (time : ℕ) (side : Side) → HaveKeysIn t side time keys equals → IsTrue (sorted.is_sorted int_cmp keys)
     → es ≡ matching_among equals (λ k. side_of t side k time) keys → ListsMatches es equals (side_of t side) time
 lists_matches-among equals es t keys time side have h is = subst (λ rows. ListsMatches rows equals (side_of t side) time) (sym is) (record {
   sorted = is_sorted-among equals (λ k. side_of t side k time) keys h;
@@ -147,7 +147,7 @@ lists_matches-among equals es t keys time side have h is = subst (λ rows. Lists
   where
     by : (q : ℤ) (b : Bool) → has_key keys q ≡ b → (if b then if_matching equals (side_of t side q time) else None) ≡ if_matching equals (side_of t side q time)
     by q true e = refl
-    by q false e = sym (no_match equals (side_of t side q time) (λ row shown m. let clash = sym e ∙ have side q time row shown m in cc))
+    by q false e = sym (no_match equals (side_of t side q time) (λ row shown m. let clash = sym e ∙ have q row shown m in cc))
 
 -- the row of the one key
 pub lists_matches-of_key : (equals : List Equal) (es : RowsByKey) (t : LineagesByKey) (key : ℤ) (time : ℕ) (side : Side) → HaveKey t key equals

@@ -135,7 +135,7 @@ lists_page-of_all es follow low most equals t time side h page = record {
   page = page;
 }
 
-lists_page-among : (es : RowsByKey) (follow : Bool) (low : Option ℤ) (most : ℕ) (equals : List Equality) (t : LineagesByKey) (keys : KeySet) (time : ℕ) (side : Side) → HaveKeysIn t keys equals → IsTrue (sorted.is_sorted int_cmp keys)
+lists_page-among : (es : RowsByKey) (follow : Bool) (low : Option ℤ) (most : ℕ) (equals : List Equality) (t : LineagesByKey) (keys : KeySet) (time : ℕ) (side : Side) → HaveKeysIn t side time keys equals → IsTrue (sorted.is_sorted int_cmp keys)
     → IsPage es follow low most (matching_among equals (λ k. side_of t side k time) keys) → ListsPage es follow low most equals (side_of t side) time
 lists_page-among es follow low most equals t keys time side have h page = record {
   whole = matching_among equals (λ k. side_of t side k time) keys;
@@ -197,7 +197,7 @@ of_all-last es low most equals t time side h whole few =
     lists_page-of_all es false low most equals t time side h (is_page-last es low most (matching_of equals time side t) (whole ∙ matching_of-after low equals time side t) few)
 
 -- the page of some keys, where a row more matches
-pub among-more : (es : RowsByKey) (low : Option ℤ) (most : ℕ) (equals : List Equality) (t : LineagesByKey) (keys left rest : KeySet) (k : ℤ × Unit {0}) (row : Row) (time : ℕ) (side : Side) → HaveKeysIn t keys equals → IsTrue (sorted.is_sorted int_cmp keys)
+pub among-more : (es : RowsByKey) (low : Option ℤ) (most : ℕ) (equals : List Equality) (t : LineagesByKey) (keys left rest : KeySet) (k : ℤ × Unit {0}) (row : Row) (time : ℕ) (side : Side) → HaveKeysIn t side time keys equals → IsTrue (sorted.is_sorted int_cmp keys)
     → es ++ matching_among equals (λ q. side_of t side q time) left ≡ matching_among equals (λ q. side_of t side q time) (those_after low keys) → left ≡ k ∷ rest → Some row ≡ if_matching equals (side_of t side k.0 time) → length es ≡ most
     → ListsPage es true low most equals (side_of t side) time
 among-more es low most equals t keys left rest k row time side have h whole next there full =
@@ -206,7 +206,7 @@ among-more es low most equals t keys left rest k row time side have h whole next
     lists_page-among es true low most equals t keys time side have h (is_page-more es low most (matching_among equals rows keys) (k.0, row) (matching_among equals rows rest) is full)
 
 -- or nothing is left
-pub among-last : (es : RowsByKey) (low : Option ℤ) (most : ℕ) (equals : List Equality) (t : LineagesByKey) (keys : KeySet) (time : ℕ) (side : Side) → HaveKeysIn t keys equals → IsTrue (sorted.is_sorted int_cmp keys)
+pub among-last : (es : RowsByKey) (low : Option ℤ) (most : ℕ) (equals : List Equality) (t : LineagesByKey) (keys : KeySet) (time : ℕ) (side : Side) → HaveKeysIn t side time keys equals → IsTrue (sorted.is_sorted int_cmp keys)
     → es ≡ matching_among equals (λ q. side_of t side q time) (those_after low keys) → length es ≤ most → ListsPage es false low most equals (side_of t side) time
 among-last es low most equals t keys time side have h whole few =
     let rows : ℤ → Option Row = λ q. side_of t side q time in

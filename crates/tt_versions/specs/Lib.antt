@@ -5,7 +5,9 @@ pub mod Sides
 pub mod RowsByWrites
 pub mod Matching
 pub mod Pages
+pub mod RowChange
 pub mod Index
+pub mod Keys
 pub mod KeyRange
 pub mod IndexedEntries
 pub mod Laws

@@ -1,19 +1,25 @@
-ghost use Rattle.std.specs.Prelude.{◌≡◌, ℤ, ◌⊎◌, IsTrue, IfOk, OnOk, IfSome, IfNone, Some, slice_get};
+ghost use Rattle.std.specs.Prelude.{◌≡◌, ◌⊎◌, IsTrue, IfOk, OnOk, IfSome, IfNone, Some, option_map};
+ghost use Rattle.std.specs.List.{All};
 ghost use Rattle.std.specs.Option.{option_copied};
 ghost use Rattle.tt_values.specs.Row.{first_int};
 ghost use Rattle.tt_values.specs.Matches.{holds};
-ghost use Rattle.tt_versions.specs.Index.{ColumnsList, ListsRow, KeepsRows, CoversEqual, CoversMatches, keys_equated, IsAtMost, IsSmallest, SayNoSet, IsKeyOfMatches};
+ghost use Rattle.tt_versions.specs.RowChange.{current_after, other_after};
+ghost use Rattle.tt_versions.specs.Keys.{size, all_of};
+ghost use Rattle.tt_versions.specs.Index.{HasNoKeys, FitsChange, MoveKey, MovesRow, CoversEqual, CoversMatches, size_equated, IsAtMost, IsSmallest, SayNoSet, IsKeyOfMatches};
 ghost use Rattle.tt_versions.specs.KeyRange.{IsRangeOfMatches, IsNarrowest};
 
 use crate::indexed_column::{IndexedColumn, KeySet};
 use crate::key_range::KeyRange;
+use crate::keys::Keys;
+use crate::reach::Reach;
+use crate::row_change::RowChange;
 use std::alloc::{AllocError, Global};
 use std::marker::Model;
 use tt_pages::PagedMap;
-use tt_values::{Equal, Row, Same, Value, digest};
+use tt_values::{Equal, Row, Value, digest};
 
-/// Where the rows of a table are to be found, by their values. It lists each row that the table
-/// ever had on either side, and forgets none.
+/// Where the rows of a table are to be found, by their values: the current rows apart from all
+/// others that the table ever had on either side, of which it forgets none.
 #[derive(Debug, Drop)]
 pub(crate) struct Index {
     alloc: Global,
@@ -39,7 +45,9 @@ impl Model for Index {
 
 impl Index {
     /// An index of rows by their values in these columns, and by their keys.
-    pub(crate) fn new(alloc: Global, columns: Vec<IndexedColumn>) -> Index {
+    pub(crate) fn new(alloc: Global, columns: Vec<IndexedColumn>) -> Index
+        ensures { result.columns ≡ columns.items }
+    {
         Index {
             alloc,
             columns,
@@ -64,23 +72,22 @@ impl Index {
         })
     }
 
-    /// Lists the row too. Without memory nothing is promised of the index.
-    pub(crate) fn add_row(&mut self, key: i64, row: &Row) -> Result<(), AllocError>
-        ensures keeps { OnOk result (KeepsRows self.old self.new) }
-        ensures lists { OnOk result (ListsRow self.new key row.now) }
+    /// No rows.
+    pub(crate) fn clear(&mut self)
+        ensures { All HasNoKeys self.new.columns }
     {
-        add_to_columns(self.alloc, &mut self.columns, key, row)?;
-        self.is_keyed = self.is_keyed && begins_with(row, key);
-        Ok(())
+        clear_columns(self.alloc, &mut self.columns);
     }
 
-    /// Whether both rows have the same values in the columns of the index, and the same first value
-    /// where it lists keys, so that it lists the new row where it lists the old one.
-    pub(crate) fn has_same_values(&self, old: &Row, new: &Row) -> bool
-        ensures { IsTrue result → ((key : ℤ) → ListsRow self.now key old.now
-            → ListsRow self.now key new.now) }
+    /// Lists the row with a key as it is after a change. Without memory nothing is promised of the
+    /// index.
+    pub(crate) fn change_row(&mut self, key: i64, change: RowChange<'_>) -> Result<(), AllocError>
+        requires { All (FitsChange change key) self.old.columns }
+        ensures { OnOk result (MovesRow key change.entry self.old self.new) }
     {
-        (!self.is_keyed || same_value(0, old, new)) && same_values(&self.columns, old, new)
+        change_columns(self.alloc, &mut self.columns, key, change)?;
+        self.is_keyed = self.is_keyed && begins_with(change.row(), key);
+        Ok(())
     }
 
     /// The one key that matching rows can have, if an equality says one.
@@ -110,44 +117,46 @@ impl Index {
         }
     }
 
-    /// The smallest set that has the key of each matching row, if an equality is on a column of
-    /// the index.
-    pub(crate) fn keys_for(&self, equals: &[Equal]) -> Option<&KeySet>
-        ensures covers { IfSome result (λ keys. CoversMatches self.now keys.now equals.now) }
-        ensures smallest { IfSome result (λ keys. IsSmallest self.now keys.now equals.now) }
-        ensures none { IfNone result (SayNoSet self.now equals.now) }
+    /// The fewest keys under one value that have the key of each matching row in reach, if an
+    /// equality is on a column of the index.
+    pub(crate) fn keys_for(&self, equals: &[Equal], reach: Reach) -> Option<Keys<'_>>
+        ensures covers { IfSome result (λ keys.
+            CoversMatches reach self.now (all_of keys) equals.now) }
+        ensures smallest { IfSome result (λ keys.
+            IsSmallest reach self.now (size keys) equals.now) }
+        ensures none { IfNone result (SayNoSet reach self.now equals.now) }
     {
-        let mut smallest: Option<&KeySet> = None;
+        let mut smallest: Option<Keys> = None;
         for equal in equals {
-            smallest = smaller(smallest, self.keys_equated(equal));
+            smallest = smaller(smallest, self.keys_equated(equal, reach));
         }
         smallest
     }
 
-    /// The set that has the key of each row for which the condition holds, if it is an equality on
-    /// a column of the index.
-    fn keys_equated(&self, equal: &Equal) -> Option<&KeySet>
-        ensures covers { IfSome result (λ keys. CoversEqual self.now keys.now equal.now) }
-        ensures same { option_copied result ≡ keys_equated self.now.columns equal.now }
+    /// The keys of the rows in reach for which the condition holds, if it is an equality on a
+    /// column of the index.
+    fn keys_equated(&self, equal: &Equal, reach: Reach) -> Option<Keys<'_>>
+        ensures covers { IfSome result (λ keys.
+            CoversEqual reach self.now (all_of keys) equal.now) }
+        ensures same { option_map size result ≡ size_equated reach self.now.columns equal.now }
     {
         if !equal.equates() {
             return None;
         }
         for column in &self.columns {
             if column.position == equal.column {
-                return Some(column.keys_under(digest(&equal.value), &self.empty));
+                return Some(column.keys_under(digest(&equal.value), reach, &self.empty));
             }
         }
         None
     }
 }
 
-/// The smaller of two sets, or the only one. The first where both have as many keys.
-fn smaller<'a>(first: Option<&'a KeySet>, second: Option<&'a KeySet>) -> Option<&'a KeySet>
-    ensures either { (option_copied result ≡ option_copied first.entry)
-        ⊎ (option_copied result ≡ option_copied second.entry) }
-    ensures first { IsAtMost (option_copied result) (option_copied first.entry) }
-    ensures second { IsAtMost (option_copied result) (option_copied second.entry) }
+/// The fewer keys of two, or the only ones. The first where both are as many.
+fn smaller<'a>(first: Option<Keys<'a>>, second: Option<Keys<'a>>) -> Option<Keys<'a>>
+    ensures either { (result ≡ first.entry) ⊎ (result ≡ second.entry) }
+    ensures first { IsAtMost (option_map size result) (option_map size first.entry) }
+    ensures second { IsAtMost (option_map size result) (option_map size second.entry) }
 {
     let Some(keys) = first else {
         return second;
@@ -162,55 +171,40 @@ fn smaller<'a>(first: Option<&'a KeySet>, second: Option<&'a KeySet>) -> Option<
     }
 }
 
-/// Whether both rows have the same values in these columns.
-fn same_values(columns: &[IndexedColumn], old: &Row, new: &Row) -> bool
-    ensures { IsTrue result → ((key : ℤ) → ColumnsList columns.now key old.now
-        → ColumnsList columns.now key new.now) }
+/// No column has a key.
+fn clear_columns(alloc: Global, columns: &mut Vec<IndexedColumn>)
+    ensures { All HasNoKeys columns.new.items }
 {
-    for column in columns {
-        if !same_value(column.position, old, new) {
-            return false;
-        }
+    for column in columns.iter_mut() {
+        column.clear(alloc);
     }
-    true
 }
 
-/// Whether both rows have the same value at a position. False where one has none there.
-#[tactic(auto, using(crate::proofs::IndexLemmas::equal_values))]
-fn same_value(position: u16, old: &Row, new: &Row) -> bool
-    ensures { IsTrue result
-        → slice_get old.now.values position ≡ slice_get new.now.values position }
-{
-    let Some(old) = old.values.get(usize::from(position)) else {
-        return false;
-    };
-    let Some(new) = new.values.get(usize::from(position)) else {
-        return false;
-    };
-    old.is_same(new)
-}
-
-/// Each column lists the row too.
-fn add_to_columns(
+/// Each column lists the row with a key as it is after a change.
+fn change_columns(
     alloc: Global,
     columns: &mut Vec<IndexedColumn>,
     key: i64,
-    row: &Row,
+    change: RowChange<'_>,
 ) -> Result<(), AllocError>
-    ensures keeps { OnOk result ((q : ℤ) (r : Row)
-        → ColumnsList columns.old.items q r → ColumnsList columns.new.items q r) }
-    ensures lists { OnOk result (ColumnsList columns.new.items key row.now) }
+    requires { All (FitsChange change key) columns.old.items }
+    ensures { OnOk result (MoveKey key (current_after change.entry) (other_after change.entry)
+        columns.old.items columns.new.items) }
 {
     for column in columns.iter_mut() {
-        column.add_row(alloc, key, row)?;
+        column.change_row(alloc, key, change)?;
     }
     Ok(())
 }
 
-/// Whether the first value of a row is this key.
-fn begins_with(row: &Row, key: i64) -> bool
-    ensures { IsTrue result → first_int row.now.values ≡ Some key }
+/// Whether the first value of a row is this key, if there is a row.
+fn begins_with(row: Option<&Row>, key: i64) -> bool
+    ensures { IsTrue result
+        → IfSome (option_copied row.entry) (λ r. first_int r.values ≡ Some key) }
 {
+    let Some(row) = row else {
+        return true;
+    };
     match row.values.get(0) {
         Some(value) => match value {
             Value::Int(first) => *first == key,

@@ -6,11 +6,14 @@
 mod index;
 mod indexed_column;
 mod key_range;
+mod keys;
 pub mod laws;
 mod lineage;
 mod lineages;
 mod next_chain;
 mod pace;
+mod reach;
+mod row_change;
 mod row_write;
 mod side;
 mod split_back;

@@ -1,10 +1,12 @@
-ghost use Rattle.std.specs.Prelude.{◌≡◌, [], ℤ, IsTrue, IfOk, IfSome, OnOk};
+ghost use Rattle.std.specs.Prelude.{◌≡◌, ◌≤◌, [], IsTrue, IfOk, IfSome, OnOk};
 ghost use Rattle.std.specs.List.{All};
 ghost use Rattle.std.specs.Option.{option_copied};
 ghost use Rattle.std.specs.Ordering.{int_cmp};
 ghost use Rattle.std.specs.FinMap.Entries.{find, put, is_sorted};
+ghost use Rattle.tt_versions.specs.Versions.{last_row};
 ghost use Rattle.tt_versions.specs.Lineage.{with_write_on, split_back};
-ghost use Rattle.tt_versions.specs.Index.{ListsRow, KeepsRows, LineageHas, HaveKey, HaveKeysIn};
+ghost use Rattle.tt_versions.specs.Keys.{all_of};
+ghost use Rattle.tt_versions.specs.Index.{HasNoKeys, ListsCurrent, MovesWrite, MovesUnsplit, StartsBy, IsIndexed, HaveKey, HaveKeysIn};
 ghost use Rattle.tt_versions.specs.KeyRange.{HaveKeysWithin};
 ghost use Rattle.tt_versions.specs.Pages.{those_after};
 ghost use Rattle.tt_versions.specs.Sides.{lineage_at, is_split, with_writes, StaysSplit, MarksKey, UnsplitsRow};
@@ -12,7 +14,10 @@ ghost use Rattle.tt_versions.specs.Sides.{lineage_at, is_split, with_writes, Sta
 use crate::index::Index;
 use crate::indexed_column::{IndexedColumn, KeySet};
 use crate::key_range::KeyRange;
+use crate::keys::Keys;
 use crate::lineage::Lineage;
+use crate::reach::Reach;
+use crate::row_change::RowChange;
 use crate::row_write::RowWrite;
 use crate::side::Side;
 use crate::split_back::SplitBack;
@@ -38,6 +43,8 @@ struct IndexedEntries {
     entries: PagedMap<Lineage>,
     split_keys: KeySet,
     index: Index,
+    /// No version starts after this time.
+    latest: u64,
 }
 
 impl Model for Lineages {
@@ -56,6 +63,7 @@ impl Lineages {
 
     /// No lineages, which are to be found by their keys and by their values in these columns.
     pub(crate) fn new(alloc: Global, columns: Vec<IndexedColumn>) -> Lineages
+        requires { All HasNoKeys columns.items }
         ensures { result ≡ [] }
     {
         Lineages {
@@ -64,6 +72,7 @@ impl Lineages {
                 entries: PagedMap::new(alloc),
                 split_keys: PagedMap::new(alloc),
                 index: Index::new(alloc, columns),
+                latest: 0,
             },
         }
     }
@@ -107,6 +116,7 @@ impl Lineages {
                 entries,
                 split_keys,
                 index,
+                latest: self.indexed.latest,
             },
         })
     }
@@ -125,11 +135,14 @@ impl Lineages {
         self.indexed.index.range_for(equals)
     }
 
-    /// A set with the keys of all rows that match, if there is a smaller one than all keys.
-    pub(crate) fn keys_for(&self, equals: &[Equal]) -> Option<&KeySet>
-        ensures { IfSome result (λ keys. HaveKeysIn self.now keys.now equals.now) }
+    /// The keys of all rows that match at a time on a side, and few others, if the index says them.
+    pub(crate) fn keys_for(&self, equals: &[Equal], time: u64, side: Side) -> Option<Keys<'_>>
+        ensures { IfSome result (λ keys.
+            HaveKeysIn self.now side time (all_of keys) equals.now) }
     {
-        self.indexed.index.keys_for(equals)
+        self.indexed
+            .index
+            .keys_for(equals, self.indexed.reach(time, side))
     }
 
     /// Writes rows with these keys, or none, at the time on that side. On the next side they are
@@ -224,6 +237,17 @@ impl IndexedEntries {
         Ok(())
     }
 
+    /// Which rows a search at a time on a side reads.
+    fn reach(&self, time: u64, side: Side) -> Reach
+        ensures { result ≡ Reach.Latest → (side ≡ Side.Current) × (self.now.latest ≤ time) }
+    {
+        if side == Side::Current && self.latest <= time {
+            Reach::Latest
+        } else {
+            Reach::Any
+        }
+    }
+
     /// Writes a row, or none, on a side.
     fn write_row(&mut self, key: i64, write: RowWrite) -> Result<(), AllocError>
         requires stored { IsConsistent self.old }
@@ -234,14 +258,16 @@ impl IndexedEntries {
             self.new.entries ≡ put int_cmp key lineage self.old.entries) }
         ensures stored { OnOk result (IsConsistent self.new) }
     {
+        self.latest = self.latest.max(write.time);
         match self.entries.get(key) {
             Some(lineage) => {
-                list_row(&mut self.index, lineage, key, &write)?;
+                list_row(&mut self.index, lineage, self.latest, key, &write)?;
                 self.entries.change(key, write)
             }
             None => {
                 let mut lineage = Lineage::new(self.alloc);
-                list_row(&mut self.index, &lineage, key, &write)?;
+                let row = write.row.as_ref();
+                self.index.change_row(key, RowChange::First { row })?;
                 lineage.write(write)?;
                 self.entries.put(key, lineage)
             }
@@ -267,53 +293,46 @@ impl IndexedEntries {
         ensures entries { OnOk result (UnsplitsRows side self.old.entries self.new.entries) }
         ensures stored { OnOk result (IsConsistent self.new) }
     {
-        let entries = &mut self.entries;
+        let (entries, index) = (&mut self.entries, &mut self.index);
         for (key, _) in self.split_keys.iter() {
-            unsplit_at(entries, *key, side)?;
+            unsplit_at(entries, index, self.latest, *key, side)?;
         }
         self.split_keys = PagedMap::new(self.alloc);
         Ok(())
     }
 
-    /// No entries, whatever there was. The index may list rows that aren't there.
+    /// No entries, whatever there was.
     fn clear(&mut self)
         ensures { IsConsistent self.new }
     {
         self.entries = PagedMap::new(self.alloc);
         self.split_keys = PagedMap::new(self.alloc);
+        self.index.clear();
     }
 }
 
 /// Lists the row of a write in the index, if there is one. The lineage is the one that is to get
-/// it.
+/// it, whose versions start by this time.
 fn list_row(
     index: &mut Index,
     lineage: &Lineage,
+    latest: u64,
     key: i64,
     write: &RowWrite,
 ) -> Result<(), AllocError>
-    requires { LineageHas (ListsRow index.old key) lineage.now }
-    ensures keeps { OnOk result (KeepsRows index.old index.new) }
-    ensures lists { OnOk result (IfSome write.now.row (ListsRow index.new key)) }
+    requires current { All (ListsCurrent key (last_row lineage.now.current)) index.old.columns }
+    requires starts { StartsBy latest lineage.now }
+    ensures { OnOk result
+        (MovesWrite write.now.side key lineage.now write.now.row index.old index.new) }
 {
-    let Some(row) = &write.row else {
-        return Ok(());
-    };
-    if is_listed(index, lineage, write.side, row, write.time) {
-        return Ok(());
-    }
-    index.add_row(key, row)
-}
-
-/// Whether an index that lists the versions of a row lists the new one too, since the one before it
-/// has the same values.
-fn is_listed(index: &Index, lineage: &Lineage, side: Side, row: &Row, time: u64) -> bool
-    ensures { IsTrue result → ((key : ℤ) → LineageHas (ListsRow index.now key) lineage.now
-        → ListsRow index.now key row.now) }
-{
-    match lineage.at(time, side) {
-        Some(old) => index.has_same_values(old, row),
-        None => false,
+    let current = lineage.at(latest, Side::Current);
+    let row = write.row.as_ref();
+    match write.side {
+        Side::Current => {
+            let (old, new) = (current, row);
+            index.change_row(key, RowChange::Current { old, new })
+        }
+        Side::Next => index.change_row(key, RowChange::Next { current, next: row }),
     }
 }
 
@@ -345,13 +364,44 @@ fn split_entry(
     }
 }
 
-/// Both sides of a row show what this one shows.
-#[tactic(auto, using(crate::proofs::UnsplitLemmas::unsplits))]
-fn unsplit_at(entries: &mut PagedMap<Lineage>, key: i64, side: Side) -> Result<(), AllocError>
-    ensures { OnOk result (UnsplitsRow side key entries.old entries.new) }
+/// Both sides of a row show what this one shows. No version starts after `latest`.
+fn unsplit_at(
+    entries: &mut PagedMap<Lineage>,
+    index: &mut Index,
+    latest: u64,
+    key: i64,
+    side: Side,
+) -> Result<(), AllocError>
+    requires { IsIndexed index.old latest entries.old }
+    ensures entries { OnOk result (UnsplitsRow side key entries.old entries.new) }
+    ensures indexed { OnOk result (IsIndexed index.new latest entries.new) }
 {
-    match entries.get(key) {
-        Some(_) => entries.change(key, Unsplit { side }),
-        None => Ok(()),
+    let Some(lineage) = entries.get(key) else {
+        return Ok(());
+    };
+    list_unsplit(index, lineage, latest, key, side)?;
+    entries.change(key, Unsplit { side })
+}
+
+/// Lists the row that this side of a lineage shows as the current one. No version starts after
+/// `latest`.
+fn list_unsplit(
+    index: &mut Index,
+    lineage: &Lineage,
+    latest: u64,
+    key: i64,
+    side: Side,
+) -> Result<(), AllocError>
+    requires current { All (ListsCurrent key (last_row lineage.now.current)) index.old.columns }
+    requires starts { StartsBy latest lineage.now }
+    ensures { OnOk result (MovesUnsplit side key lineage.now index.old index.new) }
+{
+    match side {
+        Side::Current => Ok(()),
+        Side::Next => {
+            let old = lineage.at(latest, Side::Current);
+            let new = lineage.at(latest, Side::Next);
+            index.change_row(key, RowChange::Current { old, new })
+        }
     }
 }

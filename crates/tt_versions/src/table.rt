@@ -5,8 +5,9 @@ ghost use Rattle.std.specs.Option.{option_copied, unwrap_or};
 mod page;
 mod persistent;
 
-use crate::indexed_column::{IndexedColumn, KeySet};
+use crate::indexed_column::IndexedColumn;
 use crate::key_range::KeyRange;
+use crate::keys::Keys;
 use crate::lineage::Lineage;
 use crate::lineages::Lineages;
 use crate::side::Side;
@@ -17,9 +18,9 @@ use tt_values::{Equal, Few, Row, matches};
 /// A table of multi-version rows, with a current and a next side. Contracts see the lineages of its
 /// rows by key, and speak of them by `side_of` and `is_split`.
 ///
-/// Tables share what they have in common. A call on `&mut self` changes in place what no other table
-/// shares, and copies the rest; a call on `&self` leaves this table as it is, and changes another
-/// owner of the same rows. The only error is that there is no memory.
+/// Tables share what they have in common. A call on `&mut self` changes in place what no other
+/// table shares, and copies the rest; a call on `&self` leaves this table as it is, and changes
+/// another owner of the same rows. The only error is that there is no memory.
 #[derive(Debug)]
 pub struct Table {
     alloc: Global,
@@ -48,6 +49,7 @@ impl Table {
     ghost use Rattle.tt_versions.specs.Lineage.{unwritten};
     ghost use Rattle.tt_versions.specs.Sides.{no_lineages, lineage_at, side_of, current_of, next_of, is_split, all_written_from, whole_among, rolled_back_from, just_before, no_rows, none_split, with_key, rows_behind, ListsRows};
     ghost use Rattle.tt_versions.specs.Matching.{if_matching, ListsMatches, ListsMatchingRows};
+    ghost use Rattle.tt_versions.specs.Keys.{all_of};
     ghost use Rattle.tt_versions.specs.Index.{HaveKey, HaveKeysIn};
     ghost use Rattle.tt_versions.specs.KeyRange.{HaveKeysWithin};
     ghost use Rattle.tt_versions.specs.RowsByWrites.{AddsRowWritesOf, DropsRowWrites, ListsContent};
@@ -161,7 +163,7 @@ impl Table {
         if let Some(key) = self.lineages.key_for(equals) {
             return self.row_with_key(key, equals, time, side);
         }
-        match self.lineages.keys_for(equals) {
+        match self.lineages.keys_for(equals, time, side) {
             // Where most rows are listed, reading all in order is faster than looking them up.
             Some(keys) if keys.len() < self.lineages.len() / 2 => {
                 self.rows_among(keys, equals, time, side)
@@ -192,19 +194,20 @@ impl Table {
     /// The rows that match, of those with these keys.
     fn rows_among(
         &self,
-        keys: &KeySet,
+        keys: Keys<'_>,
         equals: &[Equal],
         time: u64,
         side: Side,
     ) -> Result<Vec<(i64, &Row)>, AllocError>
-        requires { HaveKeysIn self.now keys.now equals.now }
+        requires { HaveKeysIn self.now side time (all_of keys) equals.now }
         ensures { IfOk result (λ rows.
             ListsMatches (rows_behind rows.items) equals.now (side_of self.now side) time) }
     {
         let mut rows = Vec::with_capacity(self.alloc, keys.len())?;
-        for (key, _) in keys.iter() {
-            if let Some(row) = self.matching(*key, equals, time, side) {
-                rows.push((*key, row))?;
+        let mut left = keys.iter_after(None);
+        while let Some(key) = left.next() {
+            if let Some(row) = self.matching(key, equals, time, side) {
+                rows.push((key, row))?;
             }
         }
         Ok(rows)

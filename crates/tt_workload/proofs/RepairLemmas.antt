@@ -1,5 +1,5 @@
 -- A repair that is under way: its steps, the calls beside them, and its switch.
-use Rattle.std.proofs.Common.{◌≡◌, ℕ, suc, ◌+◌, ◌-◌, ◌<◌, ◌≤◌, ◌==◌, Bool, true, false, if◌then◌else◌, List, [], ◌∷◌, ◌++◌, length, replicate, Option, Some, None, refl, sym, ap, subst, ◌∙◌, arith, append-nil, append_assoc, length-append}
+use Rattle.std.proofs.Common.{◌≡◌, ℕ, zero, suc, ◌+◌, ◌-◌, ◌<◌, ◌≤◌, ◌==◌, Bool, true, false, if◌then◌else◌, List, [], ◌∷◌, ◌++◌, length, replicate, Option, Some, None, refl, sym, ap, subst, ◌∙◌, arith, append-nil, append_assoc, length-append}
 use Rattle.std.proofs.lemmas.Bool.Decides.{nat_tests}
 use Rattle.std.proofs.lemmas.List.{replicate-append-replicate}
 use Rattle.tt_values.specs.declared.action.Action.{Action}
@@ -20,7 +20,9 @@ use Rattle.tt_document.specs.declared.document.Ask.TheVariants as asks
 use Rattle.tt_workload.specs.Records.{record_in, kept}
 use Rattle.tt_workload.specs.History.{with_entries, entries_of_ask, entries_of, repair_entry, steps, with_batch, with_meanwhile, records_of, records_meanwhile}
 use Rattle.tt_workload.specs.Room.{HasRoom, IsBefore, IsUnderWay}
+use Rattle.tt_db.specs.Steps.{with_steps_by, steps_made}
 use Rattle.tt_db.proofs.EntryLemmas.{after-push, full_at-below, is_after_step}
+use Rattle.tt_db.proofs.StepsLemmas.{steps-entries, steps-made}
 
 -- where there is room, an action that the tables accept isn't refused
 pub is_accepted : (db : Database) (action : Action) → action_fault db.catalog action.writes ≡ None → HasRoom db → refusal_of db (events.Write action) ≡ None
@@ -120,6 +122,35 @@ under_way-step calls db worker some is =
       slots = omega (arith, is.slots, step.slots);
       events = omega (arith, is.events, step.slots, step.events, step.left);
     }
+
+-- what steps leave
+pub record AreStepped (calls : ℕ) (db last : Database) (count : ℕ) : Type 0 where
+  pub under_way : IsUnderWay calls last
+  pub left : slots_left (state_of last) + count ≡ slots_left (state_of db)
+
+are_stepped_by : (calls : ℕ) (db : Database) (worker count : ℕ) → IsUnderWay calls db → count ≤ slots_left (state_of db) → AreStepped calls db (with_steps_by worker db count) count
+are_stepped_by calls db worker zero is few = record { under_way = is; left = omega arith }
+are_stepped_by calls db worker (suc count) is few =
+    let before = are_stepped_by calls db worker count is (omega (arith, few)) in
+    let last = with_steps_by worker db count in
+    let some : 0 < slots_left (state_of last) = omega (arith, before.left, few) in
+    record {
+      under_way = under_way-step calls last worker some before.under_way;
+      left = omega (arith, before.left, (is_after_step last worker before.under_way.repairing some).left);
+    }
+
+pub are_stepped : (calls : ℕ) (db : Database) (worker count : ℕ) → IsUnderWay calls db → count ≤ slots_left (state_of db) → AreStepped calls db (with_entries db (steps worker count)) count
+are_stepped calls db worker count is few =
+    subst (λ (d : Database). AreStepped calls db d count) (steps-entries worker db count) (are_stepped_by calls db worker count is few)
+
+-- none of them is refused, so that all are made
+pub all_are_made : (calls : ℕ) (db next : Database) (worker count made : ℕ) → IsUnderWay calls db → calls ≤ 200000 → count ≤ slots_left (state_of db)
+    → made ≡ steps_made worker db count → next ≡ with_steps_by worker db made → next ≡ with_entries db (steps worker count)
+all_are_made calls db next worker count made is few left made_is next_is =
+    let entries = ap (λ (l : Limits). l.events) is.limits in
+    let known = steps-made worker db count (omega (arith, entries, is.slots, is.events, few)) in
+    let all : made ≡ count = omega (arith, made_is, known, left, entries, is.slots, is.events, few) in
+    next_is ∙ steps-entries worker db made ∙ ap (λ n. with_entries db (steps worker n)) all
 
 -- steps, and one more
 pub steps-push : (worker count : ℕ) → steps worker count ++ repair_entry worker events.Step ∷ [] ≡ steps worker (count + 1)

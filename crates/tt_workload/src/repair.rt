@@ -79,16 +79,6 @@ pub fn edits_of_slots(
     Items::new(alloc, list)
 }
 
-/// Carries out an entry of the repair that isn't refused.
-fn make_entry(db: &mut Db, worker: u32, event: Event) -> Result<(), RunFault>
-    requires { refusal_of db.old event ≡ None }
-    ensures state { OnOk result (db.new ≡ with_entry db.old (repair_entry worker event)) }
-    ensures err { IfErr result (λ e. e ≡ RunFault.Memory) }
-{
-    carry_out(db, Entry { worker, event })?;
-    Ok(())
-}
-
 /// Begins the repair with these edits of slots.
 pub(crate) fn begin(db: &mut Db, worker: u32, edits: Items<Edit>) -> Result<(), RunFault>
     requires { refusal_of db.old (Event.Begin edits) ≡ None }
@@ -96,7 +86,9 @@ pub(crate) fn begin(db: &mut Db, worker: u32, edits: Items<Edit>) -> Result<(), 
         (db.new ≡ with_entry db.old (repair_entry worker (Event.Begin edits))) }
     ensures err { IfErr result (λ e. e ≡ RunFault.Memory) }
 {
-    make_entry(db, worker, Event::Begin(edits))
+    let event = Event::Begin(edits);
+    carry_out(db, Entry { worker, event })?;
+    Ok(())
 }
 
 /// How many slots the repair has left: 0 where none is under way.
@@ -120,9 +112,8 @@ fn make_steps(db: &mut Db, worker: u32, count: u64, calls: u64) -> Result<(), Ru
         (slots_left (state_of db.new) + count ≡ slots_left (state_of db.old)) }
     ensures err { IfErr result (λ e. e ≡ RunFault.Memory) }
 {
-    for _ in 0..count {
-        make_entry(db, worker, Event::Step)?;
-    }
+    // None of them is refused, so that as many are made.
+    let _ = db.advance_steps(worker, count)?;
     Ok(())
 }
 

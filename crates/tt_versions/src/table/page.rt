@@ -1,15 +1,16 @@
 //! One page of the rows of a table that match.
 ghost use Rattle.std.specs.Prelude.{◌≡◌, IfOk};
 ghost use Rattle.tt_versions.specs.Sides.{side_of, rows_behind};
+ghost use Rattle.tt_versions.specs.Keys.{all_of};
 ghost use Rattle.tt_versions.specs.Index.{HaveKey, HaveKeysIn};
 ghost use Rattle.tt_versions.specs.KeyRange.{HaveKeysWithin};
 ghost use Rattle.tt_versions.specs.Pages.{ListsPage, ListsMatchingPage};
 
 use super::Table;
-use crate::indexed_column::KeySet;
 use crate::key_range::KeyRange;
+use crate::keys::Keys;
 use crate::side::Side;
-use crate::walk::{is_after, iter_after};
+use crate::walk::is_after;
 use std::alloc::AllocError;
 use tt_values::{Equal, Row};
 
@@ -59,7 +60,7 @@ impl Table {
         if let Some(key) = self.lineages.key_for(query.equals) {
             return self.page_with_key(key, query);
         }
-        match self.lineages.keys_for(query.equals) {
+        match self.lineages.keys_for(query.equals, query.time, query.side) {
             // Where most rows are listed, reading all in order is faster than looking them up.
             Some(keys) if keys.len() < self.lineages.len() / 2 => self.page_among(keys, query),
             _ => self.page_within(self.lineages.range_for(query.equals), query),
@@ -92,19 +93,21 @@ impl Table {
     /// The page, where each row that matches has one of these keys.
     fn page_among(
         &self,
-        keys: &KeySet,
+        keys: Keys<'_>,
         query: &PageQuery<'_>,
     ) -> Result<(Vec<(i64, &Row)>, bool), AllocError>
-        requires { HaveKeysIn self.now keys.now query.now.equals.now }
+        requires { HaveKeysIn self.now query.now.side query.now.time
+            (all_of keys) query.now.equals.now }
         ensures { IfOk result (λ p. ListsPageOf query.now self.now (rows_behind p.0.items) p.1) }
     {
         let mut rows = Vec::new(self.alloc);
-        for (key, _) in iter_after(keys, query.after) {
-            if let Some(row) = self.matching(*key, query.equals, query.time, query.side) {
+        let mut left = keys.iter_after(query.after);
+        while let Some(key) = left.next() {
+            if let Some(row) = self.matching(key, query.equals, query.time, query.side) {
                 if rows.len() == query.most {
                     return Ok((rows, true));
                 }
-                rows.push((*key, row))?;
+                rows.push((key, row))?;
             }
         }
         Ok((rows, false))

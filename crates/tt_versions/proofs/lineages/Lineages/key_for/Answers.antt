@@ -10,5 +10,5 @@ returns c =
     let m = c.self.inside.indexed in
     let equals = c.args.equals.now in
     IfSome-map c.key_for.result (λ key. IsKeyOfMatches m.index key equals) (λ key. HaveKey c.args.self.now key equals)
-    (λ key covers. subst (λ (t : LineagesByKey). HaveKey t key equals) c.self.view_is (HaveKey-covers m.index key equals m.entries c.self.invariant.listed covers))
+    (λ key covers. subst (λ (t : LineagesByKey). HaveKey t key equals) c.self.view_is (HaveKey-covers m.index key equals m.entries c.self.invariant.indexed.listed covers))
     c.key_for.ensures

@@ -10,4 +10,4 @@ returns c =
     let m = c.self.inside.indexed in
     let range = c.range_for.result in
     let equals = c.args.equals.now in
-    subst (λ (t : LineagesByKey). HaveKeysWithin t range equals) c.self.view_is (HaveKeysWithin-covers m.index range equals m.entries c.self.invariant.listed c.range_for.ensures.has)
+    subst (λ (t : LineagesByKey). HaveKeysWithin t range equals) c.self.view_is (HaveKeysWithin-covers m.index range equals m.entries c.self.invariant.indexed.listed c.range_for.ensures.has)

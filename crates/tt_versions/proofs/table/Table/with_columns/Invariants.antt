@@ -1,0 +1,7 @@
+-- the columns so far have no keys
+use Rattle.std.specs.List.{All}
+use Rattle.tt_versions.specs.Index.{HasNoKeys}
+use Rattle.tt_versions.proofs.table.Table.with_columns.Given as goal
+
+abbrev pub invariant-loop-column : goal.invariant-loop-column
+invariant-loop-column l = All HasNoKeys l.indexed.items
