@@ -1,5 +1,5 @@
 -- Where the writes of a history stand, by how many writes are before its other entries.
-use Rattle.std.proofs.Common.{◌≡◌, ℕ, zero, suc, ◌+◌, ◌-◌, ◌<◌, ◌≤◌, Bool, true, false, List, [], ◌∷◌, ◌++◌, length, take, drop, fold, slice_get, None, Some, if◌then◌else◌, refl, sym, ap, subst, ◌∙◌, arith, length-append}
+use Rattle.std.proofs.Common.{◌≡◌, ℕ, zero, suc, ◌+◌, ◌-◌, ◌<◌, ◌≤◌, Bool, true, false, List, [], ◌∷◌, ◌++◌, length, take, drop, replicate, fold, slice_get, None, Some, if◌then◌else◌, refl, sym, ap, subst, ◌∙◌, arith, length-append}
 use Rattle.tt_values.specs.RowWrites.{Slots}
 use Rattle.tt_repair_laws.proofs.LawProofs.{edited_slots_are_as_many}
 use Rattle.tt_generations.specs.TwoGenerations.{Phase, Idle, Repairing, slots_edited_by}
@@ -9,6 +9,7 @@ use Rattle.tt_db.specs.declared.event.Event.TheVariants as events
 use Rattle.tt_db.specs.declared.event.Entry.{Entry}
 use Rattle.tt_db.specs.State.{State, start, after, now_of, next_state}
 use Rattle.tt_db.specs.Database.{nth_item}
+use Rattle.tt_db.specs.Steps.{step_by}
 use Rattle.tt_db.specs.History.{is_write, write_places, writes_before_others, AllBelow, NoneBelow, IsCut}
 
 -- ---- numbers that don't fall
@@ -110,6 +111,35 @@ pub others-other : (H : List Entry) (e : Entry) → is_write e.event ≡ false �
     writes_before_others 0 (H ++ e ∷ []) ≡ others ++ (length H - length others) ∷ []
 others-other H e is = others-push 0 H e ∙ ap (λ b. let others = writes_before_others 0 H in if b then others else others ++ (0 + (length H - length others)) ∷ []) is
     ∙ ap (λ m. writes_before_others 0 H ++ m ∷ []) (omega arith)
+
+-- steps have as many writes before them as there are
+others-steps-from : (n k worker : ℕ) (H : List Entry) → let others = writes_before_others n H in
+    writes_before_others n (H ++ replicate k (step_by worker)) ≡ others ++ replicate k (n + (length H - length others))
+others-steps-from n k worker [] = steps k ∙ ap (replicate k) (omega arith)
+  where
+    steps : (k : ℕ) → writes_before_others n (replicate k (step_by worker)) ≡ replicate k n
+    steps zero = refl
+    steps (suc k) = ap (λ xs. n ∷ xs) (steps k)
+others-steps-from n k worker (d ∷ H) = by (is_write d.event) (others-steps-from n k worker H) (others-steps-from (suc n) k worker H)
+  where
+    few : (m : ℕ) → length (writes_before_others m H) ≤ length H
+    few m = omega (arith, entries-count 0 m H)
+
+    steps : List Entry
+    steps = replicate k (step_by worker)
+
+    by : (b : Bool)
+        → writes_before_others n (H ++ steps) ≡ writes_before_others n H ++ replicate k (n + (length H - length (writes_before_others n H)))
+        → writes_before_others (suc n) (H ++ steps) ≡ writes_before_others (suc n) H ++ replicate k (suc n + (length H - length (writes_before_others (suc n) H)))
+        → let others = if b then writes_before_others (suc n) H else n ∷ writes_before_others n H in
+        (if b then writes_before_others (suc n) (H ++ steps) else n ∷ writes_before_others n (H ++ steps))
+        ≡ others ++ replicate k (n + (suc (length H) - length others))
+    by true same more = more ∙ ap (λ m. writes_before_others (suc n) H ++ replicate k m) (omega (arith, few (suc n)))
+    by false same more = ap (λ xs. n ∷ xs) same ∙ ap (λ m. n ∷ (writes_before_others n H ++ replicate k m)) (omega (arith, few n))
+
+pub others-steps : (H : List Entry) (k worker : ℕ) → let others = writes_before_others 0 H in
+    writes_before_others 0 (H ++ replicate k (step_by worker)) ≡ others ++ replicate k (length H - length others)
+others-steps H k worker = others-steps-from 0 k worker H ∙ ap (λ m. writes_before_others 0 H ++ replicate k m) (omega arith)
 
 -- ---- the place of a write: its number, and as many others as have fewer writes before them
 

@@ -1,20 +1,19 @@
 -- Steps of a repair that are made together.
-use Rattle.std.proofs.Common.{◌≡◌, ℕ, zero, suc, ◌+◌, ◌-◌, ◌<◌, ◌≤◌, min, Bool, true, false, ◌||◌, ◌==◌, not, nat_lt, List, [], ◌∷◌, ◌++◌, length, replicate, is_some, Option, None, Some, if◌then◌else◌, refl, sym, ap, subst, ◌∙◌, arith, append-nil, append_assoc, length-append}
+use Rattle.std.proofs.Common.{◌≡◌, ℕ, zero, suc, ◌+◌, ◌-◌, ◌<◌, ◌≤◌, min, Bool, true, false, ◌||◌, ◌==◌, not, nat_lt, List, [], ◌∷◌, ◌++◌, length, replicate, is_some, None, Some, if◌then◌else◌, refl, sym, ap, subst, ◌∙◌, arith, append-nil, append_assoc, length-append}
 use Rattle.std.proofs.lemmas.Bool.Decides.{nat_tests}
 use Rattle.std.proofs.lemmas.List.{replicate-append-replicate, length-replicate}
 use Rattle.tt_values.specs.Tables.{Tables}
 use Rattle.tt_values.specs.RowWrites.{Slots}
-use Rattle.tt_generations.specs.TwoGenerations.{TwoGenerations, Phase, Idle, Repairing, is_repairing, left_of, done_of, is_due_in, is_next_due, phase_after_step}
+use Rattle.tt_generations.specs.TwoGenerations.{TwoGenerations, Phase, Idle, Repairing, is_repairing, left_of, done_of, is_due_in, phase_after_step}
 use Rattle.tt_generations.specs.Runs.{after_steps, is_last_due}
 use Rattle.tt_generations.proofs.RunLemmas.{left-steps}
 use Rattle.tt_db.specs.declared.limits.Limits.{Limits}
 use Rattle.tt_db.specs.declared.errors.DbError.{DbError}
 use Rattle.tt_db.specs.declared.errors.DbError.TheVariants as errors
-use Rattle.tt_db.specs.declared.outcome.Outcome.{Outcome}
 use Rattle.tt_db.specs.declared.outcome.Outcome.TheVariants.{Stepped}
 use Rattle.tt_db.specs.declared.event.Entry.{Entry}
 use Rattle.tt_db.specs.declared.event.Event.TheVariants as events
-use Rattle.tt_db.specs.State.{State, ClosedGeneration, after, next_state, slots_left, current_at, first_refusal, refused_if, refusal}
+use Rattle.tt_db.specs.State.{State, ClosedGeneration, after, slots_left, current_at, first_refusal, refused_if, refusal}
 use Rattle.tt_db.specs.Database.{Database, state_of, current_slots, with_entry, refusal_of, HasSlots, IsConsistent}
 use Rattle.tt_db.specs.Steps.{step_by, with_steps_by, steps_made, last_step, last_outcome}
 use Rattle.tt_db.proofs.EntryLemmas.{after-push, full_at-below}

@@ -160,7 +160,7 @@ fn push_entry(
     Ok(())
 }
 
-/// Adds this many steps of a worker, as [`push_entry`] adds one.
+/// Adds this many steps of a worker, as [`push_entry`] adds one, but a page of them at a time.
 fn push_steps(
     entries: &mut PagedLog<Entry>,
     write_counts: &mut PagedLog<u64>,
@@ -172,10 +172,10 @@ fn push_steps(
         (entries.new ≡ entries.old ++ replicate count (step_by worker)) }
     ensures counts { OnOk result (write_counts.new ≡ writes_before_others 0 entries.new) }
 {
-    for _ in 0..count {
-        let event = Event::Step;
-        push_entry(entries, write_counts, Entry { worker, event })?;
-    }
+    let writes = (entries.len() - write_counts.len()) as u64;
+    write_counts.push_copies(&writes, count as usize)?;
+    let event = Event::Step;
+    entries.push_copies(&Entry { worker, event }, count as usize)?;
     Ok(())
 }
 

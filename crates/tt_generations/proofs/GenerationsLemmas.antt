@@ -1,7 +1,7 @@
 -- The tables of two generations, before and after each event.
-use Rattle.std.proofs.Common.{◌≡◌, ℕ, zero, suc, ◌<◌, ◌≤◌, ◌+◌, ◌-◌, nat_lt, if◌then◌else◌, Bool, true, false, ℤ, List, [], ◌∷◌, ◌++◌, map, length, slice_get, Option, None, Some, refl, sym, ap, subst, ◌∙◌, arith, length-append}
+use Rattle.std.proofs.Common.{get_or, ◌≡◌, ℕ, zero, suc, ◌<◌, ◌≤◌, ◌+◌, ◌-◌, nat_lt, if◌then◌else◌, Bool, true, false, ℤ, List, [], ◌∷◌, ◌++◌, map, length, slice_get, Option, None, Some, refl, sym, ap, subst, ◌∙◌, arith, length-append}
 use Rattle.std.proofs.lemmas.Bool.Decides.{nat_tests}
-use Rattle.std.proofs.lemmas.List.{length-map}
+use Rattle.std.proofs.lemmas.List.{length-map, get_or-map}
 use Rattle.std.proofs.lemmas.Option.{slice_get_within}
 use Rattle.std.proofs.lemmas.List.Elements.{All-nil, All-cons, All-append}
 use Rattle.std.specs.Option.{option_or}
@@ -263,6 +263,12 @@ IsAtSlot-next tables kept versions r k are found inside =
 pub IsAtSlot-found : (tables : Tables) (kept : List KeptSlot) (versions : TablesByPosition) (repair : Option Repair) (r : Repair) (k : KeptSlot) → AreGenerations tables kept versions repair → repair ≡ Some r
     → slice_get kept r.done ≡ Some k → IsAtSlot tables kept versions r k
 IsAtSlot-found tables kept versions repair r k are is found = IsAtSlot-next tables kept versions r k (subst (AreGenerations tables kept versions) is are) found (slice_get_within kept r.done k found)
+
+-- each slot that is kept has the keys of its rows
+pub keys-kept : (tables : Tables) (slots : List KeptSlot) → IsCatalog tables → AreAccepted tables (actions_of slots) → All (λ (k : KeptSlot). HasKeysIfAny k.slot.action) slots
+keys-kept tables slots catalog are = λ n d inside.
+    keys-if_any tables (get_or slots n d).slot.action catalog
+    (subst (IsAccepted tables) (get_or-map (λ (k : KeptSlot). k.slot.action) slots n d d.slot.action inside) (are n d.slot.action (omega (arith, inside, length-map slots (λ (k : KeptSlot). k.slot.action)))))
 
 -- where the slot wasn't due
 pub AreGenerations-undue : (tables : Tables) (kept : List KeptSlot) (versions : TablesByPosition) (r after : Repair) → AreGenerations tables kept versions (Some r) → r.done < length (actions_of kept)

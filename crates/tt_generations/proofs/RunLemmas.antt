@@ -1,7 +1,8 @@
 -- Steps of a repair that are made together.
-use Rattle.std.proofs.Common.{◌≡◌, ℕ, zero, suc, ◌+◌, ◌-◌, ◌<◌, ◌≤◌, Bool, true, false, not, nat_lt, ◌&&◌, if◌then◌else◌, List, length, Some, Result, Ok, Err, refl, sym, ap, subst, ◌∙◌, arith}
+use Rattle.std.proofs.Common.{◌≡◌, ℕ, zero, suc, ◌+◌, ◌-◌, ◌<◌, ◌≤◌, Bool, true, false, not, nat_lt, ◌&&◌, if◌then◌else◌, List, [], ◌∷◌, length, drop, slice_get, Some, Result, Ok, Err, refl, sym, ap, subst, ◌∙◌, arith}
 use Rattle.std.specs.Prelude.{OnErr}
 use Rattle.std.proofs.lemmas.Bool.Decides.{nat_tests}
+use Rattle.std.proofs.lemmas.List.{length-drop, length-map}
 use Rattle.tt_values.specs.Tables.{Tables}
 use Rattle.tt_values.specs.RowWrites.{Slots}
 use Rattle.tt_repair_laws.specs.declared.edit.Edit.{Edit}
@@ -9,9 +10,10 @@ use Rattle.tt_repair_laws.specs.Due.{is_due}
 use Rattle.tt_generations.specs.declared.slot.KeptSlot.{KeptSlot}
 use Rattle.tt_generations.specs.declared.repair.Repair.{Repair}
 use Rattle.tt_generations.specs.Rows.{TablesByPosition}
-use Rattle.tt_generations.specs.Repair.{is_kept_due}
-use Rattle.tt_generations.specs.Generations.{AreGenerations}
-use Rattle.tt_generations.proofs.GenerationsLemmas.{IsAtSlot, AreGenerations-undue}
+use Rattle.tt_generations.specs.KeptSlots.{actions_of}
+use Rattle.tt_generations.specs.Repair.{is_kept_due, undue_front}
+use Rattle.tt_generations.specs.Generations.{generations_of, AreGenerations}
+use Rattle.tt_generations.proofs.GenerationsLemmas.{IsAtSlot, IsAtSlot-found, AreGenerations-undue}
 use Rattle.tt_generations.specs.TwoGenerations.{TwoGenerations, Phase, Idle, Repairing, no_slots, after_step, phase_after_step, left_of, is_next_due}
 use Rattle.tt_generations.specs.Runs.{after_steps, is_undue_in, is_next_undue, undue_run, is_last_due}
 
@@ -100,27 +102,6 @@ undue_run-last (suc most) G = by (is_next_undue G) refl (undue_run-last most (af
     by true undue rest = last_due-first (undue_run most (after_step G)) G (not_due (nat_lt 0 (left_of G.phase G.slots)) (is_next_due G) undue) rest
     by false undue rest = refl
 
--- ---- a run so far
-
-pub run-next : (most passed : ℕ) (first G next : TwoGenerations) → passed < most → undue_run most first ≡ passed + undue_run (most - passed) G → is_next_undue G ≡ true → next ≡ after_step G
-    → undue_run most first ≡ (passed + 1) + undue_run (most - (passed + 1)) next
-run-next most passed first G next more so_far undue is =
-    let left : most - passed ≡ suc (most - (passed + 1)) = omega (arith, more) in
-    let one : undue_run (most - passed) G ≡ suc (undue_run (most - (passed + 1)) next) =
-    ap (λ m. undue_run m G) left ∙ undue_run-first (most - (passed + 1)) G undue ∙ ap (λ H. suc (undue_run (most - (passed + 1)) H)) (sym is) in
-    omega (arith, so_far, one)
-
-pub run-stop : (most passed : ℕ) (first G : TwoGenerations) → undue_run most first ≡ passed + undue_run (most - passed) G → is_next_undue G ≡ false → passed ≡ undue_run most first
-run-stop most passed first G so_far due =
-    let none = undue_run-stop (most - passed) G due in
-    omega (arith, so_far, none)
-
-pub run-all : (most passed : ℕ) (first G : TwoGenerations) → passed ≡ most → undue_run most first ≡ passed + undue_run (most - passed) G → most ≡ undue_run most first
-run-all most passed first G all so_far =
-    let none : most - passed ≡ 0 = omega (arith, all) in
-    let rest : undue_run (most - passed) G ≡ 0 = ap (λ m. undue_run m G) none in
-    omega (arith, all, so_far, rest)
-
 -- ---- the next slot is passed over, where it isn't due
 
 pub AreGenerations-pass : (tables : Tables) (kept : List KeptSlot) (versions : TablesByPosition) (r after : Repair) (k : KeptSlot) (passed : Bool) → AreGenerations tables kept versions (Some r)
@@ -141,3 +122,92 @@ pub undue-there : (tables : Tables) (W : Slots) (E : List Edit) (n : ℕ) (due :
 undue-there tables W E n due there is =
     let some : true ≡ nat_lt 0 (length W - n) = grind (arith, nat_tests) in
     ap not is ∙ ap (λ b. b && not (is_due tables W E n)) some
+
+-- ---- a run among the slots that are kept
+
+first-dropped : {X : Type 0} (n : ℕ) (xs ys : List X) (x : X) → drop n xs ≡ x ∷ ys → (slice_get xs n ≡ Some x) × (drop (suc n) xs ≡ ys)
+first-dropped zero [] ys x is = cc
+first-dropped zero (y ∷ xs) ys x is = (cc, cc)
+first-dropped (suc n) [] ys x is = cc
+first-dropped (suc n) (y ∷ xs) ys x is = first-dropped n xs ys x is
+
+-- a run among them so far
+pub front-stop : (most passed : ℕ) (first r : Repair) (k : KeptSlot) (slots all rest : List KeptSlot) → undue_front most first all ≡ passed + undue_front (most - passed) r slots → slots ≡ k ∷ rest → false ≡ not (is_kept_due r k)
+    → passed ≡ undue_front most first all
+front-stop most passed first r k slots all rest so_far is due =
+    let none = ap (undue_front (most - passed) r) is ∙ ends (most - passed) (is_kept_due r k) refl due in
+    omega (arith, so_far, none)
+  where
+    ends : (n : ℕ) (b : Bool) → is_kept_due r k ≡ b → false ≡ not b → undue_front n r (k ∷ rest) ≡ 0
+    ends zero b same h = refl
+    ends (suc n) true same h = ap (λ d. if d then 0 else suc (undue_front n (record r { done = r.done + 1 }) rest)) same
+    ends (suc n) false same h = cc
+
+pub front-next : (most passed : ℕ) (first r next : Repair) (k : KeptSlot) (slots all rest : List KeptSlot) → passed < most → undue_front most first all ≡ passed + undue_front (most - passed) r slots → slots ≡ k ∷ rest
+    → true ≡ not (is_kept_due r k) → next ≡ record r { done = r.done + 1 } → undue_front most first all ≡ (passed + 1) + undue_front (most - (passed + 1)) next rest
+front-next most passed first r next k slots all rest more so_far is undue done =
+    let left : most - passed ≡ suc (most - (passed + 1)) = omega (arith, more) in
+    let one = ap (undue_front (most - passed) r) is ∙ ap (λ m. undue_front m r (k ∷ rest)) left ∙ goes_on (is_kept_due r k) refl undue ∙ ap (λ (s : Repair). suc (undue_front (most - (passed + 1)) s rest)) (sym done) in
+    omega (arith, so_far, one)
+  where
+    goes_on : (b : Bool) → is_kept_due r k ≡ b → true ≡ not b → undue_front (suc (most - (passed + 1))) r (k ∷ rest) ≡ suc (undue_front (most - (passed + 1)) (record r { done = r.done + 1 }) rest)
+    goes_on true same h = cc
+    goes_on false same h = ap (λ d. if d then 0 else suc (undue_front (most - (passed + 1)) (record r { done = r.done + 1 }) rest)) same
+
+-- what a repair has passed over is a run of slots that aren't due, and all else is as before
+pub record PassesRun (most : ℕ) (tables : Tables) (kept : List KeptSlot) (versions : TablesByPosition) (r : Repair) (count : ℕ) : Type 0 where
+  pub run : count ≡ undue_run most (generations_of tables kept (Some r))
+  pub parts : AreGenerations tables kept versions (Some (record r { done = r.done + count }))
+  pub state : generations_of tables kept (Some (record r { done = r.done + count })) ≡ after_steps count (generations_of tables kept (Some r))
+
+stays-put : (most : ℕ) (tables : Tables) (kept : List KeptSlot) (versions : TablesByPosition) (r : Repair) → AreGenerations tables kept versions (Some r) → 0 ≡ undue_run most (generations_of tables kept (Some r))
+    → PassesRun most tables kept versions r 0
+stays-put most tables kept versions r are none =
+    let same : r.done ≡ r.done + 0 = omega arith in
+    record {
+      run = none;
+      parts = subst (λ n. AreGenerations tables kept versions (Some (record r { done = n }))) same are;
+      state = ap (λ n. generations_of tables kept (Some (record r { done = n }))) (sym same);
+    }
+
+pub passes-run : (most : ℕ) (tables : Tables) (kept left : List KeptSlot) (versions : TablesByPosition) (r : Repair) → AreGenerations tables kept versions (Some r) → drop r.done kept ≡ left
+    → PassesRun most tables kept versions r (undue_front most r left)
+passes-run zero tables kept left versions r are is = stays-put zero tables kept versions r are refl
+passes-run (suc most) tables kept [] versions r are is =
+    let W = actions_of kept in
+    let many : length W ≡ length kept = length-map kept (λ k. k.slot.action) in
+    let past : length W ≤ r.done = omega (arith, many, length-drop r.done kept, ap length is) in
+    stays-put (suc most) tables kept versions r are (sym (undue_run-stop (suc most) (generations_of tables kept (Some r)) (sym (undue-past tables W r.edits r.done past))))
+passes-run (suc most) tables kept (k ∷ left) versions r are is = by (is_kept_due r k) refl (passes-run most tables kept left versions (record r { done = r.done + 1 }))
+  where
+    G : TwoGenerations
+    G = generations_of tables kept (Some r)
+
+    first : (slice_get kept r.done ≡ Some k) × (drop (suc r.done) kept ≡ left)
+    first = first-dropped r.done kept left k is
+
+    at : IsAtSlot tables kept versions r k
+    at = IsAtSlot-found tables kept versions (Some r) r k are refl first.0
+
+    next : Repair
+    next = record r { done = r.done + 1 }
+
+    undue : (b : Bool) → is_kept_due r k ≡ b → not b ≡ is_next_undue G
+    undue b due = undue-there tables (actions_of kept) r.edits r.done b at.left (sym due ∙ at.due)
+
+    step : generations_of tables kept (Some next) ≡ after_step G
+    step = let one : r.done + 1 ≡ suc r.done = omega arith in ap (λ n. generations_of tables kept (Some (record r { done = n }))) one
+
+    by : (b : Bool) → is_kept_due r k ≡ b → (AreGenerations tables kept versions (Some next) → drop next.done kept ≡ left → PassesRun most tables kept versions next (undue_front most next left))
+        → PassesRun (suc most) tables kept versions r (if b then 0 else suc (undue_front most next left))
+    by true due goes_on = stays-put (suc most) tables kept versions r are (sym (undue_run-stop (suc most) G (sym (undue true due))))
+    by false due goes_on =
+        let passed = undue_front most next left in
+        let same : (r.done + 1) + passed ≡ r.done + suc passed = omega arith in
+        let one : r.done + 1 ≡ suc r.done = omega arith in
+        let rest = goes_on (AreGenerations-pass tables kept versions r next k true are at (ap not (sym due)) (λ _. refl) (λ h. cc)) (ap (λ n. drop n kept) one ∙ first.1) in
+        record {
+          run = ap suc rest.run ∙ ap (λ H. suc (undue_run most H)) step ∙ sym (undue_run-first most G (sym (undue false due)));
+          parts = subst (λ n. AreGenerations tables kept versions (Some (record r { done = n }))) same rest.parts;
+          state = ap (λ n. generations_of tables kept (Some (record r { done = n }))) (sym same) ∙ rest.state ∙ ap (after_steps passed) step ∙ after_steps-first passed G;
+        }

@@ -15,7 +15,7 @@ use Rattle.tt_generations.specs.Limits.{max_slots}
 use Rattle.tt_generations.specs.Rows.{TablesByPosition, versions_at}
 use Rattle.tt_generations.specs.EditsByNumber.{HasEdits}
 use Rattle.tt_generations.specs.KeptSlots.{kept_slot, actions_of, AreKept, AreAccepted}
-use Rattle.tt_generations.specs.TwoGenerations.{Phase, Idle, Repairing, NamesSlot, next_side_of, dirty_rows_of}
+use Rattle.tt_generations.specs.TwoGenerations.{TwoGenerations, Phase, Idle, Repairing, NamesSlot, next_side_of, dirty_rows_of}
 
 -- both sides of each table show what they are to show, and the dirty rows are split
 pub record HaveBothSides (versions : TablesByPosition) (tables : Tables) (phase : Phase) (W : Slots) : Type 0 where
@@ -42,6 +42,10 @@ pub record IsRepair (tables : Tables) (W : Slots) (r : Repair) : Type 0 where
 abbrev pub phase_of : Option Repair → Phase
 phase_of None = Idle
 phase_of (Some r) = Repairing r.edits r.done
+
+-- the two generations of these slots
+abbrev pub generations_of : Tables → List KeptSlot → Option Repair → TwoGenerations
+generations_of tables kept repair = record { catalog = tables; slots = actions_of kept; phase = phase_of repair }
 
 abbrev pub IsRepairIfAny : Tables → Slots → Option Repair → Type 0
 IsRepairIfAny tables W None = Unit {0}

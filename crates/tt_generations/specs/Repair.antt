@@ -1,5 +1,5 @@
 -- One step of a repair: whether the next slot is due, and what its re-execution leaves.
-use Rattle.std.specs.Prelude.{◌≡◌, ℕ, ◌-◌, ◌+◌, pos, Bool, true, false, ◌||◌, ◌&&◌, ◌==◌, if◌then◌else◌, List, [], ◌∷◌, ◌++◌, fold, slice_set, Option, None, Some, is_some}
+use Rattle.std.specs.Prelude.{◌≡◌, ℕ, zero, suc, ◌-◌, ◌+◌, pos, Bool, true, false, ◌||◌, ◌&&◌, ◌==◌, if◌then◌else◌, List, [], ◌∷◌, ◌++◌, fold, slice_set, Option, None, Some, is_some}
 use Rattle.std.specs.List.{All, list_any}
 use Rattle.std.specs.Ordering.{int_cmp, int_eq}
 use Rattle.std.specs.FinMap.Entries as sorted
@@ -39,6 +39,12 @@ next_replacement r = sorted.find int_cmp (pos (r.done + 1)) r.replacements
 -- whether the next slot, of which this is kept, is due
 abbrev pub is_kept_due : Repair → KeptSlot → Bool
 is_kept_due r kept = is_some (next_replacement r) || is_kept_affected r.dirty kept.rows kept.slot.action
+
+-- of the next slots, of which these are kept and there are at most this number, how many come before the first that is due
+abbrev pub undue_front : ℕ → Repair → List KeptSlot → ℕ
+undue_front zero r slots = 0
+undue_front (suc most) r [] = 0
+undue_front (suc most) r (kept ∷ slots) = if is_kept_due r kept then 0 else suc (undue_front most (record r { done = r.done + 1 }) slots)
 
 -- an action, unless it is replaced
 abbrev pub replaced_by : Option Replacement → Option Action → Option Action

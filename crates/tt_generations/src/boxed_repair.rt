@@ -1,9 +1,9 @@
-ghost use Rattle.std.specs.Prelude.{◌≡◌, ◌<◌, ◌≤◌, ◌+◌, ◌∷◌, [], ◌++◌, length, not, IfOk, OnOk, IsTrue, IsFalse};
+ghost use Rattle.std.specs.Prelude.{◌≡◌, ◌<◌, ◌≤◌, ◌+◌, ◌∷◌, [], ◌++◌, length, IfOk, OnOk};
 ghost use Rattle.std.specs.List.{All};
 ghost use Rattle.tt_generations.specs.Limits.{max_slots};
 ghost use Rattle.tt_generations.specs.KeptSlots.{IsAccepted};
 ghost use Rattle.tt_generations.specs.Reexecution.{ShowsFewBefore};
-ghost use Rattle.tt_generations.specs.Repair.{HasKeysIfAny, is_kept_due, next_action, DoesSlot};
+ghost use Rattle.tt_generations.specs.Repair.{HasKeysIfAny, is_kept_due, undue_front, next_action, DoesSlot};
 
 use crate::repair::Repair;
 use crate::rows::Rows;
@@ -11,6 +11,7 @@ use crate::slot::KeptSlot;
 use std::alloc::{AllocError, Global};
 use std::marker::Model;
 use std::ops::Deref;
+use tt_pages::LogIter;
 use tt_values::Catalog;
 
 /// A repair in a block of its own: without one, generations are small to move. Contracts see the
@@ -64,15 +65,14 @@ impl BoxedRepair {
         self.repair.add_slot(kept)
     }
 
-    /// As [`Repair::pass`].
-    pub(crate) fn pass(&mut self, kept: &KeptSlot) -> bool
-        requires room { self.old.done < max_slots }
-        requires keyed { HasKeysIfAny kept.now.slot.action }
-        ensures undue { result ≡ not (is_kept_due self.old kept.now) }
-        ensures done { IsTrue result → self.new ≡ record self.old { done = self.old.done + 1 } }
-        ensures stays { IsFalse result → self.new ≡ self.old }
+    /// As [`Repair::pass_over`].
+    pub(crate) fn pass_over(&mut self, slots: LogIter<'_, KeptSlot>, most: u64) -> u64
+        requires room { self.old.done + length slots ≤ max_slots }
+        requires keyed { All (λ k. HasKeysIfAny k.slot.action) slots }
+        ensures count { result ≡ undue_front most self.old slots.entry }
+        ensures done { self.new ≡ record self.old { done = self.old.done + result } }
     {
-        self.repair.pass(kept)
+        self.repair.pass_over(slots, most)
     }
 
     /// As [`Repair::step`].

@@ -13,8 +13,8 @@ ghost use Rattle.tt_generations.specs.Limits.{max_slots};
 ghost use Rattle.tt_generations.specs.KeptSlots.{slot_at, last_content, actions_of};
 ghost use Rattle.tt_generations.specs.Repair.{repair_with_slot, next_slots};
 ghost use Rattle.tt_generations.specs.TwoGenerations.{no_slots, with_action, with_repair, after_step, after_switch, after_abort, is_repairing, done_of, left_of, reexecuted_of, is_next_due, is_due_in, phase_after_step, next_content_of, next_content_at, next_slot_at, rows_on, AnswersOn, IsWithin, progress_of, next_side_of, dirty_rows_of, NamesSlot, Phase};
-ghost use Rattle.tt_generations.specs.Runs.{after_steps, is_undue_in, is_next_undue, undue_run, is_last_due};
-ghost use Rattle.tt_generations.specs.Generations.{phase_of, AreGenerations};
+ghost use Rattle.tt_generations.specs.Runs.{after_steps, undue_run, is_last_due};
+ghost use Rattle.tt_generations.specs.Generations.{phase_of, generations_of, AreGenerations};
 
 mod page;
 
@@ -324,21 +324,7 @@ impl Generations {
         ensures few { result ≤ most }
         ensures state { self.new ≡ after_steps result self.old }
     {
-        for passed in 0..most {
-            if !self.pass_next() {
-                return passed;
-            }
-        }
-        most
-    }
-
-    /// Does the next slot, if it is there and isn't due. Returns whether it is so.
-    fn pass_next(&mut self) -> bool
-        ensures undue { result ≡ is_next_undue self.old }
-        ensures done { IsTrue result → self.new ≡ after_step self.old }
-        ensures stays { IsFalse result → self.new ≡ self.old }
-    {
-        self.state.pass_next()
+        self.state.pass_over(most)
     }
 
     /// Does this many slots of the repair, one after another: each is re-executed where it is due.
@@ -544,27 +530,22 @@ impl State {
         Ok(is_due)
     }
 
-    /// Does the next slot of the repair, if it is there and isn't due. Returns whether it is so.
-    fn pass_next(&mut self) -> bool
-        requires parts { AreGenerations
-            self.old.catalog self.old.slots self.old.rows self.old.repair }
+    /// Does the next slots of the repair that aren't due, up to `most` of them. Returns how many.
+    fn pass_over(&mut self, most: u64) -> u64
+        requires { AreGenerations self.old.catalog self.old.slots self.old.rows self.old.repair }
         ensures parts { AreGenerations
             self.new.catalog self.new.slots self.new.rows self.new.repair }
-        ensures catalog { self.new.catalog ≡ self.old.catalog }
-        ensures slots { self.new.slots ≡ self.old.slots }
-        ensures undue { result ≡ is_undue_in self.old.catalog (phase_of self.old.repair)
-            (actions_of self.old.slots) }
-        ensures done { IsTrue result
-            → phase_of self.new.repair ≡ phase_after_step (phase_of self.old.repair) }
-        ensures stays { IsFalse result → phase_of self.new.repair ≡ phase_of self.old.repair }
+        ensures count { result ≡ undue_run most
+            (generations_of self.old.catalog self.old.slots self.old.repair) }
+        ensures state { generations_of self.new.catalog self.new.slots self.new.repair
+            ≡ after_steps result
+            (generations_of self.old.catalog self.old.slots self.old.repair) }
     {
         let Some(repair) = &mut self.repair else {
-            return false;
+            return 0;
         };
-        let Some(kept) = self.slots.get(repair.done as usize) else {
-            return false;
-        };
-        repair.pass(kept)
+        let slots = self.slots.iter_from(repair.done as usize);
+        repair.pass_over(slots, most)
     }
 }
 

@@ -9,7 +9,7 @@ ghost use Rattle.tt_generations.specs.Limits.{max_slots};
 ghost use Rattle.tt_generations.specs.KeptSlots.{IsAccepted};
 ghost use Rattle.tt_generations.specs.EditsByNumber.{HasEdits};
 ghost use Rattle.tt_generations.specs.Reexecution.{ShowsFewBefore};
-ghost use Rattle.tt_generations.specs.Repair.{HasKeysIfAny, is_kept_affected, is_kept_due, next_replacement, next_action, as_action, is_same_row, MayRepeat, with_rows_shown, HasDoneDueSlot, ReexecutesSlot, DoesSlot};
+ghost use Rattle.tt_generations.specs.Repair.{HasKeysIfAny, is_kept_affected, is_kept_due, undue_front, next_replacement, next_action, as_action, is_same_row, MayRepeat, with_rows_shown, HasDoneDueSlot, ReexecutesSlot, DoesSlot};
 
 use crate::affected::is_affected;
 use crate::edits::{Replacement, replacements_of};
@@ -18,7 +18,7 @@ use crate::rows::Rows;
 use crate::slot::KeptSlot;
 use std::alloc::{AllocError, Global};
 use std::mem;
-use tt_pages::{Kept, PagedLog, PagedMap};
+use tt_pages::{Kept, LogIter, PagedLog, PagedMap};
 use tt_parts::Dirty;
 use tt_repair_laws::Edit;
 use tt_values::{Action, Catalog, Items, RowId, Shared, Write};
@@ -170,7 +170,7 @@ impl Repair {
 
     /// Does the next slot, which is this one in the current generation, if it isn't due. Returns
     /// whether it is so.
-    pub(crate) fn pass(&mut self, kept: &KeptSlot) -> bool
+    fn pass(&mut self, kept: &KeptSlot) -> bool
         requires room { self.old.done < max_slots }
         requires keyed { HasKeysIfAny kept.now.slot.action }
         ensures undue { result ≡ not (is_kept_due self.old kept.now) }
@@ -182,6 +182,26 @@ impl Repair {
         }
         self.done += 1;
         true
+    }
+
+    /// Does the next slots, of which these are the ones in the current generation: up to the first
+    /// that is due, but at most `most`. Returns how many.
+    pub(crate) fn pass_over(&mut self, slots: LogIter<'_, KeptSlot>, most: u64) -> u64
+        requires room { self.old.done + length slots ≤ max_slots }
+        requires keyed { All (λ k. HasKeysIfAny k.slot.action) slots }
+        ensures count { result ≡ undue_front most self.old slots.entry }
+        ensures done { self.new ≡ record self.old { done = self.old.done + result } }
+    {
+        let mut slots = slots;
+        for passed in 0..most {
+            let Some(kept) = slots.next() else {
+                return passed;
+            };
+            if !self.pass(kept) {
+                return passed;
+            }
+        }
+        most
     }
 
     /// Does the next slot, which is this one in the current generation. Returns whether it was

@@ -9,7 +9,7 @@ use Rattle.serde_json.specs.Data.{Data, null, boolean, number, string, array, ob
 use Rattle.serde_json.specs.Find.{get, get_member, as_object}
 use Rattle.serde_json.proofs.Views.{get_member-put, get_member-put_other}
 use Rattle.tt_json.specs.Value.{is_among}
-use Rattle.tt_json.specs.Tape.{IsValue, AreMembers, AreAllMembers, value_at}
+use Rattle.tt_json.specs.Tape.{IsValue, AreMembers, value_at}
 use Rattle.tt_json.proofs.LeastLemmas.{members-next}
 
 -- some members have been taken, and these are left
@@ -62,6 +62,10 @@ get-as_object name (number n) = refl
 get-as_object name (string s) = refl
 get-as_object name (array ds) = refl
 get-as_object name (object ms) = refl
+
+-- what an object's members give, where the object is written in other words
+pub of_object : (name : List ℕ) (inner outer : List Token) (o : Option Members) → inner ≡ outer → as_object (value_at inner) ≡ o → get_in name o ≡ get name (value_at outer)
+of_object name inner outer o same e = ap (get_in name) (sym e) ∙ sym (get-as_object name (value_at inner)) ∙ ap (λ ts. get name (value_at ts)) same
 
 -- ---- a name among the known ones and two more
 

@@ -1,5 +1,5 @@
 -- The items and members of a tape, one after another.
-use Rattle.std.proofs.Common.{◌≡◌, ℕ, suc, ◌^◌, ◌<◌, ◌≤◌, length-append, List, [], ◌∷◌, ◌++◌, length, Option, Some, None, is_some, option_map, option_and_then, refl, sym, ap, ◌∙◌, subst, arith, append_assoc, Bool, true, false, cond, bytes_eq, ◌⊎◌, inl, inr, ⊎_elim}
+use Rattle.std.proofs.Common.{◌≡◌, ℕ, suc, ◌^◌, ◌<◌, ◌≤◌, length-append, List, [], ◌∷◌, ◌++◌, length, Option, Some, None, is_some, option_map, option_and_then, refl, sym, ap, ◌∙◌, subst, arith, append_assoc, Bool, true}
 use Rattle.std.specs.Prelude.{MatchOption, IsSome}
 use Rattle.json.specs.Lex.{tokens}
 use Rattle.tt_json.specs.Fit.{tokens_fit}
@@ -15,12 +15,12 @@ use Rattle.json.proofs.Found.{not_found, Some_inj, items_go_on, items_close}
 use Rattle.json.proofs.Grammar.{closed_array, value-begin_array}
 use Rattle.json.proofs.Printed.Trees.{value-json_tokens}
 use Rattle.json.proofs.Unique.Spelling.{value-json_tokens_back}
-use Rattle.serde_json.specs.Data.{Data, number, array, object, Items, item, Members, no_members, put}
+use Rattle.serde_json.specs.Data.{Data, array, object, Items, item, Members, no_members}
 use Rattle.serde_json.specs.Find as sfind
 use Rattle.serde_json.specs.Read.{number_of, of_json, of_items, of_members, max_depth, read}
 use Rattle.tt_json.specs.Value.{list_of, list_or_none, items_in}
 use Rattle.tt_json.specs.Tape.{value_at, items_at, or_no_items, IsValue, AreItems, AreMembers}
-use Rattle.tt_json.proofs.DataLemmas.{mapped, chained, value_at-is, as_array-data, as_str-data, as_bool-data, as_number-data, as_object-data, found_or, get_member-data}
+use Rattle.tt_json.proofs.DataLemmas.{mapped, chained, value_at-is, as_array-data, as_str-data, as_bool-data, as_number-data, as_object-data}
 
 first_of : json.Items → json.Json → json.Json
 first_of json.no_items j = j
@@ -153,55 +153,7 @@ pub no_items_in : (inner outer : List Token) → inner ≡ outer → sfind.as_ar
 no_items_in inner outer same e =
     ap (λ o. length (list_or_none o)) (sym e) ∙ ap (λ ts. length (items_in (value_at ts))) same
 
--- ---- a member of an object
-
-later_cases : (o p : Option json.Json) (j : json.Json) → jfind.later_or o p ≡ Some j → (o ≡ Some j) ⊎ (p ≡ Some j)
-later_cases None p j e = inr e
-later_cases (Some i) p j e = inl e
-
-here : (b : Bool) (i j : json.Json) → cond b (Some i) None ≡ Some j → i ≡ j
-here true i j e = Some_inj i j e
-here false i j e = not_found j e
-
-found_member : (name : List ℕ) (ms : json.Members) (old new : Members) (j : json.Json) → of_members ms old ≡ Some new → jfind.get_member name ms ≡ Some j → (tree.depth j ≤ tree.members_depth ms) × (length (json_tokens j) ≤ length (members_tokens ms)) × (d : Data) × (of_json j ≡ Some d)
-found_member name json.no_members old new j is e = not_found j e
-found_member name (json.member k i ms) old new j is e =
-    let c = chained (λ d. of_members ms (put k d old)) (of_json i) new is in
-    ⊎_elim
-    (λ q. let f = found_member name ms (put k c.0 old) new j c.2 q in (omega (arith, f.0), omega (arith, f.1, length-append (json_tokens i) (members_tokens ms)), f.2, f.3))
-    (λ q. let same = here (bytes_eq k name) i j q in (omega (arith, ap tree.depth same), omega (arith, ap (λ x. length (json_tokens x)) same, length-append (json_tokens i) (members_tokens ms)), c.0, ap of_json (sym same) ∙ c.1))
-    (later_cases (jfind.get_member name ms) (cond (bytes_eq k name) (Some i) None) j e)
-
-get_found : (name : List ℕ) (j i : json.Json) (d : Data) → of_json j ≡ Some d → jfind.get name j ≡ Some i → (tree.depth i ≤ tree.depth j) × (length (json_tokens i) ≤ length (json_tokens j)) × (e : Data) × (of_json i ≡ Some e) × (sfind.get name d ≡ Some e)
-get_found name json.null i d is e = not_found i e
-get_found name (json.boolean b) i d is e = not_found i e
-get_found name (json.number s) i d is e = not_found i e
-get_found name (json.string s) i d is e = not_found i e
-get_found name (json.array js) i d is e = not_found i e
-get_found name (json.object ms) i d is e =
-    let m = mapped object (of_members ms no_members) d is in
-    let f = found_member name ms no_members m.0 i m.1 e in
-    (omega (arith, f.0), omega (arith, f.1), f.2, f.3, ap (sfind.get name) m.2 ∙ get_member-data name ms no_members m.0 m.1 ∙ ap (λ o. found_or o None) e ∙ f.3)
-
-get_missing : (name : List ℕ) (j : json.Json) (d : Data) → of_json j ≡ Some d → jfind.get name j ≡ None → sfind.get name d ≡ None
-get_missing name json.null d is e = ap (sfind.get name) (sym (Some_inj _ _ is))
-get_missing name (json.boolean b) d is e = ap (sfind.get name) (sym (Some_inj _ _ is))
-get_missing name (json.number s) d is e = let m = mapped number (number_of s) d is in ap (sfind.get name) m.2
-get_missing name (json.string s) d is e = ap (sfind.get name) (sym (Some_inj _ _ is))
-get_missing name (json.array js) d is e = let m = mapped array (of_items js) d is in ap (sfind.get name) m.2
-get_missing name (json.object ms) d is e =
-    let m = mapped object (of_members ms no_members) d is in
-    ap (sfind.get name) m.2 ∙ get_member-data name ms no_members m.0 m.1 ∙ ap (λ o. found_or o None) e
-
-pub member-get : (name : List ℕ) (ts : List Token) (r : Option (List Token)) → IsValue ts → ((j : json.Json) → BeginsWith ts j → Finds r (jfind.get name j))
-    → MatchOption r (sfind.get name (value_at ts) ≡ None) (λ x. IsValue x × (sfind.get name (value_at ts) ≡ Some (value_at x)))
-member-get name ts None (j, begins, small, (shallow, d, is)) h = ap (sfind.get name) (value_at-is ts j d begins shallow is) ∙ get_missing name j d is (h j begins)
-member-get name ts (Some x) (j, begins, small, (shallow, d, is)) h =
-    let f = h j begins in
-    let g = get_found name j f.0 d is f.1 in
-    let less : tree.depth f.0 ≤ max_depth = omega (arith, g.0) in
-    let fewer : length (json_tokens f.0) < 2 ^ 64 = omega (arith, g.1, small) in
-    ((f.0, f.2, fewer, (less, g.2, g.3)), ap (sfind.get name) (value_at-is ts j d begins shallow is) ∙ g.4 ∙ ap Some (sym (value_at-is x f.0 g.2 f.2 less g.3)))
+-- ---- the members of an object
 
 pub object-value : (ts : List Token) (r : Option (List Token)) → IsValue ts → ((j : json.Json) → BeginsWith ts j → MatchOption r (jfind.as_object j ≡ None) (λ rest. (ms : json.Members) × (j ≡ json.object ms) × InMembers rest ms))
     → is_some r ≡ is_some (sfind.as_object (value_at ts))

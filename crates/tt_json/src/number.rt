@@ -1,5 +1,8 @@
 //! The number that a token of JSON writes, as serde_json reads it.
-ghost use Rattle.std.specs.Prelude.{◌≡◌, ◌<◌, ◌==◌, length, slice_index, IsTrue, Some, None, option_map, true, false, option_and_then};
+ghost use Rattle.std.specs.Prelude.{◌≡◌, ◌<◌, ◌≤◌, ◌==◌, length, slice_index, IsTrue, Some, None, option_map, true, false, option_and_then};
+ghost use Rattle.std.specs.Option.{SomeIff};
+ghost use Rattle.std.specs.Str.Parse.{digits_value, IsNumeral};
+ghost use Rattle.fast_float.specs.Text.{scan};
 ghost use Rattle.serde_json.specs.Find.{as_i64, as_u64, of_float};
 ghost use Rattle.serde_json.specs.Read.{number_of, number_from, float_of};
 ghost use Rattle.tt_json.specs.Number.{number_view};
@@ -21,9 +24,64 @@ pub(crate) fn number_of(text: &str) -> Option<Number>
 {
     let bytes = text.as_bytes();
     if has_minus(bytes) {
-        negative(&Numeral::scan(&bytes[1..]))
+        after_minus(&bytes[1..])
     } else {
-        unsigned(&Numeral::scan(bytes))
+        without_minus(bytes)
+    }
+}
+
+#[inline(always)]
+fn without_minus(bytes: &[u8]) -> Option<Number>
+    ensures { option_map number_view result ≡ number_from false (scan bytes.now) }
+{
+    match few_digits(bytes) {
+        Some(n) => Some(Number::Unsigned(n)),
+        None => any_number(false, bytes),
+    }
+}
+
+#[inline(always)]
+fn after_minus(bytes: &[u8]) -> Option<Number>
+    ensures { option_map number_view result ≡ number_from true (scan bytes.now) }
+{
+    match few_digits(bytes) {
+        Some(n) if n > 0 => Some(Number::Negative(-(n as i64))),
+        _ => any_number(true, bytes),
+    }
+}
+
+/// The number that 1 to 18 digits write, and `None` for any other text.
+#[inline(always)]
+#[tactic(auto, using(std::proofs::lemmas::Str::Parse::digit_at))]
+fn few_digits(bytes: &[u8]) -> Option<u64>
+    ensures { SomeIff result (IsNumeral 10 bytes.now × (length bytes.now ≤ 18))
+        (digits_value 10 bytes.now) }
+{
+    if bytes.is_empty() || bytes.len() > 18 {
+        return None;
+    }
+    let mut value = 0;
+    for &byte in bytes {
+        let digit = u64::from(byte).wrapping_sub(b'0' as u64);
+        if digit > 9 {
+            return None;
+        }
+        value = value * 10 + digit;
+    }
+    Some(value)
+}
+
+/// The number that any text writes, after a minus or without one. It stands apart, so that few
+/// digits are read without saving registers for it.
+#[inline(never)]
+fn any_number(minus: bool, bytes: &[u8]) -> Option<Number>
+    ensures { option_map number_view result ≡ number_from minus (scan bytes.now) }
+{
+    let numeral = Numeral::scan(bytes);
+    if minus {
+        negative(&numeral)
+    } else {
+        unsigned(&numeral)
     }
 }
 

@@ -16,7 +16,7 @@ ghost use Rattle.tt_json.specs.Value.{items_in, is_among, member_names, lesser, 
 ghost use Rattle.tt_json.specs.Tape.{value_at, items_at, IsValue, AreItems, AreMembers, AreAllMembers};
 ghost use Rattle.tt_json.specs.Text.{json_of_text};
 
-use crate::names::is_known;
+use crate::names::{is_known, is_name};
 use crate::number::{Number, number_of};
 use crate::value::{Found, JsonValue};
 use json::{Element, Error, MAX_LEN, Members, Node, Scratch, Tape};
@@ -173,8 +173,8 @@ impl<'t, 'a> JsonValue for TapeValue<'t, 'a> {
     ghost left = { items_at };
 
     fn get(&self, name: &str) -> Option<TapeValue<'t, 'a>> {
-        match self.element.get(name) {
-            Some(element) => Some(TapeValue { element }),
+        match self.element.members() {
+            Some(members) => find(members, name),
             None => None,
         }
     }
@@ -324,6 +324,23 @@ fn least_unknown<'a>(members: Members<'_, 'a>, known: &[&str]) -> Option<&'a str
     least
 }
 
+/// The last of these members with a name.
+#[inline(always)]
+fn find<'t, 'a>(members: Members<'t, 'a>, wanted: &str) -> Option<TapeValue<'t, 'a>>
+    requires { AreAllMembers members }
+    ensures { (ms : serde.Members) → AreMembers members.entry serde.no_members ms
+        → option_map value_at result ≡ get_member wanted.now ms }
+{
+    let mut members = members;
+    let mut found = None;
+    while let Some((name, element)) = members.next() {
+        if is_name(name, wanted) {
+            found = Some(TapeValue { element });
+        }
+    }
+    found
+}
+
 /// Two of these members, each the last of its name, and the least name that's neither one of these
 /// two nor one of the known ones.
 #[inline(always)]
@@ -352,9 +369,9 @@ fn find_two<'t, 'a>(
     let mut found_second = None;
     let mut unknown = None;
     while let Some((name, element)) = members.next() {
-        if name == first {
+        if is_name(name, first) {
             found_first = Some(TapeValue { element });
-        } else if name == second {
+        } else if is_name(name, second) {
             found_second = Some(TapeValue { element });
         } else if !is_known(known, name) {
             unknown = Some(lesser(name, unknown));

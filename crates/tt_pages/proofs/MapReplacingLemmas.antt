@@ -1,12 +1,12 @@
 -- What a change of the value at a key leaves as it was: the keys, and with them the shape of a fork.
-use Rattle.std.proofs.Common.{◌≡◌, ℕ, zero, suc, ◌<◌, ℤ, List, [], ◌∷◌, ◌++◌, length, get_or, set, IsSome, refl, sym, ap, ◌∙◌, subst, arith, int_cmp}
+use Rattle.std.proofs.Common.{◌≡◌, ℕ, zero, suc, ◌<◌, ℤ, List, [], ◌∷◌, ◌++◌, length, get_or, set, is_some, refl, sym, ap, ◌∙◌, arith, int_cmp}
 use Rattle.std.specs.FinMap.Entries.{find, put}
-use Rattle.tt_pages.specs.MapEntries.{keys_of, ChangesAt}
+use Rattle.tt_pages.specs.MapEntries.{keys_of, ChangesAt, StaysWithout}
 use Rattle.tt_pages.specs.MapValues.{BranchValue}
 use Rattle.tt_pages.specs.MapTree.{branch_entries, IsPage, IsBranch, AreBranches}
 use Rattle.tt_pages.specs.MapBranches.{IsBranchFor}
 use Rattle.tt_pages.proofs.MapEntriesLemmas.{keys-append, length-keys, sorted-keys, first_key-keys}
-use Rattle.tt_pages.proofs.MapBranchLemmas.{put-at_key, find-branch, set-branch, branch-at, branch-grown, branches-set}
+use Rattle.tt_pages.proofs.MapBranchLemmas.{put-at_key, same-at_key, find-branch, set-branch, branch-at, branch-grown, branches-set}
 
 module _ {V : Type 0} where
   -- a page or a branch whose keys stay is still one
@@ -45,6 +45,12 @@ module _ {V : Type 0} where
         set-branch key d (put int_cmp key (f v)) (put-at_key key (f v)) bs at b x are.each are.sorted is_for here
         (changes v (find-branch key d bs at b are.each are.sorted is_for here ∙ found))
 
-  -- what is there at a key of a fork is there in the key's branch
-  pub present-branch : (key : ℤ) (d : ℕ) (bs : List (BranchValue V)) (at : ℕ) (b : BranchValue V) → AreBranches d bs → IsBranchFor key bs at → b ≡ get_or bs at b → IsSome (find int_cmp key (branch_entries bs)) → IsSome (find int_cmp key b.tree.entries)
-  present-branch key d bs at b are is_for here some = subst (λ o. IsSome o) (sym (find-branch key d bs at b are.each are.sorted is_for here)) some
+    -- and where there is no value at the key, all entries stay
+    pub StaysWithout-branch : (key : ℤ) → IsBranchFor key bs at → StaysWithout key b.tree.entries x.tree.entries → StaysWithout key (branch_entries bs) (branch_entries (set bs at x))
+    StaysWithout-branch key is_for stays none =
+        set-branch key d (λ es. es) (same-at_key key) bs at b x are.each are.sorted is_for here
+        (stays (find-branch key d bs at b are.each are.sorted is_for here ∙ none))
+
+    -- whether there is one is told by its branch
+    pub found-branch : (key : ℤ) → IsBranchFor key bs at → is_some (find int_cmp key b.tree.entries) ≡ is_some (find int_cmp key (branch_entries bs))
+    found-branch key is_for = ap is_some (find-branch key d bs at b are.each are.sorted is_for here)

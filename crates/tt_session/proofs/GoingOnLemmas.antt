@@ -49,7 +49,7 @@ use Rattle.tt_session.specs.Forgetting.{forgetting_of, forget_refusal, forgets_n
 use Rattle.tt_session.specs.Commands.{write, written, carried_out, moved_to, unless_moved, outcome_of_request}
 use Rattle.tt_session.proofs.StepLemmas.{accepted_in_session, can_end, room-can_end, switch_is_accepted, abort_is_accepted}
 use Rattle.tt_session.proofs.ForgettingLemmas.{from_forget, forgotten-sound}
-use Rattle.tt_session.proofs.LawLemmas.{HasLegalHistory, legal-push, is_stepped}
+use Rattle.tt_session.proofs.LawLemmas.{HasLegalHistory, legal-push, IsStepped, is_stepped}
 
 -- a session goes on as another, with the same tables and limits
 pub record GoesOn (before next : OpenSession) : Type 0 where
@@ -121,20 +121,25 @@ given_up db worker legal is = record {
 same-database : (db next : Database) (n : Numbering) (records : List Record) (most : ℕ) → IsSound db n records most → next ≡ db → IsSound next n records most
 same-database db next n records most sound is = subst (λ (d : Database). IsSound d n records most) (sym is) sound
 
+-- another one with the same tables and limits
+sound-next : (db next : Database) (n : Numbering) (records : List Record) (most : ℕ) → IsSound db n records most → IsNext next → next.catalog ≡ db.catalog → next.limits ≡ db.limits
+    → IsSound next n records most
+sound-next db next n records most sound is catalog limits = record {
+  catalog = subst IsCatalog (sym catalog) sound.catalog;
+  fits = subst Fits (sym limits) sound.fits;
+  edits = ap (λ (l : Limits). l.edits) limits ∙ sound.edits;
+  legal = is.legal;
+  room = is.room;
+  numbered = sound.numbered;
+  few_records = sound.few_records;
+  few_kept = sound.few_kept;
+}
+
 pub sound-accepted : (db next : Database) (n : Numbering) (records : List Record) (most worker : ℕ) (event : Event) → IsSound db n records most → refusal_in_session db event ≡ None
     → next ≡ with_event db worker event → IsSound next n records most
 sound-accepted db next n records most worker event sound none is =
-    let new = accepted db worker event sound.legal none in
-    subst (λ (d : Database). IsSound d n records most) (sym is) (record {
-      catalog = sound.catalog;
-      fits = sound.fits;
-      edits = sound.edits;
-      legal = new.legal;
-      room = new.room;
-      numbered = sound.numbered;
-      few_records = sound.few_records;
-      few_kept = sound.few_kept;
-    })
+    let new = subst IsNext (sym is) (accepted db worker event sound.legal none) in
+    sound-next db next n records most sound new (ap (λ (d : Database). d.catalog) is) (ap (λ (d : Database). d.limits) is)
 
 -- without a history
 pub sound-empty : (db next : Database) (n : Numbering) (records : List Record) (most : ℕ) → IsSound db n records most → next.catalog ≡ db.catalog → next.limits ≡ db.limits → next.history ≡ []
@@ -142,16 +147,7 @@ pub sound-empty : (db next : Database) (n : Numbering) (records : List Record) (
 sound-empty db next n records most sound catalog limits none =
     let empty : Database = record db { history = [] } in
     let is : next ≡ empty = λ i. record { catalog = catalog i; limits = limits i; history = none i } in
-    subst (λ (d : Database). IsSound d n records most) (sym is) (record {
-      catalog = sound.catalog;
-      fits = sound.fits;
-      edits = sound.edits;
-      legal = tt;
-      room = refl;
-      numbered = sound.numbered;
-      few_records = sound.few_records;
-      few_kept = sound.few_kept;
-    })
+    sound-next db next n records most sound (subst IsNext (sym is) (record { legal = tt; room = refl })) catalog limits
 
 pub sound-advanced : (r : Result Outcome DbError) (db next : Database) (n : Numbering) (records : List Record) (most worker : ℕ) (event : Event) → IsSound db n records most
     → has_no_room_to_end db.limits (next_state db.limits (state_of db) event) ≡ false
@@ -171,6 +167,12 @@ sound-advanced (Err (errors.NoSlot t)) db next n records most worker event sound
 sound-advanced (Err (errors.EditTwice t)) db next n records most worker event sound room state none stays empty catalog limits = same-database db next n records most sound (stays (λ is. cc))
 sound-advanced (Err errors.TooManyEdits) db next n records most worker event sound room state none stays empty catalog limits = same-database db next n records most sound (stays (λ is. cc))
 sound-advanced (Err (errors.Full limit)) db next n records most worker event sound room state none stays empty catalog limits = same-database db next n records most sound (stays (λ is. cc))
+
+-- after steps of a repair that was under way
+pub sound-stepped : (db before next : Database) (n : Numbering) (records : List Record) (most count : ℕ) → IsSound db n records most → IsStepped before next count
+    → next.catalog ≡ db.catalog → next.limits ≡ db.limits → IsSound next n records most
+sound-stepped db before next n records most count sound is catalog limits =
+    sound-next db next n records most sound (record { legal = is.legal; room = room-can_end next is.can_end }) catalog limits
 
 -- ---- the next session
 
@@ -202,16 +204,7 @@ next-sound : (session : OpenSession) (next : Database) → IsOpenSession session
 next-sound session next sound is catalog limits = record {
   catalog = catalog;
   limits = limits;
-  sound = record {
-    catalog = subst IsCatalog (sym catalog) sound.catalog;
-    fits = subst Fits (sym limits) sound.fits;
-    edits = ap (λ (l : Limits). l.edits) limits ∙ sound.edits;
-    legal = is.legal;
-    room = is.room;
-    numbered = sound.numbered;
-    few_records = sound.few_records;
-    few_kept = sound.few_kept;
-  };
+  sound = sound-next session.database next session.numbering session.records session.most_records sound is catalog limits;
 }
 
 onwards : (first second last : OpenSession) → GoesOn first second → (IsOpenSession second → GoesOn second last) → GoesOn first last

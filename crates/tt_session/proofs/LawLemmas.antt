@@ -4,11 +4,12 @@ use Rattle.tt_db.specs.declared.event.Event.{Event}
 use Rattle.tt_db.specs.declared.event.Event.TheVariants as events
 use Rattle.tt_db.specs.State.{start, slots_left, IsLegal}
 use Rattle.tt_db.specs.Database.{Database, state_of, refusal_of}
+use Rattle.tt_db.specs.Steps.{with_steps_by, steps_made}
 use Rattle.tt_db.proofs.EntryLemmas.{IsLegalFrom-push}
 use Rattle.tt_session.specs.Room.{CanEnd}
 use Rattle.tt_session.specs.Repairing.{entry_by, with_event, with_steps, with_all_steps}
 use Rattle.tt_session.specs.Invariants.{RepairsCanEnd}
-use Rattle.tt_session.proofs.StepLemmas.{can_end, step_is_accepted, switch_is_accepted, abort_is_accepted, can_end-step, left-step, with_steps-none, with_steps-first}
+use Rattle.tt_session.proofs.StepLemmas.{can_end, step_is_accepted, switch_is_accepted, abort_is_accepted, can_end-step, left-step, with_steps-none, with_steps-first, with_steps-made}
 
 -- ---- a database with further entries
 
@@ -36,6 +37,17 @@ is_stepped (suc count) db worker is legal few =
     let rest = is_stepped count next worker (can_end-step db worker is some) (legal-push db worker events.Step legal (step_is_accepted db is some)) (omega (arith, few, fewer)) in
     let all : IsStepped db (with_steps next worker count) (suc count) = record { can_end = rest.can_end; legal = rest.legal; left = omega (arith, rest.left, fewer) } in
     subst (λ (d : Database). IsStepped db d (suc count)) (with_steps-first db worker count) all
+
+-- steps that were made together, of which none was refused
+pub record AreMade (db last : Database) (worker count : ℕ) : Type 0 where
+  pub state : last ≡ with_steps db worker count
+  pub stepped : IsStepped db last count
+
+pub are_made : (db last : Database) (worker count made : ℕ) → CanEnd db → HasLegalHistory db → count ≤ slots_left (state_of db)
+    → made ≡ steps_made worker db count → last ≡ with_steps_by worker db made → AreMade db last worker count
+are_made db last worker count made is legal few made_is last_is =
+    let all = with_steps-made db last worker count made is few made_is last_is in
+    record { state = all; stepped = subst (λ (d : Database). IsStepped db d count) (sym all) (is_stepped count db worker is legal few) }
 
 -- a repair that is under way can be finished, and can be given up
 pub repairs_can_end : RepairsCanEnd

@@ -1,8 +1,7 @@
 -- The steps of a repair, and its ends.
-use Rattle.std.proofs.Common.{◌≡◌, ℕ, suc, ◌+◌, ◌<◌, ◌≤◌, true, false, ◌&&◌, ◌==◌, nat_lt, [], ◌∷◌, ◌++◌, replicate, Option, None, Some, Result, Ok, Err, refl, sym, ap, subst, ◌∙◌, arith, append-nil, append_assoc}
+use Rattle.std.proofs.Common.{◌≡◌, ℕ, suc, ◌+◌, ◌<◌, ◌≤◌, true, false, ◌&&◌, ◌==◌, nat_lt, [], ◌∷◌, replicate, Option, None, Some, Result, Ok, Err, refl, sym, ap, subst, ◌∙◌, arith, append-nil, append_assoc}
 use Rattle.std.specs.Prelude.{IsErrAnd}
 use Rattle.std.proofs.lemmas.Bool.Decides.{nat_tests}
-use Rattle.std.proofs.lemmas.List.{replicate-append-replicate}
 use Rattle.tt_generations.specs.TwoGenerations.{Phase, is_repairing}
 use Rattle.tt_db.specs.declared.event.Event.{Event}
 use Rattle.tt_db.specs.declared.event.Event.TheVariants as events
@@ -10,8 +9,10 @@ use Rattle.tt_db.specs.declared.errors.DbError.{DbError}
 use Rattle.tt_db.specs.declared.errors.DbError.TheVariants as errors
 use Rattle.tt_db.specs.State.{next_state, slots_left, unless_repairing}
 use Rattle.tt_db.specs.Database.{Database, state_of, refusal_of}
+use Rattle.tt_db.specs.Steps.{with_steps_by, steps_made}
 use Rattle.tt_answers.specs.declared.answer.Refusal.{Refusal}
-use Rattle.tt_db.proofs.EntryLemmas.{after-push, full_at-below, is_after_step}
+use Rattle.tt_db.proofs.EntryLemmas.{full_at-below, is_after_step}
+use Rattle.tt_db.proofs.StepsLemmas.{steps-entries, steps-made}
 use Rattle.tt_session.specs.declared.response.Response.{Response}
 use Rattle.tt_session.specs.declared.failure.Failure.{Failure}
 use Rattle.tt_session.specs.declared.failure.Failure.TheVariants as failures
@@ -107,17 +108,18 @@ left-step db worker is some = (is_after_step db worker is.repairing some).left
 pub with_steps-none : (db : Database) (worker : ℕ) → with_steps db worker 0 ≡ db
 with_steps-none db worker = ap (λ h. record db { history = h }) (append-nil db.history)
 
--- one more
-pub with_steps-push : (db : Database) (worker count : ℕ) → with_event (with_steps db worker count) worker events.Step ≡ with_steps db worker (count + 1)
-with_steps-push db worker count =
-    ap (λ h. record db { history = h })
-    (append_assoc db.history (replicate count (entry_by worker events.Step)) (entry_by worker events.Step ∷ [])
-    ∙ ap (λ h. db.history ++ h) (replicate-append-replicate count 1 (entry_by worker events.Step)))
-
 -- one before others
 pub with_steps-first : (db : Database) (worker count : ℕ) → with_steps (with_event db worker events.Step) worker count ≡ with_steps db worker (suc count)
 with_steps-first db worker count =
     ap (λ h. record db { history = h }) (append_assoc db.history (entry_by worker events.Step ∷ []) (replicate count (entry_by worker events.Step)))
+
+-- together as many are made as are asked for, since none is refused
+pub with_steps-made : (db next : Database) (worker count made : ℕ) → CanEnd db → count ≤ slots_left (state_of db)
+    → made ≡ steps_made worker db count → next ≡ with_steps_by worker db made → next ≡ with_steps db worker count
+with_steps-made db next worker count made is few made_is next_is =
+    let known = steps-made worker db count (omega (arith, is.room)) in
+    let all : made ≡ count = omega (arith, made_is, known, few, is.room) in
+    next_is ∙ steps-entries worker db made ∙ ap (with_steps db worker) all
 
 -- ---- events that a session doesn't refuse
 
@@ -133,12 +135,6 @@ room-can_end db is =
 pub accepted_in_session : (db : Database) (event : Event) → refusal_of db event ≡ None → has_no_room_to_end db.limits (next_state db.limits (state_of db) event) ≡ false
     → refusal_in_session db event ≡ None
 accepted_in_session db event none room = rw (none, room) refl
-
-pub step_in_session : (db : Database) (worker : ℕ) → CanEnd db → 0 < slots_left (state_of db) → refusal_in_session db events.Step ≡ None
-step_in_session db worker is some =
-    accepted_in_session db events.Step (step_is_accepted db is some)
-    (ap (has_no_room_to_end db.limits) (sym (after-push db.limits db.history (entry_by worker events.Step)))
-    ∙ room-can_end (with_event db worker events.Step) (can_end-step db worker is some))
 
 pub switch_in_session : (db : Database) → CanEnd db → slots_left (state_of db) ≡ 0 → refusal_in_session db events.Switch ≡ None
 switch_in_session db is none = accepted_in_session db events.Switch (switch_is_accepted db is none) refl

@@ -1,18 +1,15 @@
 //! How a repair goes on: its beginning, its steps, and its two ends.
-ghost use Rattle.std.specs.Prelude.{◌≡◌, ◌≢◌, ◌+◌, ◌≤◌, false, true, None, IfOk, IfErr, OnOk};
+ghost use Rattle.std.specs.Prelude.{◌≡◌, ◌≢◌, false, true, None, IfOk, IfErr, OnOk};
 ghost use Rattle.tt_generations.specs.TwoGenerations.{is_repairing};
-ghost use Rattle.tt_db.specs.State.{slots_left};
 ghost use Rattle.tt_db.specs.Database.{state_of};
 ghost use Rattle.tt_session.specs.Answers.{Becomes};
-ghost use Rattle.tt_session.specs.Room.{CanEnd};
 ghost use Rattle.tt_session.specs.Session.{with_database};
-ghost use Rattle.tt_session.specs.Repairing.{with_steps, progress_now, status_of, begin, step, finish, abort};
+ghost use Rattle.tt_session.specs.Repairing.{progress_now, status_of, begin, step, finish, abort};
 
 use crate::failure::Failure;
 use crate::open_session::OpenSession;
 use crate::response::Response;
 use crate::session_change::SessionChange;
-use std::alloc::AllocError;
 use tt_answers::{Answer, Status};
 use tt_db::{Db, DbError, Edit, Event, Outcome, Progress};
 use tt_values::Items;
@@ -78,25 +75,8 @@ pub(crate) fn begin(
     let ground_slots = session.numbering().ground_slots();
     session.advance(worker, Event::Begin(edits))?;
     let count = ground_slots.min(session.db().slots_left());
-    make_steps(session, worker, count)?;
+    session.make_steps(worker, count)?;
     Ok(progress_response(session))
-}
-
-/// Makes further steps of a repair. Without memory nothing is promised of the database.
-fn make_steps(session: &mut OpenSession, worker: u32, count: u64) -> Result<(), AllocError>
-    requires can_end { CanEnd session.old.database }
-    requires left { count ≤ slots_left (state_of session.old.database) }
-    ensures state { OnOk result (session.new
-        ≡ with_database session.old (with_steps session.old.database worker count)) }
-    ensures rest { session.new ≡ with_database session.old session.new.database }
-    ensures can_end { OnOk result (CanEnd session.new.database) }
-    ensures left { OnOk result (slots_left (state_of session.new.database) + count
-        ≡ slots_left (state_of session.old.database)) }
-{
-    for _ in 0..count {
-        session.carry_out(worker, Event::Step)?;
-    }
-    Ok(())
 }
 
 /// The repair does slots: at most this many, and no more than are left.
@@ -106,7 +86,7 @@ pub(crate) fn step(session: &mut OpenSession, worker: u32, most: u32) -> Result<
     ensures rest { session.new ≡ with_database session.old session.new.database }
 {
     let progress = repair_under_way(session.db())?;
-    make_steps(session, worker, u64::from(most).min(progress.left))?;
+    session.make_steps(worker, u64::from(most).min(progress.left))?;
     Ok(progress_response(session))
 }
 
@@ -117,7 +97,7 @@ pub(crate) fn finish(session: &mut OpenSession, worker: u32) -> Result<Response,
     ensures rest { session.new ≡ with_database session.old session.new.database }
 {
     let progress = repair_under_way(session.db())?;
-    make_steps(session, worker, progress.left)?;
+    session.make_steps(worker, progress.left)?;
     match session.carry_out(worker, Event::Switch)? {
         Outcome::Switched {
             generation,

@@ -1,5 +1,5 @@
 -- Events one after another: what refuses them, and what they lead to.
-use Rattle.std.proofs.Common.{◌≡◌, ℕ, zero, suc, ◌<◌, List, [], ◌∷◌, ◌++◌, fold, Option, None, Some, Result, Ok, Err, IfOk, IfErr, refl, sym, ap, subst, ◌∙◌, arith, append_assoc}
+use Rattle.std.proofs.Common.{◌≡◌, ℕ, zero, suc, List, [], ◌∷◌, ◌++◌, fold, Option, None, Some, Result, Ok, Err, IfOk, IfErr, refl, sym, ap, subst, ◌∙◌, append_assoc}
 use Rattle.std.specs.Option.{option_or}
 use Rattle.std.proofs.lemmas.List.Sums.{fold-append}
 use Rattle.tt_values.specs.Tables.{Tables}
@@ -54,13 +54,6 @@ entries_by-append worker (x ∷ xs) ys = ap (λ w. record { worker = worker; eve
 pub steps-snoc : (n : ℕ) → steps (suc n) ≡ steps n ++ events.Step ∷ []
 steps-snoc zero = refl
 steps-snoc (suc n) = ap (λ w. events.Step ∷ w) (steps-snoc n)
-
--- a step among others, and the steps behind it
-pub steps-split : (n count : ℕ) → n < count → (k : ℕ) × (steps count ≡ steps n ++ events.Step ∷ steps k)
-steps-split n zero h = absurd (omega arith)
-steps-split zero (suc count) h = (count, refl)
-steps-split (suc n) (suc count) h =
-    let rest = steps-split n count (omega arith) in (rest.0, ap (λ w. events.Step ∷ w) rest.1)
 
 -- one event more
 next_of_reached : (from : Database) (worker : ℕ) (made : List Event) (e : Event) (to : Database) (last : Outcome)

@@ -2,6 +2,7 @@ pub mod Prefixes
 pub mod Growing
 pub mod WorkerLemmas
 pub mod CallLemmas
+pub mod StepsLemmas
 pub mod DraftLemmas
 pub mod RaceLemmas
 pub mod PublicLemmas

@@ -172,14 +172,31 @@ fn by_steps(db: &Db, worker: u32, count: u64) -> Result<Option<Reached>, Unreach
     ensures reached { IfOk result (λ r. HasReached db.now worker (steps count) r) }
     ensures in_way { IfErr result (λ e. IsInWay db.now (steps count) e) }
 {
-    let mut reached = None;
-    for _ in 0..count {
-        match with_event(db, reached, worker, Event::Step) {
-            Ok(next) => reached = Some(next),
-            Err(e) => return Err(e),
-        }
+    if count == 0 {
+        return Ok(None);
     }
-    Ok(reached)
+    match db.share() {
+        Ok(db) => steps_from(db, worker, count),
+        Err(AllocError) => Err(Unreached::Memory),
+    }
+}
+
+/// The database that `count` steps lead to from this one, in its place.
+fn steps_from(db: Db, worker: u32, count: u64) -> Result<Option<Reached>, Unreached>
+    ensures reached { IfOk result (λ r. HasReached db worker (steps count) r) }
+    ensures in_way { IfErr result (λ e. IsInWay db (steps count) e) }
+{
+    let mut db = db;
+    match db.advance_steps(worker, count) {
+        Ok(made) => match made.refusal {
+            Some(refusal) => Err(Unreached::Db(refusal)),
+            None => match made.last {
+                Some(outcome) => Ok(Some(Reached { db, outcome })),
+                None => Ok(None),
+            },
+        },
+        Err(AllocError) => Err(Unreached::Memory),
+    }
 }
 
 /// One event more than those that have led from a database to another.

@@ -15,19 +15,19 @@ use Rattle.tt_versions.specs.declared.lineages.IndexedEntries.{IndexedEntries}
 use Rattle.tt_versions.specs.Versions.{last_row}
 use Rattle.tt_versions.specs.Lineage.{unwritten, chain_on, with_write_on, split_back, unsplit}
 use Rattle.tt_versions.specs.Sides.{LineagesByKey, lineage_at, is_split, StaysSplit}
-use Rattle.tt_versions.specs.Index.{KeySet, has_past, ListsCurrent, HasNoPast, HasNoKeys, IndexState, ListsRow, Moves, MovesWrite, MovesUnsplit, LineageHas, StartsBy, IsIndexed}
+use Rattle.tt_versions.specs.Index.{KeySet, has_past, ListsCurrent, HasNoPast, HasNoKeys, IndexState, ListsRow, MovesInIndex, MovesWrite, MovesUnsplit, LineageHas, StartsBy, IsIndexed}
 use Rattle.tt_versions.specs.IndexedEntries.{IsConsistent}
 use Rattle.tt_versions.proofs.SidesLemmas.{same_key, lineage_at-put, is_split-write_on}
 use Rattle.tt_versions.proofs.IndexLemmas.{LineageHas-map, LineageHas-write, LineageHas-split_back, LineageHas-unsplit, ListsTable-put, ListsTable-empty}
-use Rattle.tt_versions.proofs.MoveLemmas.{Follows, MoveKey-current, MoveKey-other, MoveKey-known, Moves-keeps, Moves-lists}
+use Rattle.tt_versions.proofs.MoveLemmas.{Follows, MovesInColumns-current, MovesInColumns-other, MovesInColumns-known, MovesInIndex-keeps, MovesInIndex-lists}
 use Rattle.tt_versions.proofs.StartLemmas.{StartsBy-later, StartsBy-write, StartsBy-split_back, StartsBy-unsplit, last_row-write}
 
 -- an index that lists a changed row, and all that it listed, fits the table with the row
 pub IsIndexed-put : (key : ℤ) (from to aside row : Option Row) (before after : IndexState) (earlier latest : ℕ) (t : LineagesByKey) (l : Lineage)
     → earlier ≤ latest → IsIndexed before earlier t → last_row (lineage_at t key).current ≡ from → Follows from to aside → last_row l.current ≡ to
-    → Moves key to aside row before after → LineageHas (ListsRow after key) l → StartsBy latest l → IsIndexed after latest (sorted.put int_cmp key l t)
+    → MovesInIndex key to aside row before after → LineageHas (ListsRow after key) l → StartsBy latest l → IsIndexed after latest (sorted.put int_cmp key l t)
 IsIndexed-put key from to aside row before after earlier latest t l later indexed was follows is moves has starts = record {
-  listed = ListsTable-put key after t l (λ q. LineageHas-map (ListsRow before q) (ListsRow after q) (λ r. Moves-keeps key from to aside row before after follows at moves q r) (lineage_at t q) (indexed.listed q)) has;
+  listed = ListsTable-put key after t l (λ q. LineageHas-map (ListsRow before q) (ListsRow after q) (λ r. MovesInIndex-keeps key from to aside row before after follows at moves q r) (lineage_at t q) (indexed.listed q)) has;
   current = λ q. subst (λ x. All (ListsCurrent q (last_row x.current)) after.columns) (sym (lineage_at-put t key l q)) (current q (int_eq q key) refl);
   known = λ q none. known q (int_eq q key) refl none;
   starts = λ q. subst (λ x. StartsBy latest x) (sym (lineage_at-put t key l q)) (all_start q (int_eq q key));
@@ -38,8 +38,8 @@ IsIndexed-put key from to aside row before after earlier latest t l later indexe
 
     current : (q : ℤ) (b : Bool) → int_eq q key ≡ b → All (ListsCurrent q (last_row (cond b l (lineage_at t q)).current)) after.columns
     current q true same = subst (λ k. All (ListsCurrent k (last_row l.current)) after.columns) (sym (same_key q key same))
-        (subst (λ o. All (ListsCurrent key o) after.columns) (sym is) (MoveKey-current key to aside before.columns after.columns moves.columns))
-    current q false other = MoveKey-other key to aside before.columns after.columns q (last_row (lineage_at t q).current) other moves.columns (indexed.current q)
+        (subst (λ o. All (ListsCurrent key o) after.columns) (sym is) (MovesInColumns-current key to aside before.columns after.columns moves.columns))
+    current q false other = MovesInColumns-other key to aside before.columns after.columns q (last_row (lineage_at t q).current) other moves.columns (indexed.current q)
 
     known : (q : ℤ) (b : Bool) → int_eq q key ≡ b → sorted.find int_cmp q (sorted.put int_cmp key l t) ≡ None → All (HasNoPast q) after.columns
     known q true same none =
@@ -47,7 +47,7 @@ IsIndexed-put key from to aside row before after earlier latest t l later indexe
         cc
     known q false other none =
         let before_none : sorted.find int_cmp q t ≡ None = ap (λ b. cond b (Some l) (sorted.find int_cmp q t)) (sym other) ∙ sym (sorted.find-put int_cmp int_cmp_total q key l t) ∙ none in
-        MoveKey-known key to aside before.columns after.columns q other moves.columns (indexed.known q before_none)
+        MovesInColumns-known key to aside before.columns after.columns q other moves.columns (indexed.known q before_none)
 
     all_start : (q : ℤ) (b : Bool) → StartsBy latest (cond b l (lineage_at t q))
     all_start q true = starts
@@ -61,20 +61,20 @@ IsIndexed-write Current key row time before after earlier latest t later upto in
     let l = lineage_at t key in
     let from = last_row l.current in
     IsIndexed-put key from row from row before after earlier latest t (with_write_on Current row time l) later indexed refl (inr refl) (last_row-write row time l.current) moves
-    (LineageHas-write (ListsRow after key) Current row time l (kept from (inr refl)) (Moves-lists key row from row before after (inl refl) moves))
+    (LineageHas-write (ListsRow after key) Current row time l (kept from (inr refl)) (MovesInIndex-lists key row from row before after (inl refl) moves))
     (StartsBy-write latest Current row time l upto (StartsBy-later earlier latest l later (indexed.starts key)))
   where
     kept : (from : Option Row) → Follows from row from → LineageHas (ListsRow after key) (lineage_at t key)
-    kept from follows = LineageHas-map (ListsRow before key) (ListsRow after key) (λ r. Moves-keeps key (last_row (lineage_at t key).current) row (last_row (lineage_at t key).current) row before after (inr refl) (indexed.current key) moves key r) (lineage_at t key) (indexed.listed key)
+    kept from follows = LineageHas-map (ListsRow before key) (ListsRow after key) (λ r. MovesInIndex-keeps key (last_row (lineage_at t key).current) row (last_row (lineage_at t key).current) row before after (inr refl) (indexed.current key) moves key r) (lineage_at t key) (indexed.listed key)
 IsIndexed-write Next key row time before after earlier latest t later upto indexed moves =
     let l = lineage_at t key in
     let from = last_row l.current in
     IsIndexed-put key from from row row before after earlier latest t (with_write_on Next row time l) later indexed refl (inl refl) refl moves
-    (LineageHas-write (ListsRow after key) Next row time l kept (Moves-lists key from row row before after (inr refl) moves))
+    (LineageHas-write (ListsRow after key) Next row time l kept (MovesInIndex-lists key from row row before after (inr refl) moves))
     (StartsBy-write latest Next row time l upto (StartsBy-later earlier latest l later (indexed.starts key)))
   where
     kept : LineageHas (ListsRow after key) (lineage_at t key)
-    kept = LineageHas-map (ListsRow before key) (ListsRow after key) (λ r. Moves-keeps key (last_row (lineage_at t key).current) (last_row (lineage_at t key).current) row row before after (inl refl) (indexed.current key) moves key r) (lineage_at t key) (indexed.listed key)
+    kept = LineageHas-map (ListsRow before key) (ListsRow after key) (λ r. MovesInIndex-keeps key (last_row (lineage_at t key).current) (last_row (lineage_at t key).current) row row before after (inl refl) (indexed.current key) moves key r) (lineage_at t key) (indexed.listed key)
 
 -- a change that leaves a row current as it is, and lists no other
 IsIndexed-same : (key : ℤ) (index : IndexState) (latest : ℕ) (t : LineagesByKey) (l : Lineage) → IsIndexed index latest t → last_row l.current ≡ last_row (lineage_at t key).current
@@ -114,21 +114,21 @@ IsIndexed-abort key index latest t indexed =
 
 -- and where it is the next one, the index has the last row there as the current one
 IsIndexed-switch : (key : ℤ) (before after : IndexState) (latest : ℕ) (t : LineagesByKey) → IsIndexed before latest t
-    → Moves key (last_row (chain_on Next (lineage_at t key))) (last_row (lineage_at t key).current) (last_row (chain_on Next (lineage_at t key))) before after
+    → MovesInIndex key (last_row (chain_on Next (lineage_at t key))) (last_row (lineage_at t key).current) (last_row (chain_on Next (lineage_at t key))) before after
     → IsIndexed after latest (sorted.put int_cmp key (unsplit Next (lineage_at t key)) t)
 IsIndexed-switch key before after latest t indexed moves =
     let l = lineage_at t key in
     let from = last_row l.current in
     let to = last_row (chain_on Next l) in
     IsIndexed-put key from to from to before after latest latest t (unsplit Next l) (omega arith) indexed refl (inr refl) refl moves
-    (LineageHas-unsplit (ListsRow after key) Next l (LineageHas-map (ListsRow before key) (ListsRow after key) (λ r. Moves-keeps key from to from to before after (inr refl) (indexed.current key) moves key r) l (indexed.listed key)))
+    (LineageHas-unsplit (ListsRow after key) Next l (LineageHas-map (ListsRow before key) (ListsRow after key) (λ r. MovesInIndex-keeps key from to from to before after (inr refl) (indexed.current key) moves key r) l (indexed.listed key)))
     (StartsBy-unsplit latest Next l (indexed.starts key))
 
 -- a row that is written for the first time is written on the current side
-pub first-moves : (side : Side) (key : ℤ) (t : LineagesByKey) (row : Option Row) (before after : IndexState) → sorted.find int_cmp key t ≡ None → StaysSplit side (is_split t) key → Moves key row None row before after
+pub first-moves : (side : Side) (key : ℤ) (t : LineagesByKey) (row : Option Row) (before after : IndexState) → sorted.find int_cmp key t ≡ None → StaysSplit side (is_split t) key → MovesInIndex key row None row before after
     → MovesWrite side key (lineage_at t key) row before after
 unfolding is_split
-first-moves Current key t row before after none stays moves = subst (λ l. Moves key row (last_row l.current) row before after) (sym (ap (λ o. unwrap_or o unwritten) none)) moves
+first-moves Current key t row before after none stays moves = subst (λ l. MovesInIndex key row (last_row l.current) row before after) (sym (ap (λ o. unwrap_or o unwritten) none)) moves
 first-moves Next key t row before after none stays moves = let clash : true ≡ false = sym stays ∙ ap (λ o. is_some (unwrap_or o unwritten).next) none in cc
 
 pub IsConsistent-write : (side : Side) (key : ℤ) (row : Option Row) (time : ℕ) (before after : IndexedEntries) → StaysSplit side (is_split before.entries) key → IsConsistent before → after.split_keys ≡ before.split_keys

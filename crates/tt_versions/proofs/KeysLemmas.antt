@@ -55,6 +55,21 @@ puts-key digest key u before after keys had is d q =
     by true same = has_key-put keys key u q ∙ ap (λ ks. int_eq q key || has_key ks q) (sym had ∙ ap (λ e. keys_under e before) (sym (same_key d digest same)))
     by false same = refl
 
+-- and does so where it is there, and is changed
+pub puts-changed : (digest key : ℤ) (u : Unit {0}) (before after : List (ℤ × KeySet)) → is_some (sorted.find int_cmp digest before) ≡ true → ChangesAt digest (sorted.put int_cmp key u) before after → PutsKey digest key before after
+puts-changed digest key u before after there changes = by (sorted.find int_cmp digest before) refl
+  where
+    by : (o : Option KeySet) → sorted.find int_cmp digest before ≡ o → PutsKey digest key before after
+    by None none = let clash : true ≡ false = sym there ∙ ap is_some none in cc
+    by (Some keys) found = puts-key digest key u before after keys (ap (λ o. unwrap_or o []) found) (changes keys found)
+
+pub nothing-there : (digest : ℤ) (sets : List (ℤ × KeySet)) → is_some (sorted.find int_cmp digest sets) ≡ false → sorted.find int_cmp digest sets ≡ None
+nothing-there digest sets none = by (sorted.find int_cmp digest sets) none
+  where
+    by : (o : Option KeySet) → is_some o ≡ false → o ≡ None
+    by None h = refl
+    by (Some keys) h = cc
+
 -- or loses one
 pub drops-key : (digest key : ℤ) (before after : List (ℤ × KeySet)) (keys : KeySet) → keys_under digest before ≡ keys → after ≡ sorted.put int_cmp digest (entries_without key keys) before → DropsKey digest key before after
 drops-key digest key before after keys had is d q =
@@ -74,22 +89,13 @@ drops-changed digest key before after has changes = by (sorted.find int_cmp dige
     by None none = let clash : true ≡ false = sym has ∙ ap (λ o. has_key (unwrap_or o []) key) none in cc
     by (Some keys) there = drops-key digest key before after keys (ap (λ o. unwrap_or o []) there) (changes keys there)
 
--- a key that the set doesn't have is dropped already
-pub drops-nothing : (digest key : ℤ) (sets : List (ℤ × KeySet)) → has_key (keys_under digest sets) key ≡ false → DropsKey digest key sets sets
-drops-nothing digest key sets none d q = by (int_eq d digest) refl (int_eq q key) refl
+-- where there is a key, there is a set
+pub has_key-there : (digest key : ℤ) (sets : List (ℤ × KeySet)) → has_key (keys_under digest sets) key ≡ true → is_some (sorted.find int_cmp digest sets) ≡ true
+has_key-there digest key sets has = by (sorted.find int_cmp digest sets) has
   where
-    by : (b : Bool) → int_eq d digest ≡ b → (e : Bool) → int_eq q key ≡ e → has_key (keys_under d sets) q ≡ (not (b && e) && has_key (keys_under d sets) q)
-    by true same true is = ap (λ x. has_key (keys_under x sets) q) (same_key d digest same) ∙ ap (λ k. has_key (keys_under digest sets) k) (same_key q key is) ∙ none
-    by true same false is = refl
-    by false same e is = refl
-
--- a digest whose set is empty is forgotten
-pub keys_under-without : (digest : ℤ) (sets : List (ℤ × KeySet)) → keys_under digest sets ≡ [] → (d : ℤ) → keys_under d (entries_without digest sets) ≡ keys_under d sets
-keys_under-without digest sets empty d = ap (λ o. unwrap_or o []) (find-without digest sets d) ∙ by (int_eq d digest) refl
-  where
-    by : (b : Bool) → int_eq d digest ≡ b → unwrap_or (cond (not b) (sorted.find int_cmp d sets) None) [] ≡ keys_under d sets
-    by true same = sym (ap (λ e. keys_under e sets) (same_key d digest same) ∙ empty)
-    by false same = refl
+    by : (o : Option KeySet) → has_key (unwrap_or o []) key ≡ true → is_some o ≡ true
+    by None h = cc
+    by (Some keys) h = refl
 
 -- ---- two sets read as one
 

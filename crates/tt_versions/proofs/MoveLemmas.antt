@@ -8,7 +8,7 @@ use Rattle.tt_values.specs.declared.value.Value.{Value}
 use Rattle.tt_values.specs.declared.row.Row.{Row}
 use Rattle.tt_values.specs.Digest.{digest_of}
 use Rattle.tt_versions.specs.declared.indexed_column.IndexedColumn.{IndexedColumn}
-use Rattle.tt_versions.specs.Index.{has_now, has_past, digest_at, is_digest, ListsCurrent, HasNoPast, MovesKey, MoveKey, ColumnLists, ColumnsList, IndexState, ListsRow, Moves}
+use Rattle.tt_versions.specs.Index.{has_now, has_past, digest_at, is_digest, ListsCurrent, HasNoPast, MovesKey, MovesInColumns, ColumnLists, ColumnsList, IndexState, ListsRow, MovesInIndex}
 use Rattle.tt_versions.proofs.SidesLemmas.{same_key}
 
 pub itself : (k : ℤ) → int_eq k k ≡ true
@@ -147,66 +147,66 @@ ColumnLists-new key to aside c d row written m =
 
 -- ---- all columns
 
-pub MoveKey-current : (key : ℤ) (to aside : Option Row) (cs ds : List IndexedColumn) → MoveKey key to aside cs ds → All (ListsCurrent key to) ds
-MoveKey-current key to aside [] [] m = All-nil (ListsCurrent key to)
-MoveKey-current key to aside [] (d ∷ ds) m = absurd m
-MoveKey-current key to aside (c ∷ cs) [] m = absurd m
-MoveKey-current key to aside (c ∷ cs) (d ∷ ds) m = All-cons (ListsCurrent key to) d ds (ListsCurrent-moved key to aside c d m.0) (MoveKey-current key to aside cs ds m.1)
+pub MovesInColumns-current : (key : ℤ) (to aside : Option Row) (cs ds : List IndexedColumn) → MovesInColumns key to aside cs ds → All (ListsCurrent key to) ds
+MovesInColumns-current key to aside [] [] m = All-nil (ListsCurrent key to)
+MovesInColumns-current key to aside [] (d ∷ ds) m = absurd m
+MovesInColumns-current key to aside (c ∷ cs) [] m = absurd m
+MovesInColumns-current key to aside (c ∷ cs) (d ∷ ds) m = All-cons (ListsCurrent key to) d ds (ListsCurrent-moved key to aside c d m.0) (MovesInColumns-current key to aside cs ds m.1)
 
-pub MoveKey-other : (key : ℤ) (to aside : Option Row) (cs ds : List IndexedColumn) (q : ℤ) (row : Option Row) → int_eq q key ≡ false → MoveKey key to aside cs ds → All (ListsCurrent q row) cs → All (ListsCurrent q row) ds
-MoveKey-other key to aside [] [] q row other m h = h
-MoveKey-other key to aside [] (d ∷ ds) q row other m h = absurd m
-MoveKey-other key to aside (c ∷ cs) [] q row other m h = absurd m
-MoveKey-other key to aside (c ∷ cs) (d ∷ ds) q row other m h =
+pub MovesInColumns-other : (key : ℤ) (to aside : Option Row) (cs ds : List IndexedColumn) (q : ℤ) (row : Option Row) → int_eq q key ≡ false → MovesInColumns key to aside cs ds → All (ListsCurrent q row) cs → All (ListsCurrent q row) ds
+MovesInColumns-other key to aside [] [] q row other m h = h
+MovesInColumns-other key to aside [] (d ∷ ds) q row other m h = absurd m
+MovesInColumns-other key to aside (c ∷ cs) [] q row other m h = absurd m
+MovesInColumns-other key to aside (c ∷ cs) (d ∷ ds) q row other m h =
     All-cons (ListsCurrent q row) d ds (ListsCurrent-other key (digest_at c.position to) (digest_at c.position aside) c d q row other m.0 (All-head (ListsCurrent q row) c cs h))
-    (MoveKey-other key to aside cs ds q row other m.1 (All-tail (ListsCurrent q row) c cs h))
+    (MovesInColumns-other key to aside cs ds q row other m.1 (All-tail (ListsCurrent q row) c cs h))
 
-pub MoveKey-known : (key : ℤ) (to aside : Option Row) (cs ds : List IndexedColumn) (q : ℤ) → int_eq q key ≡ false → MoveKey key to aside cs ds → All (HasNoPast q) cs → All (HasNoPast q) ds
-MoveKey-known key to aside [] [] q other m h = h
-MoveKey-known key to aside [] (d ∷ ds) q other m h = absurd m
-MoveKey-known key to aside (c ∷ cs) [] q other m h = absurd m
-MoveKey-known key to aside (c ∷ cs) (d ∷ ds) q other m h =
+pub MovesInColumns-known : (key : ℤ) (to aside : Option Row) (cs ds : List IndexedColumn) (q : ℤ) → int_eq q key ≡ false → MovesInColumns key to aside cs ds → All (HasNoPast q) cs → All (HasNoPast q) ds
+MovesInColumns-known key to aside [] [] q other m h = h
+MovesInColumns-known key to aside [] (d ∷ ds) q other m h = absurd m
+MovesInColumns-known key to aside (c ∷ cs) [] q other m h = absurd m
+MovesInColumns-known key to aside (c ∷ cs) (d ∷ ds) q other m h =
     All-cons (HasNoPast q) d ds (HasNoPast-other key (digest_at c.position to) (digest_at c.position aside) c d q other m.0 (All-head (HasNoPast q) c cs h))
-    (MoveKey-known key to aside cs ds q other m.1 (All-tail (HasNoPast q) c cs h))
+    (MovesInColumns-known key to aside cs ds q other m.1 (All-tail (HasNoPast q) c cs h))
 
-MoveKey-lists : (key : ℤ) (from to aside : Option Row) (cs ds : List IndexedColumn) (q : ℤ) (row : Row) → Follows from to aside → All (ListsCurrent key from) cs → MoveKey key to aside cs ds → ColumnsList cs q row → ColumnsList ds q row
-MoveKey-lists key from to aside [] [] q row follows current m h = tt
-MoveKey-lists key from to aside [] (d ∷ ds) q row follows current m h = absurd m
-MoveKey-lists key from to aside (c ∷ cs) [] q row follows current m h = absurd m
-MoveKey-lists key from to aside (c ∷ cs) (d ∷ ds) q row follows current m h = (
+MovesInColumns-lists : (key : ℤ) (from to aside : Option Row) (cs ds : List IndexedColumn) (q : ℤ) (row : Row) → Follows from to aside → All (ListsCurrent key from) cs → MovesInColumns key to aside cs ds → ColumnsList cs q row → ColumnsList ds q row
+MovesInColumns-lists key from to aside [] [] q row follows current m h = tt
+MovesInColumns-lists key from to aside [] (d ∷ ds) q row follows current m h = absurd m
+MovesInColumns-lists key from to aside (c ∷ cs) [] q row follows current m h = absurd m
+MovesInColumns-lists key from to aside (c ∷ cs) (d ∷ ds) q row follows current m h = (
   ColumnLists-moved key from to aside c d q row follows (All-head (ListsCurrent key from) c cs current) m.0 h.0,
-  MoveKey-lists key from to aside cs ds q row follows (All-tail (ListsCurrent key from) c cs current) m.1 h.1,
+  MovesInColumns-lists key from to aside cs ds q row follows (All-tail (ListsCurrent key from) c cs current) m.1 h.1,
 )
 
-MoveKey-new : (key : ℤ) (to aside : Option Row) (cs ds : List IndexedColumn) (row : Row) → (to ≡ Some row) ⊎ (aside ≡ Some row) → MoveKey key to aside cs ds → ColumnsList ds key row
-MoveKey-new key to aside [] [] row written m = tt
-MoveKey-new key to aside [] (d ∷ ds) row written m = absurd m
-MoveKey-new key to aside (c ∷ cs) [] row written m = absurd m
-MoveKey-new key to aside (c ∷ cs) (d ∷ ds) row written m = (ColumnLists-new key to aside c d row written m.0, MoveKey-new key to aside cs ds row written m.1)
+MovesInColumns-new : (key : ℤ) (to aside : Option Row) (cs ds : List IndexedColumn) (row : Row) → (to ≡ Some row) ⊎ (aside ≡ Some row) → MovesInColumns key to aside cs ds → ColumnsList ds key row
+MovesInColumns-new key to aside [] [] row written m = tt
+MovesInColumns-new key to aside [] (d ∷ ds) row written m = absurd m
+MovesInColumns-new key to aside (c ∷ cs) [] row written m = absurd m
+MovesInColumns-new key to aside (c ∷ cs) (d ∷ ds) row written m = (ColumnLists-new key to aside c d row written m.0, MovesInColumns-new key to aside cs ds row written m.1)
 
 -- ---- an index
 
 -- it lists what it listed
-pub Moves-keeps : (key : ℤ) (from to aside row : Option Row) (before after : IndexState) → Follows from to aside → All (ListsCurrent key from) before.columns → Moves key to aside row before after
+pub MovesInIndex-keeps : (key : ℤ) (from to aside row : Option Row) (before after : IndexState) → Follows from to aside → All (ListsCurrent key from) before.columns → MovesInIndex key to aside row before after
     → (q : ℤ) (r : Row) → ListsRow before q r → ListsRow after q r
-Moves-keeps key from to aside row before after follows current m q r h = record {
-  columns = MoveKey-lists key from to aside before.columns after.columns q r follows current m.columns h.columns;
+MovesInIndex-keeps key from to aside row before after follows current m q r h = record {
+  columns = MovesInColumns-lists key from to aside before.columns after.columns q r follows current m.columns h.columns;
   first = λ keyed. h.first (m.keyed keyed);
 }
 
 -- and the row that is written
-pub Moves-lists : (key : ℤ) (to aside : Option Row) (row : Option Row) (before after : IndexState) → (to ≡ row) ⊎ (aside ≡ row) → Moves key to aside row before after → IfSome row (ListsRow after key)
-Moves-lists key to aside None before after written m = tt
-Moves-lists key to aside (Some row) before after written m = record {
-  columns = MoveKey-new key to aside before.columns after.columns row written m.columns;
+pub MovesInIndex-lists : (key : ℤ) (to aside : Option Row) (row : Option Row) (before after : IndexState) → (to ≡ row) ⊎ (aside ≡ row) → MovesInIndex key to aside row before after → IfSome row (ListsRow after key)
+MovesInIndex-lists key to aside None before after written m = tt
+MovesInIndex-lists key to aside (Some row) before after written m = record {
+  columns = MovesInColumns-new key to aside before.columns after.columns row written m.columns;
   first = m.first;
 }
 
 -- the same move
-pub moves-as : (key' key : ℤ) (to' to aside' aside row' row : Option Row) (before after : IndexState) → key' ≡ key → to' ≡ to → aside' ≡ aside → row' ≡ row → Moves key' to' aside' row' before after → Moves key to aside row before after
+pub moves-as : (key' key : ℤ) (to' to aside' aside row' row : Option Row) (before after : IndexState) → key' ≡ key → to' ≡ to → aside' ≡ aside → row' ≡ row → MovesInIndex key' to' aside' row' before after → MovesInIndex key to aside row before after
 moves-as key' key to' to aside' aside row' row before after keys tos asides rows m =
-    subst (λ k. Moves k to aside row before after) keys (subst (λ o. Moves key' o aside row before after) tos
-    (subst (λ o. Moves key' to' o row before after) asides (subst (λ o. Moves key' to' aside' o before after) rows m)))
+    subst (λ k. MovesInIndex k to aside row before after) keys (subst (λ o. MovesInIndex key' o aside row before after) tos
+    (subst (λ o. MovesInIndex key' to' o row before after) asides (subst (λ o. MovesInIndex key' to' aside' o before after) rows m)))
 
 -- ---- one column after another
 
@@ -244,7 +244,7 @@ MovesUpTo-next key to aside n cs ds c d there moves m =
     subst (λ k. MovesUpTo key to aside k cs (slice_set ds n d)) next (MovesUpTo-suc key to aside n cs ds c d there moves m)
 
 -- at the end all have
-pub MovesUpTo-all : (key : ℤ) (to aside : Option Row) (n : ℕ) (cs ds : List IndexedColumn) → length ds ≤ n → MovesUpTo key to aside n cs ds → MoveKey key to aside cs ds
+pub MovesUpTo-all : (key : ℤ) (to aside : Option Row) (n : ℕ) (cs ds : List IndexedColumn) → length ds ≤ n → MovesUpTo key to aside n cs ds → MovesInColumns key to aside cs ds
 MovesUpTo-all key to aside zero [] [] end m = tt
 MovesUpTo-all key to aside zero (c ∷ cs) [] end m = cc
 MovesUpTo-all key to aside zero cs (d ∷ ds) end m = absurd (omega (arith, end))

@@ -106,11 +106,11 @@ pub record ComesToDigest (key : ℤ) (to : Option ℤ) (before after : IndexedCo
   pub past : (digest q : ℤ) → has_past after digest q ≡ (not (is_digest digest to && int_eq q key) && has_past before digest q)
 
 -- a key moves in each column, by the values of two rows
-abbrev pub MoveKey : ℤ → Option Row → Option Row → List IndexedColumn → List IndexedColumn → Type 0
-MoveKey key to aside [] [] = Unit {0}
-MoveKey key to aside [] (d ∷ ds) = ⊥
-MoveKey key to aside (c ∷ cs) [] = ⊥
-MoveKey key to aside (c ∷ cs) (d ∷ ds) = MovesKey key (digest_at c.position to) (digest_at c.position aside) c d × MoveKey key to aside cs ds
+abbrev pub MovesInColumns : ℤ → Option Row → Option Row → List IndexedColumn → List IndexedColumn → Type 0
+MovesInColumns key to aside [] [] = Unit {0}
+MovesInColumns key to aside [] (d ∷ ds) = ⊥
+MovesInColumns key to aside (c ∷ cs) [] = ⊥
+MovesInColumns key to aside (c ∷ cs) (d ∷ ds) = MovesKey key (digest_at c.position to) (digest_at c.position aside) c d × MovesInColumns key to aside cs ds
 
 -- a column lists a row under the value that it has there, if it has one
 abbrev pub ColumnLists : IndexedColumn → ℤ → Row → Type 0
@@ -134,23 +134,23 @@ pub record ListsRow (index : IndexState) (key : ℤ) (row : Row) : Type 0 where
   pub first : IsTrue index.is_keyed → first_int row.values ≡ Some key
 
 -- a key moves in an index by a change of its row, and the index lists the row that is written
-pub record Moves (key : ℤ) (to aside row : Option Row) (before after : IndexState) : Type 0 where
-  pub columns : MoveKey key to aside before.columns after.columns
+pub record MovesInIndex (key : ℤ) (to aside row : Option Row) (before after : IndexState) : Type 0 where
+  pub columns : MovesInColumns key to aside before.columns after.columns
   pub keyed : IsTrue after.is_keyed → IsTrue before.is_keyed
   pub first : IsTrue after.is_keyed → IfSome row (λ r. first_int r.values ≡ Some key)
 
 abbrev pub MovesRow : ℤ → RowChange → IndexState → IndexState → Type 0
-MovesRow key change before after = Moves key (current_after change) (other_after change) (listed_by change) before after
+MovesRow key change before after = MovesInIndex key (current_after change) (other_after change) (listed_by change) before after
 
 -- and by a write of a row, or of none, on a side of a lineage
 abbrev pub MovesWrite : Side → ℤ → Lineage → Option Row → IndexState → IndexState → Type 0
-MovesWrite Current key l row before after = Moves key row (last_row l.current) row before after
-MovesWrite Next key l row before after = Moves key (last_row l.current) row row before after
+MovesWrite Current key l row before after = MovesInIndex key row (last_row l.current) row before after
+MovesWrite Next key l row before after = MovesInIndex key (last_row l.current) row row before after
 
 -- and where both sides are to show what one of them shows
 abbrev pub MovesUnsplit : Side → ℤ → Lineage → IndexState → IndexState → Type 0
 MovesUnsplit Current key l before after = after ≡ before
-MovesUnsplit Next key l before after = Moves key (last_row (chain_on Next l)) (last_row l.current) (last_row (chain_on Next l)) before after
+MovesUnsplit Next key l before after = MovesInIndex key (last_row (chain_on Next l)) (last_row l.current) (last_row (chain_on Next l)) before after
 
 -- a row is in reach of a search of the current rows where the columns list it as the current one, and of another one where the index lists it
 abbrev pub IsInReach : Reach → IndexState → ℤ → Row → Type 0

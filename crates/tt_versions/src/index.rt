@@ -5,7 +5,7 @@ ghost use Rattle.tt_values.specs.Row.{first_int};
 ghost use Rattle.tt_values.specs.Matches.{holds};
 ghost use Rattle.tt_versions.specs.RowChange.{current_after, other_after};
 ghost use Rattle.tt_versions.specs.Keys.{size, all_of};
-ghost use Rattle.tt_versions.specs.Index.{HasNoKeys, FitsChange, MoveKey, MovesRow, CoversEqual, CoversMatches, size_equated, IsAtMost, IsSmallest, SayNoSet, IsKeyOfMatches};
+ghost use Rattle.tt_versions.specs.Index.{HasNoKeys, FitsChange, MovesInColumns, MovesRow, CoversEqual, CoversMatches, size_equated, IsAtMost, IsSmallest, SayNoSet, IsKeyOfMatches};
 ghost use Rattle.tt_versions.specs.KeyRange.{IsRangeOfMatches, IsNarrowest};
 
 use crate::indexed_column::{IndexedColumn, KeySet};
@@ -188,7 +188,7 @@ fn change_columns(
     change: RowChange<'_>,
 ) -> Result<(), AllocError>
     requires { All (FitsChange change key) columns.old.items }
-    ensures { OnOk result (MoveKey key (current_after change.entry) (other_after change.entry)
+    ensures { OnOk result (MovesInColumns key (current_after change.entry) (other_after change.entry)
         columns.old.items columns.new.items) }
 {
     for column in columns.iter_mut() {

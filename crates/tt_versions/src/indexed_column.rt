@@ -1,9 +1,9 @@
-ghost use Rattle.std.specs.Prelude.{◌≡◌, [], ℤ, IsTrue, IfOk, OnOk, None, slice_get};
+ghost use Rattle.std.specs.Prelude.{◌≡◌, [], ℤ, IsTrue, IfOk, IfSome, OnOk, None, slice_get};
 ghost use Rattle.std.specs.Option.{option_copied};
 ghost use Rattle.std.specs.Ordering.{int_cmp};
 ghost use Rattle.std.specs.FinMap.Entries.{put};
 ghost use Rattle.tt_pages.specs.MapEntries.{entries_without};
-ghost use Rattle.tt_versions.specs.Index.{has_key, keys_under, past_keys, digest_at, ListsCurrent, HasNoPast, FitsChange, MovesKey, PutsKey, DropsKey, LeavesDigest, ComesToDigest};
+ghost use Rattle.tt_versions.specs.Index.{has_key, has_now, keys_under, past_keys, digest_at, ListsCurrent, HasNoPast, FitsChange, MovesKey, PutsKey, DropsKey, LeavesDigest, ComesToDigest};
 ghost use Rattle.tt_versions.specs.RowChange.{current_after, other_after};
 
 use crate::keys::Keys;
@@ -120,6 +120,7 @@ impl IndexedColumn {
 
     /// The current row with a key has a value with this digest no more, if one is given.
     fn leave(&mut self, alloc: Global, key: i64, from: Option<i64>) -> Result<(), AllocError>
+        requires { IfSome from (λ digest. IsTrue (has_now self.old digest key)) }
         ensures { OnOk result (LeavesDigest key from self.old self.new) }
     {
         let Some(digest) = from else {
@@ -136,7 +137,7 @@ impl IndexedColumn {
         let Some(digest) = to else {
             return Ok(());
         };
-        drop_key(&mut self.past, digest, key)?;
+        drop_if_there(&mut self.past, digest, key)?;
         put_key(alloc, &mut self.current, digest, key)
     }
 
@@ -270,25 +271,30 @@ fn put_key(
 ) -> Result<(), AllocError>
     ensures { OnOk result (PutsKey digest key sets.old sets.new) }
 {
-    match sets.get(digest) {
-        Some(_) => sets.change(digest, KeyPut { key }),
-        None => {
-            let mut keys = PagedMap::new(alloc);
-            keys.put(key, ())?;
-            sets.put(digest, keys)
-        }
+    if sets.change_if_there(digest, KeyPut { key })? {
+        return Ok(());
     }
+    let mut keys = PagedMap::new(alloc);
+    keys.put(key, ())?;
+    sets.put(digest, keys)
 }
 
-/// Removes a key from the set under a digest, if it's there, and the set once it is empty.
+/// Removes a key from the set under a digest. The set stays, even if it's empty.
 fn drop_key(sets: &mut PagedMap<KeySet>, digest: i64, key: i64) -> Result<(), AllocError>
+    requires { IsTrue (has_key (keys_under digest sets.old) key) }
+    ensures { OnOk result (DropsKey digest key sets.old sets.new) }
+{
+    sets.change(digest, KeyRemoved { key })
+}
+
+/// Removes a key from the set under a digest, if it's there.
+fn drop_if_there(sets: &mut PagedMap<KeySet>, digest: i64, key: i64) -> Result<(), AllocError>
     ensures { OnOk result (DropsKey digest key sets.old sets.new) }
 {
     if !has_key_under(sets, digest, key) {
         return Ok(());
     }
-    sets.change(digest, KeyRemoved { key })?;
-    drop_if_empty(sets, digest)
+    drop_key(sets, digest, key)
 }
 
 /// Whether the set under a digest has a key.
@@ -298,15 +304,5 @@ fn has_key_under(sets: &PagedMap<KeySet>, digest: i64, key: i64) -> bool
     match sets.get(digest) {
         Some(keys) => keys.get(key).is_some(),
         None => false,
-    }
-}
-
-/// Forgets the set under a digest if it's empty.
-fn drop_if_empty(sets: &mut PagedMap<KeySet>, digest: i64) -> Result<(), AllocError>
-    ensures { OnOk result ((d : ℤ) → keys_under d sets.new ≡ keys_under d sets.old) }
-{
-    match sets.get(digest) {
-        Some(keys) if keys.is_empty() => sets.remove(digest),
-        _ => Ok(()),
     }
 }

@@ -152,20 +152,6 @@ all_are_made calls db next worker count made is few left made_is next_is =
     let all : made ≡ count = omega (arith, made_is, known, left, entries, is.slots, is.events, few) in
     next_is ∙ steps-entries worker db made ∙ ap (λ n. with_entries db (steps worker n)) all
 
--- steps, and one more
-pub steps-push : (worker count : ℕ) → steps worker count ++ repair_entry worker events.Step ∷ [] ≡ steps worker (count + 1)
-steps-push worker count = replicate-append-replicate count 1 (repair_entry worker events.Step)
-
-zero-test : (n : ℕ) → 0 < n → (n == 0) ≡ false
-zero-test n some = grind (arith, nat_tests, some)
-
--- a step isn't refused while slots are left
-pub step_is_accepted : (calls : ℕ) (db : Database) → IsUnderWay calls db → calls < 1000000 → 0 < slots_left (state_of db) → refusal_of db events.Step ≡ None
-step_is_accepted calls db is few some =
-    let room = room-under_way calls db is few in
-    let entries = full_at-below (state_of db).events db.limits.events room.events in
-    rw (is.repairing, zero-test (slots_left (state_of db)) some, entries) refl
-
 -- the switch isn't refused where none is left
 pub switch_is_accepted : (calls : ℕ) (db : Database) → IsUnderWay calls db → calls < 1000000 → slots_left (state_of db) ≡ 0 → refusal_of db events.Switch ≡ None
 switch_is_accepted calls db is few none =

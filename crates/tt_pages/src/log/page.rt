@@ -1,4 +1,4 @@
-ghost use Rattle.std.specs.Prelude.{◌≡◌, ◌<◌, ◌≤◌, [], ◌∷◌, ◌++◌, length, slice_set, IfOk, OnOk, OnErr};
+ghost use Rattle.std.specs.Prelude.{◌≡◌, ◌<◌, ◌≤◌, ◌+◌, [], ◌∷◌, ◌++◌, length, replicate, slice_set, IfOk, OnOk, OnErr};
 ghost use Rattle.tt_pages.specs.LogDepth.{page_size};
 ghost use Rattle.tt_pages.specs.LogSlice.{IsSlice};
 
@@ -81,6 +81,21 @@ impl<T: Kept + Drop> Page<T> {
             items.push(item.kept()?)?;
         }
         Ok(Page { items })
+    }
+
+    /// Adds copies of an item while there is room, but at most `most`. Returns how many.
+    #[tactic(auto, using(crate::proofs::LogRules::one_copy_more))]
+    pub(super) fn push_copies(&mut self, item: &T, most: usize) -> Result<usize, AllocError>
+        ensures few { IfOk result (λ count. count ≤ most) }
+        ensures items { IfOk result (λ count.
+            self.new ≡ self.old ++ replicate count item.now) }
+        ensures within { length self.new ≤ length self.old + most }
+    {
+        let count = most.min(PAGE_SIZE - self.items.len());
+        for _ in 0..count {
+            self.items.push(item.kept()?)?;
+        }
+        Ok(count)
     }
 }
 

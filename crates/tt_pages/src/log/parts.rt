@@ -1,4 +1,4 @@
-ghost use Rattle.std.specs.Prelude.{◌≡◌, ◌<◌, ◌≤◌, [], ◌∷◌, ◌++◌, length, take, slice_set, Some, IfOk, OnOk, OnErr};
+ghost use Rattle.std.specs.Prelude.{◌≡◌, ◌<◌, ◌≤◌, ◌+◌, [], ◌∷◌, ◌++◌, length, take, replicate, slice_set, Some, IfOk, OnOk, OnErr};
 ghost use Rattle.tt_pages.specs.LogDepth.{page_size};
 ghost use Rattle.tt_pages.specs.LogParts.{log_items, tree_items, tail_items};
 
@@ -124,6 +124,24 @@ fn push_to_page<T: Kept + Drop>(page: &mut Arc<Page<T>>, item: T) -> Result<(), 
     ensures err { OnErr result (page.new.value ≡ page.old.value) }
 {
     Arc::make_mut(page)?.push(item)
+}
+
+/// Adds copies of an item to the tail, if there is one, while it has room, but at most `most`.
+/// Returns how many. The tail is copied if it is shared.
+pub(super) fn add_to_tail<T: Kept + Drop>(
+    tail: &mut Option<Arc<Page<T>>>,
+    item: &T,
+    most: usize,
+) -> Result<usize, AllocError>
+    ensures few { IfOk result (λ count. count ≤ most) }
+    ensures items { IfOk result (λ count.
+        tail_items tail.new ≡ tail_items tail.old ++ replicate count item.now) }
+    ensures within { length (tail_items tail.new) ≤ length (tail_items tail.old) + most }
+{
+    match tail {
+        Some(page) => Arc::make_mut(page)?.push_copies(item, most),
+        None => Ok(0),
+    }
 }
 
 pub(super) fn replace_in_tree<T: Kept + Drop>(

@@ -1,10 +1,10 @@
 // A page of a map: a list of entries in ascending key order.
-ghost use Rattle.std.specs.Prelude.{◌≡◌, ◌++◌, IsTrue, IsSome, IfOk, IfErr, OnOk, OnErr};
+ghost use Rattle.std.specs.Prelude.{◌≡◌, ◌++◌, is_some, IsTrue, IfOk, IfErr, OnOk, OnErr};
 ghost use Rattle.std.specs.Option.{is_none};
 ghost use Rattle.std.specs.Option.{option_copied};
 ghost use Rattle.std.specs.Ordering.{int_cmp};
 ghost use Rattle.std.specs.FinMap.Entries.{find, put, is_sorted};
-ghost use Rattle.tt_pages.specs.MapEntries.{rank_of, entries_without, keys_of, ChangesAt, IsPlaceOf, IsGapFor};
+ghost use Rattle.tt_pages.specs.MapEntries.{rank_of, entries_without, keys_of, ChangesAt, StaysWithout, IsPlaceOf, IsGapFor};
 
 use crate::kept::Kept;
 use crate::modify::Modify;
@@ -80,20 +80,27 @@ fn entry_of<V>(key: &i64, value: V) -> (i64, V)
     (key, value)
 }
 
-// Changes the value at a key of the page. After an error nothing is promised about the value.
+// Changes the value at a key of the page, if there is one. Returns whether there is. After an error
+// nothing is promised about the value.
 pub(super) fn change_in<V, M: Modify<V>>(
     page: &mut Page<V>,
     key: &i64,
     change: M,
-) -> Result<(), AllocError>
-    requires sorted { IsTrue (is_sorted int_cmp page.old.items) }
-    requires present { IsSome (find int_cmp key.now page.old.items) }
+) -> Result<bool, AllocError>
+    requires { IsTrue (is_sorted int_cmp page.old.items) }
     ensures keys { keys_of page.new.items ≡ keys_of page.old.items }
     ensures ok { OnOk result
         (ChangesAt key.now (M.after change) page.old.items page.new.items) }
+    ensures stays { OnOk result (StaysWithout key.now page.old.items page.new.items) }
+    ensures found { IfOk result (λ found. found ≡ is_some (find int_cmp key.now page.old.items)) }
 {
-    let at = rank_in(page, key);
-    change.apply(&mut page[at].1)
+    match place_in(page, key) {
+        Ok(at) => {
+            change.apply(&mut page[at].1)?;
+            Ok(true)
+        }
+        Err(_) => Ok(false),
+    }
 }
 
 pub(super) fn remove_in<V: Drop>(page: &mut Page<V>, key: &i64)

@@ -1,9 +1,10 @@
-// How the value at a key of a tree is changed. The keys stay, and so does the shape of the tree.
-ghost use Rattle.std.specs.Prelude.{◌≡◌, length, IsSome, OnOk};
+// How the value at a key of a tree is changed, if there is one. The keys stay, and so does the
+// shape of the tree. Each function returns whether there is a value.
+ghost use Rattle.std.specs.Prelude.{◌≡◌, length, is_some, IfOk, OnOk};
 ghost use Rattle.std.specs.Arc.{arc_value};
 ghost use Rattle.std.specs.Ordering.{int_cmp};
 ghost use Rattle.std.specs.FinMap.Entries.{find};
-ghost use Rattle.tt_pages.specs.MapEntries.{keys_of, ChangesAt};
+ghost use Rattle.tt_pages.specs.MapEntries.{keys_of, ChangesAt, StaysWithout};
 ghost use Rattle.tt_pages.specs.MapTree.{node_value, branch_entries, branch_depth, IsNode, AreBranches};
 
 use super::branches::branch_for;
@@ -22,13 +23,15 @@ impl<V: Kept + Drop> Tree<V> {
         alloc: Global,
         key: &i64,
         change: M,
-    ) -> Result<(), AllocError>
-        requires present { IsSome (find int_cmp key.now self.old.entries) }
+    ) -> Result<bool, AllocError>
         ensures depth { self.new.depth ≡ self.old.depth }
         ensures width { self.new.width ≡ self.old.width }
         ensures keys { keys_of self.new.entries ≡ keys_of self.old.entries }
         ensures ok { OnOk result
             (ChangesAt key.now (M.after change) self.old.entries self.new.entries) }
+        ensures stays { OnOk result (StaysWithout key.now self.old.entries self.new.entries) }
+        ensures found { IfOk result
+            (λ found. found ≡ is_some (find int_cmp key.now self.old.entries)) }
     {
         self.node.change(alloc, key, change)
     }
@@ -39,14 +42,17 @@ impl<V: Kept + Drop> Tree<V> {
         this: &mut Arc<Tree<V>>,
         key: &i64,
         change: M,
-    ) -> Result<(), AllocError>
-        requires present { IsSome (find int_cmp key.now (arc_value this.old).entries) }
+    ) -> Result<bool, AllocError>
         ensures depth { (arc_value this.new).depth ≡ (arc_value this.old).depth }
         ensures width { (arc_value this.new).width ≡ (arc_value this.old).width }
         ensures keys { keys_of (arc_value this.new).entries
             ≡ keys_of (arc_value this.old).entries }
         ensures ok { OnOk result (ChangesAt key.now (M.after change)
             (arc_value this.old).entries (arc_value this.new).entries) }
+        ensures stays { OnOk result
+            (StaysWithout key.now (arc_value this.old).entries (arc_value this.new).entries) }
+        ensures found { IfOk result
+            (λ found. found ≡ is_some (find int_cmp key.now (arc_value this.old).entries)) }
     {
         unshare(alloc, this)?;
         match Arc::get_mut(this) {
@@ -63,9 +69,8 @@ impl<V: Kept + Drop> Node<V> {
         alloc: Global,
         key: &i64,
         change: M,
-    ) -> Result<(), AllocError>
+    ) -> Result<bool, AllocError>
         requires node { IsNode self.old }
-        requires present { IsSome (find int_cmp key.now (node_value self.old).entries) }
         ensures node { IsNode self.new }
         ensures depth { (node_value self.new).depth ≡ (node_value self.old).depth }
         ensures width { (node_value self.new).width ≡ (node_value self.old).width }
@@ -73,6 +78,10 @@ impl<V: Kept + Drop> Node<V> {
             ≡ keys_of (node_value self.old).entries }
         ensures ok { OnOk result (ChangesAt key.now (M.after change)
             (node_value self.old).entries (node_value self.new).entries) }
+        ensures stays { OnOk result
+            (StaysWithout key.now (node_value self.old).entries (node_value self.new).entries) }
+        ensures found { IfOk result
+            (λ found. found ≡ is_some (find int_cmp key.now (node_value self.old).entries)) }
     {
         match self {
             Node::Leaf(page) => change_in(page, key, change),
@@ -86,15 +95,18 @@ impl<V: Kept + Drop> Node<V> {
         branches: &mut Vec<Branch<V>>,
         key: &i64,
         change: M,
-    ) -> Result<(), AllocError>
+    ) -> Result<bool, AllocError>
         requires fork { AreBranches (branch_depth branches.old.items) branches.old.items }
-        requires present { IsSome (find int_cmp key.now (branch_entries branches.old.items)) }
         ensures fork { AreBranches (branch_depth branches.old.items) branches.new.items }
         ensures width { length branches.new.items ≡ length branches.old.items }
         ensures keys { keys_of (branch_entries branches.new.items)
             ≡ keys_of (branch_entries branches.old.items) }
         ensures ok { OnOk result (ChangesAt key.now (M.after change)
             (branch_entries branches.old.items) (branch_entries branches.new.items)) }
+        ensures stays { OnOk result (StaysWithout key.now (branch_entries branches.old.items)
+            (branch_entries branches.new.items)) }
+        ensures found { IfOk result
+            (λ found. found ≡ is_some (find int_cmp key.now (branch_entries branches.old.items))) }
     {
         let at = branch_for(branches, key);
         branches[at].change(alloc, key, change)
@@ -108,14 +120,17 @@ impl<V: Kept + Drop> Branch<V> {
         alloc: Global,
         key: &i64,
         change: M,
-    ) -> Result<(), AllocError>
-        requires present { IsSome (find int_cmp key.now self.old.tree.entries) }
+    ) -> Result<bool, AllocError>
         ensures first { self.new.first ≡ self.old.first }
         ensures depth { self.new.tree.depth ≡ self.old.tree.depth }
         ensures width { self.new.tree.width ≡ self.old.tree.width }
         ensures keys { keys_of self.new.tree.entries ≡ keys_of self.old.tree.entries }
         ensures ok { OnOk result
             (ChangesAt key.now (M.after change) self.old.tree.entries self.new.tree.entries) }
+        ensures stays { OnOk result
+            (StaysWithout key.now self.old.tree.entries self.new.tree.entries) }
+        ensures found { IfOk result
+            (λ found. found ≡ is_some (find int_cmp key.now self.old.tree.entries)) }
     {
         Tree::change_shared(alloc, &mut self.tree, key, change)
     }

@@ -1,10 +1,10 @@
 // The tree of a whole map, which grows and shrinks at its root.
-ghost use Rattle.std.specs.Prelude.{◌≡◌, ◌+◌, ◌<◌, ◌≤◌, [], ◌∷◌, length, IsSome, IfOk, IfSome, IfNone, OnOk, OnErr};
+ghost use Rattle.std.specs.Prelude.{◌≡◌, ◌+◌, ◌<◌, ◌≤◌, [], ◌∷◌, length, IfOk, IfSome, IfNone, OnOk, OnErr};
 ghost use Rattle.std.specs.Arc.{arc_value};
 ghost use Rattle.std.specs.Option.{is_none, is_some};
 ghost use Rattle.std.specs.Ordering.{int_cmp};
 ghost use Rattle.std.specs.FinMap.Entries.{find, put};
-ghost use Rattle.tt_pages.specs.MapEntries.{entries_without, keys_of, ChangesAt};
+ghost use Rattle.tt_pages.specs.MapEntries.{entries_without, keys_of, ChangesAt, StaysWithout};
 ghost use Rattle.tt_pages.specs.MapTree.{entries_of_root as entries, max_width};
 
 use super::page::{MAX_WIDTH, put_in};
@@ -41,20 +41,23 @@ pub(super) fn put_in_root<V: Kept + Drop>(
     }
 }
 
+// Changes the value at the key, if there is one. Returns whether there is.
 pub(super) fn change_in_root<V: Kept + Drop, M: Modify<V>>(
     alloc: Global,
     root: &mut Option<Arc<Tree<V>>>,
     key: &i64,
     change: M,
-) -> Result<(), AllocError>
-    requires { IsSome (find int_cmp key.now (entries root.old)) }
+) -> Result<bool, AllocError>
     ensures keys { keys_of (entries root.new) ≡ keys_of (entries root.old) }
     ensures ok { OnOk result
         (ChangesAt key.now (M.after change) (entries root.old) (entries root.new)) }
+    ensures stays { OnOk result (StaysWithout key.now (entries root.old) (entries root.new)) }
+    ensures found { IfOk result
+        (λ found. found ≡ is_some (find int_cmp key.now (entries root.old))) }
 {
     match root {
         Some(tree) => Tree::change_shared(alloc, tree, key, change),
-        None => unreachable!(),
+        None => Ok(false),
     }
 }
 

@@ -1,10 +1,11 @@
 //! Events that a session carries out.
-ghost use Rattle.std.specs.Prelude.{◌≡◌, ◌≢◌, Some, None, Ok, if◌then◌else◌, IfOk, IfErr, OnOk};
-ghost use Rattle.tt_db.specs.Database.{outcome_for};
+ghost use Rattle.std.specs.Prelude.{◌≡◌, ◌≢◌, ◌+◌, ◌≤◌, Some, None, Ok, if◌then◌else◌, IfOk, IfErr, OnOk};
+ghost use Rattle.tt_db.specs.State.{slots_left};
+ghost use Rattle.tt_db.specs.Database.{state_of, outcome_for};
 ghost use Rattle.tt_session.specs.Failures.{IsRefusal};
-ghost use Rattle.tt_session.specs.Room.{refusal_in_session};
+ghost use Rattle.tt_session.specs.Room.{refusal_in_session, CanEnd};
 ghost use Rattle.tt_session.specs.Session.{with_database};
-ghost use Rattle.tt_session.specs.Repairing.{with_event};
+ghost use Rattle.tt_session.specs.Repairing.{with_event, with_steps};
 ghost use Rattle.tt_session.specs.Restoring.{with_ground};
 
 use super::OpenSession;
@@ -66,5 +67,22 @@ impl OpenSession {
             // It isn't refused, so there is no memory.
             Err(_) => Err(AllocError),
         }
+    }
+
+    /// Makes `count` steps of a repair together, none of which is refused. Without memory nothing
+    /// is promised of the database.
+    pub(crate) fn make_steps(&mut self, worker: u32, count: u64) -> Result<(), AllocError>
+        requires can_end { CanEnd self.old.database }
+        requires left { count ≤ slots_left (state_of self.old.database) }
+        ensures state { OnOk result (self.new
+            ≡ with_database self.old (with_steps self.old.database worker count)) }
+        ensures rest { self.new ≡ with_database self.old self.new.database }
+        ensures can_end { OnOk result (CanEnd self.new.database) }
+        ensures left { OnOk result (slots_left (state_of self.new.database) + count
+            ≡ slots_left (state_of self.old.database)) }
+    {
+        // None of them is refused, so that as many are made.
+        let _ = self.db.advance_steps(worker, count)?;
+        Ok(())
     }
 }

@@ -7,7 +7,7 @@ use Rattle.std.proofs.lemmas.List.{take_all, drop_all}
 use Rattle.std.proofs.lemmas.Option.{slice_get-get_or}
 use Rattle.tt_versions.specs.declared.indexed_column.IndexedColumn.{IndexedColumn}
 use Rattle.tt_versions.specs.RowChange.{current_after, other_after}
-use Rattle.tt_versions.specs.Index.{FitsChange, MoveKey}
+use Rattle.tt_versions.specs.Index.{FitsChange, MovesInColumns}
 use Rattle.tt_versions.proofs.MoveLemmas.{All-at, MovesUpTo-at, MovesUpTo-next, MovesUpTo-all}
 use Rattle.tt_versions.proofs.index.change_columns.Goals as goal
 
@@ -44,10 +44,10 @@ returns c =
     let other = other_after c.args.change in
     let same = c.deref_mut-column-items.ensures.value in
     let end : length columns ≤ c.loop-column.column-index = omega (arith, c.loop-column-test.false, c.loop-column.auto.column-items) in
-    let moved = subst (λ (k : ℤ). MoveKey k to other before columns) (to_z-of_z w64 c.args.key c.ranges.key)
-    (subst (λ (cs : List IndexedColumn). MoveKey key to other cs columns) same (MovesUpTo-all key to other c.loop-column.column-index items columns end c.loop-column.invariant)) in
+    let moved = subst (λ (k : ℤ). MovesInColumns k to other before columns) (to_z-of_z w64 c.args.key c.ranges.key)
+    (subst (λ (cs : List IndexedColumn). MovesInColumns key to other cs columns) same (MovesUpTo-all key to other c.loop-column.column-index items columns end c.loop-column.invariant)) in
     let none : drop (length columns) before ≡ [] = ap (λ (n : ℕ). drop n before) (c.loop-column.auto.column-items ∙ ap length same) ∙ drop_all (length before) before (omega arith) in
     let all : columns ++ drop (length columns) before ≡ columns = ap (λ (cs : List IndexedColumn). columns ++ cs) none ∙ append-nil columns in
     let few : length columns ≤ c.args.columns.now.len = omega (arith, c.loop-column.auto.column-items, c.deref_mut-column-items.ensures.len) in
     let whole = ap (λ (cs : List IndexedColumn). take c.args.columns.now.len cs) all ∙ take_all c.args.columns.now.len columns few in
-    subst (λ (cs : List IndexedColumn). MoveKey c.args.key to other before cs) (sym whole) moved
+    subst (λ (cs : List IndexedColumn). MovesInColumns c.args.key to other before cs) (sym whole) moved

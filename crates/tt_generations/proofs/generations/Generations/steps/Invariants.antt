@@ -1,6 +1,5 @@
 -- the slots done so far, and whether the last of them was due
 use Rattle.std.proofs.Common.{◌≡◌, ◌-◌, ◌≤◌}
-use Rattle.tt_generations.specs.TwoGenerations.{left_of}
 use Rattle.tt_generations.specs.Runs.{after_steps, is_last_due}
 use Rattle.tt_generations.proofs.generations.Generations.steps.Given as goal
 

@@ -2,15 +2,12 @@
 use Rattle.std.proofs.Common.{◌≡◌, ℕ, [], ◌∷◌, ◌++◌, map, Bool, not, filter, List, Option, Some, None, ap, sym, ◌∙◌}
 use Rattle.json.specs.Token.{Token}
 use Rattle.serde_json.specs.Data.{Members}
-use Rattle.serde_json.specs.Find.{get, get_member, as_object}
+use Rattle.serde_json.specs.Find.{as_object}
 use Rattle.tt_json.specs.Value.{is_among, names_of, least, least_unknown}
 use Rattle.tt_json.specs.Tape.{value_at}
 use Rattle.tt_json.proofs.ItemsLemmas.{members-object}
-use Rattle.tt_json.proofs.FindLemmas.{get-as_object, get_in}
+use Rattle.tt_json.proofs.FindLemmas.{of_object}
 use Rattle.tt_json.proofs.tape.TapeValueJsonValue.find_two.Goals as goal
-
-of_object : (name : List ℕ) (inner outer : List Token) (o : Option Members) → inner ≡ outer → as_object (value_at inner) ≡ o → get_in name o ≡ get name (value_at outer)
-of_object name inner outer o same e = ap (get_in name) (sym e) ∙ sym (get-as_object name (value_at inner)) ∙ ap (λ ts. get name (value_at ts)) same
 
 of_members : (is_known : List ℕ → Bool) (inner outer : List Token) (o : Option Members) → inner ≡ outer → as_object (value_at inner) ≡ o
     → least (filter (λ name. not (is_known name)) (names_of o)) ≡ least_unknown is_known (value_at outer)

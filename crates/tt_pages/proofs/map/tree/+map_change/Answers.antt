@@ -1,17 +1,13 @@
-use Rattle.std.proofs.Common.{rules, length, suc, sym, ap, subst, ◌∙◌, ◌<◌}
-use Rattle.std.proofs.lemmas.Result.{on_ok_weaker}
-use Rattle.tt_pages.specs.MapTree.{IsNode, node_value, branch_depth}
+use Rattle.std.specs.Ordering.{int_cmp}
+use Rattle.std.specs.FinMap.Entries.{find}
+use Rattle.std.proofs.Common.{◌≡◌, is_some, length, suc, sym, ap, subst, ◌∙◌, ◌<◌}
+use Rattle.std.proofs.lemmas.Result.{on_ok_weaker, IfOk-weaker}
+use Rattle.tt_pages.specs.MapTree.{IsNode, node_value, branch_entries, branch_depth}
 use Rattle.tt_pages.specs.MapBranches.{IsBranchFor}
 use Rattle.tt_pages.proofs.MapEntriesLemmas.{length-keys}
 use Rattle.tt_pages.proofs.MapBranchLemmas.{depth-is}
-use Rattle.tt_pages.proofs.MapReplacingLemmas.{page-kept, keys-set_branch, branches-kept, ChangesAt-branch, present-branch}
+use Rattle.tt_pages.proofs.MapReplacingLemmas.{page-kept, keys-set_branch, branches-kept, ChangesAt-branch, StaysWithout-branch, found-branch}
 use Rattle.tt_pages.proofs.map.tree.+map_change.Goals as goal
-
-pub Node::change_in_fork-change-requires : goal.Node::change_in_fork-change-requires
-Node::change_in_fork-change-requires g t c κs within =
-    let bs = c.args.branches.now.items in
-    let is_for = subst (λ bs. IsBranchFor c.args.key.now bs c.branch_for-at.result) c.deref.ensures.value c.branch_for-at.ensures.is_for in
-    (search rules, (search rules, (search rules, present-branch c.args.key.now (branch_depth bs) bs c.branch_for-at.result c.index_mut.result.now c.requires.fork is_for c.index_mut.ensures.value c.requires.present)))
 
 pub Node::change_in_fork-returns-clause-fork : goal.Node::change_in_fork-returns-clause-fork
 Node::change_in_fork-returns-clause-fork g t c =
@@ -30,6 +26,21 @@ Node::change_in_fork-returns-clause-ok g t c =
     let bs = c.args.branches.now.items in
     let is_for = subst (λ bs. IsBranchFor key bs c.branch_for-at.result) c.deref.ensures.value c.branch_for-at.ensures.is_for in
     on_ok_weaker c.change.result (ChangesAt-branch (branch_depth bs) bs c.branch_for-at.result c.index_mut.result.now c.change.new.self c.requires.fork c.index_mut.ensures.value key (g.M.Modify.after c.args.change) is_for) c.change.ensures.ok
+
+pub Node::change_in_fork-returns-clause-stays : goal.Node::change_in_fork-returns-clause-stays
+Node::change_in_fork-returns-clause-stays g t c =
+    let key = c.args.key.now in
+    let bs = c.args.branches.now.items in
+    let is_for = subst (λ bs. IsBranchFor key bs c.branch_for-at.result) c.deref.ensures.value c.branch_for-at.ensures.is_for in
+    on_ok_weaker c.change.result (StaysWithout-branch (branch_depth bs) bs c.branch_for-at.result c.index_mut.result.now c.change.new.self c.requires.fork c.index_mut.ensures.value key is_for) c.change.ensures.stays
+
+pub Node::change_in_fork-returns-clause-found : goal.Node::change_in_fork-returns-clause-found
+Node::change_in_fork-returns-clause-found g t c =
+    let key = c.args.key.now in
+    let bs = c.args.branches.now.items in
+    let is_for = subst (λ bs. IsBranchFor key bs c.branch_for-at.result) c.deref.ensures.value c.branch_for-at.ensures.is_for in
+    IfOk-weaker c.change.result (λ found. found ≡ is_some (find int_cmp key c.index_mut.result.now.tree.entries)) (λ found. found ≡ is_some (find int_cmp key (branch_entries bs)))
+    (λ found is. is ∙ found-branch (branch_depth bs) bs c.branch_for-at.result c.index_mut.result.now c.change.new.self c.requires.fork c.index_mut.ensures.value key is_for) c.change.ensures.found
 
 pub Node::change-returns-in-Leaf-clause-node : goal.Node::change-returns-in-Leaf-clause-node
 Node::change-returns-in-Leaf-clause-node g t c =
