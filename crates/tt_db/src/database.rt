@@ -1,6 +1,7 @@
 ghost use Rattle.std.specs.Prelude.{◌≡◌, ◌≢◌, ◌<◌, ◌≤◌, ◌↔◌, IsSome, IsOk, IfSome, [], ◌∷◌, ◌++◌, length, None, Some, OnOk, OnErr, IfOk, IfErr};
 ghost use Rattle.std.specs.Option.{option_copied, option_map};
 ghost use Rattle.tt_versions.specs.Sides.{current_of, next_of, is_split};
+ghost use Rattle.tt_generations.specs.SlotsAfter.{AreSlotsAfter};
 ghost use Rattle.tt_generations.specs.TwoGenerations.{no_slots, done_of, is_repairing, IsWithin};
 ghost use Rattle.tt_db.specs.Limits.{Fits, max_limits};
 ghost use Rattle.tt_db.specs.Errors.{refusal_of_error};
@@ -23,7 +24,7 @@ use crate::transition::carry_out;
 use std::alloc::{AllocError, Global};
 use std::marker::Model;
 use std::sync::Arc;
-use tt_generations::{Edit, Generations, Progress, Slot};
+use tt_generations::{Edit, Generations, Progress, Slot, Slots};
 use tt_pages::PagedLog;
 use tt_values::{Action, Catalog, Reply, Row, RowId, Select, Shared, check_action, check_select};
 use tt_versions::{Side, Table};
@@ -180,6 +181,14 @@ impl Db {
         ensures { option_copied result ≡ slot_of self.now number }
     {
         self.parts.generations.slot(number)
+    }
+
+    /// The slots behind the first `count`, in their order, in the current generation: none where
+    /// there are no more. Takes no memory.
+    pub fn slots_after(&self, count: u64) -> Slots<'_>
+        ensures { AreSlotsAfter count (state_of self.now).slots result }
+    {
+        self.parts.generations.slots_after(count)
     }
 
     /// Of the slots that the repair has done, the one of a number, counted from 1, as the next

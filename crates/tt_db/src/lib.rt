@@ -19,7 +19,7 @@ pub use errors::{DbError, ReadError};
 pub use event::{Entry, Event};
 pub use limits::Limits;
 pub use outcome::{Outcome, StepsMade};
-pub use tt_generations::{Edit, FirstRows, MAX_SLOTS, Progress, Slot};
+pub use tt_generations::{Edit, FirstRows, MAX_SLOTS, Progress, Slot, Slots};
 
 /// The largest limit of entries.
 pub const MAX_EVENTS: u64 = 4_000_000;

@@ -17,10 +17,9 @@ use Rattle.tt_values.proofs.LawProofs.{rows_rise, writes_leave_their_last_conten
 use Rattle.tt_versions.specs.Sides.{current_of, ListsRows}
 use Rattle.tt_versions.specs.RowsByWrites.{as_row_writes}
 use Rattle.tt_generations.proofs.ContentLemmas.{all_put}
-use Rattle.tt_generations.specs.declared.action_run.ActionRun.{ActionRun}
 use Rattle.tt_generations.specs.Effect.{IsEffect, rows_of_effect}
 use Rattle.tt_generations.specs.Rows.{TablesByPosition, versions_at, CurrentAgrees, AddsEffect}
-use Rattle.tt_generations.specs.ActionRun.{step_writes, HasCarriedOut, CarriesOut, TellsEffect, TriesWrites, CarriesOutAction}
+use Rattle.tt_generations.specs.ActionRun.{RunOnRows, step_writes, HasCarriedOut, CarriesOut, TellsEffect, TriesWrites, CarriesOutAction}
 
 -- the row writes of an effect on a table leave the content once the keys have their rows
 rows-after_row_writes : (pairs : List (ℤ × Option Row)) (time table : ℕ) (X : Content) (t : ℕ) → fold with_row_write X (as_row_writes time table pairs) t ≡ with_rows_at table pairs X t
@@ -133,13 +132,13 @@ effect-agreed time table w before pairs vs on is agree =
     is (X (table_of w)) (subst (λ n. ListsRows (X (table_of w)) (current_of (versions_at before n)) time) (sym on) (CurrentAgrees-lists before vs time (table_of w) agree))
 
 -- whether pairs are none tells whether a write has an effect
-pub TellsEffect-pairs : (time table : ℕ) (w : Write) (before : ActionRun) (pairs : List (ℤ × Option Row)) (has_one : Bool)
-    → table ≡ table_of w → IsEffect pairs w (current_of (versions_at before.rows table)) time → has_one ≡ not (length pairs == 0) → TellsEffect time w before has_one
+pub TellsEffect-pairs : (time table : ℕ) (w : Write) (before : TablesByPosition) (pairs : List (ℤ × Option Row)) (has_one : Bool)
+    → table ≡ table_of w → IsEffect pairs w (current_of (versions_at before table)) time → has_one ≡ not (length pairs == 0) → TellsEffect time w before has_one
 TellsEffect-pairs time table w before pairs has_one on is tells vs agree =
-    tells ∙ ap (λ (es : List (ℤ × Option Row)). not (length es == 0)) (effect-agreed time table w before.rows pairs vs on is agree)
+    tells ∙ ap (λ (es : List (ℤ × Option Row)). not (length es == 0)) (effect-agreed time table w before pairs vs on is agree)
 
 -- tables that get the effect of a write, its reply, and the rows that it writes
-pub CarriesOut-write : (time table : ℕ) (w : Write) (before after : ActionRun) (pairs : List (ℤ × Option Row)) (reply : Reply)
+pub CarriesOut-write : (time table : ℕ) (w : Write) (before after : RunOnRows) (pairs : List (ℤ × Option Row)) (reply : Reply)
     → table ≡ table_of w → IsEffect pairs w (current_of (versions_at before.rows table)) time → AddsEffect before.rows after.rows time table pairs
     → ((rows : RowsByKey) → pairs ≡ effect_on w rows → reply ≡ reply_on w rows) → after.replies ≡ before.replies ++ reply ∷ []
     → after.rows_touched ≡ before.rows_touched ++ rows_of_effect table pairs → CarriesOut time (w ∷ []) before after
@@ -152,7 +151,7 @@ CarriesOut-write time table w before after pairs reply on is adds answers replie
       touched = touched ∙ (λ i. before.rows_touched ++ rows_of_effect (on i) (same i)) ∙ ap (λ l. before.rows_touched ++ l) (sym (append-nil (rows_of_write w X)));
     }
 
-HasCarriedOut-next : (time : ℕ) (w : Write) (ws : List Write) (before between after : ActionRun) (vs : List RowWrite) → HasCarriedOut time (w ∷ []) before between vs
+HasCarriedOut-next : (time : ℕ) (w : Write) (ws : List Write) (before between after : RunOnRows) (vs : List RowWrite) → HasCarriedOut time (w ∷ []) before between vs
     → HasCarriedOut time ws between after (vs ++ step_writes time (w ∷ []) (content_at vs time)) → HasCarriedOut time (w ∷ ws) before after vs
 HasCarriedOut-next time w ws before between after vs one more =
     let X = content_at vs time in
@@ -168,14 +167,14 @@ HasCarriedOut-next time w ws before between after vs one more =
           ∙ ap (λ l. before.rows_touched ++ (l ++ later)) (append-nil (rows_of_write w X));
     }
 
-pub CarriesOut-next : (time : ℕ) (w : Write) (ws : List Write) (before between after : ActionRun)
+pub CarriesOut-next : (time : ℕ) (w : Write) (ws : List Write) (before between after : RunOnRows)
     → CarriesOut time (w ∷ []) before between → CarriesOut time ws between after → CarriesOut time (w ∷ ws) before after
 CarriesOut-next time w ws before between after first rest vs agree =
     let one = first vs agree in
     HasCarriedOut-next time w ws before between after vs one (rest (vs ++ step_writes time (w ∷ []) (content_at vs time)) one.rows)
 
 -- without writes nothing is carried out
-pub CarriesOut-none : (time : ℕ) (run : ActionRun) → CarriesOut time [] run run
+pub CarriesOut-none : (time : ℕ) (run : RunOnRows) → CarriesOut time [] run run
 CarriesOut-none time run vs agree = record {
   rows = subst (CurrentAgrees run.rows) (sym (append-nil vs)) agree;
   replies = sym (append-nil run.replies);
@@ -183,7 +182,7 @@ CarriesOut-none time run vs agree = record {
 }
 
 -- an action begins with no replies and no rows that it touched
-pub CarriesOutAction-start : (time : ℕ) (ws : List Write) (before after : ActionRun) → before.replies ≡ [] → before.rows_touched ≡ []
+pub CarriesOutAction-start : (time : ℕ) (ws : List Write) (before after : RunOnRows) → before.replies ≡ [] → before.rows_touched ≡ []
     → CarriesOut time ws before after → CarriesOutAction time (action_of ws) before.rows after
 CarriesOutAction-start time ws before after replies touched all vs agree =
     let done = all vs agree in
@@ -205,8 +204,8 @@ an_effect-told true has_one told h = cc
 an_effect-told false has_one told h = refl
 
 -- a write with an effect, and then further ones
-pub TriesWrites-next : (time : ℕ) (w : Write) (ws : List Write) (before between after : ActionRun) (has_one all : Bool)
-    → CarriesOut time (w ∷ []) before between → TellsEffect time w before has_one → has_one ≡ true → TriesWrites time ws between after all → TriesWrites time (w ∷ ws) before after all
+pub TriesWrites-next : (time : ℕ) (w : Write) (ws : List Write) (before between after : RunOnRows) (has_one all : Bool)
+    → CarriesOut time (w ∷ []) before between → TellsEffect time w before.rows has_one → has_one ≡ true → TriesWrites time ws between after all → TriesWrites time (w ∷ ws) before after all
 TriesWrites-next time w ws before between after has_one all first tells is rest vs agree =
     let X = content_at vs time in
     let one = first vs agree in
@@ -221,8 +220,8 @@ TriesWrites-next time w ws before between after has_one all first tells is rest 
     )
 
 -- a write without an effect is the last
-pub TriesWrites-stop : (time : ℕ) (w : Write) (ws : List Write) (before after : ActionRun) (has_one : Bool)
-    → CarriesOut time (w ∷ []) before after → TellsEffect time w before has_one → has_one ≡ false → TriesWrites time (w ∷ ws) before after false
+pub TriesWrites-stop : (time : ℕ) (w : Write) (ws : List Write) (before after : RunOnRows) (has_one : Bool)
+    → CarriesOut time (w ∷ []) before after → TellsEffect time w before.rows has_one → has_one ≡ false → TriesWrites time (w ∷ ws) before after false
 TriesWrites-stop time w ws before after has_one first tells is vs agree =
     let X = content_at vs time in
     let none : has_no_effect w X ≡ true = no_effect-told (has_no_effect w X) has_one (tells vs agree) is in
@@ -231,11 +230,11 @@ TriesWrites-stop time w ws before after has_one first tells is vs agree =
       λ i. not (sym none i || one_has_no_effect ws (content_after_write w X)),
     )
 
-pub TriesWrites-none : (time : ℕ) (run : ActionRun) → TriesWrites time [] run run true
+pub TriesWrites-none : (time : ℕ) (run : RunOnRows) → TriesWrites time [] run run true
 TriesWrites-none time run vs agree = (CarriesOut-none time run vs agree, refl)
 
 -- where each write has an effect, all are carried out and stay; else the rows are those before
-pub CarriesOutAction-whole : (time : ℕ) (ws : List Write) (before tried after : ActionRun) (all : Bool) → before.replies ≡ [] → before.rows_touched ≡ []
+pub CarriesOutAction-whole : (time : ℕ) (ws : List Write) (before tried after : RunOnRows) (all : Bool) → before.replies ≡ [] → before.rows_touched ≡ []
     → TriesWrites time ws before tried all → after.replies ≡ tried.replies → after.rows_touched ≡ tried.rows_touched → (all ≡ true → after.rows ≡ tried.rows) → (all ≡ false → after.rows ≡ before.rows)
     → CarriesOutAction time (whole_of ws) before.rows after
 CarriesOutAction-whole time ws before tried after all replies touched tries same_replies same_touched kept_rows undone_rows vs agree = record {
@@ -300,7 +299,7 @@ steps-kept a time X few = by (is_undone a X) refl
     by false e = refl
 
 -- so it doesn't matter whether they are whole
-pub CarriesOutAction-few : (time : ℕ) (a : Action) (before : TablesByPosition) (after : ActionRun) → length a.writes ≤ 1 → CarriesOutAction time (action_of a.writes) before after → CarriesOutAction time a before after
+pub CarriesOutAction-few : (time : ℕ) (a : Action) (before : TablesByPosition) (after : RunOnRows) → length a.writes ≤ 1 → CarriesOutAction time (action_of a.writes) before after → CarriesOutAction time a before after
 CarriesOutAction-few time a before after few all vs agree =
     let X = content_at vs time in
     let done = all vs agree in

@@ -28,11 +28,10 @@ use Rattle.tt_repair_laws.specs.Due.{content_after, is_due, reexecuted_count, sl
 use Rattle.tt_repair_laws.specs.NextSide.{current_side}
 use Rattle.tt_repair_laws.proofs.LawProofs.{edited_slots_are_as_many, next_side_shows_edited_slots, no_slot_is_reexecuted_at_first, due_slots_are_reexecuted, undue_slots_are_not_reexecuted}
 use Rattle.tt_generations.specs.declared.slot.KeptSlot.{KeptSlot}
-use Rattle.tt_generations.specs.declared.action_run.ActionRun.{ActionRun}
 use Rattle.tt_generations.specs.declared.repair.Repair.{Repair}
 use Rattle.tt_generations.specs.Limits.{max_slots}
 use Rattle.tt_generations.specs.Rows.{TablesByPosition, HasFewRows, CurrentAgrees, KeepsSplitRows, ShowsSide}
-use Rattle.tt_generations.specs.ActionRun.{step_writes, CarriesOutAction, most_rows}
+use Rattle.tt_generations.specs.ActionRun.{RunOnRows, step_writes, CarriesOutAction, most_rows}
 use Rattle.tt_generations.specs.Reexecution.{ShowsContentBefore, ShowsFewBefore}
 use Rattle.tt_generations.specs.KeptSlots.{last_content, slot_with_replies, kept_slot, actions_of, AreKept, IsAccepted, AreAccepted}
 use Rattle.tt_generations.specs.Repair.{HasKeysIfAny, is_kept_due, next_action, repair_with_slot, next_slots, HasDoneDueSlot, HasReexecutedSlot, ReexecutesSlot, DoesSlot}
@@ -91,12 +90,12 @@ shows-side t G table Next current next = next
 -- ---- an action is added
 
 -- what an action that is carried out at the next time leaves, answers and writes
-pub record IsNextSlot (W : Slots) (action : Action) (run : ActionRun) : Type 0 where
+pub record IsNextSlot (W : Slots) (action : Action) (run : RunOnRows) : Type 0 where
   pub rows : CurrentAgrees run.rows (row_writes (W ++ Some action ∷ []) (length (W ++ Some action ∷ [])))
   pub replies : run.replies ≡ replies_of action (last_content W)
   pub touched : run.rows_touched ≡ rows_touched action (last_content W)
 
-pub IsNextSlot-run : (W : Slots) (action : Action) (before : TablesByPosition) (run : ActionRun) (time : ℕ) → CurrentAgrees before (row_writes W (length W)) → time ≡ length W + 1
+pub IsNextSlot-run : (W : Slots) (action : Action) (before : TablesByPosition) (run : RunOnRows) (time : ℕ) → CurrentAgrees before (row_writes W (length W)) → time ≡ length W + 1
     → CarriesOutAction time action before run → IsNextSlot W action run
 IsNextSlot-run W action before run time rows at carries =
     let n = length W in
@@ -124,14 +123,14 @@ under_way-with_slot tables W s k None last is = tt
 under_way-with_slot tables W s k (Some r) last is = IsRepair-slot tables W s r _ k is last refl
 
 -- an action was carried out on tables as the slot of a time, of which this is kept
-pub record IsSlotOfRun (time : ℕ) (action : Action) (before : TablesByPosition) (run : ActionRun) (k : KeptSlot) : Type 0 where
+pub record IsSlotOfRun (time : ℕ) (action : Action) (before : TablesByPosition) (run : RunOnRows) (k : KeptSlot) : Type 0 where
   pub carries : CarriesOutAction time action before run
   pub keeps : KeepsSplitRows before run.rows
   pub is_action : k.slot.action ≡ Some action
   pub replies : k.slot.replies ≡ Some run.replies
   pub rows : k.rows ≡ run.rows_touched
 
-pub AreGenerations-action : (tables : Tables) (kept : List KeptSlot) (before : TablesByPosition) (repair : Option Repair) (action : Action) (run : ActionRun) (k : KeptSlot) (time : ℕ)
+pub AreGenerations-action : (tables : Tables) (kept : List KeptSlot) (before : TablesByPosition) (repair : Option Repair) (action : Action) (run : RunOnRows) (k : KeptSlot) (time : ℕ)
     → AreGenerations tables kept before repair → action_fault tables action.writes ≡ None → length kept < max_slots → time ≡ length kept + 1 → IsSlotOfRun time action before run k
     → AreGenerations tables (kept ++ k ∷ []) run.rows (repair_with_slot k repair)
 AreGenerations-action tables kept before repair action run k time are accepted room at slot = record {

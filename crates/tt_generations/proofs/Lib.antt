@@ -9,6 +9,7 @@ pub mod ReexecutionLemmas
 pub mod EditsLemmas
 pub mod RepairLemmas
 pub mod KeptSlotsLemmas
+pub mod SlotsLemmas
 pub mod BothSidesLemmas
 pub mod RepairStepsLemmas
 pub mod GenerationsLemmas

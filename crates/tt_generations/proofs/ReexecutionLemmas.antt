@@ -23,10 +23,9 @@ use Rattle.tt_versions.specs.Sides.{next_of, is_split, just_before, all_written_
 use Rattle.tt_parts.specs.Dirty.{is_row_in}
 use Rattle.tt_repair_laws.specs.Due.{rows_matched, rows_matched_by}
 use Rattle.tt_values.specs.declared.row_id.RowId.{RowId}
-use Rattle.tt_generations.specs.declared.reexecution.Reexecution.{Reexecution}
 use Rattle.tt_generations.specs.Effect.{IsEffect, rows_of_effect, matched_rows}
 use Rattle.tt_generations.specs.Rows.{TablesByPosition, versions_at, SplitsRows, WritesNext, HasFewRows}
-use Rattle.tt_generations.specs.Reexecution.{ShowsContentBefore, AreReexecuted, IsUnderWay, HasReexecutedWrites, ReexecutesWrites, TellsNextEffect, TriesNextWrites, ReexecutesAction, Reexecutes, IsUnderWayWithFew}
+use Rattle.tt_generations.specs.Reexecution.{ReexecutionOnRows, ShowsContentBefore, AreReexecuted, IsUnderWay, HasReexecutedWrites, ReexecutesWrites, TellsNextEffect, TriesNextWrites, ReexecutesAction, Reexecutes, IsUnderWayWithFew}
 use Rattle.tt_generations.proofs.ContentLemmas.{all_put, with_rows_at-unwritten, all_written_from-unwritten, all_written_from-later, all_written_from-earlier, IsByRisingKey-after_write}
 use Rattle.tt_generations.proofs.RowsLemmas.{same_table}
 use Rattle.tt_generations.proofs.ActionStepsLemmas.{no_effect-told, an_effect-told, tried-few}
@@ -176,13 +175,13 @@ module _ (before between after : TablesByPosition) (rows : List RowId) (time : �
 -- ---- a slot under re-execution
 
 -- at its time all rows show its content
-shows_content : (before : TablesByPosition) (time : ℕ) (Y : Content) (touched : List RowId) (run : Reexecution) (X : Content) → IsUnderWay before time Y touched run X
+shows_content : (before : TablesByPosition) (time : ℕ) (Y : Content) (touched : List RowId) (run : ReexecutionOnRows) (X : Content) → IsUnderWay before time Y touched run X
     → (t : ℕ) (key : ℤ) → next_of (versions_at run.rows t) key time ≡ row_at (X t) key
 shows_content before time Y touched run X under t key =
     under.rows.next t key time ∙ by (is_row_in reexecuted t key) refl (is_split (versions_at before t) key) refl (is_row_in touched t key) refl
   where
     reexecuted : List RowId
-    reexecuted = run.reexecuted.items
+    reexecuted = run.reexecuted
 
     now : nat_le time time ≡ true
     now = grind (arith, nat_tests)
@@ -194,12 +193,12 @@ shows_content before time Y touched run X under t key =
     by false is false split true wrote = let clash = sym is ∙ under.covers t key wrote in cc
     by false is false split false wrote = under.start.untouched t key split wrote ∙ sym (under.others t key is)
 
-lists_content : (before : TablesByPosition) (time : ℕ) (Y : Content) (touched : List RowId) (run : Reexecution) (X : Content) → IsUnderWay before time Y touched run X
+lists_content : (before : TablesByPosition) (time : ℕ) (Y : Content) (touched : List RowId) (run : ReexecutionOnRows) (X : Content) → IsUnderWay before time Y touched run X
     → (t : ℕ) → ListsRows (X t) (next_of (versions_at run.rows t)) time
 lists_content before time Y touched run X under t = record { sorted = under.rising t; finds = λ key. sym (shows_content before time Y touched run X under t key) }
 
 -- one write of a slot under re-execution: its effect is found, the rows that it matches are split, and the effect is written and answered
-pub record CarriesOutWrite (time : ℕ) (w : Write) (run after : Reexecution) : Type 0 where
+pub record CarriesOutWrite (time : ℕ) (w : Write) (run after : ReexecutionOnRows) : Type 0 where
   pub table : ℕ
   pub between : TablesByPosition
   pub pairs : List (ℤ × Option Row)
@@ -211,26 +210,26 @@ pub record CarriesOutWrite (time : ℕ) (w : Write) (run after : Reexecution) : 
   pub answers : (rows : RowsByKey) → pairs ≡ effect_on w rows → reply ≡ reply_on w rows
   pub replies : after.replies ≡ run.replies ++ reply ∷ []
   pub touched : after.rows_touched ≡ run.rows_touched ++ rows_of_effect table pairs
-  pub reexecuted : after.reexecuted.items ≡ run.reexecuted.items ++ matched_rows w pairs
+  pub reexecuted : after.reexecuted ≡ run.reexecuted ++ matched_rows w pairs
 
 -- its effect is that on the content that the rows show
-effect-shown : (time : ℕ) (w : Write) (run : Reexecution) (table : ℕ) (pairs : List (ℤ × Option Row)) → table ≡ table_of w → IsEffect pairs w (next_of (versions_at run.rows table)) time
+effect-shown : (time : ℕ) (w : Write) (run : ReexecutionOnRows) (table : ℕ) (pairs : List (ℤ × Option Row)) → table ≡ table_of w → IsEffect pairs w (next_of (versions_at run.rows table)) time
     → (before : TablesByPosition) (Y : Content) (touched : List RowId) (X : Content) → IsUnderWay before time Y touched run X → pairs ≡ effect w X
 effect-shown time w run table pairs on found before Y touched X under =
     found (X (table_of w)) (subst (λ n. ListsRows (X (table_of w)) (next_of (versions_at run.rows n)) time) (sym on) (lists_content before time Y touched run X under (table_of w)))
 
-pub TellsNextEffect-pairs : (time : ℕ) (w : Write) (run : Reexecution) (table : ℕ) (pairs : List (ℤ × Option Row)) (has_one : Bool) → table ≡ table_of w
+pub TellsNextEffect-pairs : (time : ℕ) (w : Write) (run : ReexecutionOnRows) (table : ℕ) (pairs : List (ℤ × Option Row)) (has_one : Bool) → table ≡ table_of w
     → IsEffect pairs w (next_of (versions_at run.rows table)) time → has_one ≡ not (length pairs == 0) → TellsNextEffect time w run has_one
 TellsNextEffect-pairs time w run table pairs has_one on found tells before Y touched X under =
     tells ∙ ap (λ (es : List (ℤ × Option Row)). not (length es == 0)) (effect-shown time w run table pairs on found before Y touched X under)
 
-pub ReexecutesWrites-write : (time : ℕ) (w : Write) (run after : Reexecution) → CarriesOutWrite time w run after → ReexecutesWrites time (w ∷ []) run after
+pub ReexecutesWrites-write : (time : ℕ) (w : Write) (run after : ReexecutionOnRows) → CarriesOutWrite time w run after → ReexecutesWrites time (w ∷ []) run after
 ReexecutesWrites-write time w run after one before Y touched X under =
     let same = effect-shown time w run one.table one.pairs one.on one.found before Y touched X under in
-    let first = run.reexecuted.items in
+    let first = run.reexecuted in
     let further = rows_matched w X in
     let rows : matched_rows w one.pairs ≡ further = ap (matched_rows w) same ∙ matched_rows-effect w X in
-    let all : after.reexecuted.items ≡ first ++ further = one.reexecuted ∙ ap (λ rs. first ++ rs) rows in
+    let all : after.reexecuted ≡ first ++ further = one.reexecuted ∙ ap (λ rs. first ++ rs) rows in
     let split = AreReexecuted-split before run.rows one.between first further time X Y touched under.start under.others under.rows (subst (λ rs. SplitsRows run.rows one.between rs time) rows one.splits) in
     let unwritten : (t : ℕ) (key : ℤ) → is_row_in (first ++ further) t key ≡ false → is_row_in (rows_of_effect (table_of w) (effect w X)) t key ≡ false =
     λ t key none. unmatched_unwritten w X t key (in_neither first further t key none).1 in
@@ -252,36 +251,36 @@ ReexecutesWrites-write time w run after one before Y touched X under =
     }
 
 -- one write, and then further ones
-HasReexecutedWrites-next : (before : TablesByPosition) (time : ℕ) (Y : Content) (touched : List RowId) (w : Write) (ws : List Write) (run between after : Reexecution) (X : Content)
+HasReexecutedWrites-next : (before : TablesByPosition) (time : ℕ) (Y : Content) (touched : List RowId) (w : Write) (ws : List Write) (run between after : ReexecutionOnRows) (X : Content)
     → HasReexecutedWrites before time Y touched (w ∷ []) run between X → HasReexecutedWrites before time Y touched ws between after (content_after_write w X) → HasReexecutedWrites before time Y touched (w ∷ ws) run after X
 HasReexecutedWrites-next before time Y touched w ws run between after X one more =
     let next = content_after_write w X in
     let later = rows_of_writes ws next in
     record {
       under_way = more.under_way;
-      reexecuted = more.reexecuted ∙ ap (λ rs. rs ++ rows_matched_by ws next) one.reexecuted ∙ append_assoc run.reexecuted.items _ _
-          ∙ ap (λ rs. run.reexecuted.items ++ (rs ++ rows_matched_by ws next)) (append-nil (rows_matched w X));
+      reexecuted = more.reexecuted ∙ ap (λ rs. rs ++ rows_matched_by ws next) one.reexecuted ∙ append_assoc run.reexecuted _ _
+          ∙ ap (λ rs. run.reexecuted ++ (rs ++ rows_matched_by ws next)) (append-nil (rows_matched w X));
       replies = more.replies ∙ ap (λ rs. rs ++ replies_of_writes ws next) one.replies ∙ append_assoc run.replies _ _;
       touched_now = more.touched_now ∙ ap (λ rs. rs ++ later) one.touched_now ∙ append_assoc run.rows_touched _ _
           ∙ ap (λ rs. run.rows_touched ++ (rs ++ later)) (append-nil (rows_of_write w X));
     }
 
-pub ReexecutesWrites-next : (time : ℕ) (w : Write) (ws : List Write) (run between after : Reexecution) → ReexecutesWrites time (w ∷ []) run between → ReexecutesWrites time ws between after → ReexecutesWrites time (w ∷ ws) run after
+pub ReexecutesWrites-next : (time : ℕ) (w : Write) (ws : List Write) (run between after : ReexecutionOnRows) → ReexecutesWrites time (w ∷ []) run between → ReexecutesWrites time ws between after → ReexecutesWrites time (w ∷ ws) run after
 ReexecutesWrites-next time w ws run between after first rest before Y touched X under =
     let one = first before Y touched X under in
     HasReexecutedWrites-next before time Y touched w ws run between after X one (rest before Y touched (content_after_write w X) one.under_way)
 
 -- without writes nothing is carried out
-pub ReexecutesWrites-none : (time : ℕ) (run : Reexecution) → ReexecutesWrites time [] run run
+pub ReexecutesWrites-none : (time : ℕ) (run : ReexecutionOnRows) → ReexecutesWrites time [] run run
 ReexecutesWrites-none time run before Y touched X under = record {
   under_way = under;
-  reexecuted = sym (append-nil run.reexecuted.items);
+  reexecuted = sym (append-nil run.reexecuted);
   replies = sym (append-nil run.replies);
   touched_now = sym (append-nil run.rows_touched);
 }
 
 -- an action that isn't whole is all its writes
-pub ReexecutesAction-writes : (time : ℕ) (ws : List Write) (run after : Reexecution) → ReexecutesWrites time ws run after → ReexecutesAction time (action_of ws) run after
+pub ReexecutesAction-writes : (time : ℕ) (ws : List Write) (run after : ReexecutionOnRows) → ReexecutesWrites time ws run after → ReexecutesAction time (action_of ws) run after
 ReexecutesAction-writes time ws run after all before Y touched X under =
     let done = all before Y touched X under in
     record { under_way = done.under_way; reexecuted = done.reexecuted; replies = done.replies; touched_now = done.touched_now }
@@ -289,7 +288,7 @@ ReexecutesAction-writes time ws run after all before Y touched X under =
 -- ---- the writes of a whole action
 
 -- a write with an effect, and then further ones
-pub TriesNextWrites-next : (time : ℕ) (w : Write) (ws : List Write) (run between after : Reexecution) (has_one all : Bool)
+pub TriesNextWrites-next : (time : ℕ) (w : Write) (ws : List Write) (run between after : ReexecutionOnRows) (has_one all : Bool)
     → ReexecutesWrites time (w ∷ []) run between → TellsNextEffect time w run has_one → has_one ≡ true → TriesNextWrites time ws between after all → TriesNextWrites time (w ∷ ws) run after all
 TriesNextWrites-next time w ws run between after has_one all first tells is rest before Y touched X under =
     let one = first before Y touched X under in
@@ -302,7 +301,7 @@ TriesNextWrites-next time w ws run between after has_one all first tells is rest
     )
 
 -- a write without an effect is the last
-pub TriesNextWrites-stop : (time : ℕ) (w : Write) (ws : List Write) (run after : Reexecution) (has_one : Bool)
+pub TriesNextWrites-stop : (time : ℕ) (w : Write) (ws : List Write) (run after : ReexecutionOnRows) (has_one : Bool)
     → ReexecutesWrites time (w ∷ []) run after → TellsNextEffect time w run has_one → has_one ≡ false → TriesNextWrites time (w ∷ ws) run after false
 TriesNextWrites-stop time w ws run after has_one first tells is before Y touched X under =
     let next = content_after_write w X in
@@ -312,7 +311,7 @@ TriesNextWrites-stop time w ws run after has_one first tells is before Y touched
       λ i. not (sym none i || one_has_no_effect ws next),
     )
 
-pub TriesNextWrites-none : (time : ℕ) (run : Reexecution) → TriesNextWrites time [] run run true
+pub TriesNextWrites-none : (time : ℕ) (run : ReexecutionOnRows) → TriesNextWrites time [] run run true
 TriesNextWrites-none time run before Y touched X under = (ReexecutesWrites-none time run before Y touched X under, refl)
 
 -- rows that are re-executed are so in any order, and however often
@@ -335,20 +334,20 @@ in_twice first further t key =
     by false b = refl
 
 -- what tried writes left, with the rows before them again, and those rolled back that were re-executed
-pub record GoesBack (time : ℕ) (run tried after : Reexecution) : Type 0 where
-  pub rows : SplitsRows run.rows after.rows tried.reexecuted.items time
-  pub reexecuted : after.reexecuted.items ≡ tried.reexecuted.items
+pub record GoesBack (time : ℕ) (run tried after : ReexecutionOnRows) : Type 0 where
+  pub rows : SplitsRows run.rows after.rows tried.reexecuted time
+  pub reexecuted : after.reexecuted ≡ tried.reexecuted
   pub replies : after.replies ≡ tried.replies
   pub touched : after.rows_touched ≡ tried.rows_touched
 
-module _ (time : ℕ) (ws : List Write) (run mid after : Reexecution) where
+module _ (time : ℕ) (ws : List Write) (run mid after : ReexecutionOnRows) where
   -- then the slot is under way as before the writes
   IsUnderWay-back : (before : TablesByPosition) (Y : Content) (touched : List RowId) (X : Content) (us : List Write) → IsUnderWay before time Y touched run X → HasReexecutedWrites before time Y touched us run mid X
       → GoesBack time run mid after → IsUnderWay before time Y touched after X
   IsUnderWay-back before Y touched X us under done back =
-      let first = run.reexecuted.items in
+      let first = run.reexecuted in
       let further = rows_matched_by us X in
-      let all : after.reexecuted.items ≡ first ++ further = back.reexecuted ∙ done.reexecuted in
+      let all : after.reexecuted ≡ first ++ further = back.reexecuted ∙ done.reexecuted in
       let splits = subst (λ rs. SplitsRows run.rows after.rows rs time) done.reexecuted back.rows in
       let rows = AreReexecuted-split before run.rows after.rows first (first ++ further) time X Y touched under.start under.others under.rows splits in
       record {
@@ -393,19 +392,19 @@ content-few a X few = by a.whole
     by true = let same = few_writes_are_whole a.writes X few in same.content
     by false = refl
 
-pub ReexecutesAction-few : (time : ℕ) (a : Action) (run after : Reexecution) → length a.writes ≤ 1 → ReexecutesAction time (action_of a.writes) run after → ReexecutesAction time a run after
+pub ReexecutesAction-few : (time : ℕ) (a : Action) (run after : ReexecutionOnRows) → length a.writes ≤ 1 → ReexecutesAction time (action_of a.writes) run after → ReexecutesAction time a run after
 ReexecutesAction-few time a run after few all before Y touched X under =
     let done = all before Y touched X under in
     let every = tried-few a X few in
     record {
       under_way = subst (λ (Z : Content). IsUnderWay before time Y touched after Z) (sym (content-few a X few)) done.under_way;
-      reexecuted = done.reexecuted ∙ ap (λ ws. run.reexecuted.items ++ rows_matched_by ws X) (sym every);
+      reexecuted = done.reexecuted ∙ ap (λ ws. run.reexecuted ++ rows_matched_by ws X) (sym every);
       replies = done.replies ∙ ap (λ ws. run.replies ++ replies_of_writes ws X) (sym every);
       touched_now = done.touched_now ∙ ap (λ ws. run.rows_touched ++ rows_of_writes ws X) (sym every);
     }
 
 -- a slot begins with the rows that it touched
-IsUnderWay-start : (time : ℕ) (touched : List RowId) (before : TablesByPosition) (run : Reexecution) (X : Content) → run.reexecuted.items ≡ touched → SplitsRows before run.rows touched time
+IsUnderWay-start : (time : ℕ) (touched : List RowId) (before : TablesByPosition) (run : ReexecutionOnRows) (X : Content) → run.reexecuted ≡ touched → SplitsRows before run.rows touched time
     → ShowsContentBefore before time X touched → IsUnderWay before time X touched run X
 IsUnderWay-start time touched before run X reexecuted splits start = record {
   start = start;
@@ -416,7 +415,7 @@ IsUnderWay-start time touched before run X reexecuted splits start = record {
   others = λ t key none. refl;
 }
 
-pub Reexecutes-start : (time : ℕ) (touched : List RowId) (a : Action) (before : TablesByPosition) (run after : Reexecution) → run.reexecuted.items ≡ touched → SplitsRows before run.rows touched time
+pub Reexecutes-start : (time : ℕ) (touched : List RowId) (a : Action) (before : TablesByPosition) (run after : ReexecutionOnRows) → run.reexecuted ≡ touched → SplitsRows before run.rows touched time
     → run.replies ≡ [] → run.rows_touched ≡ [] → ReexecutesAction time a run after → Reexecutes time touched a before after
 Reexecutes-start time touched a before run after reexecuted splits replies none_touched all X start =
     let done = all before X touched X (IsUnderWay-start time touched before run X reexecuted splits start) in
@@ -430,7 +429,7 @@ Reexecutes-start time touched a before run after reexecuted splits replies none_
 
 -- ---- how many rows there are
 
-pub IsUnderWayWithFew-start : (time most : ℕ) (touched : List RowId) (before : TablesByPosition) (run : Reexecution) (X : Content) → run.reexecuted.items ≡ touched → SplitsRows before run.rows touched time
+pub IsUnderWayWithFew-start : (time most : ℕ) (touched : List RowId) (before : TablesByPosition) (run : ReexecutionOnRows) (X : Content) → run.reexecuted ≡ touched → SplitsRows before run.rows touched time
     → ShowsContentBefore before time X touched → ((t : ℕ) → length (X t) ≤ most) → IsUnderWayWithFew time run most
 IsUnderWayWithFew-start time most touched before run X reexecuted splits start few = record {
   before = before;
@@ -441,7 +440,7 @@ IsUnderWayWithFew-start time most touched before run X reexecuted splits start f
   few = few;
 }
 
-pub IsUnderWayWithFew-next : (time : ℕ) (run after : Reexecution) (w : Write) (most : ℕ) → IsUnderWayWithFew time run most → ReexecutesWrites time (w ∷ []) run after → IsUnderWayWithFew time after (most + 1)
+pub IsUnderWayWithFew-next : (time : ℕ) (run after : ReexecutionOnRows) (w : Write) (most : ℕ) → IsUnderWayWithFew time run most → ReexecutesWrites time (w ∷ []) run after → IsUnderWayWithFew time after (most + 1)
 IsUnderWayWithFew-next time run after w most has redoes = record {
   before = has.before;
   touched = has.touched;
@@ -451,14 +450,14 @@ IsUnderWayWithFew-next time run after w most has redoes = record {
   few = λ t. omega (arith, has.few t, length-after_write w has.content t has.under_way.rising);
 }
 
-pub HasFewRows-under_way : (time : ℕ) (run : Reexecution) (few most : ℕ) → few ≤ most → IsUnderWayWithFew time run few → HasFewRows run.rows Next time most
+pub HasFewRows-under_way : (time : ℕ) (run : ReexecutionOnRows) (few most : ℕ) → few ≤ most → IsUnderWayWithFew time run few → HasFewRows run.rows Next time most
 HasFewRows-under_way time run few most h has = record {
   content = has.content;
   shows = λ t. lists_content has.before time has.start has.touched run has.content has.under_way t;
   few = λ t. omega (arith, has.few t, h);
 }
 
-pub IsUnderWayWithFew-more : (time : ℕ) (run : Reexecution) (few most : ℕ) → few ≤ most → IsUnderWayWithFew time run few → IsUnderWayWithFew time run most
+pub IsUnderWayWithFew-more : (time : ℕ) (run : ReexecutionOnRows) (few most : ℕ) → few ≤ most → IsUnderWayWithFew time run few → IsUnderWayWithFew time run most
 IsUnderWayWithFew-more time run few most h has = record {
   before = has.before;
   touched = has.touched;

@@ -35,12 +35,11 @@ use Rattle.tt_parts.proofs.LawProofs.{same_members_with_row}
 use Rattle.tt_repair_laws.specs.Due.{rows_matched, rows_matched_by, slot_rows_matched, with_row_of, slot_rows_touched}
 use Rattle.tt_values.specs.declared.row_id.RowId.{RowId}
 use Rattle.tt_generations.specs.declared.slot.KeptSlot.{KeptSlot}
-use Rattle.tt_generations.specs.declared.reexecution.Reexecution.{Reexecution}
 use Rattle.tt_generations.specs.declared.repair.Repair.{Repair}
 use Rattle.tt_generations.specs.Rows.{TablesByPosition, versions_at}
 use Rattle.tt_generations.specs.KeptSlots.{IsAccepted}
 use Rattle.tt_generations.specs.Replies.{replies_if}
-use Rattle.tt_generations.specs.Reexecution.{ShowsContentBefore, AreReexecuted, Reexecutes, ShowsFewBefore}
+use Rattle.tt_generations.specs.Reexecution.{ReexecutionOnRows, ShowsContentBefore, AreReexecuted, Reexecutes, ShowsFewBefore}
 use Rattle.tt_generations.specs.Repair.{next_action, as_action, is_same_row, MayRepeat, with_rows_shown, ReexecutesSlot}
 
 itself : (n : ℕ) → (n == n) ≡ true
@@ -307,9 +306,9 @@ shown-step before after versions rows n none table key first last time room cata
 
 -- ---- the next slot is re-executed
 
-pub ReexecutesSlot-done : (r after : Repair) (kept new : KeptSlot) (before : TablesByPosition) (run : Reexecution) → Reexecutes (r.done + 1) kept.rows (as_action (next_action r kept)) before run
+pub ReexecutesSlot-done : (r after : Repair) (kept new : KeptSlot) (before : TablesByPosition) (run : ReexecutionOnRows) → Reexecutes (r.done + 1) kept.rows (as_action (next_action r kept)) before run
     → new.slot.action ≡ next_action r kept → new.slot.replies ≡ replies_if (next_action r kept) run.replies → new.rows ≡ run.rows_touched → after.slots ≡ slice_set r.slots r.done new
-    → SameMembers after.dirty.dirty (with_rows_shown r.dirty run.rows run.reexecuted.items (r.done + 1)) → ReexecutesSlot r kept before after run.rows
+    → SameMembers after.dirty.dirty (with_rows_shown r.dirty run.rows run.reexecuted (r.done + 1)) → ReexecutesSlot r kept before after run.rows
 ReexecutesSlot-done r after kept new before run reexecutes action replies rows slots dirty X start =
     let next = next_action r kept in
     let Y = content_after_action (as_action next) X in
@@ -317,19 +316,19 @@ ReexecutesSlot-done r after kept new before run reexecutes action replies rows s
     let has = reexecutes X start in
     let matched = matched-of_action next X in
     let all = subst (λ (rs : List RowId). AreReexecuted before run.rows (touched ++ rs) (r.done + 1) Y) matched has.rows in
-    let reexecuted : run.reexecuted.items ≡ touched ++ slot_rows_matched next X = has.reexecuted ∙ ap (λ rs. touched ++ rs) matched in
+    let reexecuted : run.reexecuted ≡ touched ++ slot_rows_matched next X = has.reexecuted ∙ ap (λ rs. touched ++ rs) matched in
     let answers : new.slot.replies ≡ slot_replies next X = replies ∙ ap (replies_if next) has.replies ∙ replies-of_action next X in
     let touched_now : new.rows ≡ slot_rows_touched next X = rows ∙ has.touched_now ∙ touched-of_action next X in
     record {
       rows = all;
       slots = slots ∙ (λ i. slice_set r.slots r.done (record { slot = record { action = action i; replies = answers i }; rows = touched_now i }));
       dirty = subst (SameMembers after.dirty.dirty)
-          (dirty-shown r.dirty before run.rows (r.done + 1) X Y touched (touched ++ slot_rows_matched next X) run.reexecuted.items (omega arith) start all reexecuted) dirty;
+          (dirty-shown r.dirty before run.rows (r.done + 1) X Y touched (touched ++ slot_rows_matched next X) run.reexecuted (omega arith) start all reexecuted) dirty;
     }
 
 -- the tables of the rows that it re-executes are there
-pub tables-of_run : (tables : Tables) (r : Repair) (kept : KeptSlot) (before : TablesByPosition) (run : Reexecution) → All (λ k. k.table < length tables) kept.rows → IsAccepted tables (next_action r kept)
+pub tables-of_run : (tables : Tables) (r : Repair) (kept : KeptSlot) (before : TablesByPosition) (run : ReexecutionOnRows) → All (λ k. k.table < length tables) kept.rows → IsAccepted tables (next_action r kept)
     → ShowsFewBefore before (r.done + 1) kept.rows → Reexecutes (r.done + 1) kept.rows (as_action (next_action r kept)) before run
-    → All (λ k. k.table < length tables) run.reexecuted.items
+    → All (λ k. k.table < length tables) run.reexecuted
 tables-of_run tables r kept before run there accepted few reexecutes =
-    tables-reexecuted tables kept.rows run.reexecuted.items (next_action r kept) few.content there accepted (reexecutes few.content few.shows).reexecuted
+    tables-reexecuted tables kept.rows run.reexecuted (next_action r kept) few.content there accepted (reexecutes few.content few.shows).reexecuted

@@ -211,3 +211,34 @@ passes-run (suc most) tables kept (k ∷ left) versions r are is = by (is_kept_d
           parts = subst (λ n. AreGenerations tables kept versions (Some (record r { done = n }))) same rest.parts;
           state = ap (λ n. generations_of tables kept (Some (record r { done = n }))) (sym same) ∙ rest.state ∙ ap (after_steps passed) step ∙ after_steps-first passed G;
         }
+
+is_true-left : (a b : Bool) → (a && not b) ≡ false → a ≡ true → b ≡ true
+is_true-left true true h there = refl
+is_true-left true false h there = cc
+is_true-left false b h there = cc
+
+-- the slot behind the run is due, if there is one
+undue_run-behind : (most : ℕ) (G : TwoGenerations) → undue_run most G < most → (let H = after_steps (undue_run most G) G in 0 < left_of H.phase H.slots) → is_next_due (after_steps (undue_run most G) G) ≡ true
+undue_run-behind zero G few left = absurd (omega (arith, few))
+undue_run-behind (suc most) G few left = by (is_next_undue G) refl few left (undue_run-behind most (after_step G))
+  where
+    n : ℕ
+    n = undue_run most (after_step G)
+
+    IsLeft : TwoGenerations → Type 0
+    IsLeft H = 0 < left_of H.phase H.slots
+
+    by : (b : Bool) → is_next_undue G ≡ b → (if b then suc n else 0) < suc most → IsLeft (after_steps (if b then suc n else 0) G)
+        → (n < most → IsLeft (after_steps n (after_step G)) → is_next_due (after_steps n (after_step G)) ≡ true)
+        → is_next_due (after_steps (if b then suc n else 0) G) ≡ true
+    by true undue few left rest =
+        let first = after_steps-first n G in
+        ap is_next_due (sym first) ∙ rest (omega (arith, few)) (subst IsLeft (sym first) left)
+    by false due few left rest =
+        let there : nat_lt 0 (left_of G.phase G.slots) ≡ true = grind (arith, nat_tests) in
+        is_true-left (nat_lt 0 (left_of G.phase G.slots)) (is_next_due G) due there
+
+pub next_due-behind : (most passed : ℕ) (G H : TwoGenerations) → passed ≡ undue_run most G → H ≡ after_steps passed G → passed < most → 0 < left_of H.phase H.slots → is_next_due H ≡ true
+next_due-behind most passed G H count steps few left =
+    let is : H ≡ after_steps (undue_run most G) G = steps ∙ ap (λ n. after_steps n G) count in
+    ap is_next_due is ∙ undue_run-behind most G (omega (arith, count, few)) (subst (λ (K : TwoGenerations). 0 < left_of K.phase K.slots) is left)

@@ -8,6 +8,7 @@ pub mod Replies
 pub mod TwoGenerations
 pub mod Runs
 pub mod KeptSlots
+pub mod SlotsAfter
 pub mod EditsByNumber
 pub mod Repair
 pub mod Generations

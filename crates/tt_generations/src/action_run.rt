@@ -5,7 +5,7 @@ ghost use Rattle.tt_values.specs.Check.{HasKey};
 ghost use Rattle.tt_values.specs.Limits.{max_writes};
 ghost use Rattle.tt_values.specs.Action.{action_of, whole_of};
 ghost use Rattle.tt_generations.specs.Rows.{HasFewRows, AddsOneRowAtMost, KeepsSplitRows};
-ghost use Rattle.tt_generations.specs.ActionRun.{CarriesOut, TellsEffect, TriesWrites, CarriesOutAction, most_rows};
+ghost use Rattle.tt_generations.specs.ActionRun.{run_on, CarriesOut, TellsEffect, TriesWrites, CarriesOutAction, most_rows};
 
 use crate::effect::{add_rows, effect_of, reply_to};
 use crate::rows::Rows;
@@ -14,29 +14,28 @@ use std::alloc::{AllocError, Global};
 use tt_values::{Action, Catalog, Few, Items, Reply, RowId, Write};
 use tt_versions::Side;
 
-/// An action under way: the rows that its writes so far leave, their replies, and the rows that
-/// they touched.
+/// An action under way: the replies to its writes so far, and the rows that they touched.
 #[derive(Drop)]
 pub(crate) struct ActionRun {
-    pub(crate) rows: Rows,
     pub(crate) replies: Few<Reply>,
     pub(crate) rows_touched: Few<RowId>,
 }
 
 impl ActionRun {
-    /// Carries out an action on rows, at a time.
+    /// Carries out an action on rows, at a time. Without memory nothing is promised of the rows.
     pub(crate) fn of_action(
         alloc: Global,
         catalog: &Catalog,
-        rows: Rows,
+        rows: &mut Rows,
         action: &Action,
         time: u64,
     ) -> Result<ActionRun, AllocError>
         requires keyed { All HasKey action.now.writes }
         requires short { length action.now.writes ≤ max_writes }
-        requires few { HasFewRows rows Side.Current time most_rows }
-        ensures current { IfOk result (λ run. CarriesOutAction time action.now rows run) }
-        ensures split { IfOk result (λ run. KeepsSplitRows rows run.rows) }
+        requires few { HasFewRows rows.old Side.Current time most_rows }
+        ensures current { IfOk result
+            (λ run. CarriesOutAction time action.now rows.old (run_on rows.new run)) }
+        ensures split { OnOk result (KeepsSplitRows rows.old rows.new) }
     {
         let writes = action.writes.as_slice();
         if may_give_up(action.whole, writes) {
@@ -50,20 +49,20 @@ impl ActionRun {
     fn of_writes(
         alloc: Global,
         catalog: &Catalog,
-        rows: Rows,
+        rows: &mut Rows,
         writes: &[Write],
         time: u64,
     ) -> Result<ActionRun, AllocError>
         requires keyed { All HasKey writes.now }
         requires short { length writes.now ≤ max_writes }
-        requires few { HasFewRows rows Side.Current time most_rows }
+        requires few { HasFewRows rows.old Side.Current time most_rows }
         ensures current { IfOk result
-            (λ run. CarriesOutAction time (action_of writes.now) rows run) }
-        ensures split { IfOk result (λ run. KeepsSplitRows rows run.rows) }
+            (λ run. CarriesOutAction time (action_of writes.now) rows.old (run_on rows.new run)) }
+        ensures split { OnOk result (KeepsSplitRows rows.old rows.new) }
     {
-        let mut run = ActionRun::new(alloc, rows, writes.len())?;
+        let mut run = ActionRun::new(alloc, writes.len())?;
         for write in writes {
-            run.carry_out(alloc, catalog, write, time)?;
+            run.carry_out(alloc, catalog, rows, write, time)?;
         }
         Ok(run)
     }
@@ -73,35 +72,33 @@ impl ActionRun {
     fn of_whole(
         alloc: Global,
         catalog: &Catalog,
-        rows: Rows,
+        rows: &mut Rows,
         writes: &[Write],
         time: u64,
     ) -> Result<ActionRun, AllocError>
         requires keyed { All HasKey writes.now }
         requires short { length writes.now ≤ max_writes }
-        requires few { HasFewRows rows Side.Current time most_rows }
+        requires few { HasFewRows rows.old Side.Current time most_rows }
         ensures current { IfOk result
-            (λ run. CarriesOutAction time (whole_of writes.now) rows run) }
-        ensures split { IfOk result (λ run. KeepsSplitRows rows run.rows) }
+            (λ run. CarriesOutAction time (whole_of writes.now) rows.old (run_on rows.new run)) }
+        ensures split { OnOk result (KeepsSplitRows rows.old rows.new) }
     {
         let before = rows.share()?;
-        let mut run = ActionRun::new(alloc, rows, writes.len())?;
-        if !run.try_writes(alloc, catalog, writes, time)? {
-            run.rows = before;
+        let mut run = ActionRun::new(alloc, writes.len())?;
+        if !run.try_writes(alloc, catalog, rows, writes, time)? {
+            *rows = before;
         }
         Ok(run)
     }
 
     /// An action, before the first of its writes.
-    fn new(alloc: Global, rows: Rows, writes: usize) -> Result<ActionRun, AllocError>
-        ensures rows { IfOk result (λ run. run.rows ≡ rows) }
+    fn new(alloc: Global, writes: usize) -> Result<ActionRun, AllocError>
         ensures replies { IfOk result (λ run. run.replies ≡ []) }
         ensures rows_touched { IfOk result (λ run. run.rows_touched ≡ []) }
     {
         let mut replies = Few::new(alloc);
         replies.reserve(writes)?;
         Ok(ActionRun {
-            rows,
             replies,
             rows_touched: Few::new(alloc),
         })
@@ -112,17 +109,19 @@ impl ActionRun {
         &mut self,
         alloc: Global,
         catalog: &Catalog,
+        rows: &mut Rows,
         writes: &[Write],
         time: u64,
     ) -> Result<bool, AllocError>
         requires keyed { All HasKey writes.now }
         requires short { length writes.now ≤ max_writes }
-        requires few { HasFewRows self.old.rows Side.Current time most_rows }
-        ensures tried { IfOk result (λ all. TriesWrites time writes.now self.old self.new all) }
-        ensures split { OnOk result (KeepsSplitRows self.old.rows self.new.rows) }
+        requires few { HasFewRows rows.old Side.Current time most_rows }
+        ensures tried { IfOk result (λ all.
+            TriesWrites time writes.now (run_on rows.old self.old) (run_on rows.new self.new) all) }
+        ensures split { OnOk result (KeepsSplitRows rows.old rows.new) }
     {
         for write in writes {
-            if !self.carry_out(alloc, catalog, write, time)? {
+            if !self.carry_out(alloc, catalog, rows, write, time)? {
                 return Ok(false);
             }
         }
@@ -134,39 +133,34 @@ impl ActionRun {
         &mut self,
         alloc: Global,
         catalog: &Catalog,
+        rows: &mut Rows,
         write: &Write,
         time: u64,
     ) -> Result<bool, AllocError>
         requires keyed { HasKey write.now }
-        requires few { HasFewRows self.old.rows Side.Current time (most_rows + max_writes) }
-        ensures effect { IfOk result (λ has_one. TellsEffect time write.now self.old has_one) }
-        ensures current { OnOk result (CarriesOut time (write.now ∷ []) self.old self.new) }
-        ensures few { OnOk result (AddsOneRowAtMost time self.old.rows self.new.rows) }
-        ensures split { OnOk result (KeepsSplitRows self.old.rows self.new.rows) }
+        requires few { HasFewRows rows.old Side.Current time (most_rows + max_writes) }
+        ensures effect { IfOk result (λ has_one. TellsEffect time write.now rows.old has_one) }
+        ensures current { OnOk result (CarriesOut time (write.now ∷ [])
+            (run_on rows.old self.old) (run_on rows.new self.new)) }
+        ensures few { OnOk result (AddsOneRowAtMost time rows.old rows.new) }
+        ensures split { OnOk result (KeepsSplitRows rows.old rows.new) }
     {
         let table = write.table();
-        let effect = effect_of(alloc, self.rows.table(table), write, time, Side::Current)?;
+        let effect = effect_of(alloc, rows.table(table), write, time, Side::Current)?;
         self.replies.push(reply_to(write, effect.as_slice()))?;
         add_rows(&mut self.rows_touched, table, effect.as_slice())?;
         let has_effect = !effect.as_slice().is_empty();
-        self.rows.write(catalog, table, effect, time)?;
+        rows.write(catalog, table, effect, time)?;
         Ok(has_effect)
     }
 
-    /// The slot of this action, once all its writes are carried out, and their replies. The rows
-    /// are put back.
-    pub(crate) fn into_slot(
-        self,
-        action: Action,
-        rows: &mut Rows,
-    ) -> Result<(KeptSlot, Items<Reply>), AllocError>
-        ensures rows { rows.new ≡ self.rows }
+    /// The slot of this action, once all its writes are carried out, and their replies.
+    pub(crate) fn into_slot(self, action: Action) -> Result<(KeptSlot, Items<Reply>), AllocError>
         ensures action { IfOk result (λ r. r.0.slot.action ≡ Some action) }
         ensures kept_replies { IfOk result (λ r. r.0.slot.replies ≡ Some self.replies) }
         ensures rows_touched { IfOk result (λ r. r.0.rows ≡ self.rows_touched) }
         ensures replies { IfOk result (λ r. r.1 ≡ self.replies) }
     {
-        *rows = self.rows;
         let replies = self.replies.into_items()?;
         let kept = KeptSlot::new(Some(action), &replies, self.rows_touched)?;
         Ok((kept, replies))

@@ -3,7 +3,7 @@ ghost use Rattle.std.specs.List.{All};
 ghost use Rattle.tt_generations.specs.Limits.{max_slots};
 ghost use Rattle.tt_generations.specs.KeptSlots.{IsAccepted};
 ghost use Rattle.tt_generations.specs.Reexecution.{ShowsFewBefore};
-ghost use Rattle.tt_generations.specs.Repair.{HasKeysIfAny, is_kept_due, undue_front, next_action, DoesSlot};
+ghost use Rattle.tt_generations.specs.Repair.{HasKeysIfAny, is_kept_due, undue_front, next_action, HasDoneDueSlot, ReexecutesSlot, DoesSlot};
 
 use crate::repair::Repair;
 use crate::rows::Rows;
@@ -96,6 +96,28 @@ impl BoxedRepair {
             DoesSlot self.old kept.now rows.old due self.new rows.new) }
     {
         self.repair.step(alloc, catalog, rows, kept)
+    }
+
+    /// As [`Repair::reexecute`].
+    pub(crate) fn reexecute(
+        &mut self,
+        alloc: Global,
+        catalog: &Catalog,
+        rows: &mut Rows,
+        kept: &KeptSlot,
+    ) -> Result<(), AllocError>
+        requires room { self.old.done < max_slots }
+        requires few_reexecuted { self.old.reexecuted ≤ self.old.done }
+        requires there { self.old.done < length self.old.slots }
+        requires catalog { self.old.dirty.catalog ≡ catalog.now }
+        requires touched { All (λ r. r.table < length catalog.now) kept.now.rows }
+        requires accepted { IsAccepted catalog.now (next_action self.old kept.now) }
+        requires few { ShowsFewBefore rows.old (self.old.done + 1) kept.now.rows }
+        ensures done { OnOk result (HasDoneDueSlot self.old self.new) }
+        ensures rows { OnOk result
+            (ReexecutesSlot self.old kept.now rows.old self.new rows.new) }
+    {
+        self.repair.reexecute(alloc, catalog, rows, kept)
     }
 }
 

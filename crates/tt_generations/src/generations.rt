@@ -11,6 +11,7 @@ ghost use Rattle.tt_repair_laws.specs.Edits.{HasNoFault};
 ghost use Rattle.tt_repair_laws.specs.NextSide.{current_side};
 ghost use Rattle.tt_generations.specs.Limits.{max_slots};
 ghost use Rattle.tt_generations.specs.KeptSlots.{slot_at, last_content, actions_of};
+ghost use Rattle.tt_generations.specs.SlotsAfter.{AreSlotsAfter};
 ghost use Rattle.tt_generations.specs.Repair.{repair_with_slot, next_slots};
 ghost use Rattle.tt_generations.specs.TwoGenerations.{no_slots, with_action, with_repair, after_step, after_switch, after_abort, is_repairing, done_of, left_of, reexecuted_of, is_next_due, is_due_in, phase_after_step, next_content_of, next_content_at, next_slot_at, rows_on, AnswersOn, IsWithin, progress_of, next_side_of, dirty_rows_of, NamesSlot, Phase};
 ghost use Rattle.tt_generations.specs.Runs.{after_steps, undue_run, is_last_due};
@@ -25,9 +26,9 @@ use crate::progress::Progress;
 use crate::repair::Repair;
 use crate::rows::Rows;
 use crate::slot::{KeptSlot, Slot};
+use crate::slots::Slots;
 use std::alloc::{AllocError, Global};
 use std::marker::Model;
-use std::mem;
 use tt_pages::PagedLog;
 use tt_repair_laws::Edit;
 use tt_values::{Action, Catalog, Items, Reply, Select, Shared};
@@ -140,6 +141,14 @@ impl Generations {
         let position = number.checked_sub(1)?;
         let kept = self.state.slots.get(position as usize)?;
         Some(&kept.slot)
+    }
+
+    /// The slots behind the first `count`, in their order, in the current generation: none where
+    /// there are no more. Takes no memory.
+    pub fn slots_after(&self, count: u64) -> Slots<'_>
+        ensures { AreSlotsAfter count self.now.slots result }
+    {
+        Slots::of(self.state.slots.iter_from(count as usize))
     }
 
     /// Of the slots that the repair has done, the one of a number, counted from 1, as the next
@@ -363,11 +372,25 @@ impl Generations {
                 is_last_due: false,
             });
         }
-        let is_last_due = self.step()?;
+        self.step_due()?;
         Ok(Run {
             count: passed + 1,
-            is_last_due,
+            is_last_due: true,
         })
+    }
+
+    /// Does one slot of the repair, which is due, without asking whether it is. Without memory
+    /// there are no slots afterwards.
+    fn step_due(&mut self) -> Result<(), AllocError>
+        requires left { 0 < left_of self.old.phase self.old.slots }
+        requires due { IsTrue (is_next_due self.old) }
+        ensures state { OnOk result (self.new ≡ after_step self.old) }
+        ensures memory { OnErr result (self.new ≡ no_slots self.old.catalog) }
+    {
+        match self.state.step_due() {
+            Ok(()) => Ok(()),
+            Err(error) => Err(self.state.clear_after(error)),
+        }
     }
 
     /// The next generation becomes the current one. Takes time for the split rows alone. Without
@@ -497,10 +520,9 @@ impl State {
             (λ r. r ≡ replies_of action (last_content (actions_of self.old.slots))) }
     {
         let time = self.slots.len() as u64 + 1;
-        let rows = mem::replace(&mut self.rows, Rows::new(self.alloc));
         let catalog = self.catalog.get();
-        let run = ActionRun::of_action(self.alloc, catalog, rows, &action, time)?;
-        let (kept, replies) = run.into_slot(action, &mut self.rows)?;
+        let run = ActionRun::of_action(self.alloc, catalog, &mut self.rows, &action, time)?;
+        let (kept, replies) = run.into_slot(action)?;
         add_to_repair(&mut self.repair, &kept)?;
         self.slots.push(kept)?;
         Ok(replies)
@@ -528,6 +550,30 @@ impl State {
         };
         let is_due = repair.step(self.alloc, self.catalog.get(), &mut self.rows, kept)?;
         Ok(is_due)
+    }
+
+    /// Does one slot of the repair, which is due.
+    fn step_due(&mut self) -> Result<(), AllocError>
+        requires parts { AreGenerations
+            self.old.catalog self.old.slots self.old.rows self.old.repair }
+        requires left { 0 < left_of (phase_of self.old.repair) (actions_of self.old.slots) }
+        requires due { IsTrue (is_due_in
+            self.old.catalog (phase_of self.old.repair) (actions_of self.old.slots)) }
+        ensures parts { OnOk result
+            (AreGenerations self.new.catalog self.new.slots self.new.rows self.new.repair) }
+        ensures catalog { self.new.catalog ≡ self.old.catalog }
+        ensures slots { OnOk result (self.new.slots ≡ self.old.slots) }
+        ensures phase { OnOk result
+            (phase_of self.new.repair ≡ phase_after_step (phase_of self.old.repair)) }
+    {
+        let Some(repair) = &mut self.repair else {
+            unreachable!();
+        };
+        let Some(kept) = self.slots.get(repair.done as usize) else {
+            unreachable!();
+        };
+        repair.reexecute(self.alloc, self.catalog.get(), &mut self.rows, kept)?;
+        Ok(())
     }
 
     /// Does the next slots of the repair that aren't due, up to `most` of them. Returns how many.

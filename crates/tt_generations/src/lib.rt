@@ -15,11 +15,13 @@ mod repair;
 mod row_ids;
 mod rows;
 mod slot;
+mod slots;
 
 pub use first_rows::FirstRows;
 pub use generations::Generations;
 pub use progress::Progress;
 pub use slot::Slot;
+pub use slots::Slots;
 pub use tt_repair_laws::Edit;
 
 /// The largest number of slots.

@@ -17,7 +17,6 @@ use crate::reexecution::Reexecution;
 use crate::rows::Rows;
 use crate::slot::KeptSlot;
 use std::alloc::{AllocError, Global};
-use std::mem;
 use tt_pages::{Kept, LogIter, PagedLog, PagedMap};
 use tt_parts::Dirty;
 use tt_repair_laws::Edit;
@@ -232,8 +231,9 @@ impl Repair {
         Ok(true)
     }
 
-    /// Re-executes the next slot, which is this one in the current generation.
-    fn reexecute(
+    /// Re-executes the next slot, which is this one in the current generation. Without memory
+    /// nothing is promised of the repair and the rows.
+    pub(crate) fn reexecute(
         &mut self,
         alloc: Global,
         catalog: &Catalog,
@@ -256,11 +256,10 @@ impl Repair {
         let time = self.done + 1;
         let action = self.next_action(kept)?;
         let (writes, whole) = (writes_of(&action), is_whole(&action));
-        let taken = mem::replace(rows, Rows::new(alloc));
         let touched = kept.rows.as_slice();
-        let run = Reexecution::of_slot(alloc, catalog, taken, touched, writes, whole, time)?;
-        add_rows_shown(&mut self.dirty, &run.rows, &run.reexecuted, time)?;
-        let slot = run.into_slot(action, rows)?;
+        let run = Reexecution::of_slot(alloc, catalog, rows, touched, writes, whole, time)?;
+        add_rows_shown(&mut self.dirty, rows, &run.reexecuted, time)?;
+        let slot = run.into_slot(action)?;
         self.put_slot(slot)?;
         Ok(())
     }

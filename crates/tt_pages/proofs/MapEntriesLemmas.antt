@@ -12,7 +12,7 @@ use Rattle.std.proofs.lemmas.Bool.{false≢true, and_parts, and_from}
 use Rattle.std.proofs.lemmas.List.{length-map, length-set, map-append}
 use Rattle.std.proofs.lemmas.List.Edits.{length-insert, length-remove}
 use Rattle.std.proofs.lemmas.List.Elements.{filter-append}
-use Rattle.tt_pages.specs.MapEntries.{rank_of, first_key, entries_without, keys_of, ChangesAt, IsPlaceOf, IsGapFor}
+use Rattle.tt_pages.specs.MapEntries.{rank_of, first_key, entries_without, keys_of, ChangesAt, IsPlaceOf, IsGapFor, FitsAt, MovesAt}
 
 -- ---- the order of keys
 
@@ -24,6 +24,11 @@ pub lt_less : (o : Ordering) → is_lt o ≡ true → o ≡ Less
 lt_less Less h = refl
 lt_less Equal h = absurd (false≢true h)
 lt_less Greater h = absurd (false≢true h)
+
+gt_greater : (o : Ordering) → is_gt o ≡ true → o ≡ Greater
+gt_greater Less h = absurd (false≢true h)
+gt_greater Equal h = absurd (false≢true h)
+gt_greater Greater h = refl
 
 -- a key x that is below y, where k isn't: x is below k
 below_from : (x k y : ℤ) → int_cmp x y ≡ Less → is_lt (int_cmp k y) ≡ false → int_cmp k x ≡ Greater
@@ -64,6 +69,12 @@ module _ {V : Type 0} where
       let parts = and_parts (is_lt (int_cmp x e.0)) (below_all int_cmp x es) h in
       and_from (is_lt (int_cmp k e.0)) (below_all int_cmp k es) (ap is_lt (int_cmp_total.congr k x e.0 p) ∙ parts.0) (below_all-equal k x es p parts.1)
 
+  -- a key below all is below each
+  below-at : (k : ℤ) (es : List (ℤ × V)) (d : ℤ × V) (n : ℕ) → n < length es → IsTrue (below_all int_cmp k es) → int_cmp k (get_or es n d).0 ≡ Less
+  below-at k [] d n within h = absurd (omega (arith, within))
+  below-at k (e ∷ es) d zero within h = lt_less _ (and_parts (is_lt (int_cmp k e.0)) (below_all int_cmp k es) h).0
+  below-at k (e ∷ es) d (suc n) within h = below-at k es d n (omega (arith, within)) (and_parts (is_lt (int_cmp k e.0)) (below_all int_cmp k es) h).1
+
   -- a list has no entry at a key below all of its keys
   find-below : (k : ℤ) (es : List (ℤ × V)) → IsTrue (below_all int_cmp k es) → find int_cmp k es ≡ None
   find-below k [] h = refl
@@ -92,6 +103,32 @@ module _ {V : Type 0} where
           | Equal ↦ omega arith
           | Greater ↦ omega (arith, rank_of-le es)
         ]
+
+    -- the key's place isn't behind an entry that the key isn't above
+    pub rank_of-at_most : (es : List (ℤ × V)) (d : ℤ × V) (n : ℕ) → n < length es → is_gt (int_cmp key (get_or es n d).0) ≡ false → rank_of key es ≤ n
+    rank_of-at_most [] d n within not = absurd (omega (arith, within))
+    rank_of-at_most (e ∷ es) d zero within not =
+        let is : rank_of key (e ∷ es) ≡ 0 = ap (λ b. cond b (suc (rank_of key es)) 0) not in
+        omega (arith, is)
+    rank_of-at_most (e ∷ es) d (suc n) within not =
+        elim (int_cmp key e.0) as (λ o. cond (is_gt o) (suc (rank_of key es)) 0 ≤ suc n) [
+          | Less ↦ omega arith
+          | Equal ↦ omega arith
+          | Greater ↦ omega (arith, rank_of-at_most es d n (omega (arith, within)) not)
+        ]
+
+    -- and is behind each that it is above, where the keys rise
+    pub rank_of-above : (es : List (ℤ × V)) (d : ℤ × V) (n : ℕ) → IsTrue (is_sorted int_cmp es) → n < length es → is_gt (int_cmp key (get_or es n d).0) ≡ true → n < rank_of key es
+    rank_of-above [] d n sorted within above = absurd (omega (arith, within))
+    rank_of-above (e ∷ es) d zero sorted within above =
+        let is : rank_of key (e ∷ es) ≡ suc (rank_of key es) = ap (λ b. cond b (suc (rank_of key es)) 0) above in
+        omega (arith, is)
+    rank_of-above (e ∷ es) d (suc n) sorted within above =
+        let there : n < length es = omega (arith, within) in
+        let x = (get_or es n d).0 in
+        let less : int_cmp e.0 key ≡ Less = int_cmp_total.trans e.0 x key (below-at e.0 es d n there (below_tail e es sorted)) (turned key x Greater (gt_greater (int_cmp key x) above)) in
+        let is : rank_of key (e ∷ es) ≡ suc (rank_of key es) = ap (λ o. cond (is_gt o) (suc (rank_of key es)) 0) (turned e.0 key Less less) in
+        omega (arith, is, rank_of-above es d n (sorted_tail e es sorted) there above)
 
     -- where the keys rise, there is no entry at a key below the first
     absent_before : (e : ℤ × V) (es : List (ℤ × V)) → IsTrue (is_sorted int_cmp (e ∷ es)) → int_cmp key e.0 ≡ Less → find int_cmp key es ≡ None
@@ -213,6 +250,16 @@ module _ {V : Type 0} where
     ChangesAt-place es e w at f sorted here is changed v found =
         let same : e.1 ≡ v = ap (λ (x : ℤ × V). x.1) is ∙ ap (λ o. unwrap_or o v) (find-place es e at sorted here ∙ found) in
         ap (λ (x : ℤ × V). set es at (x.0, w)) is ∙ put-place es w e at sorted here ∙ ap (λ u. put int_cmp key u es) (changed ∙ ap f same)
+
+    -- the value at a place is the one at the key, for a context too
+    pub FitsAt-place : {C : Type 0} (es : List (ℤ × V)) (e : ℤ × V) (at : ℕ) (fits : V → C → Type 0) (context : C) → IsTrue (is_sorted int_cmp es) → IsPlaceOf key es at → e ≡ get_or es at e → FitsAt key fits es context → fits e.1 context
+    FitsAt-place es e at fits context sorted here is fit =
+        fit e.1 (sym (find-place es e at sorted here) ∙ ap (λ (x : ℤ × V). Some x.1) (sym is))
+
+    pub MovesAt-place : {C : Type 0} (es : List (ℤ × V)) (e : ℤ × V) (at : ℕ) (moves : V → C → C → Type 0) (before after : C) → IsTrue (is_sorted int_cmp es) → IsPlaceOf key es at → e ≡ get_or es at e → moves e.1 before after → MovesAt key moves es before after
+    MovesAt-place es e at moves before after sorted here is moved v found =
+        let same : e.1 ≡ v = ap (λ (x : ℤ × V). x.1) is ∙ ap (λ o. unwrap_or o v) (find-place es e at sorted here ∙ found) in
+        subst (λ v. moves v before after) same moved
 
     pub put-gap : (es : List (ℤ × V)) (v : V) (at : ℕ) → IsGapFor key es at → insert es at (key, v) ≡ put int_cmp key v es
     put-gap es v at gap = rw gap.place (sym (put-in_gap es v gap.absent))

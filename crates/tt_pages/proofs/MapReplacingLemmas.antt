@@ -1,7 +1,7 @@
 -- What a change of the value at a key leaves as it was: the keys, and with them the shape of a fork.
 use Rattle.std.proofs.Common.{◌≡◌, ℕ, zero, suc, ◌<◌, ℤ, List, [], ◌∷◌, ◌++◌, length, get_or, set, is_some, refl, sym, ap, ◌∙◌, arith, int_cmp}
 use Rattle.std.specs.FinMap.Entries.{find, put}
-use Rattle.tt_pages.specs.MapEntries.{keys_of, ChangesAt, StaysWithout}
+use Rattle.tt_pages.specs.MapEntries.{keys_of, ChangesAt, StaysWithout, FitsAt, MovesAt}
 use Rattle.tt_pages.specs.MapValues.{BranchValue}
 use Rattle.tt_pages.specs.MapTree.{branch_entries, IsPage, IsBranch, AreBranches}
 use Rattle.tt_pages.specs.MapBranches.{IsBranchFor}
@@ -54,3 +54,12 @@ module _ {V : Type 0} where
     -- whether there is one is told by its branch
     pub found-branch : (key : ℤ) → IsBranchFor key bs at → is_some (find int_cmp key b.tree.entries) ≡ is_some (find int_cmp key (branch_entries bs))
     found-branch key is_for = ap is_some (find-branch key d bs at b are.each are.sorted is_for here)
+
+    -- what fits the value at the key, and what a context becomes beside it, is told by its branch
+    pub FitsAt-branch : {C : Type 0} (key : ℤ) (fits : V → C → Type 0) (context : C) → IsBranchFor key bs at → FitsAt key fits (branch_entries bs) context → FitsAt key fits b.tree.entries context
+    FitsAt-branch key fits context is_for fit v found =
+        fit v (sym (find-branch key d bs at b are.each are.sorted is_for here) ∙ found)
+
+    pub MovesAt-branch : {C : Type 0} (key : ℤ) (moves : V → C → C → Type 0) (before after : C) → IsBranchFor key bs at → MovesAt key moves b.tree.entries before after → MovesAt key moves (branch_entries bs) before after
+    MovesAt-branch key moves before after is_for moved v found =
+        moved v (find-branch key d bs at b are.each are.sorted is_for here ∙ found)

@@ -8,3 +8,4 @@ pub mod MapFalls
 pub mod MapTree
 pub mod MapValues
 pub mod MapWalk
+pub mod Modify

@@ -10,4 +10,4 @@ mod modify;
 pub use kept::Kept;
 pub use log::{LogIter, PagedLog};
 pub use map::{MapIter, PagedMap};
-pub use modify::Modify;
+pub use modify::{Modify, ModifyWith};

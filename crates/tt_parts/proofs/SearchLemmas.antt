@@ -1,7 +1,7 @@
 -- What a search of nested maps finds, and how it changes.
-use Rattle.std.proofs.Common.{◌≡◌, ℕ, ℤ, pos, Bool, true, false, cond, ◌&&◌, ◌||◌, ◌==◌, List, [], ◌∷◌, ◌++◌, filter, Some, is_some, refl, sym, ap, subst, ◌∙◌, eqb-true, eq-eqb}
+use Rattle.std.proofs.Common.{◌≡◌, ℕ, ℤ, pos, Bool, true, false, cond, ◌&&◌, ◌||◌, ◌==◌, List, [], ◌∷◌, ◌++◌, filter, Option, None, Some, is_some, IsTrue, refl, sym, ap, subst, ◌∙◌, eqb-true, eq-eqb}
 use Rattle.std.specs.List.{list_any, flat_map}
-use Rattle.std.specs.Option.{unwrap_or}
+use Rattle.std.specs.Option.{unwrap_or, IfSome}
 use Rattle.std.specs.Ordering.{int_cmp, int_eq}
 use Rattle.std.specs.Cmp.{int_cmp_total}
 use Rattle.std.specs.FinMap.Entries as sorted
@@ -17,7 +17,7 @@ use Rattle.tt_parts.specs.declared.partition.Partition.{Partition}
 use Rattle.tt_parts.specs.Partitions.{is_same_partition, is_partition_in}
 use Rattle.tt_parts.specs.Dirty.{is_row_in, is_table_in, SameRows, SamePartitions}
 use Rattle.tt_parts.specs.Sets.{under, KeySet, KeysByTable, ValuesByDigest, ValuesByColumn, ValuesByTable, has_key, is_filled, finds_row, finds_table, finds_value, finds_in_column, finds_partition, with_key, with_value, with_value_in, rows_of_table, rows_found, partitions_of_values, partitions_of_column, partitions_of_table, partitions_found, AddsRow, AddsValue, AddsInColumn, AddsPartition}
-use Rattle.tt_parts.proofs.SoundnessLemmas.{equal_values, equal_partitions}
+use Rattle.tt_parts.proofs.SoundnessLemmas.{equal_values, is_same_partition-itself, equal_partitions}
 use Rattle.tt_parts.proofs.DirtySetLemmas.{agree, is_table_in-row, row_of_table}
 
 -- ---- one level of maps
@@ -234,6 +234,20 @@ SamePartitions-member p ps there q = by (is_same_partition q p) refl
     by : (b : Bool) → is_same_partition q p ≡ b → is_partition_in ps q ≡ (b || is_partition_in ps q)
     by true same = ap (is_partition_in ps) (equal_partitions q p same) ∙ there
     by false same = refl
+
+-- a partition that was added is a member
+pub member-added : (p : Partition) (before after : List Partition) → SamePartitions after (p ∷ before) → is_partition_in after p ≡ true
+member-added p before after h = h p ∙ or_left _ _ (is_same_partition-itself p)
+
+-- a member stays one where others are added
+pub member-stays : (p : Partition) (ps before after : List Partition) → SamePartitions after (ps ++ before) → is_partition_in before p ≡ true → is_partition_in after p ≡ true
+member-stays p ps before after h there = h p ∙ list_any-append (is_same_partition p) ps before ∙ or_right (list_any (is_same_partition p) ps) _ there
+
+-- a member that is remembered stays one where a partition is added
+pub last-stays : (last : Option Partition) (before after : ValuesByTable) (p : Partition) → AddsPartition before p after → IfSome last (λ q. IsTrue (is_partition_in (partitions_found before) q))
+    → IfSome last (λ q. IsTrue (is_partition_in (partitions_found after) q))
+last-stays None before after p more there = there
+last-stays (Some q) before after p more there = member-stays q (p ∷ []) (partitions_found before) (partitions_found after) (same_partitions-add before after p more) there
 
 -- what adding a partition rests on
 pub ruleset adds_partition = (SamePartitions-member)

@@ -37,7 +37,7 @@ pub is_same-itself : (v : Value) → is_same v v ≡ true
 is_same-itself (values.Int n) = (Decides-int_eq n n).1 refl
 is_same-itself (values.Text t) = (bytes_eq-Decides t t).1 refl
 
-is_same_partition-itself : (p : Partition) → is_same_partition p p ≡ true
+pub is_same_partition-itself : (p : Partition) → is_same_partition p p ≡ true
 is_same_partition-itself p = and_from _ _ (and_from _ _ (eq-eqb p.table p.table refl) (eq-eqb p.column p.column refl)) (is_same-itself p.value)
 
 pub equal_partitions : (p q : Partition) → is_same_partition p q ≡ true → p ≡ q

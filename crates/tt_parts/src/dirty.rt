@@ -193,8 +193,8 @@ fn add_row_to(
         ++ partitions.old)) }
 {
     add_row_and_key(alloc, rows, partitions, row.id)?;
-    add_parts(alloc, partitions, row.id.table, def, row.before)?;
-    add_changed_parts(alloc, partitions, row.id.table, def, row.before, row.after)?;
+    add_parts(alloc, partitions, row.id, def, row.before)?;
+    add_changed_parts(alloc, partitions, row.id, def, row.before, row.after)?;
     Ok(())
 }
 

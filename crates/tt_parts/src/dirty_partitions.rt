@@ -1,8 +1,9 @@
-ghost use Rattle.std.specs.Prelude.{◌≡◌, [], ◌∷◌, ◌++◌, IfOk, OnOk};
+ghost use Rattle.std.specs.Prelude.{◌≡◌, [], ◌∷◌, ◌++◌, IfOk, OnOk, IsTrue};
 ghost use Rattle.std.specs.Option.{option_copied};
 ghost use Rattle.std.specs.Ordering.{int_cmp};
 ghost use Rattle.std.specs.FinMap.Entries.{find};
 ghost use Rattle.tt_values.specs.Digest.{digest_of};
+ghost use Rattle.tt_parts.specs.Partitions.{is_same_partition};
 ghost use Rattle.tt_parts.specs.Sets.{under, finds_value, finds_in_column, finds_partition, with_value, AddsPartition};
 
 use crate::by_position::{change_at, value_at};
@@ -11,7 +12,7 @@ use crate::same_digest::SameDigest;
 use std::alloc::{AllocError, Global};
 use std::marker::Model;
 use tt_pages::{Modify, PagedMap};
-use tt_values::{Value, digest};
+use tt_values::{Same, Value, digest};
 
 /// Values by their digests.
 type Values = PagedMap<SameDigest>;
@@ -24,16 +25,22 @@ type Columns = PagedMap<Values>;
 pub(crate) struct DirtyPartitions {
     /// The values of the partitions, by table.
     tables: PagedMap<Columns>,
+    /// The member that was remembered last: the next row often lies in it too.
+    last: Option<Partition>,
 }
 
 impl Model for DirtyPartitions {
-    ghost use Rattle.std.specs.Prelude.{List};
+    ghost use Rattle.std.specs.Prelude.{List, IfSome, IsTrue};
     ghost use Rattle.tt_parts.specs.declared.partition.Partition.{Partition};
+    ghost use Rattle.tt_parts.specs.Partitions.{is_partition_in};
     ghost use Rattle.tt_parts.specs.Sets.{partitions_found};
 
     ghost Value = { List Partition };
 
     ghost view = { λ p. partitions_found p.tables };
+
+    ghost invariant = { λ p.
+        IfSome p.last (λ last. IsTrue (is_partition_in (partitions_found p.tables) last)) };
 }
 
 impl DirtyPartitions {
@@ -45,6 +52,7 @@ impl DirtyPartitions {
     {
         DirtyPartitions {
             tables: PagedMap::new(alloc),
+            last: None,
         }
     }
 
@@ -53,7 +61,7 @@ impl DirtyPartitions {
         ensures { IfOk result (λ partitions. partitions ≡ self.now) }
     {
         let tables = self.tables.share()?;
-        Ok(DirtyPartitions { tables })
+        Ok(DirtyPartitions { tables, last: None })
     }
 
     pub(crate) fn has(&self, partition: &Partition) -> bool
@@ -74,9 +82,51 @@ impl DirtyPartitions {
     pub(crate) fn add(&mut self, alloc: Global, partition: Partition) -> Result<(), AllocError>
         ensures { OnOk result (SamePartitions self.new (partition ∷ self.old)) }
     {
+        // Without memory it may not stay a member.
+        let last = self.last.take();
         add_partition(alloc, &mut self.tables, partition)?;
+        self.last = last;
         Ok(())
     }
+
+    /// Remembers a member, which [`is_last`](DirtyPartitions::is_last) knows until the next one is.
+    pub(crate) fn remember(
+        &mut self,
+        table: u16,
+        column: u16,
+        value: &Value,
+    ) -> Result<(), AllocError>
+        requires { IsTrue (is_partition_in self.old
+            (record { table = table; column = column; value = value.now })) }
+        ensures { self.new ≡ self.old }
+    {
+        let value = value.copy()?;
+        self.last = Some(Partition {
+            table,
+            column,
+            value,
+        });
+        Ok(())
+    }
+
+    /// Whether this is the partition that was remembered last, and so a member. Searches nothing.
+    pub(crate) fn is_last(&self, table: u16, column: u16, value: &Value) -> bool
+        ensures { IsTrue result → IsTrue (is_partition_in self.now
+            (record { table = table; column = column; value = value.now })) }
+    {
+        match &self.last {
+            Some(last) => is_of(last, table, column, value),
+            None => false,
+        }
+    }
+}
+
+/// Whether a partition is that of a value in a column of a table.
+fn is_of(partition: &Partition, table: u16, column: u16, value: &Value) -> bool
+    ensures { result ≡ is_same_partition partition.now
+        (record { table = table; column = column; value = value.now }) }
+{
+    partition.table == table && partition.column == column && partition.value.is_same(value)
 }
 
 fn has_partition(tables: &PagedMap<Columns>, table: u16, column: u16, value: &Value) -> bool

@@ -1,7 +1,8 @@
 //! Partitions of rows and of equalities as members of the set of dirty partitions.
-ghost use Rattle.std.specs.Prelude.{◌≡◌, ℕ, ◌≤◌, ◌^◌, ◌&&◌, not, ◌∷◌, ◌++◌, length, OnOk, IsTrue};
+ghost use Rattle.std.specs.Prelude.{◌≡◌, ℕ, ◌≤◌, ◌^◌, ◌&&◌, not, ◌∷◌, ◌++◌, Some, length, OnOk, IsTrue};
 ghost use Rattle.std.specs.List.{list_any};
 ghost use Rattle.std.specs.Option.{option_copied};
+ghost use Rattle.tt_values.specs.Row.{first_int};
 ghost use Rattle.tt_parts.specs.Partitions.{key_partition, part_at, parts_of, equates_partition, partition_of, is_partition_in};
 ghost use Rattle.tt_parts.specs.Dirty.{has_other_partition, parts_if, SamePartitions};
 
@@ -10,7 +11,7 @@ use crate::partition::Partition;
 use crate::parts::is_partition_column;
 use crate::statement_reads::equates_partition;
 use std::alloc::{AllocError, Global};
-use tt_values::{Column, Equal, Row, Same, TableDef, Value};
+use tt_values::{Column, Equal, Row, RowId, Same, TableDef, Value};
 
 /// Whether one of the partitions isn't a member.
 pub(crate) fn has_other_partition(members: &DirtyPartitions, partitions: &[Partition]) -> bool
@@ -31,44 +32,47 @@ pub(crate) fn add_key(
     ensure_member(alloc, members, table, 0, &Value::Int(key))
 }
 
-/// Adds the partitions that a row lies in, if there is a row.
+/// Adds the partitions that a row lies in, if there is a row. That of its key is a member.
 pub(crate) fn add_parts(
     alloc: Global,
     members: &mut DirtyPartitions,
-    table: u16,
+    id: RowId,
     def: &TableDef,
     row: Option<&Row>,
 ) -> Result<(), AllocError>
-    requires { length def.now.columns ≤ 2 ^ 16 }
+    requires few { length def.now.columns ≤ 2 ^ 16 }
+    requires key { IsTrue (is_partition_in members.old (key_partition id.table id.key)) }
     ensures { OnOk result (SamePartitions members.new
-        (parts_if table def.now.columns (option_copied row.entry) ++ members.old)) }
+        (parts_if id.table def.now.columns (option_copied row.entry) ++ members.old)) }
 {
     match row {
-        Some(row) => add_parts_of(alloc, members, table, def.columns.as_slice(), row),
+        Some(row) => add_parts_of(alloc, members, id, def.columns.as_slice(), row),
         None => Ok(()),
     }
 }
 
 /// Adds the partitions that a row lies in after a change, if there is a row. Those that it lay in
-/// before are members, so nothing is left to do where it lies in the same ones.
+/// before are members, as that of its key is, so nothing is left to do where it lies in the same
+/// ones.
 pub(crate) fn add_changed_parts(
     alloc: Global,
     members: &mut DirtyPartitions,
-    table: u16,
+    id: RowId,
     def: &TableDef,
     before: Option<&Row>,
     after: Option<&Row>,
 ) -> Result<(), AllocError>
     requires few { length def.now.columns ≤ 2 ^ 16 }
+    requires key { IsTrue (is_partition_in members.old (key_partition id.table id.key)) }
     requires before { SamePartitions members.old
-        (parts_if table def.now.columns (option_copied before) ++ members.old) }
+        (parts_if id.table def.now.columns (option_copied before) ++ members.old) }
     ensures { OnOk result (SamePartitions members.new
-        (parts_if table def.now.columns (option_copied after.entry) ++ members.old)) }
+        (parts_if id.table def.now.columns (option_copied after.entry) ++ members.old)) }
 {
     if lies_in_same(def.columns.as_slice(), before, after) {
         return Ok(());
     }
-    add_parts(alloc, members, table, def, after)
+    add_parts(alloc, members, id, def, after)
 }
 
 /// Whether a row lies in the same partitions before and after a change, if it's there both times.
@@ -126,29 +130,42 @@ fn is_same_part(
     !is_partition_column(position, column) || before.is_same(after)
 }
 
-/// Adds the partitions that a row lies in.
+/// Adds the partitions that a row lies in. That of its key is a member, so the first column is left
+/// out where it holds the key.
 fn add_parts_of(
     alloc: Global,
     members: &mut DirtyPartitions,
-    table: u16,
+    id: RowId,
     columns: &[Column],
     row: &Row,
 ) -> Result<(), AllocError>
-    requires { length columns.now ≤ 2 ^ 16 }
+    requires few { length columns.now ≤ 2 ^ 16 }
+    requires key { IsTrue (is_partition_in members.old (key_partition id.table id.key)) }
     ensures { OnOk result (SamePartitions members.new
-        (parts_of table columns.now row.now ++ members.old)) }
+        (parts_of id.table columns.now row.now ++ members.old)) }
 {
-    for i in 0..columns.len() {
+    let first = if begins_with(row, id.key) { 1 } else { 0 };
+    for i in first..columns.len() {
         add_part(
             alloc,
             members,
-            table,
+            id.table,
             i as u16,
             &columns[i],
             row.values.get(i),
         )?;
     }
     Ok(())
+}
+
+/// Whether the first value of a row is this key.
+fn begins_with(row: &Row, key: i64) -> bool
+    ensures { IsTrue result → first_int row.now.values ≡ Some key }
+{
+    match row.values.as_slice() {
+        [Value::Int(first), ..] => *first == key,
+        _ => false,
+    }
 }
 
 /// Adds the partition of the value in a column, if there is a value and the column is a partition
@@ -168,9 +185,29 @@ fn add_part(
         return Ok(());
     };
     if is_partition_column(position, column) {
-        ensure_member(alloc, members, table, position, value)?;
+        ensure_last_member(alloc, members, table, position, value)?;
     }
     Ok(())
+}
+
+/// Makes the partition of a value in a column a member, and remembers it: the rows of a slot mostly
+/// lie in one partition of a column, so the set is seldom searched.
+#[tactic(auto, using(crate::proofs::SearchLemmas::adds_partition))]
+fn ensure_last_member(
+    alloc: Global,
+    members: &mut DirtyPartitions,
+    table: u16,
+    column: u16,
+    value: &Value,
+) -> Result<(), AllocError>
+    ensures { OnOk result (SamePartitions members.new
+        (record { table = table; column = column; value = value.now } ∷ members.old)) }
+{
+    if members.is_last(table, column, value) {
+        return Ok(());
+    }
+    ensure_member(alloc, members, table, column, value)?;
+    members.remember(table, column, value)
 }
 
 /// Makes the partition of a value in a column a member. Takes no memory where it is one already.

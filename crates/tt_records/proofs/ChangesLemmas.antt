@@ -1,5 +1,6 @@
--- A select that is refused has no answer now.
-use Rattle.std.proofs.Common.{◌≡◌, ◌≢◌, ℕ, nat_lt, Bool, true, false, if◌then◌else◌, Option, None, Some, Result, Ok, Err, IfOk, OnOk, refl, sym, ap, subst, ◌∙◌}
+-- A select that is refused has no answer now, and records are compared one after another.
+use Rattle.std.proofs.Common.{◌≡◌, ◌≢◌, ℕ, zero, suc, ◌+◌, ◌<◌, nat_lt, Bool, true, false, if◌then◌else◌, List, [], ◌∷◌, ◌++◌, length, get_or, drop, Option, None, Some, Result, Ok, Err, IfOk, OnOk, refl, sym, ap, subst, ◌∙◌, arith}
+use Rattle.std.proofs.lemmas.List.{append_assoc}
 use Rattle.std.specs.Option.{option_and_then}
 use Rattle.tt_values.specs.declared.checking.CheckError.{CheckError}
 use Rattle.tt_values.specs.declared.statement.Select.{Select}
@@ -10,7 +11,9 @@ use Rattle.tt_db.specs.declared.errors.ReadError.{ReadError}
 use Rattle.tt_db.specs.declared.errors.ReadError.TheVariants as errors
 use Rattle.tt_db.specs.State.{State, now_of}
 use Rattle.tt_db.specs.RightAnswers.{Answers, right_select_at, unless_fault, unless_later}
-use Rattle.tt_records.specs.Changes.{answer_now}
+use Rattle.tt_records.specs.declared.record.Record.{Record}
+use Rattle.tt_records.specs.declared.changed.Changed.{Changed}
+use Rattle.tt_records.specs.Changes.{answer_now, as_list, change_of, changes_of}
 
 none_if_refused : (S : State) (q : Select) (time : ℕ) (reply : Reply) (fault : Option CheckError) (e : ReadError)
     → unless_fault fault (unless_later time (now_of S) reply) ≡ Err e → answer_now S q time fault ≡ None
@@ -38,3 +41,27 @@ pub no_change : {A B E : Type 0} (P : Type 0) (r : Result (Option B) E) (f : A �
     → IfOk r (λ c. c ≡ None) → OnOk r P → (P → answer ≡ None) → IfOk r (λ c. c ≡ option_and_then f answer)
 no_change P (Ok c) f answer none p refused = none ∙ sym (ap (option_and_then f) (refused p))
 no_change P (Err e) f answer none p refused = tt
+
+-- ---- one record after another
+
+item-and-rest : {X : Type 0} (xs : List X) (i : ℕ) (x : X) → i < length xs → x ≡ get_or xs i x → drop i xs ≡ x ∷ drop (suc i) xs
+item-and-rest [] i x within is = absurd (omega (arith, within))
+item-and-rest (y ∷ xs) zero x within is = ap (λ z. z ∷ xs) (sym is)
+item-and-rest (y ∷ xs) (suc i) x within is = item-and-rest xs i x (omega (arith, within)) is
+
+-- the changes so far and those of the records that are left stay the same when one more record has been compared
+pub changes-next : (tables : Tables) (S : State) (records : List Record) (i : ℕ) (r : Record) (before after all : List Changed) (change : Option Changed)
+    → i < length records → r ≡ get_or records i r → change ≡ change_of tables S r → after ≡ before ++ as_list change
+    → before ++ changes_of tables S (drop i records) ≡ all → after ++ changes_of tables S (drop (i + 1) records) ≡ all
+changes-next tables S records i r before after all change within here is added so_far =
+    let next : suc i ≡ i + 1 = omega arith in
+    let rest = changes_of tables S (drop (suc i) records) in
+    ap (λ n. after ++ changes_of tables S (drop n records)) (sym next)
+    ∙ ap (λ xs. xs ++ rest) (added ∙ ap (λ o. before ++ as_list o) is)
+    ∙ append_assoc before (as_list (change_of tables S r)) rest
+    ∙ ap (λ rs. before ++ changes_of tables S rs) (sym (item-and-rest records i r within here))
+    ∙ so_far
+
+pub is_none : {X : Type 0} (o : Option X) → ((x : X) → o ≡ Some x → ⊥) → o ≡ None
+is_none None h = refl
+is_none (Some x) h = absurd (h x refl)

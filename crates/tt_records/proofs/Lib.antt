@@ -1,2 +1,3 @@
 pub mod ChangesLemmas
 pub mod NextLemmas
+pub mod SlotsInOrderLemmas

@@ -7,6 +7,7 @@ ghost use Rattle.tt_records.specs.Changes.{after_of_slot, answer_now, change_to,
 
 use crate::changed::{After, Changed};
 use crate::record::{Record, What};
+use crate::slots_in_order::SlotsInOrder;
 use std::alloc::{AllocError, Global};
 use tt_db::{Db, ReadError, Slot};
 use tt_values::{Items, Reply, Same, Select, are_same};
@@ -20,8 +21,9 @@ pub fn changes(alloc: Global, db: &Db, records: &[Record]) -> Result<Vec<Changed
         list.items ≡ changes_of db.now.catalog (state_of db.now) records.now) }
 {
     let mut changes = Vec::new(alloc);
+    let mut slots = SlotsInOrder::new(db);
     for record in records {
-        if let Some(change) = change_of(alloc, db, record)? {
+        if let Some(change) = change_of(alloc, &mut slots, record)? {
             changes.push(change)?;
         }
     }
@@ -29,16 +31,22 @@ pub fn changes(alloc: Global, db: &Db, records: &[Record]) -> Result<Vec<Changed
 }
 
 /// The change of one record, if its call is answered differently now.
-fn change_of(alloc: Global, db: &Db, earlier: &Record) -> Result<Option<Changed>, AllocError>
-    ensures { IfOk result (λ c. c ≡ change_of db.now.catalog (state_of db.now) earlier.now) }
+fn change_of(
+    alloc: Global,
+    slots: &mut SlotsInOrder<'_>,
+    earlier: &Record,
+) -> Result<Option<Changed>, AllocError>
+    ensures change { IfOk result
+        (λ c. c ≡ change_of slots.old.catalog (state_of slots.old) earlier.now) }
+    ensures database { slots.new ≡ slots.old }
 {
     match &earlier.what {
-        What::Write { slot, replies } => change_of_write(db, earlier.call, *slot, replies),
+        What::Write { slot, replies } => change_of_write(slots, earlier.call, *slot, replies),
         What::Read {
             select,
             time,
             reply,
-        } => change_of_read(alloc, db, earlier.call, select, *time, reply),
+        } => change_of_read(alloc, slots.db(), earlier.call, select, *time, reply),
         What::Preview { .. } => Ok(None),
         What::Later { .. } => Ok(None),
         What::NotRepairing => Ok(None),
@@ -47,15 +55,16 @@ fn change_of(alloc: Global, db: &Db, earlier: &Record) -> Result<Option<Changed>
 
 /// The change of a write, if its slot is there and has other replies now, or none.
 fn change_of_write(
-    db: &Db,
+    slots: &mut SlotsInOrder<'_>,
     call: u64,
     slot: u64,
     before: &Items<Reply>,
 ) -> Result<Option<Changed>, AllocError>
-    ensures { IfOk result (λ c. c ≡ option_and_then (change_to call before.now)
-        (option_map after_of_slot (slot_at (state_of db.now).slots slot))) }
+    ensures change { IfOk result (λ c. c ≡ option_and_then (change_to call before.now)
+        (option_map after_of_slot (slot_at (state_of slots.old).slots slot))) }
+    ensures database { slots.new ≡ slots.old }
 {
-    match db.slot(slot) {
+    match slots.slot(slot) {
         Some(slot) => change_of_slot(call, before, slot),
         None => Ok(None),
     }

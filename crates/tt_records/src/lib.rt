@@ -7,6 +7,7 @@ mod comparison;
 pub mod laws;
 mod next;
 mod record;
+mod slots_in_order;
 
 pub use changed::{After, Changed};
 pub use comparison::changes;

@@ -7,6 +7,7 @@ use Rattle.std.specs.Ordering.{int_cmp, int_eq}
 use Rattle.std.specs.Cmp.{int_cmp_total}
 use Rattle.std.specs.FinMap.Entries as sorted
 use Rattle.tt_values.specs.declared.row.Row.{Row}
+use Rattle.tt_pages.specs.MapEntries.{FitsAt}
 use Rattle.tt_versions.specs.declared.indexed_column.IndexedColumn.{IndexedColumn}
 use Rattle.tt_versions.specs.declared.side.Side.{Side}
 use Rattle.tt_versions.specs.declared.side.Side.TheVariants.{Current, Next}
@@ -15,7 +16,7 @@ use Rattle.tt_versions.specs.declared.lineages.IndexedEntries.{IndexedEntries}
 use Rattle.tt_versions.specs.Versions.{last_row}
 use Rattle.tt_versions.specs.Lineage.{unwritten, chain_on, with_write_on, split_back, unsplit}
 use Rattle.tt_versions.specs.Sides.{LineagesByKey, lineage_at, is_split, StaysSplit}
-use Rattle.tt_versions.specs.Index.{KeySet, has_past, ListsCurrent, HasNoPast, HasNoKeys, IndexState, ListsRow, MovesInIndex, MovesWrite, MovesUnsplit, LineageHas, StartsBy, IsIndexed}
+use Rattle.tt_versions.specs.Index.{KeySet, has_past, ListsCurrent, HasNoPast, HasNoKeys, IndexState, ListsRow, MovesInIndex, MovesWrite, MovesUnsplit, LineageHas, StartsBy, FitsWrite, IsIndexed}
 use Rattle.tt_versions.specs.IndexedEntries.{IsConsistent}
 use Rattle.tt_versions.proofs.SidesLemmas.{same_key, lineage_at-put, is_split-write_on}
 use Rattle.tt_versions.proofs.IndexLemmas.{LineageHas-map, LineageHas-write, LineageHas-split_back, LineageHas-unsplit, ListsTable-put, ListsTable-empty}
@@ -182,3 +183,27 @@ first-fits key index latest t indexed none =
     All-both : (P Q : IndexedColumn → Type 0) (cs : List IndexedColumn) → All P cs → All Q cs → All (λ c. P c × Q c) cs
     All-both P Q [] one other = All-nil (λ c. P c × Q c)
     All-both P Q (c ∷ cs) one other = All-cons (λ c. P c × Q c) c cs (All-head P c cs one, All-head Q c cs other) (All-both P Q cs (All-tail P c cs one) (All-tail Q c cs other))
+
+pub absent : {X : Type 0} (o : Option X) → is_some o ≡ false → o ≡ None
+absent None is = refl
+absent (Some x) is = cc
+
+-- the lineage of a key is one that the index fits, and whose versions start by a later time too
+pub fits-write : (key : ℤ) (index : IndexState) (earlier latest : ℕ) (t : LineagesByKey) → earlier ≤ latest → IsIndexed index earlier t → FitsAt key (FitsWrite key latest) t index
+fits-write key index earlier latest t later indexed l found =
+    let here : lineage_at t key ≡ l = ap (λ o. unwrap_or o unwritten) found in (
+      subst (λ x. All (ListsCurrent key (last_row x.current)) index.columns) here (indexed.current key),
+      subst (λ x. StartsBy latest x) here (StartsBy-later earlier latest (lineage_at t key) later (indexed.starts key)),
+    )
+
+-- what is stored fits as well where versions may start later
+pub IsConsistent-later : (before after : IndexedEntries) → IsConsistent before → after.split_keys ≡ before.split_keys → after.entries ≡ before.entries → after.index ≡ before.index → before.latest ≤ after.latest → IsConsistent after
+IsConsistent-later before after stored same entries index later = record {
+  split = λ q. ap (λ (keys : KeySet). is_some (sorted.find int_cmp q keys)) same ∙ stored.split q ∙ ap (λ (t : LineagesByKey). is_split t q) (sym entries);
+  indexed = subst (λ (t : LineagesByKey). IsIndexed after.index after.latest t) (sym entries) (subst (λ (i : IndexState). IsIndexed i after.latest before.entries) (sym index) (record {
+    listed = stored.indexed.listed;
+    current = stored.indexed.current;
+    known = stored.indexed.known;
+    starts = λ key. StartsBy-later before.latest after.latest (lineage_at before.entries key) later (stored.indexed.starts key);
+  }));
+}

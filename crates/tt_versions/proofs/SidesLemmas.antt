@@ -9,7 +9,7 @@ use Rattle.std.specs.Ordering.{int_cmp, int_eq, is_eq}
 use Rattle.std.specs.Cmp.{int_cmp_total}
 use Rattle.std.specs.FinMap.{int_cmp-IsAntisymmetric}
 use Rattle.std.specs.FinMap.Entries as sorted
-use Rattle.tt_pages.specs.MapEntries.{ChangesAt}
+use Rattle.tt_pages.specs.MapEntries.{ChangesAt, MovesAt}
 use Rattle.tt_values.specs.declared.row.Row.{Row}
 use Rattle.tt_versions.specs.declared.side.Side.{Side}
 use Rattle.tt_versions.specs.declared.side.Side.TheVariants.{Current, Next}
@@ -42,6 +42,24 @@ lineage_at-put t key l q = ap (λ o. unwrap_or o unwritten) (sorted.find-put int
 pub changed-there : (t after : LineagesByKey) (key : ℤ) (change : Lineage → Lineage) (l : Lineage) → sorted.find int_cmp key t ≡ Some l → ChangesAt key change t after
     → after ≡ sorted.put int_cmp key (change (lineage_at t key)) t
 changed-there t after key change l found changes = changes l found ∙ ap (λ x. sorted.put int_cmp key (change x) t) (sym (ap (λ o. unwrap_or o unwritten) found))
+
+-- and a lineage that a map is said to have
+pub changed-if-there : (t after : LineagesByKey) (key : ℤ) (change : Lineage → Lineage) → is_some (sorted.find int_cmp key t) ≡ true → ChangesAt key change t after
+    → after ≡ sorted.put int_cmp key (change (lineage_at t key)) t
+changed-if-there t after key change there changes = by (sorted.find int_cmp key t) refl
+  where
+    by : (o : Option Lineage) → sorted.find int_cmp key t ≡ o → after ≡ sorted.put int_cmp key (change (lineage_at t key)) t
+    by None none = let clash : false ≡ true = sym (ap is_some none) ∙ there in cc
+    by (Some l) found = changed-there t after key change l found changes
+
+-- what became of a context beside it
+pub moved-if-there : {C : Type 0} (t : LineagesByKey) (key : ℤ) (moves : Lineage → C → C → Type 0) (before after : C) → is_some (sorted.find int_cmp key t) ≡ true → MovesAt key moves t before after
+    → moves (lineage_at t key) before after
+moved-if-there t key moves before after there moved = by (sorted.find int_cmp key t) refl
+  where
+    by : (o : Option Lineage) → sorted.find int_cmp key t ≡ o → moves (lineage_at t key) before after
+    by None none = let clash : false ≡ true = sym (ap is_some none) ∙ there in cc
+    by (Some l) found = subst (λ x. moves x before after) (sym (ap (λ o. unwrap_or o unwritten) found)) (moved l found)
 
 -- a row that was never written is there at no time
 pub visible_row-unwritten : (time : ℕ) (side : Side) → visible_row time (chain_on side unwritten) ≡ None

@@ -220,6 +220,10 @@ AllStartBy time (v ∷ vs) = (v.start ≤ time) × AllStartBy time vs
 abbrev pub StartsBy : ℕ → Lineage → Type 0
 StartsBy time l = AllStartBy time l.current × IfSome l.next (λ vs. AllStartBy time vs)
 
+-- an index fits a lineage that is to get a row: the columns list the current row of its key, and no version starts after a time
+abbrev pub FitsWrite : ℤ → ℕ → Lineage → IndexState → Type 0
+FitsWrite key latest l index = All (ListsCurrent key (last_row l.current)) index.columns × StartsBy latest l
+
 -- an index fits a table, none of whose versions starts after a time: it lists each row, the current rows apart from the others, and no key that the table never had
 pub record IsIndexed (index : IndexState) (latest : ℕ) (t : LineagesByKey) : Type 0 where
   pub listed : ListsTable index t

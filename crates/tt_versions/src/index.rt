@@ -188,7 +188,8 @@ fn change_columns(
     change: RowChange<'_>,
 ) -> Result<(), AllocError>
     requires { All (FitsChange change key) columns.old.items }
-    ensures { OnOk result (MovesInColumns key (current_after change.entry) (other_after change.entry)
+    ensures { OnOk result (MovesInColumns key
+        (current_after change.entry) (other_after change.entry)
         columns.old.items columns.new.items) }
 {
     for column in columns.iter_mut() {

@@ -10,6 +10,7 @@ mod keys;
 pub mod laws;
 mod lineage;
 mod lineages;
+mod listed_write;
 mod next_chain;
 mod pace;
 mod reach;

@@ -1,12 +1,12 @@
-ghost use Rattle.std.specs.Prelude.{◌≡◌, ◌≤◌, [], IsTrue, IfOk, IfSome, OnOk};
+ghost use Rattle.std.specs.Prelude.{◌≡◌, ◌≤◌, [], None, IsTrue, IfOk, IfSome, OnOk};
 ghost use Rattle.std.specs.List.{All};
 ghost use Rattle.std.specs.Option.{option_copied};
 ghost use Rattle.std.specs.Ordering.{int_cmp};
 ghost use Rattle.std.specs.FinMap.Entries.{find, put, is_sorted};
 ghost use Rattle.tt_versions.specs.Versions.{last_row};
-ghost use Rattle.tt_versions.specs.Lineage.{with_write_on, split_back};
+ghost use Rattle.tt_versions.specs.Lineage.{unwritten, with_write_on, split_back};
 ghost use Rattle.tt_versions.specs.Keys.{all_of};
-ghost use Rattle.tt_versions.specs.Index.{HasNoKeys, ListsCurrent, MovesWrite, MovesUnsplit, StartsBy, IsIndexed, HaveKey, HaveKeysIn};
+ghost use Rattle.tt_versions.specs.Index.{HasNoKeys, ListsCurrent, MovesUnsplit, StartsBy, IsIndexed, HaveKey, HaveKeysIn};
 ghost use Rattle.tt_versions.specs.KeyRange.{HaveKeysWithin};
 ghost use Rattle.tt_versions.specs.Pages.{those_after};
 ghost use Rattle.tt_versions.specs.Sides.{lineage_at, is_split, with_writes, StaysSplit, MarksKey, UnsplitsRow};
@@ -16,6 +16,7 @@ use crate::indexed_column::{IndexedColumn, KeySet};
 use crate::key_range::KeyRange;
 use crate::keys::Keys;
 use crate::lineage::Lineage;
+use crate::listed_write::ListedWrite;
 use crate::reach::Reach;
 use crate::row_change::RowChange;
 use crate::row_write::RowWrite;
@@ -239,7 +240,8 @@ impl IndexedEntries {
 
     /// Which rows a search at a time on a side reads.
     fn reach(&self, time: u64, side: Side) -> Reach
-        ensures { result ≡ Reach.Latest → (side ≡ Side.Current) × (self.now.latest ≤ time) }
+        ensures { result ≡ Reach.Latest
+            → (side ≡ Side.Current) × (self.now.latest ≤ time) }
     {
         if side == Side::Current && self.latest <= time {
             Reach::Latest
@@ -259,19 +261,33 @@ impl IndexedEntries {
         ensures stored { OnOk result (IsConsistent self.new) }
     {
         self.latest = self.latest.max(write.time);
-        match self.entries.get(key) {
-            Some(lineage) => {
-                list_row(&mut self.index, lineage, self.latest, key, &write)?;
-                self.entries.change(key, write)
-            }
-            None => {
-                let mut lineage = Lineage::new(self.alloc);
-                let row = write.row.as_ref();
-                self.index.change_row(key, RowChange::First { row })?;
-                lineage.write(write)?;
-                self.entries.put(key, lineage)
-            }
+        let mut listed = ListedWrite {
+            key,
+            latest: self.latest,
+            write,
+        };
+        if self.entries.change_with(key, &mut listed, &mut self.index)? {
+            return Ok(());
         }
+        self.write_first(key, listed.write)
+    }
+
+    /// Writes the first row with a key, or none, on a side.
+    fn write_first(&mut self, key: i64, write: RowWrite) -> Result<(), AllocError>
+        requires absent { find int_cmp key self.old.entries ≡ None }
+        requires starts { write.time ≤ self.old.latest }
+        requires stored { IsConsistent self.old }
+        requires split { StaysSplit write.side (is_split self.old.entries) key }
+        ensures entries { OnOk result (
+            let lineage = with_write_on write.side write.row write.time unwritten in
+            self.new.entries ≡ put int_cmp key lineage self.old.entries) }
+        ensures stored { OnOk result (IsConsistent self.new) }
+    {
+        let mut lineage = Lineage::new(self.alloc);
+        let row = write.row.as_ref();
+        self.index.change_row(key, RowChange::First { row })?;
+        lineage.write(write)?;
+        self.entries.put(key, lineage)
     }
 
     /// Splits the row with the key, and rolls its next side back to before the time.
@@ -308,31 +324,6 @@ impl IndexedEntries {
         self.entries = PagedMap::new(self.alloc);
         self.split_keys = PagedMap::new(self.alloc);
         self.index.clear();
-    }
-}
-
-/// Lists the row of a write in the index, if there is one. The lineage is the one that is to get
-/// it, whose versions start by this time.
-fn list_row(
-    index: &mut Index,
-    lineage: &Lineage,
-    latest: u64,
-    key: i64,
-    write: &RowWrite,
-) -> Result<(), AllocError>
-    requires current { All (ListsCurrent key (last_row lineage.now.current)) index.old.columns }
-    requires starts { StartsBy latest lineage.now }
-    ensures { OnOk result
-        (MovesWrite write.now.side key lineage.now write.now.row index.old index.new) }
-{
-    let current = lineage.at(latest, Side::Current);
-    let row = write.row.as_ref();
-    match write.side {
-        Side::Current => {
-            let (old, new) = (current, row);
-            index.change_row(key, RowChange::Current { old, new })
-        }
-        Side::Next => index.change_row(key, RowChange::Next { current, next: row }),
     }
 }
 

@@ -1,4 +1,4 @@
-ghost use Rattle.std.specs.Prelude.{◌≡◌, ◌<◌, ◌≤◌, ◌+◌, [], ◌∷◌, ◌++◌, length, replicate, slice_set, IfOk, OnOk, OnErr};
+ghost use Rattle.std.specs.Prelude.{◌≡◌, ◌<◌, ◌≤◌, ◌+◌, ◌-◌, min, [], ◌∷◌, ◌++◌, length, replicate, slice_set, IfOk, OnOk, OnErr};
 ghost use Rattle.tt_pages.specs.LogDepth.{page_size};
 ghost use Rattle.tt_pages.specs.LogSlice.{IsSlice};
 
@@ -86,7 +86,8 @@ impl<T: Kept + Drop> Page<T> {
     /// Adds copies of an item while there is room, but at most `most`. Returns how many.
     #[tactic(auto, using(crate::proofs::LogRules::one_copy_more))]
     pub(super) fn push_copies(&mut self, item: &T, most: usize) -> Result<usize, AllocError>
-        ensures few { IfOk result (λ count. count ≤ most) }
+        ensures count { IfOk result (λ count.
+            count ≡ min most (page_size - length self.old)) }
         ensures items { IfOk result (λ count.
             self.new ≡ self.old ++ replicate count item.now) }
         ensures within { length self.new ≤ length self.old + most }

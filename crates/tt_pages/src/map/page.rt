@@ -4,10 +4,10 @@ ghost use Rattle.std.specs.Option.{is_none};
 ghost use Rattle.std.specs.Option.{option_copied};
 ghost use Rattle.std.specs.Ordering.{int_cmp};
 ghost use Rattle.std.specs.FinMap.Entries.{find, put, is_sorted};
-ghost use Rattle.tt_pages.specs.MapEntries.{rank_of, entries_without, keys_of, ChangesAt, StaysWithout, IsPlaceOf, IsGapFor};
+ghost use Rattle.tt_pages.specs.MapEntries.{rank_of, entries_without, keys_of, ChangesAt, StaysWithout, FitsAt, MovesAt, KeptUnless, IsPlaceOf, IsGapFor};
 
 use crate::kept::Kept;
-use crate::modify::Modify;
+use crate::modify::ModifyWith;
 use std::alloc::{AllocError, Global};
 
 // The most entries of a page, and the most branches of a fork.
@@ -18,13 +18,15 @@ pub(super) const MIN_WIDTH: usize = 4;
 
 pub(super) type Page<V> = Vec<(i64, V)>;
 
-// The number of entries before the key's place, which are those with smaller keys.
+// The number of entries before the key's place, which are those with smaller keys. The search
+// begins at the end, where keys that are inserted in ascending order belong.
 pub(super) fn rank_in<V>(page: &[(i64, V)], key: &i64) -> usize
+    requires { IsTrue (is_sorted int_cmp page.now) }
     ensures { result ≡ rank_of key.now page.now }
 {
-    let mut rank = 0;
-    while rank < page.len() && key.cmp(&page[rank].0).is_gt() {
-        rank += 1;
+    let mut rank = page.len();
+    while rank > 0 && !key.cmp(&page[rank - 1].0).is_gt() {
+        rank -= 1;
     }
     rank
 }
@@ -80,23 +82,30 @@ fn entry_of<V>(key: &i64, value: V) -> (i64, V)
     (key, value)
 }
 
-// Changes the value at a key of the page, if there is one. Returns whether there is. After an error
-// nothing is promised about the value.
-pub(super) fn change_in<V, M: Modify<V>>(
+// Changes the value at a key of the page and the context, if there is a value. Returns whether
+// there is. After an error nothing is promised about the value and the context.
+pub(super) fn change_in<V, C, M: ModifyWith<V, C>>(
     page: &mut Page<V>,
     key: &i64,
-    change: M,
+    change: &mut M,
+    context: &mut C,
 ) -> Result<bool, AllocError>
-    requires { IsTrue (is_sorted int_cmp page.old.items) }
+    requires sorted { IsTrue (is_sorted int_cmp page.old.items) }
+    requires fits { FitsAt key.now (M.fits change.old) page.old.items context.old }
     ensures keys { keys_of page.new.items ≡ keys_of page.old.items }
     ensures ok { OnOk result
-        (ChangesAt key.now (M.after change) page.old.items page.new.items) }
+        (ChangesAt key.now (M.after change.old) page.old.items page.new.items) }
     ensures stays { OnOk result (StaysWithout key.now page.old.items page.new.items) }
-    ensures found { IfOk result (λ found. found ≡ is_some (find int_cmp key.now page.old.items)) }
+    ensures found { IfOk result
+        (λ found. found ≡ is_some (find int_cmp key.now page.old.items)) }
+    ensures moves { OnOk result
+        (MovesAt key.now (M.moves change.old) page.old.items context.old context.new) }
+    ensures kept { IfOk result
+        (λ found. KeptUnless found change.old change.new context.old context.new) }
 {
     match place_in(page, key) {
         Ok(at) => {
-            change.apply(&mut page[at].1)?;
+            change.apply(&mut page[at].1, context)?;
             Ok(true)
         }
         Err(_) => Ok(false),

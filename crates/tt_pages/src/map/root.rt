@@ -4,7 +4,7 @@ ghost use Rattle.std.specs.Arc.{arc_value};
 ghost use Rattle.std.specs.Option.{is_none, is_some};
 ghost use Rattle.std.specs.Ordering.{int_cmp};
 ghost use Rattle.std.specs.FinMap.Entries.{find, put};
-ghost use Rattle.tt_pages.specs.MapEntries.{entries_without, keys_of, ChangesAt, StaysWithout};
+ghost use Rattle.tt_pages.specs.MapEntries.{entries_without, keys_of, ChangesAt, StaysWithout, FitsAt, MovesAt, KeptUnless};
 ghost use Rattle.tt_pages.specs.MapTree.{entries_of_root as entries, max_width};
 
 use super::page::{MAX_WIDTH, put_in};
@@ -13,7 +13,7 @@ use super::removal::remove_shared;
 use super::splitting::Halves;
 use super::tree::{Node, Tree};
 use crate::kept::Kept;
-use crate::modify::Modify;
+use crate::modify::ModifyWith;
 use std::alloc::{AllocError, Global};
 use std::sync::Arc;
 
@@ -41,22 +41,28 @@ pub(super) fn put_in_root<V: Kept + Drop>(
     }
 }
 
-// Changes the value at the key, if there is one. Returns whether there is.
-pub(super) fn change_in_root<V: Kept + Drop, M: Modify<V>>(
+// Changes the value at the key and the context, if there is a value. Returns whether there is.
+pub(super) fn change_in_root<V: Kept + Drop, C, M: ModifyWith<V, C>>(
     alloc: Global,
     root: &mut Option<Arc<Tree<V>>>,
     key: &i64,
-    change: M,
+    change: &mut M,
+    context: &mut C,
 ) -> Result<bool, AllocError>
+    requires { FitsAt key.now (M.fits change.old) (entries root.old) context.old }
     ensures keys { keys_of (entries root.new) ≡ keys_of (entries root.old) }
     ensures ok { OnOk result
-        (ChangesAt key.now (M.after change) (entries root.old) (entries root.new)) }
+        (ChangesAt key.now (M.after change.old) (entries root.old) (entries root.new)) }
     ensures stays { OnOk result (StaysWithout key.now (entries root.old) (entries root.new)) }
     ensures found { IfOk result
         (λ found. found ≡ is_some (find int_cmp key.now (entries root.old))) }
+    ensures moves { OnOk result
+        (MovesAt key.now (M.moves change.old) (entries root.old) context.old context.new) }
+    ensures kept { IfOk result
+        (λ found. KeptUnless found change.old change.new context.old context.new) }
 {
     match root {
-        Some(tree) => Tree::change_shared(alloc, tree, key, change),
+        Some(tree) => Tree::change_shared(alloc, tree, key, change, context),
         None => Ok(false),
     }
 }

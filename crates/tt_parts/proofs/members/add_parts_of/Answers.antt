@@ -12,7 +12,7 @@ pub loop-i-preserved : goal.loop-i-preserved
 loop-i-preserved c =
     let columns = c.args.columns.now in
     let values = c.args.row.now.values in
-    let table = c.args.table in
+    let table = c.args.id.table in
     let i = c.loop-i.i in
     let column = c.index-columns-i.result in
     let members = c.loop-i.members in

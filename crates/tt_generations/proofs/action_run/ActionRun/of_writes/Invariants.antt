@@ -2,14 +2,13 @@
 use Rattle.std.proofs.Common.{◌+◌, drop}
 use Rattle.tt_values.specs.Action.{action_of}
 use Rattle.tt_versions.specs.declared.side.Side.TheVariants.{Current}
-use Rattle.tt_generations.specs.declared.action_run.ActionRun.{ActionRun}
 use Rattle.tt_generations.specs.Rows.{HasFewRows, KeepsSplitRows}
-use Rattle.tt_generations.specs.ActionRun.{CarriesOut, CarriesOutAction, most_rows}
+use Rattle.tt_generations.specs.ActionRun.{RunOnRows, run_on, CarriesOut, CarriesOutAction, most_rows}
 use Rattle.tt_generations.proofs.action_run.ActionRun.of_writes.Given as goal
 
 abbrev pub invariant-loop-write : goal.invariant-loop-write
 invariant-loop-write l = record {
-  done : (after : ActionRun) → CarriesOut l.time (drop l.write-index l.writes) l.run after → CarriesOutAction l.time (action_of l.writes) l.fn.rows after;
-  few : HasFewRows l.run.rows Current l.time (most_rows + l.write-index);
-  split : KeepsSplitRows l.fn.rows l.run.rows;
+  done : (after : RunOnRows) → CarriesOut l.time (drop l.write-index l.writes) (run_on l.rows l.run) after → CarriesOutAction l.time (action_of l.writes) l.fn.rows after;
+  few : HasFewRows l.rows Current l.time (most_rows + l.write-index);
+  split : KeepsSplitRows l.fn.rows l.rows;
 }

@@ -3,7 +3,7 @@ use Rattle.std.proofs.Common.{◌≡◌, suc, ◌+◌, List, ◌∷◌, drop, tr
 use Rattle.std.proofs.lemmas.List.{drop_all}
 use Rattle.tt_values.specs.declared.statement.Write.{Write}
 use Rattle.tt_versions.specs.declared.side.Side.TheVariants.{Current}
-use Rattle.tt_generations.specs.ActionRun.{TriesWrites, most_rows}
+use Rattle.tt_generations.specs.ActionRun.{run_on, TriesWrites, most_rows}
 use Rattle.tt_generations.proofs.ActionStepsLemmas.{TriesWrites-next, TriesWrites-stop, TriesWrites-none}
 use Rattle.tt_generations.proofs.FewRowsLemmas.{HasFewRows-more}
 use Rattle.tt_generations.proofs.SplitRowsLemmas.{KeepsSplitRows-append}
@@ -14,8 +14,8 @@ returns-then-not-branch-clause-tried c =
     let so_far = c.loop-write.write-index in
     let left = drop (so_far + 1) c.args.writes.now in
     let w = c.write-item.result in
-    let run = c.loop-write.self in
-    let now = c.carry_out.new.self in
+    let run = run_on c.loop-write.rows c.loop-write.self in
+    let now = run_on c.carry_out.new.rows c.carry_out.new.self in
     let done = c.in_ok-carry_out.ensures in
     let has_one = c.in_ok-carry_out.field-0 in
     let next : suc so_far ≡ so_far + 1 = omega arith in
@@ -30,8 +30,8 @@ loop-write-preserved c =
     let so_far = c.loop-write.write-index in
     let left = drop (so_far + 1) c.args.writes.now in
     let w = c.write-item.result in
-    let run = c.loop-write.self in
-    let now = c.carry_out.new.self in
+    let run = run_on c.loop-write.rows c.loop-write.self in
+    let now = run_on c.carry_out.new.rows c.carry_out.new.self in
     let done = c.in_ok-carry_out.ensures in
     let has_one = c.in_ok-carry_out.field-0 in
     let next : suc so_far ≡ so_far + 1 = omega arith in
@@ -43,11 +43,12 @@ loop-write-preserved c =
           (TriesWrites-next c.args.time w left run now after has_one all done.current done.effect c.if-not-branch.false rest));
       few = HasFewRows-more now.rows Current c.args.time (most_rows + so_far + 1) (most_rows + (so_far + 1)) (omega arith)
           (done.few (most_rows + so_far) c.loop-write.invariant.few);
-      split = KeepsSplitRows-append c.args.self.now.rows run.rows now.rows c.loop-write.invariant.split done.split;
+      split = KeepsSplitRows-append c.args.rows.now run.rows now.rows c.loop-write.invariant.split done.split;
     }
 
 pub returns-clause-tried : goal.returns-clause-tried
 returns-clause-tried c =
     let nothing = drop_all c.loop-write.write-index c.args.writes.now c.loop-write-test.false in
-    c.loop-write.invariant.done c.loop-write.self true
-    (subst (λ (ws : List Write). TriesWrites c.args.time ws c.loop-write.self c.loop-write.self true) (sym nothing) (TriesWrites-none c.args.time c.loop-write.self))
+    let run = run_on c.loop-write.rows c.loop-write.self in
+    c.loop-write.invariant.done run true
+    (subst (λ (ws : List Write). TriesWrites c.args.time ws run run true) (sym nothing) (TriesWrites-none c.args.time run))

@@ -1,11 +1,9 @@
 -- The slots with one more, and the tables with its rows.
-use Rattle.std.proofs.Common.{◌+◌, ◌++◌, ◌∷◌, [], Option, ap, subst, sym, ◌∙◌, arith}
+use Rattle.std.proofs.Common.{◌+◌, ◌++◌, ◌∷◌, [], Option, ap, ◌∙◌, arith}
 use Rattle.std.proofs.lemmas.List.{length-map}
 use Rattle.tt_values.specs.declared.action.Action.{Action}
 use Rattle.tt_values.proofs.LawProofs.{accepted_actions_have_keys}
-use Rattle.tt_versions.specs.declared.side.Side.TheVariants.{Current}
-use Rattle.tt_generations.specs.Rows.{TablesByPosition, HasFewRows, KeepsSplitRows}
-use Rattle.tt_generations.specs.ActionRun.{CarriesOutAction, most_rows}
+use Rattle.tt_generations.specs.ActionRun.{RunOnRows, run_on}
 use Rattle.tt_generations.specs.KeptSlots.{actions_of}
 use Rattle.tt_generations.proofs.KeptSlotsLemmas.{actions-push}
 use Rattle.tt_generations.proofs.GenerationsLemmas.{AreGenerations-action, IsNextSlot-run, HasFewRows-slots, phase-with_slot}
@@ -19,23 +17,19 @@ of_action-requires-clause-keyed c =
 pub of_action-requires-clause-few : goal.of_action-requires-clause-few
 of_action-requires-clause-few c =
     let g = c.args.self.now in
-    subst (λ (r : TablesByPosition). HasFewRows r Current (c.len.result + 1) most_rows) (sym c.replace-rows.ensures.value)
-    (HasFewRows-slots g.catalog g.slots g.rows g.repair (c.len.result + 1) c.requires.parts (omega (arith, c.len.ensures)))
+    HasFewRows-slots g.catalog g.slots g.rows g.repair (c.len.result + 1) c.requires.parts (omega (arith, c.len.ensures))
 
--- the run, on the rows as they were
-carries : (c : goal.In_ok-push) → CarriesOutAction (c.len.result + 1) c.args.action c.args.self.now.rows c.in_ok-run.run'
-carries c =
-    subst (λ (r : TablesByPosition). CarriesOutAction (c.len.result + 1) c.args.action r c.in_ok-run.run') c.replace-rows.ensures.value c.in_ok-run.ensures.current
+-- the run, with the rows that it left
+abbrev run : (c : goal.In_ok-push) → RunOnRows
+run c = run_on c.of_action.new.rows c.in_ok-run.run'
 
 pub returns-clause-parts : goal.returns-clause-parts
 returns-clause-parts c =
     let g = c.args.self.now in
-    let run = c.in_ok-run.run' in
     let new = c.in_ok-kept.ensures in
-    let split = subst (λ (r : TablesByPosition). KeepsSplitRows r run.rows) c.replace-rows.ensures.value c.in_ok-run.ensures.split in
-    rw (c.in_ok-push.ensures.ok, c.in_ok-add_to_repair.ensures, c.into_slot.ensures.rows)
-    (AreGenerations-action g.catalog g.slots g.rows g.repair c.args.action run c.in_ok-kept.kept (c.len.result + 1) c.requires.parts c.requires.accepted c.requires.room
-    (omega (arith, c.len.ensures)) (record { carries = carries c; keeps = split; is_action = new.action; replies = new.kept_replies; rows = new.rows_touched }))
+    rw (c.in_ok-push.ensures.ok, c.in_ok-add_to_repair.ensures)
+    (AreGenerations-action g.catalog g.slots g.rows g.repair c.args.action (run c) c.in_ok-kept.kept (c.len.result + 1) c.requires.parts c.requires.accepted c.requires.room
+    (omega (arith, c.len.ensures)) (record { carries = c.in_ok-run.ensures.current; keeps = c.in_ok-run.ensures.split; is_action = new.action; replies = new.kept_replies; rows = new.rows_touched }))
 
 pub returns-clause-slots : goal.returns-clause-slots
 returns-clause-slots c =
@@ -48,6 +42,6 @@ returns-clause-phase c = rw (c.in_ok-add_to_repair.ensures) (phase-with_slot c.i
 pub returns-clause-replies : goal.returns-clause-replies
 returns-clause-replies c =
     let g = c.args.self.now in
-    let next = IsNextSlot-run (actions_of g.slots) c.args.action g.rows c.in_ok-run.run' (c.len.result + 1) c.requires.parts.rows.current
-    (omega (arith, c.len.ensures, length-map g.slots (λ t. t.slot.action))) (carries c) in
+    let next = IsNextSlot-run (actions_of g.slots) c.args.action g.rows (run c) (c.len.result + 1) c.requires.parts.rows.current
+    (omega (arith, c.len.ensures, length-map g.slots (λ t. t.slot.action))) c.in_ok-run.ensures.current in
     c.in_ok-kept.ensures.replies ∙ next.replies

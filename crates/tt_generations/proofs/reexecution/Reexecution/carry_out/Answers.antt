@@ -6,6 +6,7 @@ use Rattle.tt_versions.specs.declared.side.Side.TheVariants.{Next}
 use Rattle.tt_versions.specs.Sides.{next_of, LineagesByKey}
 use Rattle.tt_generations.specs.Effect.{IsEffect, rows_of_effect, matched_rows}
 use Rattle.tt_generations.specs.Rows.{SplitsRows}
+use Rattle.tt_generations.specs.Reexecution.{reexecution_on}
 use Rattle.tt_generations.specs.ActionRun.{most_rows}
 use Rattle.tt_generations.proofs.FewRowsLemmas.{length-effect}
 use Rattle.tt_generations.proofs.ReexecutionLemmas.{effect-is_split, ReexecutesWrites-write, TellsNextEffect-pairs}
@@ -15,12 +16,12 @@ pub reply_to-requires : goal.reply_to-requires
 reply_to-requires c =
     let pairs = c.in_ok-effect.effect in
     let is = subst (λ (t : LineagesByKey). IsEffect pairs c.args.write.now (next_of t) c.args.time) c.table.ensures c.in_ok-effect.ensures in
-    omega (arith, length-effect c.args.self.now.rows Next c.args.time (most_rows + max_writes) c.table-table.result c.args.write.now pairs c.requires.few c.table-table.ensures is, ap length c.as_slice-2.ensures)
+    omega (arith, length-effect c.args.rows.now Next c.args.time (most_rows + max_writes) c.table-table.result c.args.write.now pairs c.requires.few c.table-table.ensures is, ap length c.as_slice-2.ensures)
 
 pub write_next-requires : goal.write_next-requires
 write_next-requires c =
-    let before = c.args.self.now.rows in
-    let between = c.split_matched.new.self.rows in
+    let before = c.args.rows.now in
+    let between = c.split_matched.new.rows in
     let w = c.args.write.now in
     let pairs = c.in_ok-effect.effect in
     let is = subst (λ (t : LineagesByKey). IsEffect pairs w (next_of t) c.args.time) c.table.ensures c.in_ok-effect.ensures in
@@ -29,8 +30,8 @@ write_next-requires c =
 
 pub returns : goal.returns
 returns c =
-    let before = c.args.self.now in
-    let between = c.split_matched.new.self in
+    let before = reexecution_on c.args.rows.now c.args.self.now in
+    let between = reexecution_on c.split_matched.new.rows c.split_matched.new.self in
     let w = c.args.write.now in
     let table = c.table-table.result in
     let pairs = c.in_ok-effect.effect in
@@ -51,6 +52,6 @@ returns c =
         answers = λ rows same. c.reply_to.ensures rows (c.as_slice-2.ensures ∙ same);
         replies = c.in_ok-push.ensures ∙ ap (λ rs. rs ++ c.reply_to.result ∷ []) split.replies;
         touched = c.in_ok-add_rows.ensures ∙ (λ i. split.rows_touched i ++ rows_of_effect table (c.as_slice-3.ensures i));
-        reexecuted = split.reexecuted ∙ ap (λ es. before.reexecuted.items ++ matched_rows w es) c.as_slice.ensures;
+        reexecuted = split.reexecuted ∙ ap (λ es. before.reexecuted ++ matched_rows w es) c.as_slice.ensures;
       });
     }

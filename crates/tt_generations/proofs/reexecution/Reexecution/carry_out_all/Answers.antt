@@ -3,7 +3,7 @@ use Rattle.std.proofs.Common.{◌≡◌, suc, ◌+◌, List, ◌∷◌, drop, su
 use Rattle.std.proofs.lemmas.List.{drop_all}
 use Rattle.tt_values.specs.declared.statement.Write.{Write}
 use Rattle.tt_generations.specs.ActionRun.{most_rows}
-use Rattle.tt_generations.specs.Reexecution.{ReexecutesWrites}
+use Rattle.tt_generations.specs.Reexecution.{reexecution_on, ReexecutesWrites}
 use Rattle.tt_generations.proofs.ReexecutionLemmas.{ReexecutesWrites-next, ReexecutesWrites-none, ReexecutesAction-writes, IsUnderWayWithFew-next, IsUnderWayWithFew-more}
 use Rattle.tt_generations.proofs.reexecution.Reexecution.carry_out_all.Goals as goal
 
@@ -12,8 +12,8 @@ loop-write-preserved c =
     let so_far = c.loop-write.write-index in
     let left = drop (so_far + 1) c.args.writes.now in
     let w = c.write-item.result in
-    let run = c.loop-write.self in
-    let now = c.carry_out.new.self in
+    let run = reexecution_on c.loop-write.rows c.loop-write.self in
+    let now = reexecution_on c.carry_out.new.rows c.carry_out.new.self in
     let done = c.in_ok-carry_out.ensures in
     let next : suc so_far ≡ so_far + 1 = omega arith in
     let all : drop so_far c.args.writes.now ≡ w ∷ left =
@@ -28,7 +28,7 @@ loop-write-preserved c =
 
 pub returns : goal.returns
 returns c =
-    let run = c.loop-write.self in
+    let run = reexecution_on c.loop-write.rows c.loop-write.self in
     let nothing = drop_all c.loop-write.write-index c.args.writes.now c.loop-write-test.false in
-    ReexecutesAction-writes c.args.time c.args.writes.now c.args.self.now run
+    ReexecutesAction-writes c.args.time c.args.writes.now (reexecution_on c.args.rows.now c.args.self.now) run
     (c.loop-write.invariant.done run (subst (λ (ws : List Write). ReexecutesWrites c.args.time ws run run) (sym nothing) (ReexecutesWrites-none c.args.time run)))

@@ -3,7 +3,7 @@ use Rattle.std.proofs.Common.{◌≡◌, suc, ◌+◌, List, ◌∷◌, drop, tr
 use Rattle.std.proofs.lemmas.List.{drop_all}
 use Rattle.tt_values.specs.declared.statement.Write.{Write}
 use Rattle.tt_generations.specs.ActionRun.{most_rows}
-use Rattle.tt_generations.specs.Reexecution.{TriesNextWrites}
+use Rattle.tt_generations.specs.Reexecution.{reexecution_on, TriesNextWrites}
 use Rattle.tt_generations.proofs.ReexecutionLemmas.{TriesNextWrites-next, TriesNextWrites-stop, TriesNextWrites-none, IsUnderWayWithFew-next, IsUnderWayWithFew-more}
 use Rattle.tt_generations.proofs.reexecution.Reexecution.try_writes.Goals as goal
 
@@ -12,8 +12,8 @@ returns-then-not-branch c =
     let so_far = c.loop-write.write-index in
     let left = drop (so_far + 1) c.args.writes.now in
     let w = c.write-item.result in
-    let run = c.loop-write.self in
-    let now = c.carry_out.new.self in
+    let run = reexecution_on c.loop-write.rows c.loop-write.self in
+    let now = reexecution_on c.carry_out.new.rows c.carry_out.new.self in
     let done = c.in_ok-carry_out.ensures in
     let has_one = c.in_ok-carry_out.field-0 in
     let next : suc so_far ≡ so_far + 1 = omega arith in
@@ -28,8 +28,8 @@ loop-write-preserved c =
     let so_far = c.loop-write.write-index in
     let left = drop (so_far + 1) c.args.writes.now in
     let w = c.write-item.result in
-    let run = c.loop-write.self in
-    let now = c.carry_out.new.self in
+    let run = reexecution_on c.loop-write.rows c.loop-write.self in
+    let now = reexecution_on c.carry_out.new.rows c.carry_out.new.self in
     let done = c.in_ok-carry_out.ensures in
     let has_one = c.in_ok-carry_out.field-0 in
     let next : suc so_far ≡ so_far + 1 = omega arith in
@@ -45,7 +45,7 @@ loop-write-preserved c =
 
 pub returns : goal.returns
 returns c =
-    let run = c.loop-write.self in
+    let run = reexecution_on c.loop-write.rows c.loop-write.self in
     let nothing = drop_all c.loop-write.write-index c.args.writes.now c.loop-write-test.false in
     c.loop-write.invariant.done run true
     (subst (λ (ws : List Write). TriesNextWrites c.args.time ws run run true) (sym nothing) (TriesNextWrites-none c.args.time run))

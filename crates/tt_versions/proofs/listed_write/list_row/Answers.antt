@@ -11,7 +11,7 @@ use Rattle.tt_versions.specs.Versions.{last_row}
 use Rattle.tt_versions.specs.Index.{ListsCurrent, MovesWrite}
 use Rattle.tt_versions.proofs.StartLemmas.{visible_row-latest}
 use Rattle.tt_versions.proofs.MoveLemmas.{moves-as}
-use Rattle.tt_versions.proofs.lineages.list_row.Goals as goal
+use Rattle.tt_versions.proofs.listed_write.list_row.Goals as goal
 
 pub change_row-requires : goal.change_row-requires
 change_row-requires c =
