@@ -1,4 +1,5 @@
 pub mod ListLemmas
+pub mod RowIdsLemmas
 pub mod ContentLemmas
 pub mod RowsLemmas
 pub mod ActionStepsLemmas

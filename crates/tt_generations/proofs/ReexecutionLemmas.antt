@@ -24,7 +24,7 @@ use Rattle.tt_parts.specs.Dirty.{is_row_in}
 use Rattle.tt_repair_laws.specs.Due.{rows_matched, rows_matched_by}
 use Rattle.tt_values.specs.declared.row_id.RowId.{RowId}
 use Rattle.tt_generations.specs.Effect.{IsEffect, rows_of_effect, matched_rows}
-use Rattle.tt_generations.specs.Rows.{TablesByPosition, versions_at, SplitsRows, WritesNext, HasFewRows}
+use Rattle.tt_generations.specs.Rows.{TablesByPosition, versions_at, AreSplit, SplitsRows, WritesNext, HasFewRows}
 use Rattle.tt_generations.specs.Reexecution.{ReexecutionOnRows, ShowsContentBefore, AreReexecuted, IsUnderWay, HasReexecutedWrites, ReexecutesWrites, TellsNextEffect, TriesNextWrites, ReexecutesAction, Reexecutes, IsUnderWayWithFew}
 use Rattle.tt_generations.proofs.ContentLemmas.{all_put, with_rows_at-unwritten, all_written_from-unwritten, all_written_from-later, all_written_from-earlier, IsByRisingKey-after_write}
 use Rattle.tt_generations.proofs.RowsLemmas.{same_table}
@@ -42,6 +42,14 @@ in_neither rows further t key h = or_parts _ _ (sym (is_row_in-append rows furth
 
 in_first : (rows further : List RowId) (t : ℕ) (key : ℤ) → is_row_in rows t key ≡ true → is_row_in (rows ++ further) t key ≡ true
 in_first rows further t key h = is_row_in-append rows further t key ∙ or_left _ _ h
+
+-- what holds of each row in a list
+All-in : (P : ℕ → ℤ → Type 0) (rows : List RowId) → ((t : ℕ) (key : ℤ) → is_row_in rows t key ≡ true → P t key) → All (λ r. P r.table r.key) rows
+All-in P [] h = All-nil (λ r. P r.table r.key)
+All-in P (r ∷ rows) h =
+    let table : (r.table == r.table) ≡ true = grind (arith, nat_tests) in
+    let key = (Decides-int_eq r.key r.key).1 refl in
+    All-cons (λ r. P r.table r.key) r rows (h r.table r.key (or_left _ _ (λ i. table i && key i))) (All-in P rows (λ t key later. h t key (or_right _ _ later)))
 
 -- what holds of each key that an effect writes holds of its pairs
 All-written : (table : ℕ) (P : ℤ → Type 0) (es : List (ℤ × Option Row)) → ((key : ℤ) → is_row_in (rows_of_effect table es) table key ≡ true → P key) → All (λ e. P e.0) es
@@ -439,6 +447,11 @@ IsUnderWayWithFew-start time most touched before run X reexecuted splits start f
   under_way = IsUnderWay-start time touched before run X reexecuted splits start;
   few = few;
 }
+
+-- the rows that were re-executed so far are split
+pub AreSplit-under_way : (time : ℕ) (run : ReexecutionOnRows) (most : ℕ) → IsUnderWayWithFew time run most → AreSplit run.rows run.reexecuted
+AreSplit-under_way time run most has =
+    All-in (λ t key. is_split (versions_at run.rows t) key ≡ true) run.reexecuted (λ t key h. has.under_way.rows.split t key ∙ or_left _ _ h)
 
 pub IsUnderWayWithFew-next : (time : ℕ) (run after : ReexecutionOnRows) (w : Write) (most : ℕ) → IsUnderWayWithFew time run most → ReexecutesWrites time (w ∷ []) run after → IsUnderWayWithFew time after (most + 1)
 IsUnderWayWithFew-next time run after w most has redoes = record {

@@ -1,9 +1,9 @@
 -- What a repair needs to know of the next slot's action, and what is dirty once it is re-executed.
-use Rattle.std.proofs.Common.{◌≡◌, ℕ, zero, suc, ◌+◌, ◌-◌, ◌<◌, ◌≤◌, ℤ, Bool, true, false, ◌&&◌, nat_le, nat_lt, ◌==◌, List, [], ◌∷◌, ◌++◌, map, fold, length, get_or, drop, slice_get, slice_set, Option, Some, None, if◌then◌else◌, refl, sym, ap, subst, ◌∙◌, arith, drop-cons, append_assoc, eqb-true}
-use Rattle.std.specs.List.{All, list_all, list_any, zip}
+use Rattle.std.proofs.Common.{◌≡◌, ℕ, zero, suc, ◌+◌, ◌-◌, ◌<◌, ◌≤◌, ℤ, Bool, true, false, ◌&&◌, nat_le, nat_lt, ◌==◌, List, [], ◌∷◌, ◌++◌, map, fold, length, get_or, drop, slice_get, slice_set, Option, Some, None, if◌then◌else◌, refl, sym, ap, subst, ◌∙◌, arith, drop-cons, append_assoc}
+use Rattle.std.specs.List.{All, list_any}
 use Rattle.std.specs.Option.{option_map, option_or}
 use Rattle.std.specs.Ordering.{int_eq}
-use Rattle.std.proofs.lemmas.Bool.{and_parts, or_left, or_right}
+use Rattle.std.proofs.lemmas.Bool.{or_left, or_right}
 use Rattle.std.proofs.lemmas.Bool.Decides.{nat_tests, Decides-int_eq}
 use Rattle.std.proofs.lemmas.Option.{slice_get_within}
 use Rattle.std.proofs.lemmas.List.Folds.{list_any-append}
@@ -40,7 +40,7 @@ use Rattle.tt_generations.specs.Rows.{TablesByPosition, versions_at}
 use Rattle.tt_generations.specs.KeptSlots.{IsAccepted}
 use Rattle.tt_generations.specs.Replies.{replies_if}
 use Rattle.tt_generations.specs.Reexecution.{ReexecutionOnRows, ShowsContentBefore, AreReexecuted, Reexecutes, ShowsFewBefore}
-use Rattle.tt_generations.specs.Repair.{next_action, as_action, is_same_row, MayRepeat, with_rows_shown, ReexecutesSlot}
+use Rattle.tt_generations.specs.Repair.{next_action, as_action, MayRepeat, with_rows_shown, ReexecutesSlot}
 
 itself : (n : ℕ) → (n == n) ≡ true
 itself n = grind (arith, nat_tests)
@@ -167,23 +167,6 @@ shown-same tables versions time (r ∷ rs) C D same =
     shown-same tables versions time rs _ _ (same_members_with_row C D r.table (columns_in tables r.table) r.key (side (time - 1)) (side time) same)
 
 -- ---- rows that stand in a list twice
-
-are_same-head : (r s : RowId) → is_same_row r s ≡ true → r ≡ s
-are_same-head r s h =
-    let both = and_parts (r.table == s.table) (int_eq r.key s.key) h in
-    let table : r.table ≡ s.table = eqb-true r.table s.table both.0 in
-    let key : r.key ≡ s.key = (Decides-int_eq r.key s.key).0 both.1 in
-    λ i. record { table = table i; key = key i }
-
--- lists of one length with the same rows in turn are the same
-pub same_lists : (rs ss : List RowId) → length rs ≡ length ss → list_all (λ p. is_same_row p.0 p.1) (zip rs ss) ≡ true → rs ≡ ss
-same_lists [] [] many h = refl
-same_lists [] (s ∷ ss) many h = cc
-same_lists (r ∷ rs) [] many h = cc
-same_lists (r ∷ rs) (s ∷ ss) many h =
-    let both = and_parts (is_same_row r s) (list_all (λ p. is_same_row p.0 p.1) (zip rs ss)) h in
-    let fewer : length rs ≡ length ss = omega (arith, many) in
-    λ i. are_same-head r s both.0 i ∷ same_lists rs ss fewer both.1 i
 
 All-left : (P : RowId → Type 0) (rs ss : List RowId) → All P (rs ++ ss) → All P rs
 All-left P [] ss h = All-nil P

@@ -2,12 +2,13 @@
 use Rattle.std.proofs.Common.{◌≡◌, ℕ, zero, suc, ℤ, Bool, true, false, not, ◌&&◌, ◌||◌, nat_le, ◌==◌, List, [], ◌∷◌, ◌++◌, Option, cond, length, ◌+◌, ◌<◌, get_or, drop, if◌then◌else◌, refl, sym, ap, subst, ◌∙◌, arith, add-one, drop-cons}
 use Rattle.std.specs.Ordering.{int_eq}
 use Rattle.std.proofs.lemmas.Bool.Decides.{nat_tests, Decides-int_eq}
+use Rattle.std.proofs.lemmas.List.Elements.{All-head, All-tail}
 use Rattle.std.proofs.lemmas.List.Folds.{list_any-append}
 use Rattle.tt_values.specs.declared.row.Row.{Row}
 use Rattle.tt_versions.specs.Sides.{LineagesByKey, RowsOverTime, current_of, next_of, is_split, all_written_from, written_from, whole_among, just_before, rolled_back_from, with_key}
 use Rattle.tt_parts.specs.Dirty.{is_row_in}
 use Rattle.tt_values.specs.declared.row_id.RowId.{RowId}
-use Rattle.tt_generations.specs.Rows.{TablesByPosition, versions_at, KeepsSplitRows, SplitsRows, WritesNext}
+use Rattle.tt_generations.specs.Rows.{TablesByPosition, versions_at, KeepsSplitRows, AreSplit, SplitsRows, WritesNext}
 use Rattle.tt_generations.proofs.RowsLemmas.{PutsTable, same_table}
 
 same_key : (q key : ℤ) → int_eq q key ≡ true → q ≡ key
@@ -156,6 +157,14 @@ SplitsRows-already tables table key time h = record {
         ap (λ p. if not p && nat_le time u then just_before time old else old u) (sym (there t k e f))
     nexts t k u true e false f = refl
     nexts t k u false e c f = refl
+
+-- and any rows that are
+pub SplitsRows-all_already : (tables : TablesByPosition) (rows : List RowId) (time : ℕ) → AreSplit tables rows → SplitsRows tables tables rows time
+SplitsRows-all_already tables [] time h = SplitsRows-none tables time
+SplitsRows-all_already tables (r ∷ rows) time h =
+    SplitsRows-append tables tables tables (r ∷ []) rows time
+    (SplitsRows-already tables r.table r.key time (All-head (λ s. is_split (versions_at tables s.table) s.key ≡ true) r rows h))
+    (SplitsRows-all_already tables rows time (All-tail (λ s. is_split (versions_at tables s.table) s.key ≡ true) r rows h))
 
 -- one row that wasn't
 pub SplitsRows-put : (before after : TablesByPosition) (table : ℕ) (key : ℤ) (time : ℕ) (new : LineagesByKey) → PutsTable table new before after

@@ -1,7 +1,7 @@
 -- One step of a repair: whether the next slot is due, and what its re-execution leaves.
-use Rattle.std.specs.Prelude.{◌≡◌, ℕ, zero, suc, ◌-◌, ◌+◌, pos, Bool, true, false, ◌||◌, ◌&&◌, ◌==◌, if◌then◌else◌, List, [], ◌∷◌, ◌++◌, fold, slice_set, Option, None, Some, is_some}
+use Rattle.std.specs.Prelude.{◌≡◌, ℕ, zero, suc, ◌-◌, ◌+◌, pos, Bool, true, false, ◌||◌, if◌then◌else◌, List, [], ◌∷◌, ◌++◌, fold, slice_set, Option, None, Some, is_some}
 use Rattle.std.specs.List.{All, list_any}
-use Rattle.std.specs.Ordering.{int_cmp, int_eq}
+use Rattle.std.specs.Ordering.{int_cmp}
 use Rattle.std.specs.FinMap.Entries as sorted
 use Rattle.tt_values.specs.declared.row_id.RowId.{RowId}
 use Rattle.tt_values.specs.declared.action.Action.{Action}
@@ -59,10 +59,6 @@ next_action r kept = replaced_by (next_replacement r) kept.slot.action
 abbrev pub as_action : Option Action → Action
 as_action None = action_of []
 as_action (Some action) = action
-
--- whether two rows are the same
-abbrev pub is_same_row : RowId → RowId → Bool
-is_same_row r s = (r.table == s.table) && int_eq r.key s.key
 
 -- a list is these rows, or these rows twice in a row
 abbrev pub MayRepeat : List RowId → List RowId → Type 0

@@ -1,5 +1,6 @@
 -- The tables of two generations, and how they follow row writes on each side.
 use Rattle.std.specs.Prelude.{◌≡◌, ℕ, ◌+◌, ◌≤◌, nat_le, ℤ, true, false, not, ◌==◌, ◌&&◌, ◌||◌, List, ◌++◌, get_or, length, Option, if◌then◌else◌}
+use Rattle.std.specs.List.{All}
 use Rattle.tt_values.specs.declared.row.Row.{Row}
 use Rattle.tt_values.specs.declared.row_id.RowId.{RowId}
 use Rattle.tt_values.specs.Content.{Content, RowWrite}
@@ -46,6 +47,10 @@ pub record KeepsSplitRows (before after : TablesByPosition) : Type 0 where
 -- the current side of each table stays
 abbrev pub KeepsCurrent : TablesByPosition → TablesByPosition → Type 0
 KeepsCurrent before after = (table : ℕ) → current_of (versions_at after table) ≡ current_of (versions_at before table)
+
+-- each of these rows is split
+abbrev pub AreSplit : TablesByPosition → List RowId → Type 0
+AreSplit tables rows = All (λ r. is_split (versions_at tables r.table) r.key ≡ true) rows
 
 -- rows are split. Each that wasn't is rolled back on its next side to before a time
 pub record SplitsRows (before after : TablesByPosition) (rows : List RowId) (time : ℕ) : Type 0 where

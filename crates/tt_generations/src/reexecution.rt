@@ -4,7 +4,7 @@ ghost use Rattle.std.specs.List.{All};
 ghost use Rattle.tt_values.specs.Check.{HasKey};
 ghost use Rattle.tt_values.specs.Limits.{max_writes};
 ghost use Rattle.tt_values.specs.Action.{action_of, whole_of};
-ghost use Rattle.tt_generations.specs.Rows.{HasFewRows, SplitsRows};
+ghost use Rattle.tt_generations.specs.Rows.{HasFewRows, AreSplit, SplitsRows};
 ghost use Rattle.tt_generations.specs.ActionRun.{most_rows};
 ghost use Rattle.tt_generations.specs.Effect.{matched_rows};
 ghost use Rattle.tt_generations.specs.Replies.{replies_if};
@@ -12,6 +12,7 @@ ghost use Rattle.tt_generations.specs.Reexecution.{reexecution_on, ReexecutesWri
 
 use crate::action_run::may_give_up;
 use crate::effect::{add_rows, effect_of, matched_rows, reply_to};
+use crate::row_ids::are_same;
 use crate::rows::Rows;
 use crate::slot::KeptSlot;
 use std::alloc::{AllocError, Global};
@@ -165,6 +166,7 @@ impl Reexecution {
     ) -> Result<bool, AllocError>
         requires keyed { HasKey write.now }
         requires few { HasFewRows rows.old Side.Next time (most_rows + max_writes) }
+        requires split { AreSplit rows.old self.old.reexecuted.items }
         ensures effect { IfOk result (λ has_one.
             TellsNextEffect time write.now (reexecution_on rows.old self.old) has_one) }
         ensures writes { OnOk result (ReexecutesWrites time (write.now ∷ [])
@@ -190,7 +192,8 @@ impl Reexecution {
         effect: &[(i64, Option<Row>)],
         time: u64,
     ) -> Result<(), AllocError>
-        requires { HasKey write.now }
+        requires keyed { HasKey write.now }
+        requires split { AreSplit rows.old self.old.reexecuted.items }
         ensures { OnOk result (SplitsForRun
             (reexecution_on rows.old self.old) (reexecution_on rows.new self.new)
             (matched_rows write.now effect.now) time) }
@@ -200,7 +203,8 @@ impl Reexecution {
         Ok(())
     }
 
-    /// Rolls back further rows.
+    /// Rolls back further rows. A slot of one write mostly matches the rows that it touched before,
+    /// which are split already.
     fn split_rows(
         &mut self,
         catalog: &Catalog,
@@ -208,12 +212,16 @@ impl Reexecution {
         further: &[RowId],
         time: u64,
     ) -> Result<(), AllocError>
+        requires { AreSplit rows.old self.old.reexecuted.items }
         ensures { OnOk result (SplitsForRun
             (reexecution_on rows.old self.old) (reexecution_on rows.new self.new)
             further.now time) }
     {
+        let are_split = are_same(further, &self.reexecuted);
         self.reexecuted.extend_from_slice(further)?;
-        rows.split_rows(catalog, further, time)?;
+        if !are_split {
+            rows.split_rows(catalog, further, time)?;
+        }
         Ok(())
     }
 

@@ -1,7 +1,7 @@
 //! A repair under way: its edits, how far it is, what is dirty, and the slots of the next
 //! generation.
 ghost use Rattle.std.specs.Prelude.{◌≡◌, ◌<◌, ◌≤◌, ◌+◌, [], ◌∷◌, ◌++◌, length, slice_set, not, IsTrue, IsFalse, IfOk, OnOk};
-ghost use Rattle.std.specs.List.{All, list_all, zip};
+ghost use Rattle.std.specs.List.{All};
 ghost use Rattle.std.specs.Option.{option_copied};
 ghost use Rattle.tt_parts.specs.Dirty.{SameMembers, nothing_dirty};
 ghost use Rattle.tt_repair_laws.specs.Edits.{slot_number};
@@ -9,11 +9,12 @@ ghost use Rattle.tt_generations.specs.Limits.{max_slots};
 ghost use Rattle.tt_generations.specs.KeptSlots.{IsAccepted};
 ghost use Rattle.tt_generations.specs.EditsByNumber.{HasEdits};
 ghost use Rattle.tt_generations.specs.Reexecution.{ShowsFewBefore};
-ghost use Rattle.tt_generations.specs.Repair.{HasKeysIfAny, is_kept_affected, is_kept_due, undue_front, next_replacement, next_action, as_action, is_same_row, MayRepeat, with_rows_shown, HasDoneDueSlot, ReexecutesSlot, DoesSlot};
+ghost use Rattle.tt_generations.specs.Repair.{HasKeysIfAny, is_kept_affected, is_kept_due, undue_front, next_replacement, next_action, as_action, MayRepeat, with_rows_shown, HasDoneDueSlot, ReexecutesSlot, DoesSlot};
 
 use crate::affected::is_affected;
 use crate::edits::{Replacement, replacements_of};
 use crate::reexecution::Reexecution;
+use crate::row_ids::are_same;
 use crate::rows::Rows;
 use crate::slot::KeptSlot;
 use std::alloc::{AllocError, Global};
@@ -340,19 +341,6 @@ fn without_repeat(rows: &[RowId]) -> &[RowId]
 {
     let (first, second) = rows.split_at(rows.len() / 2);
     if are_same(first, second) { first } else { rows }
-}
-
-/// Whether two lists of rows are the same.
-fn are_same(first: &[RowId], second: &[RowId]) -> bool
-    ensures { IsTrue result → first.now ≡ second.now }
-{
-    first.len() == second.len() && are_same_pairwise(first, second)
-}
-
-fn are_same_pairwise(first: &[RowId], second: &[RowId]) -> bool
-    ensures { result ≡ list_all (λ p. is_same_row p.0 p.1) (zip first.now second.now) }
-{
-    first.iter().zip(second).all(|(one, other)| one.table == other.table && one.key == other.key)
 }
 
 /// Makes each of the rows dirty, one after another.

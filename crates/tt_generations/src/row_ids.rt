@@ -1,4 +1,6 @@
-ghost use Rattle.std.specs.Prelude.{◌≡◌, IfOk};
+ghost use Rattle.std.specs.Prelude.{◌≡◌, IsTrue, IfOk};
+ghost use Rattle.std.specs.List.{list_all, zip};
+ghost use Rattle.tt_generations.specs.RowIds.{is_same_row};
 
 use std::alloc::AllocError;
 use std::marker::Model;
@@ -59,4 +61,17 @@ impl RowIds {
         };
         Ok(RowIds { rows })
     }
+}
+
+/// Whether two lists of rows are the same.
+pub(crate) fn are_same(first: &[RowId], second: &[RowId]) -> bool
+    ensures { IsTrue result → first.now ≡ second.now }
+{
+    first.len() == second.len() && are_same_pairwise(first, second)
+}
+
+fn are_same_pairwise(first: &[RowId], second: &[RowId]) -> bool
+    ensures { result ≡ list_all (λ p. is_same_row p.0 p.1) (zip first.now second.now) }
+{
+    first.iter().zip(second).all(|(one, other)| one.table == other.table && one.key == other.key)
 }

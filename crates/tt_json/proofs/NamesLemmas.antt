@@ -1,12 +1,11 @@
 -- The names of an object stand in order, so that the first unknown one is the least.
-use Rattle.std.proofs.Common.{◌≡◌, ◌<◌, ◌==◌, ◌&&◌, nat_eq, length, slice_index, arith, ℕ, Bool, true, false, cond, not, List, [], ◌∷◌, map, filter, find, Option, Some, None, option_map, String, Global, string_bytes, refl, sym, ap, ◌∙◌}
-use Rattle.std.specs.Str.{bytes_eq}
+use Rattle.std.proofs.Common.{◌≡◌, ℕ, Bool, true, false, cond, not, List, [], ◌∷◌, map, filter, find, Option, Some, None, option_map, String, Global, string_bytes, refl, sym, ap, ◌∙◌}
 use Rattle.std.specs.List.{AllByRecursion}
 use Rattle.std.specs.List.Sorted.{IsStrictlySortedBy}
 use Rattle.std.specs.Ordering.{nat_cmp, match_ordering}
 use Rattle.std.specs.declared.cmp.Ordering.{Ordering}
 use Rattle.std.specs.declared.cmp.Ordering.TheVariants.{Less}
-use Rattle.std.specs.Cmp.Lexicographic.{slice_cmp, pointwise}
+use Rattle.std.specs.Cmp.Lexicographic.{slice_cmp}
 use Rattle.std.specs.String.{string_cmp}
 use Rattle.std.specs.Map.{keys_of}
 use Rattle.std.proofs.lemmas.List.Kept.{IsStrictlySortedBy-filter}
@@ -69,9 +68,3 @@ pub first_is_least : (is_known : List ℕ → Bool) (es : List (String Global ×
     → option_map string_bytes name ≡ least (filter (λ n. not (is_known n)) (names_of object))
 first_is_least is_known es object name h e f =
     ap (option_map string_bytes) f ∙ sym (least-filter (λ n. not (is_known n)) es h) ∙ ap (λ o. least (filter (λ n. not (is_known n)) (names_of o))) e
-
--- names that begin with two bytes are two
-pub apart : (name wanted : List ℕ) → 0 < length name → 0 < length wanted → (slice_index name 0 == slice_index wanted 0) ≡ false → bytes_eq name wanted ≡ false
-apart [] wanted some other differ = absurd (omega (arith, some))
-apart (x ∷ xs) [] some other differ = absurd (omega (arith, other))
-apart (x ∷ xs) (y ∷ ys) some other differ = ap (λ b. b && pointwise nat_eq xs ys) differ

@@ -1,27 +1,32 @@
 //! Names of members.
-ghost use Rattle.std.specs.Prelude.{◌≡◌, false, [], ◌∷◌, ◌++◌, map, IsTrue};
+ghost use Rattle.std.specs.Prelude.{◌≡◌, [], ◌∷◌, ◌++◌, map};
 ghost use Rattle.std.specs.List.{list_any};
 ghost use Rattle.std.specs.Str.{bytes_eq};
 ghost use Rattle.tt_json.specs.Value.{is_among};
 
-/// Whether a name is this one. Most that differ do so in their first byte, which is cheap to see.
+/// Whether a name is this one.
 #[inline(always)]
 pub(crate) fn is_name(name: &str, wanted: &str) -> bool
     ensures { result ≡ bytes_eq name.now wanted.now }
 {
-    if begin_apart(name.as_bytes(), wanted.as_bytes()) {
-        return false;
-    }
-    name == wanted
+    are_same(name.as_bytes(), wanted.as_bytes())
 }
 
-/// Whether both have a first byte, and not the same.
+/// Whether both are the same bytes. Names are short, and most that differ do so in their length or
+/// in their first byte, so they are compared byte by byte.
 #[inline(always)]
-#[tactic(auto, using(crate::proofs::NamesLemmas::apart))]
-fn begin_apart(name: &[u8], wanted: &[u8]) -> bool
-    ensures { IsTrue result → bytes_eq name.now wanted.now ≡ false }
+fn are_same(name: &[u8], wanted: &[u8]) -> bool
+    ensures { result ≡ bytes_eq name.now wanted.now }
 {
-    !name.is_empty() && !wanted.is_empty() && name[0] != wanted[0]
+    if name.len() != wanted.len() {
+        return false;
+    }
+    for at in 0..name.len() {
+        if name[at] != wanted[at] {
+            return false;
+        }
+    }
+    true
 }
 
 /// Whether a name is one of the known ones.

@@ -62,6 +62,10 @@ impl<T: Drop> Few<T> {
     pub fn push(&mut self, item: T) -> Result<(), AllocError>
         ensures { OnOk result (self.new ≡ self.old ++ item ∷ []) }
     {
+        if let NoneOneMany::Many(items) = &mut self.items {
+            items.push(item)?;
+            return Ok(());
+        }
         let alloc = self.alloc;
         self.items = match mem::replace(&mut self.items, NoneOneMany::None) {
             NoneOneMany::None => NoneOneMany::One([item]),

@@ -1,4 +1,5 @@
 ghost use Rattle.std.specs.Prelude.{◌≡◌, ◌==◌, ◌≤◌, length, IfOk};
+ghost use Rattle.std.specs.Str.{bytes_eq};
 ghost use Rattle.std.specs.String.{string_bytes};
 
 use std::alloc::{AllocError, Global};
@@ -73,6 +74,12 @@ impl ShortText {
         ensures { result.now ≡ self.now }
     {
         unsafe { str::from_utf8_unchecked(&self.bytes[..self.len as usize]) }
+    }
+
+    fn as_bytes(&self) -> &[u8]
+        ensures { result.now ≡ self.now }
+    {
+        &self.bytes[..self.len as usize]
     }
 
     fn copy(&self) -> ShortText
@@ -151,7 +158,12 @@ impl PartialEq for Text {
     ghost laws = { cmp.partial_equiv_from_equiv nat_list_eq_equiv };
 
     fn eq(&self, other: &Self) -> bool {
-        self.as_str() == other.as_str()
+        match (&self.text, &other.text) {
+            (ShortOrLong::Short(text), ShortOrLong::Short(other)) => {
+                are_same(text.as_bytes(), other.as_bytes())
+            }
+            _ => self.as_str() == other.as_str(),
+        }
     }
 }
 
@@ -168,4 +180,20 @@ impl Clone for Text {
         };
         Ok(Text { text })
     }
+}
+
+/// Whether both are the same bytes. A short text mostly has few, so that they are compared faster
+/// one by one than many at a time.
+fn are_same(bytes: &[u8], others: &[u8]) -> bool
+    ensures { result ≡ bytes_eq bytes.now others.now }
+{
+    if bytes.len() != others.len() {
+        return false;
+    }
+    for at in 0..bytes.len() {
+        if bytes[at] != others[at] {
+            return false;
+        }
+    }
+    true
 }

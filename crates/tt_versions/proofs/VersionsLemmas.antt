@@ -215,3 +215,21 @@ StartsRise-cut (Err e) t old new ok err rise = subst StartsRise (sym (append-nil
 pub StartsRise-added : {A E : Type 0} (r : Result A E) (old all new : List Version) → OnOk r (new ≡ all) → OnErr r (new ≡ old) → StartsRise all → StartsRise old → StartsRise (new ++ [])
 StartsRise-added (Ok x) old all new ok err rise rise_old = subst StartsRise (sym (append-nil new ∙ ok)) rise
 StartsRise-added (Err e) old all new ok err rise rise_old = subst StartsRise (sym (append-nil new ∙ err)) rise_old
+
+-- the starts rise where the last version starts later
+StartsRise-later : (vs : List Version) (v w : Version) → StartsRise (vs ++ v ∷ []) → v.start ≤ w.start → StartsRise (vs ++ w ∷ [])
+StartsRise-later [] v w rise later = (tt, tt)
+StartsRise-later (x ∷ xs) v w rise later =
+    (AllStartFrom-push x.start xs w (AllStartFrom-left x.start xs (v ∷ []) rise.0) (omega (arith, AllStartFrom-last x.start xs v rise.0, later)), StartsRise-later xs v w rise.1 later)
+
+-- and where the newest version was put behind the older ones, or these stayed, and a later one took its place
+pub StartsRise-newer : {A E : Type 0} (r : Result A E) (old new : List Version) (newest newer : Version) → OnOk r (new ≡ old ++ newest ∷ []) → OnErr r (new ≡ old) → StartsRise (old ++ newest ∷ []) → newest.start < newer.start → StartsRise (new ++ newer ∷ [])
+StartsRise-newer (Ok x) old new newest newer ok err rise later =
+    subst (λ vs. StartsRise (vs ++ newer ∷ [])) (sym ok) (StartsRise-push newer.start (old ++ newest ∷ []) (old ++ newest ∷ []) newer (sym (started_before-whole old newest newer.start rise later)) refl rise)
+StartsRise-newer (Err e) old new newest newer ok err rise later =
+    subst (λ vs. StartsRise (vs ++ newer ∷ [])) (sym err) (StartsRise-later old newest newer rise (omega (arith, later)))
+
+-- then it was written
+pub written_behind : {A E : Type 0} (r : Result A E) (all new : List Version) (row : Option Row) (t : ℕ) → OnOk r (new ≡ all) → started_before t all ≡ all → OnOk r (new ++ record { start = t; row = row } ∷ [] ≡ with_write row t all)
+written_behind (Ok x) all new row t ok whole = ap (λ vs. vs ++ record { start = t; row = row } ∷ []) (ok ∙ sym whole)
+written_behind (Err e) all new row t ok whole = tt

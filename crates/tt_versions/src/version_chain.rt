@@ -7,6 +7,7 @@ use crate::version::Version;
 use crate::version_log::VersionLog;
 use std::alloc::{AllocError, Global};
 use std::marker::Model;
+use std::mem;
 use std::sync::Arc;
 use tt_pages::Kept;
 use tt_values::Row;
@@ -62,6 +63,20 @@ impl VersionChain {
 
     /// Writes that row, or none, from the time on. Without memory the chain may be any.
     pub(crate) fn write(&mut self, row: Option<Row>, time: u64) -> Result<(), AllocError>
+        ensures { OnOk result (self.new ≡ with_write row time self.old) }
+    {
+        if let Some(newest) = &mut self.newest {
+            if newest.start < time {
+                let before = mem::replace(newest, Version { start: time, row });
+                return add_version(self.alloc, &mut self.older, Some(before));
+            }
+        }
+        self.write_over(row, time)
+    }
+
+    /// Writes that row, or none, in place of the versions from the time on. Without memory the
+    /// chain may be any.
+    fn write_over(&mut self, row: Option<Row>, time: u64) -> Result<(), AllocError>
         ensures { OnOk result (self.new ≡ with_write row time self.old) }
     {
         self.drop_writes_from(time)?;

@@ -5,6 +5,7 @@ ghost use Rattle.tt_pages.specs.LogSlice.{IsSlice};
 use crate::kept::Kept;
 use std::alloc::{AllocError, Global};
 use std::marker::Model;
+use std::mem;
 
 /// The number of items in a full page.
 pub(super) const PAGE_SIZE: usize = 16;
@@ -62,11 +63,12 @@ impl<T: Drop> Page<T> {
         Ok(())
     }
 
-    pub(super) fn set(&mut self, position: usize, item: T)
+    /// Puts an item in the place of another one, which is left in `item`.
+    pub(super) fn swap(&mut self, position: usize, item: &mut T)
         requires { position < length self.old }
-        ensures { self.new ≡ slice_set self.old position item }
+        ensures { self.new ≡ slice_set self.old position item.old }
     {
-        self.items[position] = item;
+        mem::swap(&mut self.items[position], item);
     }
 }
 

@@ -147,11 +147,11 @@ pub(super) fn add_to_tail<T: Kept + Drop>(
 pub(super) fn replace_in_tree<T: Kept + Drop>(
     tree: &mut Option<Tree<T>>,
     position: usize,
-    item: T,
+    item: &mut T,
 ) -> Result<(), AllocError>
     requires { position < length (tree_items tree.old) }
     ensures ok { OnOk result
-        (tree_items tree.new ≡ slice_set (tree_items tree.old) position item) }
+        (tree_items tree.new ≡ slice_set (tree_items tree.old) position item.old) }
     ensures err { OnErr result (tree_items tree.new ≡ tree_items tree.old) }
 {
     match tree {
@@ -163,11 +163,11 @@ pub(super) fn replace_in_tree<T: Kept + Drop>(
 pub(super) fn replace_in_tail<T: Kept + Drop>(
     tail: &mut Option<Arc<Page<T>>>,
     position: usize,
-    item: T,
+    item: &mut T,
 ) -> Result<(), AllocError>
     requires { position < length (tail_items tail.old) }
     ensures ok { OnOk result
-        (tail_items tail.new ≡ slice_set (tail_items tail.old) position item) }
+        (tail_items tail.new ≡ slice_set (tail_items tail.old) position item.old) }
     ensures err { OnErr result (tail_items tail.new ≡ tail_items tail.old) }
 {
     match tail {

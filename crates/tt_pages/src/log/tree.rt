@@ -179,11 +179,12 @@ impl<T: Kept + Drop> Tree<T> {
         }
     }
 
-    /// Replaces the item at a position. Nodes and pages that are shared are copied.
+    /// Replaces the item at a position. Nodes and pages that are shared are copied. Nothing is
+    /// promised of what is left in `item`.
     #[cycle(replacing)]
-    pub(super) fn replace(&mut self, position: usize, item: T) -> Result<(), AllocError>
+    pub(super) fn replace(&mut self, position: usize, item: &mut T) -> Result<(), AllocError>
         requires { position < length self.old.0 }
-        ensures ok { OnOk result (self.new.0 ≡ slice_set self.old.0 position item) }
+        ensures ok { OnOk result (self.new.0 ≡ slice_set self.old.0 position item.old) }
         ensures depth { self.new.1 ≡ self.old.1 }
         ensures err { OnErr result (self.new ≡ self.old) }
     {
@@ -261,12 +262,12 @@ fn add_fork<T: Drop>(
 fn replace_in_node<T: Kept + Drop>(
     node: &mut Node<T>,
     position: usize,
-    item: T,
+    item: &mut T,
 ) -> Result<(), AllocError>
     requires in_range { position < length (node_items node.old) }
     requires filled { IsFilled node.old }
     ensures ok { OnOk result
-        (node_items node.new ≡ slice_set (node_items node.old) position item) }
+        (node_items node.new ≡ slice_set (node_items node.old) position item.old) }
     ensures err { OnErr result (node_items node.new ≡ node_items node.old) }
     ensures depth { node_depth node.new ≡ node_depth node.old }
     ensures filled { IsFilled node.new }
@@ -282,11 +283,11 @@ fn replace_in_node<T: Kept + Drop>(
 fn replace_in_branches<T: Kept + Drop>(
     branches: &mut Arc<(Tree<T>, Tree<T>)>,
     position: usize,
-    item: T,
+    item: &mut T,
 ) -> Result<(), AllocError>
     requires { position < length (branch_items branches.old) }
     ensures ok { OnOk result (
-        branch_items branches.new ≡ slice_set (branch_items branches.old) position item) }
+        branch_items branches.new ≡ slice_set (branch_items branches.old) position item.old) }
     ensures err { OnErr result (branch_items branches.new ≡ branch_items branches.old) }
     ensures left { length branches.new.value.0.0 ≡ length branches.old.value.0.0 }
     ensures right { length branches.new.value.1.0 ≡ length branches.old.value.1.0 }
@@ -305,13 +306,13 @@ fn replace_in_branches<T: Kept + Drop>(
 pub(super) fn replace_in_page<T: Kept + Drop>(
     page: &mut Arc<Page<T>>,
     position: usize,
-    item: T,
+    item: &mut T,
 ) -> Result<(), AllocError>
     requires { position < length page.old.value }
-    ensures ok { OnOk result (page.new.value ≡ slice_set page.old.value position item) }
+    ensures ok { OnOk result (page.new.value ≡ slice_set page.old.value position item.old) }
     ensures err { OnErr result (page.new.value ≡ page.old.value) }
 {
-    Arc::make_mut(page)?.set(position, item);
+    Arc::make_mut(page)?.swap(position, item);
     Ok(())
 }
 

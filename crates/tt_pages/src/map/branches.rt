@@ -8,13 +8,16 @@ use super::tree::Branch;
 use std::alloc::{AllocError, Global};
 
 // The place of the branch that the key belongs to. The search begins at the end, where keys that
-// are inserted in ascending order belong.
+// are inserted in ascending order belong, and passes over four branches at a time as long as it can.
 pub(super) fn branch_for<V>(branches: &[Branch<V>], key: &i64) -> usize
     requires { AreBranches (branch_depth branches.now) branches.now }
     ensures within { result < length branches.now }
     ensures is_for { IsBranchFor key.now branches.now result }
 {
     let mut at = branches.len() - 1;
+    while at >= 4 && branches[at - 3].is_above(key) {
+        at -= 4;
+    }
     while at > 0 && branches[at].is_above(key) {
         at -= 1;
     }

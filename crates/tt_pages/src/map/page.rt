@@ -19,12 +19,16 @@ pub(super) const MIN_WIDTH: usize = 4;
 pub(super) type Page<V> = Vec<(i64, V)>;
 
 // The number of entries before the key's place, which are those with smaller keys. The search
-// begins at the end, where keys that are inserted in ascending order belong.
+// begins at the end, where keys that are inserted in ascending order belong, and passes over four
+// entries at a time as long as it can.
 pub(super) fn rank_in<V>(page: &[(i64, V)], key: &i64) -> usize
     requires { IsTrue (is_sorted int_cmp page.now) }
     ensures { result ≡ rank_of key.now page.now }
 {
     let mut rank = page.len();
+    while rank >= 4 && !key.cmp(&page[rank - 4].0).is_gt() {
+        rank -= 4;
+    }
     while rank > 0 && !key.cmp(&page[rank - 1].0).is_gt() {
         rank -= 1;
     }
