@@ -1,97 +1,156 @@
 #!/usr/bin/env python3
-"""Prints docs/CRATES.md: the crates, from crates.txt, the first lines of their root files, their
-wrong bodies, and the minutes of docs/GATE.md.
+"""Writes the tables of crates into the pages that have them, and checks the drawing of the crates.
 
-  docs/crates.py >docs/CRATES.md
+docs/ARCHITECTURE.md says what each crate is for, by the title of its README, and what it stands on,
+by crates.txt. docs/BUILDING.md says how long its proof takes, and what a change in it costs. Each
+table stands between two comments of its page.
+
+  docs/crates.py            rewrites both tables
+  docs/crates.py --check    prints what isn't as it should be, with status 1 if anything isn't: a
+                            table, or docs/parts.svg, which shows the libraries and the program,
+                            each above all that it stands on
 """
-import glob
-import os
 import re
+import sys
+from pathlib import Path
 
-ROOT = os.path.dirname(os.path.dirname(os.path.realpath(__file__)))
-NOT_MEASURED = 3.0  # minutes that are taken for the proof of a crate that wasn't measured
+ROOT = Path(__file__).resolve().parent.parent
+DRAWING = 'docs/parts.svg'
+BEGIN = '<!-- docs/crates.py writes this table -->'
+END = '<!-- end of the table -->'
+NOT_LIBRARIES = ('_tests', '_example', '_bench')
+NOT_MEASURED = 3.0  # minutes that are taken for a crate that wasn't measured
 
-HEAD = """# Crates
-
-`docs/crates.py` prints this page from `crates.txt`, the first lines of the crates and the table \
-of `GATE.md`, and `./test` compares the two. `ARCHITECTURE.md` says what the libraries promise \
-their users. A crate depends only on crates listed before it.
-
-{count}
-
-A change in a crate proves it anew, and all crates above it: those that depend on it, also \
-through others. The last column has the minutes of one core for these proofs and their tests, \
-without wrong bodies, by `GATE.md`; a proof that wasn't measured counts as {not_measured:.0f}.
-
-| Crate | What it is | Depends on | Crates above it | Wrong bodies | Minutes of a change |
-|---|---|---|---|---|---|"""
-
-NUMBERS = ['no', 'one', 'two', 'three', 'four', 'five', 'six', 'seven', 'eight', 'nine', 'ten']
-KINDS = [('_tests', 'hold only tests', 'holds only tests'),
-         ('_example', 'are examples', 'is an example'),
-         ('_bench', 'are benchmarks', 'is a benchmark')]
-
-
-def text_of(path):
-    if not os.path.exists(f'{ROOT}/{path}'):
-        return ''
-    with open(f'{ROOT}/{path}') as file:
-        return file.read()
+# Minutes of one core: the proof of a crate, and of its tests with their run.
+MINUTES: dict[str, tuple[float, float]] = {
+    'tt_streams': (0.8, 0), 'tt_log': (3.2, 0), 'tt_pages': (7.4, 0), 'tt_values': (6.3, 0),
+    'tt_versions': (5.3, 0), 'tt_parts': (3.2, 0), 'tt_repair_laws': (0.7, 0),
+    'tt_generations': (8.3, 0), 'tt_db': (4.8, 0), 'tt_records': (1.7, 0), 'tt_store': (7.5, 0),
+    'tt_json': (2.2, 0), 'tt_grammar': (6.9, 0), 'tt_document': (2.5, 0), 'tt_repair': (1.3, 0),
+    'tt_workload': (5.0, 0), 'tt_answers': (2.5, 0), 'tt_requests': (2.5, 0),
+    'tt_session': (12.0, 0), 'tt_workers': (8.6, 0), 'tt_cli': (6.1, 0),
+    'tt_base_tests': (0.1, 7.8), 'tt_db_tests': (0.1, 9.8), 'tt_memory_tests': (0.1, 6.9),
+    'tt_store_tests': (0.1, 15.1), 'tt_repair_tests': (0.1, 6.3), 'tt_workload_tests': (0.2, 6.1),
+    'tt_session_tests': (0.1, 5.5), 'tt_log_tests': (0.1, 3.5), 'tt_workers_tests': (0.1, 8.2),
+    'tt_program_memory_tests': (0.1, 13.5), 'tt_service_example': (6.5, 0), 'tt_db_bench': (1.8, 0),
+    'tt_store_bench': (5.3, 0),
+}
 
 
-def libraries():
-    """The crates in their order, each with the libraries that its line names."""
+def text_of(path: str) -> str:
+    """The text of a file of the repository."""
+    return (ROOT / path).read_text(encoding='utf-8')
+
+
+def crates() -> dict[str, list[str]]:
+    """The crates in their order, lowest first, each with those of this repository that its line
+    names."""
     lines = re.findall(r'^([a-z]\w*)[^:\n]*:(.*)$', text_of('crates.txt'), re.MULTILINE)
-    return {crate: names.split() for crate, names in lines}
+    names = {crate for crate, _ in lines}
+    return {crate: [name for name in libraries.split() if name in names]
+            for crate, libraries in lines}
 
 
-def subject(crate):
-    """The first sentence of what the root file says of the crate."""
-    for root in ('lib', 'main'):
-        found = re.match(r'(?://! .*\n)+', text_of(f'crates/{crate}/src/{root}.rt'))
-        if found:
-            words = re.sub(r'^//! ', '', found[0], flags=re.MULTILINE).split()
-            return re.split(r'(?<=\.) ', ' '.join(words))[0].removesuffix('.').replace('|', '\\|')
-    return ''
-
-
-def minutes():
-    """The minutes of each crate's proof and tests that were measured, by the table of GATE.md."""
-    row = re.compile(r'^\| `(\w+)` \| *([\d.]+) *\| *([\d.]*) *\|', re.MULTILINE)
-    return {crate: float(proof) + float(tests or 0)
-            for crate, proof, tests in row.findall(text_of('docs/GATE.md'))}
-
-
-def above(crate, uses):
-    """The crates that depend on this one, also through others."""
-    found = []
-    for other, names in uses.items():
-        if crate in names or any(it in names for it in found):
-            found.append(other)
+def reached(crate: str, uses: dict[str, list[str]]) -> set[str]:
+    """All crates that a crate stands on, also through others."""
+    found: set[str] = set()
+    for name in uses[crate]:
+        found |= {name} | reached(name, uses)
     return found
 
 
-def count_of(crates):
-    """How many crates there are, and of which kinds."""
-    told = [f'There are {len(crates)} crates']
-    for ending, are, is_one in KINDS:
-        number = sum(crate.endswith(ending) for crate in crates)
-        word = NUMBERS[number] if number < len(NUMBERS) else number
-        told.append(f'{word} {is_one if number == 1 else are}')
-    return f'{told[0]}: {", ".join(told[1:-1])}, and {told[-1]}.'
+def is_of_the_program(crate: str) -> bool:
+    """Whether a crate is the program or one of its libraries."""
+    return not crate.endswith(NOT_LIBRARIES)
 
 
-def main():
-    uses, measured = libraries(), minutes()
-    print(HEAD.format(count=count_of(uses), not_measured=NOT_MEASURED))
+def subject(crate: str) -> str:
+    """What a crate is for, as the title of its README says it."""
+    page = f'crates/{crate}/README.md'
+    found = re.match(rf'# `{crate}`: (.+)\n', text_of(page))
+    if not found:
+        raise SystemExit(f"docs/crates.py: {page} should begin with '# `{crate}`: ..'")
+    return found[1].replace('|', '\\|')
+
+
+def row(*cells: object) -> str:
+    """A row of a table."""
+    return re.sub(r' +', ' ', f'| {" | ".join(map(str, cells))} |')
+
+
+def table_of_crates(uses: dict[str, list[str]]) -> str:
+    """What each crate is for, and which crates it stands on, without those that these stand on."""
+    rows = ['| Crate | What it is for | Stands on |', '|---|---|---|']
     for crate, names in uses.items():
-        higher = above(crate, uses)
-        cost = sum(measured.get(it, NOT_MEASURED) for it in [crate, *higher])
-        edits = len(glob.glob(f'{ROOT}/crates/{crate}/must-fail/*.edit')) or ''
-        listed = ', '.join(f'`{name}`' for name in names)
-        cells = f'`{crate}`', subject(crate), listed, len(higher), edits, f'{cost:.0f}'
-        print(f'| {" | ".join(map(str, cells))} |')
+        through = {name for other in names for name in reached(other, uses)}
+        listed = ', '.join(f'`{name}`' for name in names if name not in through)
+        rows.append(row(f'`{crate}`', subject(crate), listed))
+    return '\n'.join(rows)
+
+
+def minutes_of(crate: str) -> float:
+    """The minutes of one core for the proof of a crate and for its tests."""
+    return sum(MINUTES.get(crate, (NOT_MEASURED, 0)))
+
+
+def table_of_minutes(uses: dict[str, list[str]]) -> str:
+    """How long the proof of each crate takes, and what a change in it costs."""
+    rows = ['| Crate | Proof | Its tests | Wrong bodies | Crates above it | A change |',
+            '|---|---|---|---|---|---|']
+    for crate in uses:
+        proof, tests = MINUTES.get(crate, ('', 0))
+        edits = len(list((ROOT / 'crates' / crate).glob('must-fail/*.edit'))) or ''
+        above = [other for other in uses if crate in reached(other, uses)]
+        cost = sum(minutes_of(name) for name in [crate, *above])
+        rows.append(row(f'`{crate}`', proof, tests or '', edits, len(above), f'{cost:.0f}'))
+    in_all = sum(minutes_of(crate) for crate in uses)
+    rows.append(row('all', '', '', '', '', f'{in_all:.0f}'))
+    return '\n'.join(rows)
+
+
+def with_table(page: str, table: str) -> tuple[str, str]:
+    """The text of a page as it is, and as it is with this table between its comments."""
+    text = text_of(page)
+    before, begin, rest = text.partition(BEGIN)
+    _, end, after = rest.partition(END)
+    if not begin or not end:
+        raise SystemExit(f'docs/crates.py: {page} should have {BEGIN} and {END}')
+    return text, f'{before}{begin}\n\n{table}\n\n{end}{after}'
+
+
+def faults_of_drawing(uses: dict[str, list[str]]) -> list[str]:
+    """What isn't right in the drawing: its crates, or their heights."""
+    heights = {name: int(height) for height, name
+               in re.findall(r'<text x="\d+" y="(\d+)">(tt_\w+)</text>', text_of(DRAWING))}
+    wanted = set(filter(is_of_the_program, uses))
+    faults = [f'{DRAWING}: {name} should be drawn' for name in sorted(wanted - heights.keys())]
+    faults += [f'{DRAWING}: {name} should not be drawn' for name in sorted(heights.keys() - wanted)]
+    faults += [f'{DRAWING}: {crate} should stand above {name}'
+               for crate in sorted(heights.keys() & wanted) for name in uses[crate]
+               if heights[crate] >= heights.get(name, heights[crate] + 1)]
+    return faults
+
+
+def main() -> int:
+    words = sys.argv[1:]
+    if words not in ([], ['--check']):
+        print(__doc__, file=sys.stderr)
+        return 2
+    uses = crates()
+    faults = faults_of_drawing(uses)
+    for page, table in (('docs/ARCHITECTURE.md', table_of_crates(uses)),
+                        ('docs/BUILDING.md', table_of_minutes(uses))):
+        text, wanted = with_table(page, table)
+        if text == wanted:
+            continue
+        if words:
+            faults.append(f'{page}: its table should be what docs/crates.py writes')
+        else:
+            (ROOT / page).write_text(wanted, encoding='utf-8')
+    for fault in faults:
+        print(fault)
+    return 1 if faults else 0
 
 
 if __name__ == '__main__':
-    main()
+    sys.exit(main())

@@ -1,10 +1,12 @@
 #!/usr/bin/env python3
-"""Prints docs/DEFINITIONS.md: the definitions of crates/*/specs with the comments above them.
+"""Prints a long page of all definitions of crates/*/specs, with the comments above them. No copy of it
+is kept; docs/SPECIFICATION.md is the short page of those that the headline promise rests on.
 
-  docs/definitions.py >docs/DEFINITIONS.md
+  docs/definitions.py > /tmp/definitions.md
 """
 import os
 import re
+from typing import Iterable
 
 ROOT = os.path.dirname(os.path.dirname(os.path.realpath(__file__)))
 DEFINITION = re.compile(r'(?:pub (?:record|data)|\w+ pub) (\S+)')
@@ -14,9 +16,9 @@ HEAD = """# Definitions
 
 Contracts speak of plain lists, numbers and functions. Their definitions are short enough to read, \
 and they compute. This page lists them in words, crate by crate, lowest first, with links to the \
-files that state them. The words are the comments of these files: `docs/definitions.py` prints \
-this page from them, and `./test` compares the two. A definition without a comment of its own is \
-named below its table.
+files that state them. The words are the comments of these files, from which `docs/definitions.py` \
+prints this page. A definition without a comment of its own is named below its table. \
+`docs/SPECIFICATION.md` has the text of those that the headline promise rests on.
 
 One rule of counting holds everywhere: slots, times and places of the history count from 1, and \
 time 0 is the time before the first write; positions of tables, columns and items count from 0.
@@ -150,18 +152,18 @@ PARTS = [
          'What the program has done when it ends'),
         ('tt_grammar', 'Conditions', 'has_comparisons parts_of_condition condition_on condition',
          'A condition, as a version reads it'),
-        ('tt_grammar', 'SessionVersion', 'grammar_of newest_of_sessions',
-         'By which version of the grammar the requests of a session are read'),
         ('tt_grammar', 'NewestVersion', 'ReadsTheSame NewestVersionReadsTheSame',
          'What has no fault in a version is read as the same by the newest one'),
         ('tt_requests', 'NewestVersion', 'RequestsReadTheSame', 'The same of the requests of a session'),
-        ('tt_session', 'Restoring', 'as_newest repeated repeated_all',
-         'A line of a log is read as of the newest version, whatever the version of the session'),
+        ('tt_requests', 'SessionLine', 'is_opening session_line_of RequestsAreNoOpenings',
+         'A line of an open session is an opening if it has a version, and else a request'),
+        ('tt_session', 'Restoring', 'repeated repeated_all',
+         'How the lines of a log are carried out again'),
     ]),
 ]
 
 
-def lines_of(path):
+def lines_of(path: str) -> list[str]:
     """The lines of a file of the repository; none where there is no such file."""
     if not os.path.exists(f'{ROOT}/{path}'):
         return []
@@ -169,19 +171,19 @@ def lines_of(path):
         return file.read().split('\n')
 
 
-def crates():
+def crates() -> list[str]:
     """The crates that have definitions, lowest first."""
     found = [re.match(r'[a-z]\w*', line) for line in lines_of('crates.txt')]
     return [it[0] for it in found if it and os.path.exists(f'{ROOT}/crates/{it[0]}/specs/Lib.antt')]
 
 
-def sentences(words):
+def sentences(words: Iterable[str]) -> str:
     """Words of a comment as sentences: with a capital and a full stop."""
-    words = ' '.join(words)
-    return words[:1].upper() + words[1:] + ('' if words.endswith('.') else '.')
+    text = ' '.join(words)
+    return text[:1].upper() + text[1:] + ('' if text.endswith('.') else '.')
 
 
-def subject(crate):
+def subject(crate: str) -> str:
     """What the root file says of the crate."""
     for root in ('lib', 'main'):
         told = [line[4:] for line in lines_of(f'crates/{crate}/src/{root}.rt')
@@ -191,15 +193,15 @@ def subject(crate):
     return ''
 
 
-def laws(crate):
+def laws(crate: str) -> dict[str, str]:
     """The function of each law."""
     text = '\n'.join(lines_of(f'crates/{crate}/src/laws.rt'))
     return {law: function for function, law in LAW.findall(text)}
 
 
-def comment_above(lines, at):
+def comment_above(lines: list[str], at: int) -> list[str]:
     """The words of the comment that ends right above a line."""
-    words = []
+    words: list[str] = []
     while at > 0 and lines[at - 1].startswith('infix'):
         at -= 1
     while at > 0 and lines[at - 1].startswith('-- '):
@@ -208,11 +210,12 @@ def comment_above(lines, at):
     return words
 
 
-def print_module(crate, module, law_of):
+def print_module(crate: str, module: str, law_of: dict[str, str]) -> None:
+    """The definitions of a module, with their words."""
     path = f'crates/{crate}/specs/{module}.antt'
     lines = [line.lstrip() for line in lines_of(path)]
     head = next(at for at, line in enumerate(lines) if not line.startswith('-- '))
-    print(f'\n### [`{module}`](../{path})\n\n{sentences(comment_above(lines, head))}')
+    print(f'\n### [`{module}`]({ROOT}/{path})\n\n{sentences(comment_above(lines, head))}')
     rows, bare = [], []
     for at, line in enumerate(lines):
         if not (found := DEFINITION.match(line)):
@@ -230,7 +233,7 @@ def print_module(crate, module, law_of):
         print(f'\nWithout a comment: {", ".join(bare)}.')
 
 
-def length_of(lines, name):
+def length_of(lines: list[str], name: str) -> int:
     """How many lines a definition has, with the comment above it."""
     lines = [line.lstrip() for line in lines]
     at = next((at for at, line in enumerate(lines)
@@ -242,7 +245,8 @@ def length_of(lines, name):
     return lines[at:].index('')
 
 
-def print_reading():
+def print_reading() -> None:
+    """What to read, and in which order."""
     print(READING)
     for promise, rows in PARTS:
         print(f'\n{promise}\n\n| Module | Definitions | Lines | What they say |\n|---|---|---|---|')
@@ -251,12 +255,12 @@ def print_reading():
             path = f'crates/{crate}/specs/{module}.antt'
             length = sum(length_of(lines_of(path), name) for name in names.split())
             listed = ', '.join(f'`{name}`' for name in names.split())
-            print(f'| [`{module}`](../{path}) of `{crate}` | {listed} | {length} | {words} |')
+            print(f'| [`{module}`]({ROOT}/{path}) of `{crate}` | {listed} | {length} | {words} |')
             in_all += length
         print(f'| in all | | {in_all} | |')
 
 
-def main():
+def main() -> None:
     print(HEAD)
     links = ', '.join(f'[`{crate}`](#{crate})' for crate in crates())
     print(f'\nThe crates: {links}.')
@@ -269,4 +273,5 @@ def main():
                 print_module(crate, line.removeprefix('pub mod '), law_of)
 
 
-main()
+if __name__ == '__main__':
+    main()

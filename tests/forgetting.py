@@ -1,156 +1,173 @@
-#!/usr/bin/env python3
-"""A random session that forgets, beside one that doesn't: both are given the same lines, and answer
-the same, but for what is forgotten.
+"""A random session that forgets, beside one that doesn't: both are given the same lines, and answer the
+same, but for what is forgotten.
 
-  tests/forgetting.py [PROGRAM [SESSIONS]]
-
-PROGRAM is the built program; without it the model of tests/session_model.py answers for both.
-
-The session that keeps everything gets a status in the place of a forgetting. Behind the beginning
-of a repair it takes the steps up to the horizon, which the other one takes with its beginning. It
-isn't asked for what lies before the horizon, since the other one refuses that. So that calls have
-the same numbers, one of the two is asked for its status where the other one alone is given a line.
-
-The number of lines is printed, and the status is 0; or a line, the answer to it and the one that
-was wanted, and the status is 1.
+The session that keeps everything gets a status in the place of a forgetting. Behind the beginning of a
+repair it takes the steps up to the horizon, which the other one takes with its beginning. It isn't asked for
+what lies before the horizon, since the other one refuses that. So that calls have the same numbers, one of
+the two is asked for its status where the other one alone is given a line. $FORGETTING_SESSIONS says how many
+sessions are tried, where it isn't 200.
 """
-import json
-import subprocess
-import sys
+import os
+import unittest
+from typing import Any, Callable, Optional, Protocol, Sequence
 
-from session_model import KINDS, Random, Session, text_of
+from tests import session_model
+from tests.support import cases, fixtures
+from tests.support.held_session import Held
+from tests.support.progress import progress
 
-SESSIONS, LINES, FORGETS = 200, 300, 3
+SESSIONS, LINES, FORGETS = int(os.environ.get('FORGETTING_SESSIONS', 200)), 300, 3
+OF_THE_MODEL = 20  # sessions that the model answers, too
 STATUS = {'status': True}
 STEPS = 10_000  # that a line may ask for
-GONE = {'select': ('no generation', 'forgotten'), 'begin': ('repairing', 'no slot')}  # refusals
+REFUSALS = {'select': ('no generation', 'forgotten'), 'begin': ('repairing', 'no slot')}  # of what is gone
+Answer = dict[str, Any]
+Session: Any = session_model.Session
+Random: Any = session_model.Random
+text_of: Any = session_model.text_of
 
 
 class Differs(Exception):
-    pass
+    """A line, the answer that was wanted to it, and the one that came."""
+
+    def __init__(self, line: Any, wanted: Any, answer: Any) -> None:
+        shown = [cases.shown(text_of(wanted), text_of(answer)), cases.shown(text_of(answer), text_of(wanted))]
+        super().__init__(f'\ngiven:    {text_of(line)}\nwanted:   {shown[0]}\nanswered: {shown[1]}')
+
+
+class Asked(Protocol):
+    """What answers lines."""
+
+    def ask(self, line: Any) -> Answer:
+        ...
+
+    def end(self) -> None:
+        ...
 
 
 class Model:
-    def __init__(self):
-        self.session = Session()
+    """The model of tests/session_model.py."""
 
-    def ask(self, line):
-        return self.session.answer(text_of(line).encode())
+    def __init__(self) -> None:
+        self.session: Any = Session()
 
-    def end(self):
+    def ask(self, line: Any) -> Answer:
+        answer: Answer = self.session.answer(text_of(line).encode())
+        return answer
+
+    def end(self) -> None:
         pass
 
 
 class Program:
-    def __init__(self, program):
-        self.process = subprocess.Popen([program, 'session'], stdin=subprocess.PIPE,
-                                        stdout=subprocess.PIPE)
+    """A session of the program."""
 
-    def ask(self, line):
-        try:
-            self.process.stdin.write(text_of(line).encode() + b'\n')
-            self.process.stdin.flush()
-            answer = self.process.stdout.readline()
-        except BrokenPipeError:
-            answer = b''
-        if not answer.endswith(b'\n'):
-            raise Differs(text_of(line), 'the end of the program', 'an answer')
-        return json.loads(answer)
+    def __init__(self) -> None:
+        self.held = Held([str(fixtures.program()), 'session'])
 
-    def end(self):
-        self.process.kill()
-        self.process.wait()
-        for pipe in self.process.stdin, self.process.stdout:
-            try:
-                pipe.close()
-            except BrokenPipeError:
-                pass
+    def ask(self, line: Any) -> Answer:
+        answer: Optional[Answer] = self.held.ask_value(text_of(line))
+        if answer is None:
+            raise Differs(line, 'an answer', f'the end of the program: {self.held.end()}')
+        return answer
+
+    def end(self) -> None:
+        self.held.kill()
 
 
-def is_accepted(answer):
+def kind_of(line: Any) -> Optional[str]:
+    if not isinstance(line, dict):
+        return None
+    if 'version' in line:
+        return 'opening'
+    return next((str(kind) for kind in session_model.KINDS if kind in line), None)
+
+
+def is_accepted(answer: Answer) -> bool:
     return 'fault' not in answer and 'refused' not in answer
 
 
-def is_refused_at_once(answer):
+def is_refused_at_once(answer: Answer) -> bool:
     """Whether a line is refused whatever has been forgotten."""
     return 'fault' in answer or answer.get('refused') == 'moved'
 
 
-def slots_edited(line):
+def slots_edited(line: Any) -> set[int]:
     return {edit.get('cancel', edit.get('replace')) for edit in line['begin']}
 
 
-def action_of(entry):
+def action_of(entry: Answer) -> tuple[Any, bool]:
     """The writes that a slot makes, and whether they are whole."""
     return entry['do'], 'whole' in entry
 
 
-def asked_of(entry):
+def asked_of(entry: Answer) -> tuple[Any, bool]:
     return (entry['asked'], 'asked_whole' in entry) if 'asked' in entry else action_of(entry)
 
 
 class Both:
     """A session that forgets, and one that keeps everything."""
 
-    def __init__(self, make):
+    def __init__(self, make: Callable[[], Asked]) -> None:
         self.forgetful, self.keeping = make(), make()
         self.horizon = self.generation = 0  # the time and the generation at the last forgetting
-        self.asked = {}  # what slots were asked for, so far as the forgetful session knows
-        self.emptied = set()  # slots that were cancelled before a forgetting, and not edited since
-        self.edited = set()  # those that the repair under way edits
+        self.asked: dict[int, tuple[Any, bool]] = {}  # what slots were asked for, as the forgetful session knows
+        self.emptied: set[int] = set()  # slots that were cancelled before a forgetting, and not edited since
+        self.edited: set[int] = set()  # those that the repair under way edits
 
-    def end(self):
+    def end(self) -> None:
         self.forgetful.end()
         self.keeping.end()
 
-    def give(self, line):
+    def give(self, line: Any) -> None:
         """Gives a line to both."""
         answer = self.forgetful.ask(line)
-        kind = next((it for it in KINDS if isinstance(line, dict) and it in line), None)
+        kind = kind_of(line)
         if is_refused_at_once(answer):
             wanted = self.keeping.ask(line)
         elif kind == 'forget':
             wanted = self.forgotten(line['forget'], self.keeping.ask(STATUS), answer)
-        elif self.is_gone(kind, line):
+        elif kind is not None and self.is_gone(kind, line):
             self.keeping.ask(STATUS)
-            if answer.get('refused') in GONE[kind]:
+            if answer.get('refused') in REFUSALS[kind]:
                 return
-            wanted = {'refused': GONE[kind]}
+            wanted = {'refused': REFUSALS[kind]}
         else:
             wanted = self.wanted(kind, line, self.keeping.ask(line), answer)
         if answer != wanted:
-            raise Differs(text_of(line), text_of(answer), text_of(wanted))
+            raise Differs(line, wanted, answer)
         if kind == 'forget' and is_accepted(answer):
             self.forget(line['forget'], answer)
 
-    def is_gone(self, kind, line):
+    def is_gone(self, kind: str, line: Any) -> bool:
         """Whether a line is about what lies before the horizon."""
         if kind == 'select':
-            return (line.get('at', self.horizon) < self.horizon
-                    or line.get('in', self.generation) < self.generation)
+            return bool(line.get('at', self.horizon) < self.horizon
+                        or line.get('in', self.generation) < self.generation)
         return kind == 'begin' and any(0 < slot <= self.horizon for slot in slots_edited(line))
 
     # Forgetting
 
-    def forgotten(self, time, status, answer):
+    def forgotten(self, time: int, status: Answer, answer: Answer) -> Answer:
         """The answer that is wanted to a forgetting."""
-        for refusal, is_met in [
-                ({'refused': 'repairing'}, status['repair'] is not None),
-                ({'refused': 'later', 'now': status['time']}, time > status['time']),
-                ({'refused': 'forgotten', 'horizon': self.horizon}, time < self.horizon)]:
+        refusals: list[tuple[Answer, bool]] = [
+            ({'refused': 'repairing'}, status['repair'] is not None),
+            ({'refused': 'later', 'now': status['time']}, time > status['time']),
+            ({'refused': 'forgotten', 'horizon': self.horizon}, time < self.horizon)]
+        for refusal, is_met in refusals:
             if is_met:
                 return {'call': status['call'], **refusal}
         wanted = self.told(status, answer, time)
         return {**wanted, 'oldest': status['generation']}
 
-    def told(self, status, answer, horizon):
+    def told(self, status: Answer, answer: Answer, horizon: int) -> Answer:
         """The status of the forgetful session. Its entries are never more, and it keeps generations
         from the last forgetting on."""
         wanted = {**status, 'oldest': max(status['oldest'], self.generation),
                   'entries': min(answer.get('entries', 0), status['entries'])}
         return {**wanted, 'horizon': horizon} if horizon else wanted
 
-    def forget(self, time, status):
+    def forget(self, time: int, status: Answer) -> None:
         """Both go on behind a forgetting."""
         self.horizon, self.generation = time, status['generation']
         slots = self.keeping.ask({'slots': [time, time + 9_999]})['slots']
@@ -161,7 +178,7 @@ class Both:
 
     # Other lines
 
-    def wanted(self, kind, line, kept, answer):
+    def wanted(self, kind: Optional[str], line: Any, kept: Answer, answer: Answer) -> Answer:
         """The answer that is wanted, where the other session has given this one."""
         if kept.get('refused') == 'no generation':
             return {**kept, 'oldest': max(kept['oldest'], self.generation)}
@@ -174,7 +191,7 @@ class Both:
             self.emptied -= self.edited
         if kind in ('finish', 'abort'):
             self.edited = set()
-        if kind in ('status', 'abort'):
+        if kind in ('status', 'abort', 'opening'):
             return self.told(kept, answer, self.horizon)
         if kind == 'slots':
             return {**kept, 'slots': self.slots(kept['slots'])}
@@ -182,7 +199,7 @@ class Both:
             return self.changes(line['changes'], kept, answer)
         return kept
 
-    def stepped_to_horizon(self, begun):
+    def stepped_to_horizon(self, begun: Answer) -> Answer:
         answer, left = begun, self.horizon
         while left:
             answer = self.keeping.ask({'step': min(left, STEPS)})
@@ -190,7 +207,7 @@ class Both:
             left -= min(left, STEPS)
         return {**answer, 'call': begun['call']}
 
-    def slots(self, entries):
+    def slots(self, entries: Sequence[Answer]) -> list[Answer]:
         wanted = []
         for entry in entries:
             slot = entry['slot']
@@ -206,7 +223,7 @@ class Both:
                 wanted.append(entry)
         return wanted
 
-    def changes(self, which, kept, answer):
+    def changes(self, which: str, kept: Answer, answer: Answer) -> Answer:
         """The changes that are wanted. Since some records are gone, earlier ones may be kept."""
         emptied = self.emptied - (self.edited if which == 'next' else set())
         wanted = [record for record in answer['changed'] if record['call'] < kept['from']]
@@ -220,35 +237,24 @@ class Both:
         return {**kept, 'from': answer['from'], 'changed': wanted}
 
 
-def lines_of(seed, make):
-    """Holds the random session of a seed twice. How many lines it has."""
-    both, number = Both(make), 0
-    try:
-        for line in Random(seed, FORGETS).lines(LINES):
-            both.give(line)
-            number += 1
-    except Differs as differs:
-        line, answer, wanted = differs.args
-        raise Differs(f'session {seed}: {line}', answer, wanted) from None
-    finally:
-        both.end()
-    return number
+class Forgetting(unittest.TestCase):
+    def hold(self, sessions: int, what: str, make: Callable[[], Asked]) -> None:
+        """Holds the random sessions of the first seeds twice."""
+        for seed in range(1, sessions + 1):
+            progress(seed - 1, sessions, what)
+            with self.subTest(f'session {seed}'):
+                both = Both(make)
+                self.addCleanup(both.end)
+                for number, line in enumerate(Random(seed, FORGETS).lines(LINES), 1):
+                    try:
+                        both.give(line)
+                    except Differs as differs:
+                        self.fail(f'line {number} of random session {seed}{differs}')
+                self.doCleanups()
+        progress(sessions, sessions, what)
 
+    def test_a_session_that_forgets_answers_as_one_that_does_not(self) -> None:
+        self.hold(SESSIONS, 'sessions that forget', Program)
 
-def main():
-    if len(sys.argv) > 3 or sys.argv[1:2] and sys.argv[1].startswith('-'):
-        print(__doc__, file=sys.stderr)
-        return 2
-    make = (lambda: Program(sys.argv[1])) if len(sys.argv) > 1 else Model
-    sessions = int(sys.argv[2]) if len(sys.argv) > 2 else SESSIONS
-    try:
-        number = sum(lines_of(seed, make) for seed in range(1, sessions + 1))
-    except Differs as differs:
-        print(*differs.args, sep='\n')
-        return 1
-    print(f'{number} lines of {sessions} sessions that forget')
-    return 0
-
-
-if __name__ == '__main__':
-    sys.exit(main())
+    def test_the_model_that_forgets_answers_as_one_that_does_not(self) -> None:
+        self.hold(min(OF_THE_MODEL, SESSIONS), 'sessions of the model that forget', Model)

@@ -1,62 +1,39 @@
-"""Sessions with a log that forget, and so make it anew: a part of tests/logs.py.
+"""Sessions with a log that forget, and so make it anew: what they answer, and what their logs hold, is told by
+the model (tests/support/expected_logs.py).
 
-What they have to answer, and what their logs have to hold, is told by the model of
-tests/session_model.py: behind each of the lines that a session is given there is one log, and after a
-crash the file has that of the answered lines, or of some more.
+Calls fail by a shared object (tests/tear_unsynced.c), for which a C compiler is needed. $LOG_TEARS is as in
+tests/logs.py.
 """
-import copy
 import json
 import os
 import random
 import signal
-import subprocess
-import sys
-from concurrent.futures import ThreadPoolExecutor
 from contextlib import contextmanager
+from typing import Any, Callable, Iterator, Mapping, Sequence
 
-from log_checks import CANNOT_ANSWER, CANNOT_READ, CANNOT_WRITE, IN_USE, NEWER, OPENING, WIDE, Checks, text_of
-from session_model import Session
-from session_model import text_of as json_of
+from tests.support.crashes import FOR_GOOD, TEARS, CrashCase, Hold
+from tests.support.expected_logs import (
+    FORGETTING, QUESTIONS, Expected, expected_without, json_of, read_as_it_was_written)
+from tests.support.held_session import Ended, Held
+from tests.support.log_files import (
+    CANNOT_ANSWER, CANNOT_READ, CANNOT_WRITE, IN_USE, OPENING, OPENINGS, ROWS, STATUS, WIDE, LogCase, Numbered,
+    are_told_of, cause_of, data_of, is_told, lines_of_file, logged, text_of, write)
+from tests.support.mounts import in_a_mount
 
-STATUS = '{"status":true}'
-FORGETTING = [
-    OPENING,
-    json_of({'do': [{'insert': 'acct', 'row': [key, owner, 7]} for key, owner in
-                    enumerate(['ann', 'b"ob\n', 'é'] * 5 + ['eve'], 1)]}),
-    '{"insert":"acct","row":[17,"ann",100]}',
-    '{"worker":2,"update":"acct","change":[["set","owner","dan"],["add","bal",-3]],"where":[["id",2]]}',
-    '{"worker":4294967295,"delete":"acct","where":[["owner","eve"]]}',
-    '{"forget":2}',
-    '{"forget":2}',
-    '{"insert":"acct","row":[18,"bob",40]}',
-    '{"worker":9,"begin":[{"cancel":4},{"replace":3,"by":{"insert":"acct","row":[30,"",0]}}]}',
-    '{"forget":3}',
-    '{"step":3}',
-    '{"do":[]}',
-    '{"finish":true}',
-    '{"forget":2}',
-    '{"forget":99}',
-    '{"if":1,"forget":3}',
-    '{ "worker" : 3, "forget" : 5 }',
-    '{"forget":4}',
-    '{"select":"acct","where":[],"at":4}',
-    '{"begin":[]}',
-    '{"abort":true}',
-    '{"forget":5}',
-    '{"if":6,"update":"acct","change":[["set","bal",0]],"where":[]}',
-    '{"insert":"acct","row":[1,"ann",0]}',
-]
-QUESTIONS = [STATUS, '{"slots":[0,9999]}', '{"select":"acct","where":[]}', '{"tables":true}',
-             *('{"select":"acct","where":[],"at":%d}' % time for time in range(1, 8))]
+FORGET = '{"forget":%d}'
+SOME = 6  # lines of FORGETTING by the first that forgets, that one too
+FIRST = FORGETTING[:SOME - 1]
+REFUSAL = '{"call":%d,"refused":"log"}' % (SOME - 1)  # of the first that forgets
+OTHER = text_of([OPENING, '{"insert":"acct","row":[99,"",0]}']).encode()  # another log
 # Logs of tables `acct` that begin with a ground, and the first line of each that is none.
 GROUND = OPENING[:-1] + ',"ground":%s}'
-ROWS = ['{"do":[{"insert":"acct","row":[1,"ann",0]},{"insert":"acct","row":[2,"bob",0]}]}',
-        '{"do":[{"insert":"acct","row":[3,"eve",0]}]}']
+GROUND_ROWS = ['{"do":[{"insert":"acct","row":[1,"ann",0]},{"insert":"acct","row":[2,"bob",0]}]}',
+               '{"do":[{"insert":"acct","row":[3,"eve",0]}]}']
 ONE = '{"time":4,"generation":0,"slots":1}'
 TWO = '{"time":4,"generation":0,"slots":2}'
 LARGEST = '{"time":9223372036854775807,"generation":9223372036854775807,"slots":0}'
-NO_GROUNDS = [
-    *([(GROUND % ground, *ROWS), 1] for ground in (
+NO_GROUNDS: list[tuple[Sequence[str], int]] = [
+    *(((GROUND % ground, *GROUND_ROWS), 1) for ground in (
         'null', '[]', '2', '{}', '{"time":4,"slots":2}', '{"time":4,"generation":0}',
         '{"generation":0,"slots":2}', '{"time":4,"generation":0,"slots":2,"x":0}',
         '{"time":-1,"generation":0,"slots":0}', '{"time":4.0,"generation":0,"slots":2}',
@@ -65,24 +42,24 @@ NO_GROUNDS = [
         '{"time":9223372036854775808,"generation":0,"slots":2}',
         '{"time":4,"generation":9223372036854775808,"slots":2}',
         '{"time":4,"time":4,"generation":0,"slots":2}')),
-    [(OPENING[:-1] + ',"ground":%s,"ground":%s}' % (TWO, TWO), *ROWS), 1],
-    [(GROUND % TWO,), 2],
-    [(GROUND % TWO, ROWS[0]), 3],
-    [(GROUND % TWO, ROWS[0], ROWS[0]), 3],
-    *([(GROUND % TWO, ROWS[0], '{"do":[{"insert":"acct","row":[3,"",0]},{"insert":"acct","row":[%d,"",0]}]}'
-        % key), 3] for key in (1, 3)),
-    [(GROUND % TWO, ROWS[0], '{"worker":1,"do":[{"insert":"acct","row":[3,"eve",0]}]}'), 3],
-    [(GROUND % ONE, '{"if":0,"do":[{"insert":"acct","row":[3,"eve",0]}]}'), 2],
-    [(GROUND % ONE, '{"insert":"acct","row":[3,"eve",0]}'), 2],
-    [(GROUND % ONE, '{"do":[]}'), 2],
-    [(GROUND % ONE, '{"do":[{"insert":"acct","row":[3,"eve"]}]}'), 2],
-    [(GROUND % ONE, '{"do":[{"update":"acct","change":[],"where":[]}]}'), 2],
-    [(GROUND % ONE, '{"do":[{"insert":"acct","row":[1,"",0]},{"delete":"acct","where":[]}]}'), 2],
-    [(GROUND % ONE, json_of({'do': [{'insert': 'acct', 'row': [key, '', 0]} for key in range(17)]})), 2],
-    [(GROUND % ONE, '{"status":true}'), 2],
-    [(GROUND % ONE, ROWS[0], '{"status":true}'), 3],
-    [(GROUND % ONE, ROWS[0], '{"forget":3}'), 3],
-    [(GROUND % ONE, GROUND % ONE), 2],
+    ((OPENING[:-1] + ',"ground":%s,"ground":%s}' % (TWO, TWO), *GROUND_ROWS), 1),
+    ((GROUND % TWO,), 2),
+    ((GROUND % TWO, GROUND_ROWS[0]), 3),
+    ((GROUND % TWO, GROUND_ROWS[0], GROUND_ROWS[0]), 3),
+    *(((GROUND % TWO, GROUND_ROWS[0], '{"do":[{"insert":"acct","row":[3,"",0]},{"insert":"acct","row":[%d,"",0]}]}'
+        % key), 3) for key in (1, 3)),
+    ((GROUND % TWO, GROUND_ROWS[0], '{"worker":1,"do":[{"insert":"acct","row":[3,"eve",0]}]}'), 3),
+    ((GROUND % ONE, '{"if":0,"do":[{"insert":"acct","row":[3,"eve",0]}]}'), 2),
+    ((GROUND % ONE, '{"insert":"acct","row":[3,"eve",0]}'), 2),
+    ((GROUND % ONE, '{"do":[]}'), 2),
+    ((GROUND % ONE, '{"do":[{"insert":"acct","row":[3,"eve"]}]}'), 2),
+    ((GROUND % ONE, '{"do":[{"update":"acct","change":[],"where":[]}]}'), 2),
+    ((GROUND % ONE, '{"do":[{"insert":"acct","row":[1,"",0]},{"delete":"acct","where":[]}]}'), 2),
+    ((GROUND % ONE, json_of({'do': [{'insert': 'acct', 'row': [key, '', 0]} for key in range(17)]})), 2),
+    ((GROUND % ONE, '{"status":true}'), 2),
+    ((GROUND % ONE, GROUND_ROWS[0], '{"status":true}'), 3),
+    ((GROUND % ONE, GROUND_ROWS[0], '{"forget":3}'), 3),
+    ((GROUND % ONE, GROUND % ONE), 2),
 ]
 # With the program, a folder that gets a file system, and one for what is given and told.
 FILL_WHILE_FORGETTING = """
@@ -90,544 +67,459 @@ mount -t tmpfs -o size=1m tmpfs "$2" && : >"$3/mounted" || exit 77
 "$1" session --log "$2/log" <"$3/lines" >"$3/answers" 2>"$3/told"
 echo $? >"$3/status"
 ls "$2" >"$3/listed"
-mount -o remount,size=16m "$2" &&
+mount -o remount,size=16m tmpfs "$2" &&
   "$1" log "$2/log" >"$3/logged" &&
   "$1" session --log "$2/log" <"$3/again" >"$3/after" &&
   "$1" log "$2/log" >"$3/anew"
 """
 IN_A_FOLDER_THAT_IS_NOT_WRITTEN = """
 mount -t tmpfs tmpfs "$2" && : >"$2/log" && : >"$3/log" && mount --bind "$3/log" "$2/log" &&
-  mount -o remount,ro "$2" && ! touch "$2/other" && : >"$3/mounted" || exit 77
+  mount -o remount,ro tmpfs "$2" && ! touch "$2/other" && : >"$3/mounted" || exit 77
 "$1" session --log "$2/log" <"$3/lines" >"$3/answers" 2>"$3/told"
 echo $? >"$3/status"
 ls "$2" >"$3/listed"
 """
 
 
-def size_of(session):
-    """What is another one behind each line that is logged, and behind each that makes the log anew."""
-    return None if session.grammar is None else (session.entries, session.horizon)
+class Behind(LogCase):
+    """Tests that know behind which line of a session its log is."""
 
+    def assert_goes_on_behind(self, file: str, expected: Expected, place: int, what: str) -> None:
+        """A start on a file answers as the session behind the first lines, also before an opening, and
+        leaves the lines of its log in it, and nothing else, and no other file beside it. `place` is their number."""
+        log, (opened, first, *rest) = expected.logs[place], expected.answers_behind(place)
+        given, wanted = [OPENING, *QUESTIONS], [opened, first, *rest]
+        if logged(file):
+            given, wanted = [QUESTIONS[0], OPENING, *QUESTIONS[1:]], [first, opened, *rest]
+        ended = self.whole(file, given)
+        self.assert_ended_well(ended, f'{what}: the next start')
+        self.assert_answers(given, ended.answers, wanted, f'{what}: the next start')
+        self.assert_no_new_log(file, what)
+        self.assert_lines_alone(file, log, f'{what}: the next start')
+        self.assert_shown(file, False, what)
 
-def made_anew(session):
-    """The log that a session makes that has just forgotten."""
-    ground = {'time': session.horizon, 'generation': session.before, 'slots': session.ground}
-    slots = [action if place < session.ground else {'worker': worker, **action}
-             for place, (worker, action) in enumerate(zip(session.workers, session.asked))]
-    return [json_of(line) for line in [{**session.do_tables({}), 'ground': ground}, *slots]]
-
-
-class Expected:
-    """What a session on a new log answers to some lines; and, behind as many of them as a place tells,
-    what its log holds, and the session."""
-
-    def __init__(self, lines):
-        session, log = Session(), []
-        self.answers, self.logs, self.sessions = [], [log], [session]
-        for line in lines:
-            session = copy.deepcopy(session)
-            before = size_of(session)
-            self.answers.append(json_of(session.answer(line.encode())))
-            if size_of(session) != before:
-                log = made_anew(session) if '"forget"' in line else [*log, line]
-            self.logs.append(log)
-            self.sessions.append(session)
-        self.wanted = {}
-
-    def answers_behind(self, place):
-        """What a start answers to the opening and the questions where its log is that of this place."""
-        if place not in self.wanted:
-            session, log = copy.deepcopy(self.sessions[place]), self.logs[place]
-            session.calls = len(log) - 1 - ground_slots(log)    # behind the ground
-            self.wanted[place] = [json_of(session.status()),
-                                  *(json_of(session.answer(line.encode())) for line in QUESTIONS)]
-        return self.wanted[place]
-
-
-def ground_slots(log):
-    """How many slots the ground of a log has."""
-    return json.loads(log[0]).get('ground', {'slots': 0})['slots']
-
-
-class Anew(Checks):
-    """Checks of logs that are made anew."""
-
-    def goes_on_behind(self, file, expected, place, what):
-        """A start on a file answers as the session behind so many lines, and leaves the file as it is,
-        with bytes 0 behind its lines, and no other one beside it."""
-        log, want = expected.logs[place], expected.answers_behind(place)
-        status, answers, told = self.run(file, [OPENING, *QUESTIONS])
-        differs = [pair for pair in zip(answers, want) if pair[0] != pair[1]]
-        self.check((status, told) == (0, '') and answers == want, what, status, told, *differs[:1])
-        self.check(self.logged(file) == log, f'{what}: another log behind a start')
-        self.check(not os.path.lexists(f'{os.path.realpath(file)}.new'), f'{what}: a new log is left')
-        self.is_shown(file, what, False)
-        with open(file, 'rb') as it:
-            data = it.read()
-        self.check(not data[len(text_of(log).encode()):].strip(b'\0'), f'{what}: bytes behind the lines')
-
-    def is_behind(self, file, expected, least, most, what):
-        """A file has the log behind so many lines, at least and at most, and a session goes on there."""
-        lines = self.logged(file)
+    def assert_behind(self, file: str, expected: Expected, least: int, most: int, what: str) -> None:
+        """A file has the log behind `least` to `most` lines, and a session goes on there."""
+        lines = logged(file)
         place = next((it for it in range(least, most + 1) if expected.logs[it] == lines), None)
-        self.check(place is not None, f'{what}: another log', least, most, lines)
-        if place is not None:
-            self.goes_on_behind(file, expected, max(place, 1), what)
+        if place is None:
+            self.assert_lines(lines, expected.logs[least], f'{what}: the log behind {least} to {most} lines')
+        else:
+            self.assert_goes_on_behind(file, expected, max(place, 1), what)
 
-    def forget(self):
-        """What needs no shared object."""
-        self.expected_of = {}
-        self.expected = self.expected_without([])
-        self.forget_and_go_on()
-        self.forget_in_both_versions()
-        self.forget_behind_a_link()
-        self.make_room()
-        self.stand_in_the_way()
-        self.refuse_grounds()
-        self.open_the_largest_ground()
-        self.keep_records_behind_a_ground()
-        self.read_an_old_log()
-        self.fill_a_disk_while_forgetting()
-        self.forget_in_a_folder_that_is_not_written()
+    def assert_all_behind(self, file: str, what: str) -> None:
+        """A file has the log behind all lines of FORGETTING."""
+        self.assert_behind(file, expected_without(), len(FORGETTING), len(FORGETTING), what)
 
-    def expected_without(self, refused):
-        """What is expected where the lines of these places are refused. It is as if the status had been
-        asked for in their stead."""
-        if (*refused,) not in self.expected_of:
-            lines = [STATUS if place in refused else line for place, line in enumerate(FORGETTING)]
-            self.expected_of[(*refused,)] = Expected(lines)
-        return self.expected_of[(*refused,)]
 
-    def forget_with_calls(self, library, ways):
-        """What needs the shared object."""
-        calls = self.calls_of(library, FORGETTING, self.one_by_one)
-        self.check({'open new', 'rename', 'fsync folder'} <= {*calls}, 'no log is made anew', calls)
-        if 'rename' not in calls:
-            return
-        self.kill_while_forgetting(library)
-        self.fail_while_forgetting(library)
-        self.start_while_forgetting(library)
-        self.lose_a_name_behind_a_start(library)
-        self.tear_while_forgetting(library, ways)
+class Anew(Behind):
+    def setUp(self) -> None:
+        super().setUp()
+        self.expected = expected_without()
 
-    def forget_and_go_on(self):
-        for hold in (self.run, self.one_by_one):
-            file = self.new_file()
-            status, answers, told = hold(file, FORGETTING)
-            self.check((status, told) == (0, '') and answers == self.expected.answers,
-                       'a session that forgets', status, told, answers)
-            self.is_behind(file, self.expected, len(FORGETTING), len(FORGETTING), 'a session that forgets')
-            self.check(os.path.getsize(file) == 1 << 20, 'room in a log that was made anew')
-        # Each line in a session of its own: each start reads what the one before has left.
+    def test_a_session_that_forgets_is_answered_and_logged_as_the_model_says(self) -> None:
+        holds: dict[str, Hold] = {'at once': self.whole, 'one by one': self.one_by_one}
+        for name, hold in holds.items():
+            with self.subTest(f'lines {name}'):
+                file = self.new_file()
+                ended = hold(file, FORGETTING)
+                self.assert_ended_well(ended, 'a session that forgets')
+                self.assert_answers(FORGETTING, ended.answers, self.expected.answers, 'a session that forgets')
+                self.assert_all_behind(file, 'a session that forgets')
+
+    def test_a_session_that_is_killed_behind_a_forgetting_has_made_its_log_anew(self) -> None:
+        for place, line in enumerate(FORGETTING, 1):
+            if '"forget"' in line and self.expected.logs[place] != self.expected.logs[place - 1]:
+                with self.subTest(f'killed behind line {place}'):
+                    file = self.new_file()
+                    self.killed(file, FORGETTING[:place])
+                    self.assert_room(file, self.expected.logs[place], 'a log that was made anew')
+                    self.assert_behind(file, self.expected, place, place, 'killed behind a forgetting')
+
+    def test_each_line_may_be_given_to_a_session_of_its_own(self) -> None:
+        """Each start reads what the one before has left."""
         file = self.new_file()
         for place, line in enumerate(FORGETTING[1:], 2):
-            answer = self.run(file, [OPENING, line])[1][-1]
-            self.check(json.loads(answer) == {**json.loads(self.expected.answers[place - 1]),
-                                              'call': json.loads(answer)['call']}, 'one line a start', line)
-            self.is_behind(file, self.expected, place, place, 'one line a start')
+            with self.subTest(f'line {place}: {line}'):
+                answer = self.whole(file, [OPENING, line] if place % 2 or place == 2 else [line]).answers[-1]
+                wanted = json.loads(self.expected.answers[place - 1])
+                self.assert_same(json.loads(answer), {**wanted, 'call': json.loads(answer)['call']}, line)
+                self.assert_behind(file, self.expected, place, place, 'one line a start')
 
-    def forget_in_both_versions(self):
-        """A log that is made anew tells the version of the session that has done it, and keeps
-        comparisons and whole actions in either."""
+    def test_a_log_that_is_made_anew_tells_the_newest_version(self) -> None:
+        """It does whatever the openings have told, and keeps comparisons and whole actions."""
         where = [['id', 1], ['bal', '>=', 8]]
-        compared = {'update': 'acct', 'change': [['add', 'bal', -8]], 'where': where}
-        whole = {'do': [compared], 'whole': True}
+        compared: dict[str, Any] = {'update': 'acct', 'change': [['add', 'bal', -8]], 'where': where}
+        whole: dict[str, Any] = {'do': [compared], 'whole': True}
         slots = [json_of({'worker': 1, 'do': [compared]}), json_of({'worker': 1, **whole})]
         file = self.new_file()
-        self.killed(file, [OPENING, '{"insert":"acct","row":[1,"ann",30]}'])
-        self.killed(file, [NEWER, json_of(compared), json_of(whole)])
-        for time, (opening, balance) in enumerate(((NEWER, 30), (OPENING, 22)), 1):
-            answers = self.killed(file, [opening, '{"forget":%d}' % time])
-            self.check(json.loads(answers[1]).get('horizon') == time,
-                       'a log of two versions forgets', answers)
-            first, *lines = self.logged(file)
-            self.check(json.loads(first)['version'] == json.loads(opening)['version'],
-                       'a log of two versions that is made anew: its version', first)
-            self.check(lines == [json_of({'do': [{'insert': 'acct', 'row': [1, 'ann', balance]}]}),
-                                 *slots[time - 1:]],
-                       'a log of two versions that is made anew: its lines', lines)
-            for again in OPENING, NEWER:
-                opened, selected = map(json.loads, self.run(file, [again, QUESTIONS[2]])[1])
-                self.check((opened['time'], opened['horizon']) == (3, time)
-                           and selected['rows'] == [[1, 'ann', 14]],
-                           'a log of two versions that was made anew', opened, selected)
+        self.killed(file, [OPENINGS[0], '{"insert":"acct","row":[1,"ann",30]}', json_of(compared),
+                           json_of(whole)])
+        for time, (opening, balance) in enumerate(((OPENINGS[1], 30), (OPENINGS[0], 22)), 1):
+            with self.subTest(f'forgets before {time}'):
+                answers = self.killed(file, [opening, FORGET % time])
+                self.assert_same(json.loads(answers[1]).get('horizon'), time, answers)
+                first, *lines = logged(file)
+                self.assert_same(json.loads(first)['version'], 4, first)
+                insert = json_of({'do': [{'insert': 'acct', 'row': [1, 'ann', balance]}]})
+                self.assert_lines(lines, [insert, *slots[time - 1:]], 'the log')
+                for again in OPENINGS:
+                    opened, selected = map(json.loads, self.whole(file, [again, ROWS]).answers)
+                    self.assert_same((opened['time'], opened['horizon'], selected['rows']),
+                                     (3, time, [[1, 'ann', 14]]), again)
 
-    def forget_behind_a_link(self):
-        """A link stays one, and the file keeps its permissions."""
+    def test_a_log_behind_a_link_is_made_anew(self) -> None:
+        """The link stays one, and the file keeps its permissions."""
         folder = self.new_folder()
         file, link = f'{folder}/file', f'{self.new_folder()}/link'
-        with open(file, 'w'):
-            os.chmod(file, 0o640)
+        write(file, b'')
+        os.chmod(file, 0o640)
         os.symlink(file, link)
-        os.mkdir(f'{link}.new')    # which is in nobody's way
+        os.mkdir(f'{link}.new')  # which is in nobody's way
         # While it is open, no new file has its number.
         with open(file) as old:
-            before = os.stat(old.fileno())
-            self.check(self.run(link, FORGETTING)[1] == self.expected.answers, 'a log behind a link')
-            after = os.stat(file)
-        self.check(os.readlink(link) == file and os.listdir(folder) == ['file'], 'a link that is one no more')
-        self.check(after.st_ino != before.st_ino and after.st_mode == before.st_mode
-                   and (after.st_uid, after.st_gid) == (before.st_uid, before.st_gid),
-                   'the permissions of a log that was made anew', oct(after.st_mode))
-        self.is_behind(file, self.expected, len(FORGETTING), len(FORGETTING), 'a log behind a link')
+            before = Numbered.of(os.stat(old.fileno()))
+            self.assert_answers(FORGETTING, self.whole(link, FORGETTING).answers, self.expected.answers, 'a link')
+            self.assert_another(file, before, True, 'behind a link')
+        self.assert_same((os.readlink(link), os.listdir(folder)), (file, ['file']), 'what the link is to')
+        self.assert_all_behind(file, 'behind a link')
 
-    def make_room(self):
-        """A log that was made anew has what is kept, and no more."""
+    def test_a_log_that_was_made_anew_has_what_is_kept_and_no_more(self) -> None:
         file, rows = self.new_file(), 3000
         lines = [OPENING, *(WIDE % key for key in range(rows)),
                  '{"delete":"acct","where":[]}', *(WIDE % key for key in range(1100))]
-        self.check(self.run(file, lines)[0] == 0 and os.path.getsize(file) == 5 << 20, 'a log of 5 MiB')
-        forget = '{"forget":%d}' % (rows + 1000)
-        status, answers, told = self.run(file, [OPENING, forget, '{"select":"acct","where":[],"most":1}'])
-        self.check((status, told) == (0, '') and json.loads(answers[1])['entries'] == 63 + 101,
-                   'a log that is made smaller', answers[1:2], told)
-        self.check(len(self.logged(file)) == 1 + 63 + 101 and os.path.getsize(file) == 2 << 20,
-                   'a log that was made smaller', os.path.getsize(file))
-        self.check(len(json.loads(self.run(file, [OPENING, QUESTIONS[2]])[1][1])['rows']) == 1100,
-                   'the rows of a log that was made smaller')
+        self.assert_ended_well(self.whole(file, lines), 'a log of 4 MiB')
+        self.assert_same(os.path.getsize(file), len(text_of(lines)), 'a log of 4 MiB')
+        ended = self.whole(file, [OPENING, FORGET % (rows + 1000), '{"select":"acct","where":[],"most":1}'])
+        self.assert_ended_well(ended, 'a log that is made smaller')
+        self.assert_same(json.loads(ended.answers[1])['entries'], 63 + 101, ended.answers[1])
+        self.assert_same(len(logged(file)), 1 + 63 + 101, 'lines of a log that was made smaller')
+        self.assertLess(os.path.getsize(file), 2 << 20, 'bytes of a log that was made smaller')
+        self.assert_lines_alone(file, logged(file), 'a log that was made smaller')
+        kept = json.loads(self.whole(file, [OPENING, ROWS]).answers[1])['rows']
+        self.assert_same(len(kept), 1100, 'rows of a log that was made smaller')
 
-    def stand_in_the_way(self):
-        """What has the name of the new log already: a start removes a file, and while a session runs it
-        can't forget."""
-        some = 6    # lines by the first forgetting, that one too
-        first = FORGETTING[:some - 1]
+    # What has the name of the new log already, and what takes the name of the log
+
+    def test_a_new_log_that_a_session_has_left_is_removed_by_a_start(self) -> None:
         file = self.new_file()
-        with open(f'{file}.new', 'w') as it:
-            it.write(text_of([OPENING, '{"insert":"acct","row":[99,"",0]}']))
-        self.check(self.run(file, FORGETTING)[1] == self.expected.answers, 'a new log at a start')
-        self.is_behind(file, self.expected, len(FORGETTING), len(FORGETTING), 'a new log at a start')
+        write(f'{file}.new', OTHER)
+        self.assert_answers(FORGETTING, self.whole(file, FORGETTING).answers, self.expected.answers, 'a start')
+        self.assert_all_behind(file, 'a new log at a start')
 
-        for make, remove in ((os.mkdir, os.rmdir), (lambda path: open(path, 'x').close(), os.unlink)):
-            file = self.new_file()
-            in_the_way = f'{file}.new'
-            with subprocess.Popen(self.session(file), stdin=subprocess.PIPE, stdout=subprocess.PIPE) as held:
-                def ask(line):
-                    held.stdin.write(line.encode() + b'\n')
-                    held.stdin.flush()
-                    return held.stdout.readline().decode()[:-1]
-                self.check([*map(ask, first)] == self.expected.answers[:some - 1], 'a session')
-                make(in_the_way)
-                answer = ask(FORGETTING[some - 1])
-                refusal = '{"call":%d,"refused":"log"}' % (some - 1)
-                self.check(answer == refusal, 'something in the way', answer)
-                self.check(self.logged(file) == self.expected.logs[some - 1], 'a log that is not made anew')
-                if os.path.lexists(in_the_way):
-                    remove(in_the_way)
-                answer = json.loads(ask(FORGETTING[some - 1]))
-                want = json.loads(self.expected.answers[some - 1])
-                self.check(answer == {**want, 'call': some}, 'nothing in the way any more', answer)
-                held.stdin.close()
-            self.is_behind(file, self.expected, some, some, 'what was in the way')
+    def test_a_session_forgets_nothing_while_something_is_in_the_way(self) -> None:
+        ways: list[tuple[str, Callable[[str], None], Callable[[str], None]]] = [
+            ('a folder', os.mkdir, os.rmdir), ('a file', lambda path: write(path, b''), os.unlink)]
+        for name, make, remove in ways:
+            with self.subTest(f'{name} is in the way'):
+                file = self.new_file()
+                with self.held(file) as held:
+                    self.assert_answers(FIRST, held.asked(FIRST), self.expected.answers[:len(FIRST)], 'a session')
+                    make(f'{file}.new')
+                    self.assert_same(held.ask(FORGETTING[len(FIRST)]), REFUSAL)
+                    self.assert_lines(logged(file), self.expected.logs[SOME - 1], 'a log that is not made anew')
+                    if os.path.lexists(f'{file}.new'):
+                        remove(f'{file}.new')
+                    answer = held.ask_value(FORGETTING[len(FIRST)])
+                    wanted = {**json.loads(self.expected.answers[SOME - 1]), 'call': SOME}
+                    self.assert_same(answer, wanted, 'nothing is in the way')
+                    told = held.end().told.splitlines()
+                self.assert_that(len(told) == 1 and are_told_of(told, file), told)
+                self.assert_behind(file, self.expected, SOME, SOME, 'what was in the way')
 
+    def test_a_session_forgets_nothing_where_a_folder_was_in_the_way_of_its_start(self) -> None:
         file = self.new_file()
         os.mkdir(f'{file}.new')
-        status, answers, told = self.run(file, FORGETTING[:some])
-        self.check((status, told, answers[-1:]) == (0, '', ['{"call":%d,"refused":"log"}' % (some - 1)]),
-                   'a folder in the way at a start', status, told, answers[-1:])
+        status, answers, told = self.whole(file, FORGETTING[:SOME])
+        self.assert_same((status, answers[-1:]), (0, [REFUSAL]), told)
+        self.assert_that(told.count('\n') == 1 and are_told_of(told.splitlines(), file), told)
         os.rmdir(f'{file}.new')
-        self.is_behind(file, self.expected, some - 1, some - 1, 'a folder in the way at a start')
+        self.assert_behind(file, self.expected, SOME - 1, SOME - 1, 'a folder in the way')
 
-    def refuse_grounds(self):
+    def test_a_session_whose_file_has_lost_its_name_forgets_nothing_and_goes_on(self) -> None:
+        """It doesn't take the name away from another file."""
+        for other in (None, OTHER):
+            with self.subTest('another file has the name' if other else 'nothing has the name'):
+                file = self.new_file()
+                moved = f'{file}.moved'
+                with self.held(file) as held:
+                    held.asked(FIRST)
+                    os.link(file, moved)
+                    os.unlink(file)
+                    if other:
+                        write(file, other)
+                    self.assert_same(held.ask(FORGETTING[SOME - 1]), REFUSAL)
+                    self.assertIn('time', held.ask_value(STATUS) or {}, 'a status')
+                    self.assert_same(os.path.lexists(file), other is not None, 'whether the name is there')
+                    self.assert_same(held.end().status, 0, 'the end')
+                if other:
+                    self.assert_data(file, other, 'the other file')
+                self.assert_behind(moved, self.expected, SOME - 1, SOME - 1, 'the file that has lost its name')
+
+    # Grounds
+
+    def test_a_log_whose_ground_is_none_is_refused_and_stays(self) -> None:
         file = self.new_file()
         for lines, number in NO_GROUNDS:
-            text = text_of(lines)
-            with open(file, 'w') as it:
-                it.write(text)
-            status, answers, told = self.run(file, [OPENING])
-            self.check((status, answers, told) == (1, [], f'timetravel: log: line {number}\n'),
-                       'a ground that is none', lines[:1], status, told)
-            with open(file) as it:
-                self.check(it.read() == text, 'a log with a ground that is none has changed', lines[:1])
-        with open(file, 'w') as it:
-            it.write(text_of([GROUND % TWO, *ROWS, '{"worker":7,"do":[]}', '{"delete":"acct","where":[]}']))
-        answers = self.run(file, [OPENING, STATUS])[1]
-        self.check(answers == [
-            '{"time":6,"generation":0,"oldest":0,"entries":4,"repair":null,"horizon":4}',
-            '{"call":3,"time":6,"generation":0,"oldest":0,"entries":4,"repair":null,"horizon":4}'],
-            'a log with a ground', answers)
-        answers = self.run(self.new_file(), [GROUND % TWO, OPENING])[1]
-        self.check(answers[0] == '{"fault":{"path":"$","cause":"unknown member \\"ground\\""}}',
-                   'a ground on standard input', answers)
+            with self.subTest(str(lines)[len(OPENING):][:200]):
+                before = text_of(lines).encode()
+                write(file, before)
+                self.assert_told_of_line(self.whole(file, [OPENING]), number, file, 'a ground that is none')
+                self.assert_unchanged(file, before, 'a ground that is none')
 
-    def open_the_largest_ground(self):
-        """A ground may have the largest time and generation that fit."""
-        file, most = self.new_file(), 9223372036854775807
-        with open(file, 'w') as it:
-            it.write(text_of([GROUND % LARGEST]))
+    def test_a_log_with_a_ground_goes_on(self) -> None:
+        file, given = self.new_file(), [OPENING, STATUS]
+        write(file, text_of([GROUND % TWO, *GROUND_ROWS, '{"worker":7,"do":[]}',
+                             '{"delete":"acct","where":[]}']).encode())
+        self.assert_answers(given, self.whole(file, given).answers, [
+            '{"time":6,"generation":0,"oldest":0,"entries":4,"repair":null,"horizon":4}',
+            '{"call":3,"time":6,"generation":0,"oldest":0,"entries":4,"repair":null,"horizon":4}'], 'a ground')
+
+    def test_a_ground_on_standard_input_is_a_fault(self) -> None:
+        answers = self.whole(self.new_file(), [GROUND % TWO, OPENING]).answers
+        self.assert_same(answers[0], '{"fault":{"path":"$","cause":"unknown member \\"ground\\""}}')
+
+    def test_a_ground_may_have_the_largest_time_and_generation(self) -> None:
+        file, most, given = self.new_file(), 9223372036854775807, [OPENING, STATUS]
+        write(file, text_of([GROUND % LARGEST]).encode())
         status = (f'"time":{most},"generation":{most},"oldest":{most},"entries":0,"repair":null,'
                   f'"horizon":{most}}}')
-        want = ['{' + status, '{"call":1,' + status]
-        ended = self.run(file, [OPENING, STATUS])
-        self.check(ended == (0, want, ''), 'the largest ground', ended)
-        self.check(self.logged(file) == [GROUND % LARGEST], 'the largest ground: another log')
+        ended = self.whole(file, given)
+        self.assert_ended_well(ended, 'the largest ground')
+        self.assert_answers(given, ended.answers, ['{' + status, '{"call":1,' + status], 'the largest ground')
+        self.assert_lines(logged(file), [GROUND % LARGEST], 'the log')
 
-    def keep_records_behind_a_ground(self):
-        """The lines of a ground leave no records, and the writes behind it do: behind time 4 the
-        first one has slot 5, and is call 1."""
+    def test_the_writes_behind_a_ground_leave_records(self) -> None:
+        """The lines of a ground leave none: behind time 4 the first write has slot 5, and is call 1."""
         file = self.new_file()
-        with open(file, 'w') as it:
-            it.write(text_of([GROUND % ONE, ROWS[0], '{"insert":"acct","row":[4,"",0]}']))
-        lines = [OPENING, '{"begin":[{"cancel":5}]}', '{"finish":true}', '{"changes":"now"}']
-        status, answers, told = self.run(file, lines)
-        self.check((status, told, answers[3:]) == (0, '', [
-            '{"call":4,"from":1,"changed":[{"call":1,"slot":5,"before":["inserted"],'
-            '"after":"cancelled"}]}']), 'records behind a ground', status, told, answers)
+        write(file, text_of([GROUND % ONE, GROUND_ROWS[0], '{"insert":"acct","row":[4,"",0]}']).encode())
+        given = [OPENING, '{"begin":[{"cancel":5}]}', '{"finish":true}', '{"changes":"now"}']
+        ended = self.whole(file, given)
+        self.assert_ended_well(ended, 'records behind a ground')
+        self.assert_answers(given[3:], ended.answers[3:], [
+            '{"call":4,"from":1,"changed":[{"call":1,"slot":5,"before":["inserted"],"after":"cancelled"}]}'],
+            'records behind a ground')
 
-    def read_an_old_log(self):
-        """A log that has lines that forget, as it was written once: they are carried out again."""
-        session, log = Session(), []
-        for line in FORGETTING:
-            before = size_of(session)
-            session.answer(line.encode())
-            if size_of(session) != before:
-                log.append(line)
-        old = Expected([])
-        old.sessions.append(session)
-        old.logs.append(log)
+    def test_a_log_with_lines_that_forget_is_read(self) -> None:
+        """It is carried out again, and made anew by the next forgetting."""
+        old = read_as_it_was_written(FORGETTING)
         file = self.new_file()
-        with open(file, 'w') as it:
-            it.write(text_of(log))
-        self.goes_on_behind(file, old, 1, 'an old log')
-        answer = self.run(file, [OPENING, '{"forget":7}'])[1][1]
-        self.check(json.loads(answer).get('horizon') == 7, 'an old log forgets', answer)
-        self.check(json.loads(self.logged(file)[0])['ground']['time'] == 7, 'an old log is made anew')
+        write(file, text_of(old.logs[1]).encode())
+        self.assert_goes_on_behind(file, old, 1, 'a log with lines that forget')
+        answer = self.whole(file, [OPENING, FORGET % 7]).answers[1]
+        self.assert_same(json.loads(answer).get('horizon'), 7, answer)
+        self.assert_same(json.loads(logged(file)[0])['ground']['time'], 7, 'a log that is made anew')
 
     # What a file system refuses
 
-    def held_in_a_mount(self, script, given, told, what):
-        """What a script has told in a mount, by its names; or nothing where there is none to be had."""
-        mounted, beside = self.new_folder(), self.new_folder()
-        for name, lines in given.items():
-            with open(f'{beside}/{name}', 'w') as it:
-                it.write(text_of(lines))
-        ended = self.in_a_mount(script, mounted, beside)
-        if not os.path.exists(f'{beside}/mounted'):
-            print(f'tests/logs.py: no file system can be mounted: left out is {what}', file=sys.stderr)
-            return None
-        self.check(ended == 0, what, ended)
-        found = {'beside': beside}
-        for name in told:
-            with open(f'{beside}/{name}') as it:
-                found[name] = it.read()
-        return found
+    def in_a_mount(self, script: str, given: Mapping[str, Sequence[str]]) -> tuple[dict[str, str], str]:
+        """What a script has told in a mount, by names, and the folder that it had for files."""
+        beside = self.new_folder()
+        found = in_a_mount(script, self.program, self.new_folder(), beside, given)
+        told = found['told']
+        self.assert_same((found['ended'], found['status'], found['listed']), ('0', '0\n', 'log\n'), told)
+        self.assert_that(told.count('\n') == 1 and are_told_of(told.splitlines(), '/log'), told)
+        return found, beside
 
-    def fill_a_disk_while_forgetting(self):
-        """The old log and the new one have no room beside each other."""
+    def test_a_session_forgets_nothing_where_the_disk_has_no_room_for_two_logs(self) -> None:
         rows = 700
-        lines = [OPENING, *(WIDE % key for key in range(rows)), '{"forget":%d}' % rows, WIDE % rows]
-        given = {'lines': lines, 'again': [OPENING, STATUS, '{"forget":%d}' % rows, WIDE % -1]}
-        found = self.held_in_a_mount(FILL_WHILE_FORGETTING, given,
-                                     ('status', 'told', 'answers', 'listed', 'logged', 'after', 'anew'),
-                                     'a disk that gets full while a session forgets')
-        if found is None:
-            return
-        answers = found['answers'].splitlines()
-        self.check((found['status'], found['told'], found['listed']) == ('0\n', '', 'log\n'),
-                   'a disk that gets full', found['status'], found['told'], found['listed'])
-        self.check(answers[-2:] == ['{"call":%d,"refused":"log"}' % (rows + 1),
-                                    '{"call":%d,"slot":%d,"replies":["inserted"]}' % (rows + 2, rows + 1)],
-                   'a disk that gets full: answers', answers[-2:])
-        self.check(found['logged'].splitlines() == [*lines[:-2], lines[-1]], 'a disk that gets full: the log')
+        lines = [OPENING, *(WIDE % key for key in range(rows)), FORGET % rows, WIDE % rows]
+        given = {'lines': lines, 'again': [OPENING, STATUS, FORGET % rows, WIDE % -1]}
+        found, _ = self.in_a_mount(FILL_WHILE_FORGETTING, given)
+        self.assert_answers(lines[-2:], found['answers'].splitlines()[-2:],
+                            ['{"call":%d,"refused":"log"}' % (rows + 1),
+                             '{"call":%d,"slot":%d,"replies":["inserted"]}' % (rows + 2, rows + 1)], 'a full disk')
+        self.assert_lines(found['logged'].splitlines(), [*lines[:-2], lines[-1]], 'the log')
         after = [json.loads(line) for line in found['after'].splitlines()]
-        self.check([it.get('entries', it.get('slot')) for it in after]
-                   == [rows + 1, rows + 1, (rows + 15) // 16 + 1, rows + 2], 'a disk with room', after)
-        self.check(len(found['anew'].splitlines()) == 1 + (rows + 15) // 16 + 2, 'a disk with room: the log')
+        self.assert_same([it.get('entries', it.get('slot')) for it in after],
+                         [rows + 1, rows + 1, (rows + 15) // 16 + 1, rows + 2], 'a disk with room')
+        self.assert_same(len(found['anew'].splitlines()), 1 + (rows + 15) // 16 + 2, 'the log on a disk with room')
 
-    def forget_in_a_folder_that_is_not_written(self):
-        some = 6
-        lines = [*FORGETTING[:some], STATUS]
-        found = self.held_in_a_mount(IN_A_FOLDER_THAT_IS_NOT_WRITTEN, {'lines': lines},
-                                     ('status', 'told', 'answers', 'listed'), 'a folder that is not written')
-        if found is None:
-            return
-        answers = found['answers'].splitlines()
-        self.check((found['status'], found['told'], found['listed']) == ('0\n', '', 'log\n'),
-                   'a folder that is not written', found['status'], found['told'], found['listed'])
-        self.check(answers[:some] == [*self.expected.answers[:some - 1],
-                                      '{"call":%d,"refused":"log"}' % (some - 1)],
-                   'a folder that is not written: answers', answers)
-        self.is_behind(f'{found["beside"]}/log', self.expected, some - 1, some - 1,
-                       'a folder that is not written')
+    def test_a_session_forgets_nothing_in_a_folder_that_is_not_written(self) -> None:
+        found, beside = self.in_a_mount(IN_A_FOLDER_THAT_IS_NOT_WRITTEN, {'lines': [*FORGETTING[:SOME], STATUS]})
+        self.assert_answers(FORGETTING[:SOME], found['answers'].splitlines()[:SOME],
+                            [*self.expected.answers[:SOME - 1], REFUSAL], 'a folder that is not written')
+        self.assert_behind(f'{beside}/log', self.expected, SOME - 1, SOME - 1, 'a folder that is not written')
 
-    # Calls that are the last ones, that fail, and between which others come
 
-    def calls_of(self, library, lines, hold):
-        """The calls of a session on a new file, in their order."""
-        file, trace = self.new_file(), self.new_file()
-        hold(file, lines, self.with_calls(library, file, TRACE=trace))
-        with open(trace) as it:
-            return it.read().splitlines()
+class AnewWithCrashes(CrashCase, Behind):
+    """Calls that are the last ones, that fail, and between which others come."""
 
-    def in_threads(self, check, given):
-        with ThreadPoolExecutor(os.cpu_count()) as threads:
-            for _ in threads.map(lambda it: check(*it), given):
-                pass
+    def setUp(self) -> None:
+        super().setUp()
+        self.expected = expected_without()
+        self.holds: dict[str, Hold] = {'one by one': self.one_by_one, 'at once': self.whole}
+        self.calls = {name: self.calls_of(hold, FORGETTING) for name, hold in self.holds.items()}
+        for calls in self.calls.values():
+            self.assertLessEqual({'open new', 'rename', 'fsync folder'}, {*calls}, 'calls that make a log anew')
 
-    def kill_while_forgetting(self, library):
-        given = [(library, hold, call) for hold in (self.one_by_one, self.run)
-                 for call in range(1, len(self.calls_of(library, FORGETTING, hold)) + 1)]
-        self.in_threads(self.kill_once, given)
+    def most_behind(self, how: str, answered: int) -> int:
+        """How many lines a session may have logged that has answered `answered`."""
+        return len(FORGETTING) if how == 'at once' else min(answered + 1, len(FORGETTING))
 
-    def kill_once(self, library, hold, call):
+    def test_a_session_that_is_killed_while_it_forgets_loses_no_answered_line(self) -> None:
+        self.each_in_threads('sessions that are killed while they forget', self.kill_once, [
+            (f'lines {how}, killed at call {call}: {name}', (how, call))
+            for how, calls in self.calls.items() for call, name in enumerate(calls, 1)])
+
+    def kill_once(self, how: str, call: int) -> None:
         file = self.new_file()
-        status, answers, _ = hold(file, FORGETTING, self.with_calls(library, file, KILL_AT=call))
-        what = f'killed at call {call} while it forgets'
-        self.check(status in (-9, 137) and answers == self.expected.answers[:len(answers)], what, status)
-        most = len(FORGETTING) if hold == self.run else min(len(answers) + 1, len(FORGETTING))
-        self.is_behind(file, self.expected, len(answers), most, what)
+        status, answers, told = self.holds[how](file, FORGETTING, self.with_calls(file, KILL_AT=call))
+        self.assert_same(status, -signal.SIGKILL, told)
+        self.assert_answers(FORGETTING[:len(answers)], answers, self.expected.answers[:len(answers)], 'killed')
+        self.assert_behind(file, self.expected, len(answers), self.most_behind(how, len(answers)), 'killed')
 
-    def tear_while_forgetting(self, library, ways):
+    def test_a_session_that_is_torn_while_it_forgets_loses_no_answered_line(self) -> None:
         chance = random.Random(2)
-        calls = {hold: len(self.calls_of(library, FORGETTING, hold)) for hold in (self.one_by_one, self.run)}
         given = []
-        for seed in range(ways):
-            hold = chance.choice([*calls])
-            given.append((library, hold, chance.randint(1, calls[hold]), seed))
-        self.in_threads(self.tear_while_forgetting_once, given)
+        for seed in range(TEARS // 8):
+            how = chance.choice([*self.holds])
+            call = chance.randint(1, len(self.calls[how]))
+            given.append((f'way {seed}: lines {how}, at call {call}', (how, call, seed)))
+        self.each_in_threads('sessions that are torn while they forget', self.tear_once, given)
 
-    def tear_while_forgetting_once(self, library, hold, call, seed):
+    def tear_once(self, how: str, call: int, seed: int) -> None:
         file = self.new_file()
-        _, answers, _ = hold(file, FORGETTING, self.with_calls(library, file, TEAR_AT=call, TEAR_SEED=seed))
-        most = len(FORGETTING) if hold == self.run else min(len(answers) + 1, len(FORGETTING))
-        what = f'torn in way {seed} at call {call} while it forgets'
-        self.check(answers == self.expected.answers[:len(answers)], what)
-        if os.path.exists(file):    # its name is synced before anything is answered
-            self.is_behind(file, self.expected, len(answers), most, what)
+        answers = self.holds[how](file, FORGETTING, self.with_calls(file, TEAR_AT=call, TEAR_SEED=seed)).answers
+        self.assert_answers(FORGETTING[:len(answers)], answers, self.expected.answers[:len(answers)], 'torn')
+        if os.path.exists(file):  # its name is synced before anything is answered
+            self.assert_behind(file, self.expected, len(answers), self.most_behind(how, len(answers)), 'torn')
             os.remove(file)
 
-    def lose_a_name_behind_a_start(self, library):
+    def test_what_a_start_behind_a_naming_has_told_stays(self) -> None:
         """A session is killed between the naming and the sync of the folder. The next one tells what it
         finds, goes on, and loses what it hasn't synced: what it has told and answered is there."""
-        lines = FORGETTING[:6]
-        naming = self.calls_of(library, lines, self.one_by_one).index('rename') + 1
-        file, trace = self.named(library, naming), self.new_file()
-        self.one_by_one(file, [OPENING, *FORGETTING[6:8]], self.with_calls(library, file, TRACE=trace))
-        with open(trace) as it:
-            calls = len(it.readlines())
-        self.in_threads(self.lose_a_name_once, [(library, naming, call, seed)
-                                                for call in range(1, calls + 1) for seed in range(3)])
+        naming = self.calls_of(self.one_by_one, FORGETTING[:SOME]).index('rename') + 1
+        calls = self.calls_of(self.one_by_one, [OPENING, *FORGETTING[SOME:8]], self.named(naming))
+        self.each_in_threads('starts behind a naming', self.lose_a_name_once, [
+            (f'torn at call {call}: {name}, in way {seed}', (naming, call, seed))
+            for call, name in enumerate(calls, 1) for seed in range(3)])
 
-    def named(self, library, naming):
+    def named(self, naming: int) -> str:
         """A file of a session that was killed behind the naming of its log."""
         file = self.new_file()
-        _, answers, _ = self.one_by_one(file, FORGETTING[:6], self.with_calls(library, file, KILL_AT=naming))
-        self.check(len(answers) == 5 and self.logged(file) == self.expected.logs[6], 'killed behind a naming')
+        answers = self.one_by_one(file, FORGETTING[:SOME], self.with_calls(file, KILL_AT=naming)).answers
+        self.assert_same(len(answers), len(FIRST), 'killed behind a naming')
+        self.assert_lines(logged(file), self.expected.logs[SOME], 'killed behind a naming')
         return file
 
-    def lose_a_name_once(self, library, naming, call, seed):
-        file = self.named(library, naming)
-        what = f'torn at call {call} of a start behind a naming, in way {seed}'
-        _, answers, _ = self.one_by_one(file, [OPENING, *FORGETTING[6:8]],
-                                        self.with_calls(library, file, TEAR_AT=call, TEAR_SEED=seed))
-        if answers:
-            self.is_behind(file, self.expected, 5 + len(answers), min(6 + len(answers), 8), what)
-        else:
-            self.is_behind(file, self.expected, 5, 6, what)
+    def lose_a_name_once(self, naming: int, call: int, seed: int) -> None:
+        file = self.named(naming)
+        answers = self.one_by_one(file, [OPENING, *FORGETTING[SOME:8]],
+                                  self.with_calls(file, TEAR_AT=call, TEAR_SEED=seed)).answers
+        least, most = (5 + len(answers), min(6 + len(answers), 8)) if answers else (5, 6)
+        self.assert_behind(file, self.expected, least, most, 'torn')
 
-    def fail_while_forgetting(self, library):
-        calls = self.calls_of(library, FORGETTING, self.one_by_one)
-        met = set()
-        given = [(library, calls, first, last, met) for last in (0, 1 << 40)
-                 for first in range(1, len(calls) + 1)]
-        self.in_threads(self.fail_once, given)
-        for names in (['open new'], ['fchown new'], ['pwrite new', 'write new'],
-                      ['fsync new', 'fdatasync new'], ['rename']):
-            self.check(any((name, 'refused') in met for name in names), f'no {names[0]} fails', sorted(met))
-        self.check(('fsync folder', CANNOT_WRITE) in met, 'no sync of a folder fails', sorted(met))
+    # Calls that fail
 
-    def fail_once(self, library, calls, first, last, met):
+    def test_calls_that_fail_while_a_session_forgets_are_told_and_lose_no_answered_line(self) -> None:
+        met: set[tuple[str, str]] = set()
+        calls = self.calls['one by one']
+        self.each_in_threads('calls that fail while a session forgets', self.fail_once, [
+            (f'call {first} fails{" and all behind it" if last else ""}: {name}', (first, last, met))
+            for last in (0, FOR_GOOD) for first, name in enumerate(calls, 1)])
+        for names in (['open new'], ['fchown new'], ['pwrite new', 'write new'], ['fsync new', 'fdatasync new'],
+                      ['rename']):
+            self.assert_that(any((name, 'refused') in met for name in names), f'no {names[0]} fails: {sorted(met)}')
+        self.assertIn(('fsync folder', CANNOT_WRITE), met, 'no sync of a folder fails')
+
+    def fail_once(self, first: int, last: int, met: set[tuple[str, str]]) -> None:
         """A call fails, and perhaps all from it on."""
-        file, name, what = self.new_file(), calls[first - 1], f'call {first} fails while it forgets'
-        status, answers, told = self.one_by_one(
-            file, FORGETTING, self.with_calls(library, file, FAIL_FROM=first, FAIL_TO=max(first, last)))
+        file, calls = self.new_file(), self.calls['one by one']
+        name = calls[first - 1]
+        ended = self.one_by_one(file, FORGETTING, self.with_calls(file, FAIL_FROM=first, FAIL_TO=max(first, last)))
+        status, answers, told = ended
         refused = [place for place, answer in enumerate(answers) if answer.endswith(',"refused":"log"}')]
-        expected = self.expected_without(refused)
-        want = ['{"call":%d,"refused":"log"}' % place if place in refused else answer
-                for place, answer in enumerate(expected.answers)]
-        self.check(answers == want[:len(answers)] and all('"forget"' in FORGETTING[it].replace(' ', '')
-                                                         for it in refused),
-                   f'{what}: {name}', answers, want)
-        told_of = {0: ('',), 1: (CANNOT_READ,), 4: (CANNOT_WRITE, CANNOT_ANSWER)}
-        self.check(told in told_of.get(status, ()) and (status == 0) == (len(answers) == len(FORGETTING)),
-                   f'{what}: {name}', status, told)
-        met.add((name, 'refused' if refused else told))
-        begun, named = 'open new' in calls[:first], 'rename' in calls[:first - 1]
+        self.assert_that(all('"forget"' in FORGETTING[it].replace(' ', '') for it in refused), refused)
+        expected = expected_without(*refused)
+        wanted = ['{"call":%d,"refused":"log"}' % place if place in refused else answer
+                  for place, answer in enumerate(expected.answers)]
+        self.assert_answers(FORGETTING[:len(answers)], answers, wanted[:len(answers)], 'a call fails')
+        cause = self.assert_told(ended, len(refused), file)
+        met.add((name, 'refused' if refused else cause))
         if not last and (name == 'rename' or name.endswith(' new')):
-            self.check(len(refused) == 1 and status == 0, f'{what}: {name} fails', status, refused)
-            self.check(not os.path.exists(f'{file}.new'), f'{what}: a new log is left')
-        if not last and begun and name == 'fsync folder':
-            self.check(named and (status, told, refused) == (4, CANNOT_WRITE, []), f'{what}: {name}', status)
-        self.is_behind(file, expected, len(answers), min(len(answers) + 1, len(FORGETTING)), what)
+            self.assert_same((len(refused), status), (1, 0), told)
+            self.assertFalse(os.path.exists(f'{file}.new'), 'a new log is left')
+        if not last and 'open new' in calls[:first] and name == 'fsync folder':
+            self.assertIn('rename', calls[:first - 1], 'calls before a sync of the folder')
+            self.assert_same((status, cause, refused), (4, CANNOT_WRITE, []), told)
+        self.assert_behind(file, expected, len(answers), min(len(answers) + 1, len(FORGETTING)), 'a call fails')
 
-    def start_while_forgetting(self, library):
-        """A second start, behind each call of a session that forgets, finds the log in use; and a start
-        that has opened the file before another session makes it anew goes on with the new one."""
-        file = self.new_file()
-        self.run(file, FORGETTING[:5])
-        calls = self.calls_again(library, file)
-        given = [(library, call + 1) for call in range(calls.index('open new'), len(calls))]
-        self.in_threads(self.start_behind_a_call, given)
-        self.start_before_a_naming(library)
+    def assert_told(self, ended: Ended, refused: int, file: str) -> str:
+        """Each refusal of a session is told, before it is answered, which may fail; and its end, whose cause
+        this returns."""
+        status, answers, told = ended
+        *refusals, end = [*told.splitlines(keepends=True), *([''] if status == 0 else [])]
+        cause = cause_of(end)
+        self.assertIn((status, cause), [(0, ''), (1, CANNOT_READ), (4, CANNOT_WRITE), (4, CANNOT_ANSWER)], told)
+        self.assert_that(cause in ('', CANNOT_ANSWER) or is_told(end, cause, file), told)
+        self.assert_that(status != 0 or len(answers) == len(FORGETTING), f'{len(answers)} answers')
+        self.assert_that(are_told_of([line.rstrip('\n') for line in refusals], file), told)
+        self.assertIn(len(refusals) - refused, [0, 1] if status == 4 else [0], f'{refused} refusals: {told}')
+        return cause
+
+    # Starts beside a session that forgets
+
+    def calls_again(self, file: str) -> list[str]:
+        """The calls of a start on a copy of a log, and of a forgetting that comes with the opening, up to
+        the answers."""
+        copied, trace = self.new_file(), self.new_file()
+        write(copied, data_of(file))
+        with self.held(copied, self.with_calls(copied, TRACE=trace)) as held:
+            held.send(OPENING, FORGETTING[SOME - 1])
+            for _ in range(2):
+                held.answer()
+            held.kill()
+        return lines_of_file(trace)
 
     @contextmanager
-    def stopped(self, file, lines, environment):
+    def stopped(self, file: str, lines: Sequence[str], call: int) -> Iterator[Held]:
         """A session that was given some lines, and is stopped by one of its calls."""
-        held = subprocess.Popen(self.session(file), stdin=subprocess.PIPE, stdout=subprocess.PIPE,
-                                stderr=subprocess.PIPE, env={**os.environ, **environment})
-        try:
-            held.stdin.write(text_of(lines).encode())
-            held.stdin.flush()
-            _, status = os.waitpid(held.pid, os.WUNTRACED)
-            self.check(os.WIFSTOPPED(status), 'a session that is stopped', status)
+        with self.held(file, self.with_calls(file, STOP_AT=call)) as held:
+            held.send(*lines)
+            _, status = os.waitpid(held.process.pid, os.WUNTRACED)
+            self.assert_that(os.WIFSTOPPED(status), f'status {status} of a session that is to be stopped')
             yield held
-        finally:
-            held.kill()
 
-    def ended(self, held, lines):
-        """The answers of a session that was stopped, and goes on with some lines to its end."""
-        held.send_signal(signal.SIGCONT)
-        answers, told = held.communicate(text_of(lines).encode(), 60)
-        self.check((held.returncode, told) == (0, b''), 'a session that goes on', held.returncode, told)
-        return answers.decode().splitlines()
+    def ended(self, held: Held, line: str) -> list[str]:
+        """The answers of a session that was stopped, and goes on with a line to its end."""
+        held.process.send_signal(signal.SIGCONT)
+        held.send(line)
+        ended = held.end()
+        self.assert_ended_well(ended, 'a session that goes on')
+        return ended.answers
 
-    def start_behind_a_call(self, library, call):
-        file, what = self.new_file(), f'a start behind call {call} of a session that forgets'
-        self.run(file, FORGETTING[:5])
-        environment = self.with_calls(library, file, STOP_AT=call)
-        with self.stopped(file, [OPENING, FORGETTING[5]], environment) as held:
+    def test_a_start_beside_a_session_that_forgets_finds_the_log_in_use(self) -> None:
+        """It does behind each call."""
+        file = self.new_file()
+        self.whole(file, FIRST)
+        calls = self.calls_again(file)
+        self.assert_same(calls[-1], 'write', f'the last call of a session that forgets, of {calls}')
+        self.each_in_threads('starts beside a session that forgets', self.start_behind_a_call, [
+            (f'behind call {call + 1}: {calls[call]}', (call + 1,))
+            for call in range(calls.index('open new'), len(calls))])
+
+    def start_behind_a_call(self, call: int) -> None:
+        file = self.new_file()
+        self.whole(file, FIRST)
+        with self.stopped(file, [OPENING, FORGETTING[SOME - 1]], call) as held:
             before = os.path.lexists(f'{file}.new')
-            status, answers, told = self.run(file, [OPENING, STATUS])
-            self.check((status, answers, told) == (1, [], IN_USE), what, status, told)
-            self.check(os.path.lexists(f'{file}.new') == before, f'{what}: the new log is removed')
-            answers = self.ended(held, [FORGETTING[6]])
-        self.check(len(answers) == 3 and '"horizon":2' in answers[1], what, answers)
-        self.is_behind(file, self.expected, 6, 6, what)
+            self.assert_cannot(self.whole(file, [OPENING, STATUS]), 1, IN_USE, file, 'a second start')
+            self.assert_same(os.path.lexists(f'{file}.new'), before, 'whether there is a new log')
+            answers = self.ended(held, FORGETTING[SOME])
+        self.assert_that(len(answers) == 3 and '"horizon":2' in answers[1], answers)
+        self.assert_behind(file, self.expected, SOME, SOME, 'a session that was stopped')
 
-    def calls_again(self, library, file):
-        """The calls of a start on a copy of a log, and of a forgetting."""
-        copied, trace = self.new_file(), self.new_file()
-        with open(file, 'rb') as given, open(copied, 'wb') as made:
-            made.write(given.read())
-        self.run(copied, [OPENING, FORGETTING[5]], self.with_calls(library, copied, TRACE=trace))
-        with open(trace) as it:
-            return it.read().splitlines()
-
-    def start_before_a_naming(self, library):
-        file, what = self.new_file(), 'a start before a naming'
-        self.run(file, FORGETTING[:5])
-        opens = self.calls_again(library, file).index('open log') + 1
-        with subprocess.Popen(self.session(file), stdin=subprocess.PIPE, stdout=subprocess.PIPE) as first:
-            first.stdin.write(text_of([OPENING]).encode())
-            first.stdin.flush()
-            first.stdout.readline()
-            with self.stopped(file, [OPENING], self.with_calls(library, file, STOP_AT=opens)) as second:
-                first.stdin.write(text_of([FORGETTING[5]]).encode())
-                first.stdin.flush()
-                self.check(b'"horizon":2' in first.stdout.readline(), what)
-                first.stdin.close()
-                first.wait(60)
-                with open(f'{file}.new', 'w') as it:    # as if a third one had been killed
-                    it.write(OPENING)
-                answers = self.ended(second, [FORGETTING[7]])
-        self.check(len(answers) == 2 and '"horizon":2' in answers[0], what, answers)
-        self.is_behind(file, self.expected, 8, 8, what)
+    def test_a_start_that_has_opened_a_log_before_it_is_made_anew_goes_on_with_the_new_one(self) -> None:
+        file = self.new_file()
+        self.whole(file, FIRST)
+        opens = self.calls_again(file).index('open log') + 1
+        with self.held(file) as first:
+            first.ask(OPENING)
+            with self.stopped(file, [OPENING], opens) as second:
+                self.assertIn('"horizon":2', first.ask(FORGETTING[SOME - 1]) or '')
+                first.end()
+                write(f'{file}.new', OPENING.encode())  # as if a third one had been killed
+                answers = self.ended(second, FORGETTING[7])
+        self.assert_that(len(answers) == 2 and '"horizon":2' in answers[0], answers)
+        self.assert_behind(file, self.expected, 8, 8, 'a start before a naming')

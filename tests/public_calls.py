@@ -1,15 +1,11 @@
-#!/usr/bin/env python3
 """Public functions of the libraries of crates/ that nothing calls: no other crate, not the program,
 and no other function of their own crate. A call in a test, a benchmark or an example doesn't count.
 
-  tests/public_calls.py
-
-It prints a line for each, and the status is 1 where there is one. Those that are there for users of
-the libraries are left out: PROMISED lists them, besides constructors, and `is_empty`, which Rust
-expects beside `len`. So are laws: functions without arguments and with an empty body, which are
-there for their contracts. It reads only the text of the files, which `rt fmt` has laid out, so a
-few calls of another type's method may pass for a call. A library is a crate that another one
-stands on.
+Those that are there for users of the libraries are left out: PROMISED lists them, besides
+constructors, and `is_empty`, which Rust expects beside `len`. So are laws: functions without
+arguments and with an empty body, which are there for their contracts. It reads only the text of the
+files, which `rt fmt` has laid out, so a few calls of another type's method may pass for a call. A
+library is a crate that another one stands on.
 
 A call is a name before `(` or `::<`, or after `Type::`. It is a call of a method where the file
 names the method's type or its crate; if several types have a method of that name, and the file says
@@ -17,11 +13,13 @@ what stands before the dot (`thing: Type`), that must name the type, too.
 """
 import os
 import re
-import sys
+import unittest
 from collections import defaultdict
 from dataclasses import dataclass, field
+from typing import Iterator, Optional
 
-ROOT = os.path.dirname(os.path.dirname(os.path.realpath(__file__)))
+from tests.support.fixtures import ROOT
+
 BLOCK = re.compile(r'(pub )?(?:pub\(\w+\) )?(impl|trait)\b(.*)')
 FUNCTION = re.compile(r'( {4})?(pub )?(?:pub\(\w+\) )?(?:const )?fn (\w+)(\(\)$)?')
 ARGUMENTS = re.compile(r'<[^<>]*>')
@@ -69,16 +67,16 @@ PROMISED = {
 class Function:
     crate: str
     file: str
-    owner: str  # the type or trait that it is a method of, or none
+    owner: Optional[str]  # the type or trait that it is a method of
     name: str
     lines: range
     is_public: bool
     is_of_trait: bool
 
-    def path(self):
+    def path(self) -> str:
         return f'{self.owner}::{self.name}' if self.owner else self.name
 
-    def is_promised(self):
+    def is_promised(self) -> bool:
         promised = PROMISED.get(self.crate, '').split()
         return bool(FOR_USERS.match(self.name)) or self.path() in promised
 
@@ -88,8 +86,8 @@ class Call:
     file: str
     line: int
     name: str
-    type: str  # what stands before `::`, or the type of `self` before a dot
-    before: str  # what stands before the dot
+    type: Optional[str]  # what stands before `::`, or the type of `self` before a dot
+    before: Optional[str]  # what stands before the dot
     has_dot: bool
 
 
@@ -97,13 +95,15 @@ class Call:
 class File:
     path: str
     crate: str
-    lines: list
-    words: set = field(default_factory=set)
-    types: dict = field(default_factory=lambda: defaultdict(set))  # the words of what a name is
-    owners: list = field(default_factory=list)  # of each line: a type or trait, and which of them
+    lines: list[str]
+    words: set[str] = field(default_factory=set)
+    # The words of what a name is.
+    types: defaultdict[str, set[str]] = field(default_factory=lambda: defaultdict(set))
+    # Of each line: a type or trait, and which of them.
+    owners: list[tuple[Optional[str], str]] = field(default_factory=list)
 
-    def read(self):
-        owner = (None, '')
+    def read(self) -> None:
+        owner: tuple[Optional[str], str] = (None, '')
         for at, line in enumerate(self.lines):
             self.words.update(re.findall(r'\w+', line.split('//')[0]))
             for name, declared in DECLARED.findall(NO_CODE.sub('', line)):
@@ -114,8 +114,8 @@ class File:
                 owner = (None, '')
             self.owners.append(owner)
 
-    def name_of_block(self, at, found):
-        head = found[3]
+    def name_of_block(self, at: int, found: 're.Match[str]') -> Optional[str]:
+        head: str = found[3]
         while '{' not in head:
             at += 1
             head += ' ' + self.lines[at]
@@ -123,19 +123,19 @@ class File:
         while ARGUMENTS.search(head):
             head = ARGUMENTS.sub('', head)
         name = re.search(r'\w+', head.split(' for ')[-1].split(' where ')[0])
-        return name and name[0]
+        return name[0] if name else None
 
-    def functions(self):
+    def functions(self) -> Iterator[Function]:
         for at, line in enumerate(self.lines):
             if found := FUNCTION.match(line):
                 last = self.last_line(at, found[1] or '')
                 owner, block = self.owners[at] if found[1] else (None, '')
-                is_law = found[4] and self.lines[last].endswith('{}')
+                is_law = bool(found[4]) and self.lines[last].endswith('{}')
                 yield Function(self.crate, self.path, owner, found[3], range(at, last + 1),
                                (bool(found[2]) or block == 'pub trait') and not is_law,
                                block.endswith('trait'))
 
-    def last_line(self, at, indent):
+    def last_line(self, at: int, indent: str) -> int:
         """The line that the function ends at that begins here."""
         has_begun = False
         while True:
@@ -145,7 +145,7 @@ class File:
             has_begun = has_begun or line.endswith('{') and line[len(indent)] != ' '
             at += 1
 
-    def calls(self):
+    def calls(self) -> Iterator[Call]:
         for at, line in enumerate(self.lines):
             for found in CALL.finditer(NO_CODE.sub('', line)):
                 type_before = found['type']
@@ -155,16 +155,19 @@ class File:
                            bool(found['dot']))
 
 
-def libraries_and_files():
-    uses = {}
-    with open(f'{ROOT}/crates.txt') as listed:
-        for line in listed:
-            if found := re.match(r'([a-z]\w*)[^:]*:(.*)', line):
-                uses[found[1]] = found[2].split()
-    libraries = {library for used in uses.values() for library in used if library in uses}
-    files = {}
+Files = dict[str, File]
+
+
+def libraries_and_files() -> tuple[set[str], Files]:
+    uses: dict[str, list[str]] = {}
+    for line in (ROOT / 'crates.txt').read_text().splitlines():
+        if found := re.match(r'([a-z]\w*)[^:]*:(.*)', line):
+            uses[found[1]] = found[2].split()
+    libraries = {library for used in uses.values() for library in used
+                 if library in uses and not NO_CALLER.search(library)}
+    files: Files = {}
     for crate in uses:
-        for folder, _, names in os.walk(f'{ROOT}/crates/{crate}/src'):
+        for folder, _, names in os.walk(ROOT / f'crates/{crate}/src'):
             for name in names:
                 with open(f'{folder}/{name}') as source:
                     file = File(f'{folder}/{name}', crate, source.read().split('\n'))
@@ -173,17 +176,16 @@ def libraries_and_files():
     return libraries, files
 
 
-def resolve_aliases(files):
+def resolve_aliases(files: Files) -> None:
     """Adds the words of a type's alias to what is declared by the alias."""
-    aliases = dict(found.groups() for file in files.values() for line in file.lines
-                   if (found := ALIAS.match(line)))
+    aliases = {found[1]: found[2] for file in files.values() for line in file.lines if (found := ALIAS.match(line))}
     for file in files.values():
         for declared in file.types.values():
             for alias in declared & aliases.keys():
                 declared.update(re.findall(r'\w+', aliases[alias]))
 
 
-def is_call_of(call, file, function, is_only_one):
+def is_call_of(call: Call, file: File, function: Function, is_only_one: bool) -> bool:
     """Whether a call in a file may be a call of this function."""
     if call.file == function.file and call.line in function.lines:
         return False
@@ -197,33 +199,43 @@ def is_call_of(call, file, function, is_only_one):
         return False
     if is_only_one or function.is_of_trait:
         return True
-    types = file.types.get(call.before)
+    types = file.types.get(call.before or '')
     if types:
         return function.owner in types
     return names_type or file.crate != function.crate
 
 
-def main():
-    libraries, files = libraries_and_files()
-    functions = [function for file in files.values() for function in file.functions()]
-    calls, owners = defaultdict(list), defaultdict(set)
-    resolve_aliases(files)
+def calls_by_name(files: Files) -> dict[str, list[Call]]:
+    """The calls that count."""
+    calls: dict[str, list[Call]] = {}
     for file in files.values():
         if not NO_CALLER.search(file.crate):
             for call in file.calls():
-                calls[call.name].append(call)
+                calls.setdefault(call.name, []).append(call)
+    return calls
+
+
+def called_by_nothing() -> Iterator[str]:
+    """The public functions that nothing calls."""
+    libraries, files = libraries_and_files()
+    resolve_aliases(files)
+    functions = [function for file in files.values() for function in file.functions()]
+    owners: defaultdict[str, set[Optional[str]]] = defaultdict(set)
     for function in functions:
         owners[function.name].add(function.owner)
-    missing = 0
+    calls = calls_by_name(files)
     for function in functions:
         if not function.is_public or function.crate not in libraries or function.is_promised():
             continue
         is_only_one = len(owners[function.name]) == 1
         if not any(is_call_of(call, files[call.file], function, is_only_one)
-                   for call in calls[function.name]):
-            missing += 1
-            print(f'{function.crate}: {function.path()} is called by nothing')
-    return 1 if missing else 0
+                   for call in calls.get(function.name, [])):
+            yield f'{function.crate}: {function.path()} is called by nothing'
 
 
-sys.exit(main())
+class PublicCalls(unittest.TestCase):
+    def test_each_public_function_is_called(self) -> None:
+        """By a library, the program or another function, unless it is promised to users."""
+        found = list(called_by_nothing())
+        if found:
+            self.fail('\n'.join(found))

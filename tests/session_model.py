@@ -15,11 +15,13 @@ import re
 import sys
 
 LONGEST = 16_777_216
+VERSIONS = 2, 4  # of openings; all lines are read as of the last one
 DEEPEST = 127
 BLANK = re.compile(rb'[\t\r ]*\Z')
 WRITES = ['insert', 'update', 'delete']
 KINDS = ['insert', 'update', 'delete', 'select', 'preview', 'do', 'begin', 'step', 'finish',
          'abort', 'status', 'slots', 'changes', 'tables', 'forget']
+OF_REPAIRS = ['step', 'finish', 'abort']  # they may say whose repair they are for
 MOST_WRITES = 16  # of an action
 NOTHING = {'do': []}
 COMPARISONS = {'=': operator.eq, '!=': operator.ne, '<': operator.lt, '<=': operator.le,
@@ -142,6 +144,10 @@ def a_count(path, value, low=0, high=2 ** 64 - 1):
     return value
 
 
+def a_worker(path, value):
+    return a_count(path, value, 1, 2 ** 32 - 1)
+
+
 def a_text(path, value):
     if not isinstance(value, str):
         raise wrong(path)
@@ -244,20 +250,20 @@ def tables_of(path, value):
 
 def opening_of(value):
     opening = Members('$', value)
-    version = opening.take('version', lambda path, value: a_count(path, value, 2, 3))
+    opening.take('version', lambda path, value: a_count(path, value, *VERSIONS))
     tables = opening.take('tables', tables_of)
     keep = opening.perhaps('keep', lambda path, value: a_count(path, value, 0, 16), 4)
     records = opening.perhaps('records', lambda path, value: a_count(path, value, 0, 1_000_000),
                               100_000)
     opening.end()
-    return version, tables, keep, records
+    return tables, keep, records
 
 
 class Grammar:
-    """The grammar of requests over declared tables, in a version."""
+    """The grammar of requests over declared tables."""
 
-    def __init__(self, version, tables):
-        self.version, self.tables = version, tables
+    def __init__(self, tables):
+        self.tables = tables
 
     def table(self, path, value):
         for table in self.tables:
@@ -275,8 +281,7 @@ class Grammar:
 
     def where(self, table):
         def one(path, value):
-            most = 2 if self.version == 2 else 3
-            if not isinstance(value, list) or not 2 <= len(value) <= most:
+            if not isinstance(value, list) or not 2 <= len(value) <= 3:
                 raise wrong(path)
             name = self.column(table)(f'{path}[0]', value[0])
             if len(value) == 3 and a_text(f'{path}[1]', value[1]) not in SIGNS:
@@ -340,7 +345,7 @@ class Grammar:
     def action_of(self, members, kind):
         if kind == 'do':
             action = {'do': members.take('do', self.do)}
-            if self.version > 2 and members.perhaps('whole', a_flag, False):
+            if members.perhaps('whole', a_flag, False):
                 action['whole'] = True
             return action, lambda: None
         table, write = self.write_of(members, kind)
@@ -364,8 +369,7 @@ class Grammar:
 
     def request_of(self, value):
         members = Members('$', value)
-        asked = {'worker': members.perhaps(
-            'worker', lambda path, value: a_count(path, value, 1, 2 ** 32 - 1), 1)}
+        asked = {'worker': members.perhaps('worker', a_worker, 1)}
         asked['if'] = members.perhaps('if', a_count)
         kind = asked['kind'] = members.kind(KINDS)
         judge = None
@@ -394,8 +398,7 @@ class Grammar:
             if last > first + 9_999:
                 raise out_of_range('$.slots')
             asked['slots'] = first, last
-            asked['of'] = members.perhaps(
-                'of', lambda path, value: a_count(path, value, 1, 2 ** 32 - 1))
+            asked['of'] = members.perhaps('of', a_worker)
 
             def row(path, value):
                 if not isinstance(value, list) or len(value) != 2:
@@ -411,6 +414,8 @@ class Grammar:
             asked['forget'] = members.take('forget', a_count)
         else:
             members.take(kind, true)
+        if kind in OF_REPAIRS:
+            asked['of'] = members.perhaps('of', a_worker)
         members.end()
         if judge:
             judge()
@@ -513,8 +518,8 @@ def changed(table, changes, row):
 
 
 class Repair:
-    def __init__(self, current, edits):
-        self.current, self.edits = current, dict(edits)
+    def __init__(self, current, edits, worker):
+        self.current, self.edits, self.worker = current, dict(edits), worker
         self.next = Generation(current.tables)
         self.rows, self.parts, self.rerun = set(), set(), 0
 
@@ -577,40 +582,67 @@ def is_passed_over(line):
     return len(line) <= LONGEST and BLANK.match(line) is not None
 
 
+def is_opening(line):
+    """Whether a line of an open session is an opening: a value with a member that no request has."""
+    try:
+        value = value_of(line)
+    except Fault:
+        return False
+    return isinstance(value, dict) and 'version' in value
+
+
 class Session:
     """A session tells slots, times and generations that only grow. Its lists begin with `ground`
     slots that insert what was there at the time `horizon`, and with the generation `before`."""
 
     def __init__(self):
         self.grammar = None
+        self.was_opened = False  # by this process
         self.calls = self.horizon = self.ground = self.before = 0
 
     def answer(self, line):
         """The answer to a line, or None where it is passed over."""
         if is_passed_over(line):
             return None
-        if self.grammar is None:
+        if self.grammar is None or is_opening(line):
             return self.answer_opening(line)
         self.calls += 1
         return {'call': self.calls, **self.answer_request(line)}
 
-    def without_memory(self):
-        """The answer to the next line where there is no memory for it."""
-        return {**({} if self.grammar is None else {'call': self.calls + 1}), 'refused': 'memory'}
+    def start_again(self):
+        """Another process goes on, which takes its records from the first opening that it accepts."""
+        self.was_opened = False
 
-    def lose(self):
-        """Counts a line for which there is no memory."""
-        self.calls += self.grammar is not None
+    def without_memory(self, line):
+        """What the next line may be answered where there is no memory for it. An opening in an open
+        session is a request where it isn't even kept, since nobody knows then what it is."""
+        opened, request = {'refused': 'memory'}, {'call': self.calls + 1, 'refused': 'memory'}
+        if self.grammar is None:
+            return [opened]
+        return [opened, request] if is_opening(line) else [request]
+
+    def lose(self, answer):
+        """Goes on behind a line for which there is no memory, and which is answered so."""
+        self.calls += 'call' in answer
 
     def answer_opening(self, line):
         try:
-            self.version, self.tables, self.keep, self.most_records = opening_of(value_of(line))
+            tables, keep, records = opening_of(value_of(line))
         except Fault as fault:
             return {'fault': {'path': fault.path, 'cause': fault.cause}}
-        self.grammar = Grammar(self.version, self.tables)
-        self.generations, self.repair, self.entries = [Generation(self.tables)], None, 0
-        self.workers, self.asked, self.records = [], [], []
+        if self.grammar is None:
+            self.open(tables, keep)
+        elif (tables, keep) != (self.tables, self.keep):
+            return {'refused': 'another opening'}
+        if not self.was_opened:
+            self.was_opened, self.most_records = True, records
+            del self.records[:max(0, len(self.records) - records)]
         return self.status()
+
+    def open(self, tables, keep):
+        self.tables, self.keep, self.grammar = tables, keep, Grammar(tables)
+        self.generations, self.repair, self.entries = [Generation(tables)], None, 0
+        self.workers, self.asked, self.records = [], [], []
 
     def answer_request(self, line):
         try:
@@ -654,12 +686,18 @@ class Session:
 
     def status(self):
         return {'time': self.now(), 'generation': self.newest(), 'oldest': self.oldest(),
-                'entries': self.entries, 'repair': self.standing() if self.repair else None,
+                'entries': self.entries, 'repair': self.under_way(),
                 **({'horizon': self.horizon} if self.horizon else {})}
 
-    def repairing(self):
+    def under_way(self):
+        return self.repair and {**self.standing(), 'worker': self.repair.worker}
+
+    def repairing(self, of=None):
+        """The repair under way, which has to be one of this worker, if one is given."""
         if self.repair is None:
             raise Refusal('not repairing')
+        if of not in (None, self.repair.worker):
+            raise Refusal('repair of another', worker=self.repair.worker)
         return self.repair
 
     def record(self, **record):
@@ -715,7 +753,7 @@ class Session:
             if slot in slots[:at]:
                 raise Refusal('edited twice', slot=slot)
         edits = [(self.place(slot), action) for slot, action in asked['edits']]
-        self.repair = Repair(self.current(), edits)
+        self.repair = Repair(self.current(), edits, asked['worker'])
         self.entries += 1
         self.steps(self.ground)
         return self.standing()
@@ -726,12 +764,12 @@ class Session:
             self.entries += 1
 
     def do_step(self, asked):
-        self.repairing()
+        self.repairing(asked['of'])
         self.steps(asked['step'])
         return self.standing()
 
     def do_finish(self, asked):
-        repair = self.repairing()
+        repair = self.repairing(asked['of'])
         self.steps(repair.left())
         self.entries += 1
         self.generations.append(repair.next)
@@ -739,7 +777,7 @@ class Session:
         return {'generation': self.newest(), 'slots': self.now(), 'rerun': repair.rerun}
 
     def do_abort(self, asked):
-        self.repairing()
+        self.repairing(asked['of'])
         self.repair = None
         self.entries += 1
         return self.status()
@@ -769,7 +807,7 @@ class Session:
         return self.status()
 
     def do_tables(self, asked):
-        return {'version': self.version, 'tables': self.tables, 'keep': self.keep,
+        return {'version': VERSIONS[-1], 'tables': self.tables, 'keep': self.keep,
                 'records': self.most_records}
 
     def do_slots(self, asked):
@@ -823,7 +861,6 @@ class Random:
         self.written = {}  # the actions of slots, so far as is known
         self.forgets = self.one_of(0, 1, 1, 3) if forgets is None else forgets
         self.has_many_rows = self.one_of(False, False, True)
-        self.version = self.one_of(2, 3)
 
     def most(self, few, many):
         return many if self.has_many_rows else few
@@ -844,15 +881,13 @@ class Random:
         return self.compared(found + self.more_conditions(found))
 
     def more_conditions(self, found):
-        """Now and then one more on the same column, in a version that compares."""
-        if self.version == 2 or not found or self.one_of(True, True, True, False):
+        """Now and then one more on the same column."""
+        if not found or self.one_of(True, True, True, False):
             return []
         return [[found[0][0], self.owner() if found[0][0] == 'owner' else self.key()]]
 
     def compared(self, where):
-        """In version 3 half of the conditions compare."""
-        if self.version == 2:
-            return where
+        """Half of the conditions say how they compare."""
         return [[name, self.one_of(*SIGNS), value] if self.one_of(True, False) else [name, value]
                 for name, value in where]
 
@@ -884,7 +919,7 @@ class Random:
     def action(self):
         if self.one_of(True, True, False):
             return self.write()
-        if self.version > 2 and self.one_of(True, False):
+        if self.one_of(True, False):
             return self.whole_action()
         return {'do': [self.write() for _ in range(self.one_of(0, 1, 2, self.most(3, 16)))]}
 
@@ -914,7 +949,7 @@ class Random:
     def edit(self):
         least = self.one_of(*[self.horizon + 1] * 8, 1, 0)
         slot = self.random.randint(least, max(least, self.time + self.one_of(0, 0, 0, 1)))
-        if self.version > 2 and slot in self.written and self.one_of(True, False, False):
+        if slot in self.written and self.one_of(True, False, False):
             return {'replace': slot, 'by': self.as_whole_or_not(self.written[slot])}
         return self.one_of({'cancel': slot}, {'replace': slot, 'by': self.action()})
 
@@ -935,6 +970,23 @@ class Random:
             self.horizon = max(self.horizon, time)
         return {'forget': time}
 
+    def of_worker(self):
+        """Whose repair a line is for, mostly one that began some."""
+        return self.one_of({}, {}, {'of': 1}, {'of': 2}, {'of': self.one_of(3, 3, 2 ** 32 - 1, 0, None)})
+
+    def next_opening(self):
+        """An opening in the midst, mostly of the tables that are there."""
+        opening = {**self.opening, 'version': self.one_of(2, 3, 4), 'records': self.one_of(0, 3, 9)}
+        if self.one_of(True, False):
+            return opening
+        tables = self.opening['tables']
+        return self.one_of(
+            {**opening, 'keep': self.one_of(0, 1, 4)}, {**opening, 'tables': tables[::-1]},
+            {**opening, 'tables': tables[:1]}, {**opening, 'tables': []},
+            {**opening, 'version': self.one_of(1, 5, '4', None)}, {'version': 4}, {'version': 2, 'status': True},
+            {**opening, 'worker': 1}, {**opening, 'insert': 'acct'}, {'version': None, 'do': []},
+            {'insert': 'note', 'row': [self.key()], 'version': 3})
+
     def page(self):
         return {**self.one_of({}, {}, {'after': self.key() - 1}),
                 **self.one_of({}, {}, {'most': self.one_of(1, 2, 9)})}
@@ -942,7 +994,8 @@ class Random:
     def request(self):
         kind = self.one_of(*['write'] * 6, 'select', 'select', 'preview', 'begin', 'begin',
                            *['step'] * 3, 'finish', 'finish', 'abort', 'status', 'slots', 'slots',
-                           'changes', 'changes', 'tables', 'fault', *['forget'] * self.forgets)
+                           'changes', 'changes', 'tables', 'opening', 'fault',
+                           *['forget'] * self.forgets)
         table, where = 'acct', self.where()
         if self.one_of(*[False] * 5, True):
             table, where = 'note', self.compared(self.one_of([], [['n', self.key()]]))
@@ -960,9 +1013,10 @@ class Random:
         return {
             'preview': {'preview': table, 'where': where, **self.page()},
             'begin': {'begin': [self.edit() for _ in range(self.one_of(0, 1, 1, 2))]},
-            'step': {'step': self.one_of(1, 2, 5, 10_000)},
-            'finish': {'finish': True},
-            'abort': {self.one_of('abort', 'status', 'status'): True},
+            'step': {'step': self.one_of(1, 2, 5, 10_000), **self.of_worker()},
+            'finish': {'finish': True, **self.of_worker()},
+            'abort': self.one_of({'abort': True, **self.of_worker()}, {'status': True}, {'status': True}),
+            'opening': self.next_opening(),
             'status': {'status': True},
             'slots': {'slots': [first, first + self.one_of(0, 3, 9_999)],
                       **self.one_of({}, {'of': self.one_of(1, 2)}),
@@ -979,13 +1033,14 @@ class Random:
                 'partition': flags[0]}, {'name': 'bal', 'kind': 'int'},
                 {'name': 'kind', 'kind': 'int', 'partition': flags[1]}]
         note = [{'name': 'n', 'kind': 'int'}]
-        yield {'version': self.version,
-               'tables': [{'name': 'acct', 'columns': acct}, {'name': 'note', 'columns': note}],
-               'keep': self.one_of(0, 1, 4), 'records': self.one_of(0, 3, 100_000)}
+        self.opening = {'version': self.one_of(2, 3, 4),
+                        'tables': [{'name': 'acct', 'columns': acct}, {'name': 'note', 'columns': note}],
+                        'keep': self.one_of(0, 1, 4), 'records': self.one_of(0, 3, 100_000)}
+        yield self.opening
         for _ in range(count):
             time = self.time
             request = self.request()
-            if isinstance(request, dict):
+            if isinstance(request, dict) and 'version' not in request:
                 request.update(self.one_of({}, {}, {'worker': 2}))
                 request.update(self.one_of(*[{}] * 16, {'if': time}, {'if': time + 1}))
                 if request.get('if', time) != time:

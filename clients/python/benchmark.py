@@ -21,7 +21,7 @@ import timetravel
 from timetravel import Column, Session, Table
 
 TABLE = Table("acct", [Column("id", "int"), Column("owner", "text", partition=True), Column("bal", "int")])
-OPENING = {"version": 2, "tables": [{"name": "acct", "columns": [
+OPENING = {"version": 4, "tables": [{"name": "acct", "columns": [
     {"name": "id", "kind": "int"}, {"name": "owner", "kind": "text", "partition": True},
     {"name": "bal", "kind": "int"}]}]}
 

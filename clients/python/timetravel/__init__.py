@@ -28,12 +28,12 @@ asyncio. docs/SESSION.md is the manual.
 
 from . import aio
 from .answers import (
-    Answer, ChangedSelect, ChangedWrite, Changes, Previewed, Progress, Reply, Selected, Slot, Slots, Status,
-    Stepped, Switched, Tables, Written)
+    Answer, ChangedSelect, ChangedWrite, Changes, Previewed, Progress, Repair, Reply, Selected, Slot, Slots,
+    Status, Stepped, Switched, Tables, Written)
 from .errors import (
     AnotherOpening, Closed, Disconnected, EditedTwice, Ended, Error, Fault, Forgotten, Forked, Full, Later,
     LogFailed, Lost, Moved, NoAnswer, NoGeneration, NoSlot, NotConnected, NotRepairing, NotStarted,
-    OutOfMemory, Refused, Repairing)
+    OutOfMemory, Refused, RepairOfAnother, Repairing, Vanished)
 from .requests import (
     Change, Compared, Edit, NewRow, Where, Write, above, at_least, at_most, below, cancel, delete, do, insert,
     is_not, preview, replace, select, update)
@@ -47,6 +47,7 @@ __all__ = [
     "Compared", "Disconnected", "Edit", "EditedTwice", "Ended", "Error", "Fault", "Forgotten", "Forked",
     "Full", "Later", "LogFailed", "Lost", "Moved", "NewRow", "NoAnswer", "NoGeneration", "NoSlot",
     "NotConnected", "NotRepairing", "NotStarted", "OutOfMemory", "Previewed", "Progress", "Refused",
-    "Repairing", "Reply", "Row", "Selected", "Session", "Slot", "Slots", "Status", "Stepped", "Switched",
-    "Table", "Tables", "Value", "Where", "Write", "Written", "above", "aio", "at_least", "at_most", "below",
-    "cancel", "delete", "do", "insert", "is_not", "preview", "replace", "select", "update"]
+    "Repair", "RepairOfAnother", "Repairing", "Reply", "Row", "Selected", "Session", "Slot", "Slots",
+    "Status", "Stepped", "Switched", "Table", "Tables", "Value", "Vanished", "Where", "Write", "Written",
+    "above", "aio", "at_least", "at_most", "below", "cancel", "delete", "do", "insert", "is_not", "preview",
+    "replace", "select", "update"]

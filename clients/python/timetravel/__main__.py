@@ -44,7 +44,13 @@ def _parser() -> argparse.ArgumentParser:
     parser = argparse.ArgumentParser(prog="python3 -m timetravel", description="One session for many.")
     kinds = parser.add_subparsers(dest="what", required=True,
                                   metavar="serve|replica|compact|call|status|metrics")
+    _add_servers(kinds)
+    _add_questions(kinds)
+    return parser
 
+
+def _add_servers(kinds: argparse._SubParsersAction[argparse.ArgumentParser]) -> None:
+    """What serves a session, and `compact` beside it."""
     serving = kinds.add_parser(
         "serve", help="serve a session on a Unix socket",
         usage="%(prog)s [SOCKET] [--restart] [--timeout SECONDS] -- timetravel session [--log FILE]")
@@ -70,6 +76,9 @@ def _parser() -> argparse.ArgumentParser:
                             help="a position of each replica: FILE.position, or a copy of it")
     compacting.set_defaults(run=_compact)
 
+
+def _add_questions(kinds: argparse._SubParsersAction[argparse.ArgumentParser]) -> None:
+    """What asks a session that is served."""
     calling = kinds.add_parser("call", help="send lines to a session that is served, and print the answers",
                                usage="%(prog)s [--opening LINE] SOCKET [LINE..]")
     calling.add_argument("socket")
@@ -87,7 +96,6 @@ def _parser() -> argparse.ArgumentParser:
     measuring.add_argument("--rows", action="store_true",
                            help="count the rows of each table, too, by reading them")
     measuring.set_defaults(run=_metrics)
-    return parser
 
 
 def _serve(parser: argparse.ArgumentParser, options: argparse.Namespace, command: list[str] | None) -> int:
@@ -199,7 +207,8 @@ def _status(options: argparse.Namespace) -> int:
     print(f"oldest generation: {status['oldest']}")
     repair = status["repair"]
     if isinstance(repair, dict):
-        print(f"repair: {repair['done']} slots done, {repair['left']} left, {repair['rerun']} re-executed")
+        print(f"repair of worker {repair['worker']}: {repair['done']} slots done, {repair['left']} left, "
+              f"{repair['rerun']} re-executed")
     else:
         print("repair: none")
     return 0
@@ -216,7 +225,7 @@ def _metrics(options: argparse.Namespace) -> int:
 
 def _rows(conversation: Conversation) -> dict[str, int]:
     """How many rows each table has, read by pages, so that nobody waits long."""
-    tables = json.loads(conversation.ask(b'{"tables":true}'))["tables"]
+    tables = _answered(conversation, {"tables": True}, "tables")["tables"]
     return {table["name"]: _table_rows(conversation, table["name"]) for table in tables}
 
 
@@ -224,11 +233,20 @@ def _table_rows(conversation: Conversation, table: str) -> int:
     request: dict[str, object] = {"select": table, "where": [], "most": _PAGE}
     number = 0
     while True:
-        page = json.loads(conversation.ask(json.dumps(request).encode()))
+        page = _answered(conversation, request, "rows")
         number += len(page["rows"])
         if not page["more"]:
             return number
         request["after"] = page["rows"][-1][0]
+
+
+def _answered(conversation: Conversation, request: dict[str, object], name: str) -> Any:
+    """The answer to a request, which has this member unless it is refused."""
+    answer = conversation.ask(json.dumps(request).encode())
+    found = json.loads(answer)
+    if name not in found:
+        raise SocketError(answer.decode())
+    return found
 
 
 if __name__ == "__main__":

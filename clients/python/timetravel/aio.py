@@ -23,12 +23,14 @@ from . import answers, program, requests
 from .answers import (
     Changes, Decode, Previewed, Progress, Selected, Slots, Status, Stepped, Switched, Tables, Written)
 from .errors import (
-    Closed, Disconnected, Ended, Error, Forked, Lost, NoAnswer, NotConnected, NotRepairing, Refused)
+    Closed, Disconnected, Ended, Error, Forked, Lost, NoAnswer, NotConnected, NotRepairing, Refused,
+    RepairOfAnother)
 from .forks import close_in_children
 from .keeping import Keeping
 from .opening import Opening
 from .requests import Change, Edit, NewRow, Where, Write
 from .tables import Table, Value
+from .told import Told
 from .waiting import Cutter, Farewell, Waiters, WaitersByCall, WaitersInOrder, Waiting
 
 __all__ = ["Session"]
@@ -174,8 +176,8 @@ class _InputOf(asyncio.BaseProtocol):
 class _Program(_Channel):
     """A session over the pipes of a program that was started for it."""
 
-    def __init__(self, command: Sequence[str], has_log: bool) -> None:
-        super().__init__(WaitersByCall(has_log))
+    def __init__(self, command: Sequence[str], has_log: bool, told: Told) -> None:
+        super().__init__(WaitersByCall(told, has_log))
         self.exit_status: int | None = None
         self._standard_error = ""
         self._process = program.Process(command)
@@ -233,8 +235,8 @@ class _Program(_Channel):
 class _Connection(_Channel):
     """A session behind a socket, which others use, too."""
 
-    def __init__(self, path: str | os.PathLike[str]) -> None:
-        super().__init__(WaitersInOrder())
+    def __init__(self, path: str | os.PathLike[str], told: Told) -> None:
+        super().__init__(WaitersInOrder(told))
         self._path = os.fspath(path)
         self._socket = socket.socket(socket.AF_UNIX, socket.SOCK_STREAM)
         close_in_children(self)
@@ -304,9 +306,11 @@ class Session:
         `timetravel.Session`. Raises `ValueError` or `TypeError` for what a line can't carry."""
         if reopen and log is None:
             raise ValueError("only a session with a log can be opened again")
-        whole = [*command, *([] if log is None else ["--log", os.fspath(log)])]
-        self._prepare(lambda: _Program(whole, log is not None), Opening(tables, keep, records), reopen,
-                      keep_slots, timeout)
+
+        def make(is_again: bool, told: Told) -> _Program:
+            return _Program(program.of_log(command, log, is_again), log is not None, told)
+
+        self._prepare(make, Opening(tables, keep, records), reopen, keep_slots, timeout)
 
     @classmethod
     def connect(cls, socket: str | os.PathLike[str], tables: Iterable[Table | Mapping[str, Any]], *,
@@ -317,12 +321,12 @@ class Session:
         parameters as `timetravel.Session.connect`. Raises `ValueError` or `TypeError` for what a line
         can't carry."""
         session = cls.__new__(cls)
-        session._prepare(lambda: _Connection(socket), Opening(tables, keep, records, reads), reopen,
-                         keep_slots, timeout)
+        session._prepare(lambda _, told: _Connection(socket, told), Opening(tables, keep, records, reads),
+                         reopen, keep_slots, timeout)
         return session
 
-    def _prepare(self, make: Callable[[], _Program | _Connection], opening: Opening, reopens: bool,
-                 keep_slots: int | None, timeout: float | None) -> None:
+    def _prepare(self, make: Callable[[bool, Told], _Program | _Connection], opening: Opening,
+                 reopens: bool, keep_slots: int | None, timeout: float | None) -> None:
         self._make = make
         self._opening = opening
         self._reopens = reopens
@@ -330,6 +334,7 @@ class Session:
         self._timeout = timeout
         self._process = os.getpid()
         self._closed = False
+        self._told = Told()
         self._starting = asyncio.Lock()
         self._channel: _Program | _Connection | None = None
 
@@ -402,7 +407,8 @@ class Session:
 
         Raises `TypeError` where `where` or the changes are missing, `Full`, and what any request does.
         """
-        request = requests.update(table, change, where, set=set, add=add)    # type: ignore[call-overload]
+        make: Callable[..., Write] = requests.update    # whose overloads are those of this method
+        request = make(table, change, where, set=set, add=add)
         return await self._ask(request, answers.written, worker, if_time, timeout)
 
     async def delete(self, table: str, where: Where, *, worker: int | None = None,
@@ -470,7 +476,9 @@ class Session:
                      progress: Callable[[Progress], object] | None = None, worker: int | None = None,
                      timeout: float | None = None) -> Switched:
         """A whole repair: begins it, does `step` slots at a time until none is left, and makes the
-        repaired data the current ones. Other requests are answered between the steps.
+        repaired data the current ones. Other requests are answered between the steps. Where the beginning
+        is refused, nothing else is sent. What it asks is meant for a repair of this `worker` alone, so give
+        each client that repairs one of its own.
 
         `progress` is called after each step, and awaited where it returns something to await. Where it
         raises something, or a step fails, or the task is cancelled, the repair is aborted, and that is
@@ -486,14 +494,14 @@ class Session:
                 told = None if progress is None else progress(stepped)
                 if inspect.isawaitable(told):
                     await told
-        except NotRepairing:
-            raise    # Somebody else has ended it.
+        except (NotRepairing, RepairOfAnother):
+            raise    # Somebody else has ended it, and perhaps begun another.
         except BaseException:
             await self._give_up(worker, timeout)
             raise
         try:
             return await self.finish(worker=worker, timeout=timeout)
-        except NotRepairing:
+        except (NotRepairing, RepairOfAnother):
             raise
         except Refused:
             await self._give_up(worker, timeout)
@@ -508,19 +516,23 @@ class Session:
 
     async def begin(self, edits: Iterable[Edit], *, worker: int | None = None,
                     if_time: int | None = None, timeout: float | None = None) -> Stepped:
-        """Begins a repair: see `cancel` and `replace`.
+        """Begins a repair: see `cancel` and `replace`. From then on `step`, `finish` and `abort` by this
+        `worker` are meant for a repair of this worker alone, also where this is refused; with `of` they
+        are meant for another's. Those of a worker who has sent no `begin` are meant for whichever repair
+        is under way.
 
         Raises `Repairing`, `NoSlot`, `EditedTwice`, `Full`, and what any request does.
         """
         return await self._ask({"begin": list(edits)}, answers.stepped, worker, if_time, timeout)
 
-    async def step(self, slots: int = 1, *, worker: int | None = None, if_time: int | None = None,
-                   timeout: float | None = None) -> Stepped:
-        """Does the next slots of the repair, or all that are left where those are fewer.
+    async def step(self, slots: int = 1, *, of: int | None = None, worker: int | None = None,
+                   if_time: int | None = None, timeout: float | None = None) -> Stepped:
+        """Does the next slots of the repair, or all that are left where those are fewer. It has to be one
+        that the worker `of` has begun; `begin` tells what it is without.
 
-        Raises `NotRepairing`, and what any request does.
+        Raises `NotRepairing`, `RepairOfAnother`, and what any request does.
         """
-        return await self._ask({"step": slots}, answers.stepped, worker, if_time, timeout)
+        return await self._ask(requests.step(slots, of), answers.stepped, worker, if_time, timeout)
 
     async def preview(self, table: str, where: Where = (), *, after: int | None = None,
                       most: int | None = None, worker: int | None = None, if_time: int | None = None,
@@ -532,21 +544,22 @@ class Session:
         request = requests.preview(table, where, after=after, most=most)
         return await self._ask(request, self._opening.previewed(table), worker, if_time, timeout)
 
-    async def finish(self, *, worker: int | None = None, if_time: int | None = None,
-                     timeout: float | None = None) -> Switched:
-        """Does all slots that are left, and makes the repaired data the current ones.
+    async def finish(self, *, of: int | None = None, worker: int | None = None,
+                     if_time: int | None = None, timeout: float | None = None) -> Switched:
+        """Does all slots that are left, and makes the repaired data the current ones. `of` is as for
+        `step`.
 
-        Raises `NotRepairing`, and what any request does.
+        Raises `NotRepairing`, `RepairOfAnother`, and what any request does.
         """
-        return await self._ask({"finish": True}, answers.switched, worker, if_time, timeout)
+        return await self._ask(requests.finish(of), answers.switched, worker, if_time, timeout)
 
-    async def abort(self, *, worker: int | None = None, if_time: int | None = None,
-                    timeout: float | None = None) -> Status:
-        """Gives the repair up. The current data stay.
+    async def abort(self, *, of: int | None = None, worker: int | None = None,
+                    if_time: int | None = None, timeout: float | None = None) -> Status:
+        """Gives the repair up. The current data stay. `of` is as for `step`.
 
-        Raises `NotRepairing`, and what any request does.
+        Raises `NotRepairing`, `RepairOfAnother`, and what any request does.
         """
-        return await self._ask({"abort": True}, answers.status, worker, if_time, timeout)
+        return await self._ask(requests.abort(of), answers.status, worker, if_time, timeout)
 
     # What is there, and what was
 
@@ -571,7 +584,8 @@ class Session:
 
     async def changes(self, which: Literal["now", "next"] = "now", *, worker: int | None = None,
                       if_time: int | None = None, timeout: float | None = None) -> Changes:
-        """The answers that would be others now; with "next" those that the repair will have changed.
+        """The answers that would be others now; with "next" those that the repair will have changed. The
+        numbers of calls are those since the last start of the program, which numbers its log's lines anew.
 
         Raises `NotRepairing` with "next", and what any request does.
         """
@@ -703,6 +717,9 @@ class Session:
             raise Forked
         if self._closed:
             raise Closed
+        vanished = self._told.vanished()
+        if vanished is not None:
+            raise vanished
         if self._channel is not None and not (starts and self._channel.has_ended):
             return self._channel
         if not starts:
@@ -713,7 +730,7 @@ class Session:
             return self._channel
 
     async def _start(self) -> _Program | _Connection:
-        channel = self._make()
+        channel = self._make(self._channel is not None, self._told)
         await channel.start()
         try:
             if self._opening.reads is not None:

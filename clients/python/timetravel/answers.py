@@ -1,6 +1,7 @@
 """Answers, and how they are read from their lines.
 
-`call` is the number of the request; that of the opening is 0.
+`call` is the number of the request; that of the opening is 0. A session that starts again on its log numbers
+the log's lines anew, so keep the slot of a write to find it again, and not its call.
 """
 
 from __future__ import annotations
@@ -78,6 +79,12 @@ class Stepped(Progress):
 
 
 @dataclass(frozen=True)
+class Repair(Progress):
+    """The repair under way, and the worker who began it."""
+    worker: int
+
+
+@dataclass(frozen=True)
 class Switched:
     """The end of a repair: the generation that is now the current one, its slots, those re-executed."""
     call: int
@@ -95,15 +102,17 @@ class Status:
     generation: int
     oldest: int
     entries: int
-    repair: Progress | None
+    repair: Repair | None
     horizon: int = 0
 
 
 @dataclass(frozen=True)
 class Slot:
     """A slot of the current generation. `do` and `replies` are None where a repair has cancelled it;
-    `asked` has the writes that were asked for, where a repair has cancelled or replaced them. `whole` and
-    `asked_whole` tell whether `do` and `asked` are whole; two actions may differ in this alone."""
+    `asked` has the writes that were asked for, where a repair has cancelled or replaced them. Where the
+    session has forgotten since, `asked` is None, and of a cancelled slot `do` and `replies` are empty.
+    `whole` and `asked_whole` tell whether `do` and `asked` are whole; two actions may differ in this
+    alone."""
     slot: int
     worker: int
     do: list[Write] | None
@@ -123,7 +132,8 @@ class Slots:
 
 @dataclass(frozen=True)
 class ChangedWrite:
-    """A write whose replies are others now. `after` is None where its slot is cancelled."""
+    """A write whose replies are others now. `after` is None where its slot is cancelled, or empty where the
+    session has forgotten since."""
     call: int
     slot: int
     before: list[Reply]
@@ -228,9 +238,10 @@ def switched(found: Members) -> Switched:
 
 def status(found: Members) -> Status:
     repair = found["repair"]
-    progress = None if repair is None else Progress(repair["done"], repair["left"], repair["rerun"])
+    under_way = None if repair is None else Repair(repair["done"], repair["left"], repair["rerun"],
+                                                   repair["worker"])
     return Status(found.get("call", 0), found["time"], found["generation"], found["oldest"],
-                  found["entries"], progress, found.get("horizon", 0))
+                  found["entries"], under_way, found.get("horizon", 0))
 
 
 def reads(found: Members) -> None:

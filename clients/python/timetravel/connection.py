@@ -7,6 +7,7 @@ import socket
 
 from .channel import LONG, Channel
 from .errors import Disconnected, NoAnswer, NotConnected
+from .told import Told
 from .waiting import Deadline, WaitersInOrder
 
 
@@ -34,9 +35,9 @@ class Connection(Channel):
     """A session that others use, too. Its answers are numbered for all of them, so they are matched with
     the lines of this connection by their order."""
 
-    def __init__(self, path: str | os.PathLike[str], deadline: Deadline | None) -> None:
+    def __init__(self, path: str | os.PathLike[str], deadline: Deadline | None, told: Told) -> None:
         """Connects. Raises `NotConnected`, and `NoAnswer` where it takes too long."""
-        super().__init__(WaitersInOrder())
+        super().__init__(WaitersInOrder(told))
         self.path = os.fspath(path)
         self._socket = connected(self.path, deadline)
         self._is_closing = False

@@ -38,6 +38,23 @@ class NotConnected(Error):
         super().__init__(f"cannot connect to {self.path}")
 
 
+class Vanished(Error):
+    """The session that this client has come back to isn't the one that it left: it tells an earlier `what`
+    ("time", "slot" or "horizon"), `found`, than the client was told before, which is `told`. So requests that
+    were answered aren't there.
+
+    The log was moved away or cut, an older copy was put in its place, or its disk has lost what it had said
+    to be safe. Look for the log that is missing before anything is written to this one. A client that has
+    raised this sends nothing any more, and raises it again for each request; to go on with what is there,
+    open another.
+    """
+
+    def __init__(self, what: str, found: int, told: int) -> None:
+        super().__init__("the session is another one, or has lost what it had answered: "
+                         f"it tells {what} {found}, and {told} was told before")
+        self.what, self.found, self.told = what, found, told
+
+
 class Closed(Error):
     """The session was closed before this request, or isn't open yet."""
 
@@ -130,6 +147,11 @@ class NotRepairing(Refused):
     """No repair is under way."""
 
 
+class RepairOfAnother(Refused):
+    """The repair under way was begun by `worker`, and this is meant for one of another worker."""
+    worker: int
+
+
 class Repairing(Refused):
     """A repair is under way already."""
 
@@ -164,6 +186,7 @@ class LogFailed(Refused):
 
 REFUSALS: dict[str, type[Refused]] = {
     "moved": Moved, "later": Later, "forgotten": Forgotten, "no generation": NoGeneration,
-    "not repairing": NotRepairing, "repairing": Repairing, "no slot": NoSlot,
+    "not repairing": NotRepairing, "repair of another": RepairOfAnother, "repairing": Repairing,
+    "no slot": NoSlot,
     "edited twice": EditedTwice, "full": Full, "another opening": AnotherOpening, "memory": OutOfMemory,
     "log": LogFailed}

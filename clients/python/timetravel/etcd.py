@@ -29,7 +29,12 @@ class EtcdError(Exception):
 
 
 class EntriesGone(Exception):
-    """Entries that were there, or have to be there, aren't. Its text says which."""
+    """Entries that were there, or have to be there, aren't, or are others. Its text says which, and what is
+    to be done."""
+
+
+COPY = 'copy the log and the position of another replica here (docs/REPLICAS.md, "A new machine")'
+SET_BACK = 'etcd was set back or emptied (docs/REPLICAS.md, "etcd set back")'
 
 
 @dataclass(frozen=True)
@@ -171,33 +176,47 @@ def _coded(data: bytes) -> str:
 
 
 class Entries:
-    """Numbered entries under a prefix. Each is put where it is absent, and never changed."""
+    """Numbered entries under a prefix. Each is put where it is the last one, and never changed."""
 
     def __init__(self, etcd: Etcd, prefix: str) -> None:
         self._etcd = etcd
         self._prefix = prefix.rstrip("/").encode() + b"/"
         self._end = _coded(self._prefix + _BEHIND_DIGITS)
+        self._seen = (-1, "0")    # the entry that was read or put last, and the revision that made it
 
     def close(self) -> None:
         self._etcd.close()
 
     def append(self, number: int, value: bytes) -> list[bytes]:
-        """Puts an entry where it is absent, behind the one before it. Returns the entries that are there
-        from this number on: this one alone, or those of others. Raises `EntriesGone` where neither this
-        entry nor the one before it is there."""
-        compare = [self._compare(number, "EQUAL")]
+        """Puts an entry behind the one before it, where nothing is in its place or behind it. Returns the
+        entries that are there from this number on: this one alone, or those of others.
+
+        Raises `EntriesGone` where there are later entries and this one was dropped, and where the one before
+        it isn't there, or isn't the one that was read. Then nothing was put.
+        """
+        compare = [{**self._compare(number, "EQUAL", "0"), "range_end": self._end}]
+        before: list[dict[str, Any]] = []
         if number:
-            compare.append(self._compare(number - 1, "GREATER"))
+            made = self._seen[1] if self._seen[0] == number - 1 else None
+            compare.append(self._compare(number - 1, "GREATER" if made is None else "EQUAL", made or "0"))
+            before = [{"request_range": {"key": self._key(number - 1), "keys_only": True}}]
         answer = self._etcd.call("/v3/kv/txn", {
             "compare": compare,
             "success": [{"request_put": {"key": self._key(number), "value": _coded(value)}}],
-            "failure": [{"request_range": self._range(number)}]})
+            "failure": [{"request_range": self._range(number)}, *before]})
         if answer.get("succeeded"):
+            self._seen = number, str(answer["header"]["revision"])
             return [value]
-        found = self._found(number, answer["responses"][0]["response_range"])
+        told = [each["response_range"] for each in answer["responses"]]
+        found = self._found(number, told[0])
         if not found:
-            raise EntriesGone(f"entry {number - 1} is gone from etcd")
+            raise EntriesGone(self._without_one_before(number - 1, bool(told[1].get("kvs"))))
         return found
+
+    def _without_one_before(self, number: int, is_there: bool) -> str:
+        if is_there:
+            return f"entry {number} in etcd isn't the one that this replica has read: {SET_BACK}"
+        return f"entry {number} is gone from etcd: {SET_BACK}"
 
     def fetch(self, number: int, most: int = PAGE, goes_on: bool = False) -> list[bytes]:
         """The first entries from this number on. With `goes_on` as many behind them are asked for
@@ -210,8 +229,8 @@ class Entries:
         answer = self._etcd.call("/v3/kv/deleterange", {"key": self._key(first), "range_end": self._key(end)})
         return int(answer.get("deleted", 0))
 
-    def _compare(self, number: int, result: str) -> dict[str, str]:
-        return {"key": self._key(number), "target": "CREATE", "result": result, "create_revision": "0"}
+    def _compare(self, number: int, result: str, revision: str) -> dict[str, str]:
+        return {"key": self._key(number), "target": "CREATE", "result": result, "create_revision": revision}
 
     def _key(self, number: int) -> str:
         return _coded(self._prefix + b"%0*d" % (_DIGITS, number))
@@ -225,6 +244,8 @@ class Entries:
         for place, pair in enumerate(found, number):
             key = base64.b64decode(pair["key"])
             if key != self._prefix + b"%0*d" % (_DIGITS, place):
-                raise EntriesGone(f"entry {place} isn't in etcd, but {key.decode(errors='replace')} is")
+                raise EntriesGone(f"entry {place} was dropped from etcd, whose next one is "
+                                  f"{key.decode(errors='replace')}, and this replica hasn't read it: {COPY}")
             values.append(base64.b64decode(pair.get("value", "")))
+            self._seen = place, str(pair["create_revision"])
         return values

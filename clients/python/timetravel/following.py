@@ -1,9 +1,9 @@
 """Following etcd's log of entries, and appending to it, in a thread beside a replica's server.
 
 An entry is a list of requests, each a line `ID REQUEST`. Requests that wait are put together into the next
-entry, which is appended where its key is absent. No entry is tried before the one before it is known: so
-where a request may already be in the entry that was tried last, it is found there by its id, and is in no
-later one.
+entry, which is appended where nothing is in its place or behind it. No entry is tried before the one before
+it is known: so where a request may already be in the entry that was tried last, it is found there by its id,
+and is in no later one. And who hasn't read an entry that was dropped since never fills its place.
 """
 
 from __future__ import annotations
@@ -16,12 +16,13 @@ from collections.abc import Callable, Iterable, Sequence
 from dataclasses import dataclass
 from time import monotonic
 
-from .etcd import PAGE, Entries, EntriesGone, EtcdError
+from .etcd import COPY, PAGE, SET_BACK, Entries, EntriesGone, EtcdError
 from .positions import LogFile, PositionError, behind
 
 LONGEST = 1 << 20    # bytes of a request, and of all of an entry but the last one
 
 _POLL = 0.05    # seconds between looks for entries of other replicas
+_STALE = 1.0    # seconds after a missed look, after which there may be many entries, and it comes first
 _PAUSE = 0.1    # seconds before a call that failed is tried again
 _RIVALRY = 8    # entries of its own after which a replica takes itself to be the only one that appends
 _LONGEST_YIELD = 0.02    # seconds
@@ -193,12 +194,15 @@ class Follower:
         elif self._behind and number == 0:
             values = self._entries.fetch(number, 1)
             if not values:
-                raise EntriesGone("etcd has no entries, and the log has")
+                raise EntriesGone("etcd has no entries, and the log has: " + SET_BACK)
             self._deliver(run, number, values, False)
         elif self._behind and number == 1:
             self._skip(run)
         elif batch and not self._yields:
-            self._append_batch(run, number, batch)
+            if monotonic() > self._look_at + _STALE:
+                self._look(run, number)
+            if (self._run, self._next, self.at_end) == (run, number, True):
+                self._append_batch(run, number, batch)
         elif self.at_end and not self._yields and monotonic() < self._look_at:
             self._wait(run)
         else:
@@ -232,7 +236,8 @@ class Follower:
             return []
         if number == 0:    # nothing can be asked of a database that isn't open
             return [self._opening] if self._opening is not None else []
-        batch, size = [], 0
+        batch: list[Request] = []
+        size = 0
         for request in self._pending:
             size += len(request[1]) + 64
             if batch and size > LONGEST:
@@ -306,7 +311,8 @@ class Follower:
         """Goes on behind the entries that the log has. The last of them is never dropped."""
         last = self._behind if self._part else self._behind - 1
         if not self._entries.fetch(last, 1):
-            raise EntriesGone(f"entry {last} is gone from etcd")
+            raise EntriesGone(f"entry {last} is gone from etcd, and this replica hasn't read those behind "
+                              f"it: {COPY}")
         with self._changed:
             if run == self._run:
                 self._next = max(self._behind, 1)

@@ -346,8 +346,10 @@ class Front:
     def give_up(self) -> list[tuple[Connection | Question, int]]:
         """Takes out whose lines aren't answered, and how many of each: the backend won't answer them."""
         taken = list(zip(self.order, self._numbers))
-        for queue in (self.order, self._numbers, self._timed, self._batch):
-            queue.clear()
+        self.order.clear()
+        self._numbers.clear()
+        self._timed.clear()
+        self._batch.clear()
         return taken
 
     def give(self, connection: Connection, answers: bytes, number: int) -> None:

@@ -1,5 +1,4 @@
-"""Whether an opening is of the database that is open already: where it isn't known, a fresh program
-judges it."""
+"""What the first lines of connections are: openings, which the session judges, and lines of the front."""
 
 from __future__ import annotations
 
@@ -8,27 +7,18 @@ import os
 import subprocess
 import tempfile
 from collections.abc import Callable, Sequence
-from dataclasses import dataclass
 from time import monotonic
 from typing import Any
 
 from .front import IN, LARGE_PIECE, Front
 
 RECORDS = 100_000    # of how many answers a session keeps a record, where its opening doesn't tell
-_MOST_RECORDS = 1_000_000
-_KEEP, _MOST_KEEP = 4, 16
+MISSING_VERSION = b'{"fault":{"path":"$","cause":"missing member version"}}'    # of a request, as an opening
 _JUDGING = 10.0    # seconds that a fresh program has to judge an opening
 
 
-@dataclass(frozen=True)
-class Opening:
-    """What has to be the same for two openings to be of the same database."""
-    tables: tuple[tuple[str, tuple[tuple[str, str, bool], ...]], ...]
-    keep: int
-
-
 class _Doubtful(ValueError):
-    """An opening that only the program can judge."""
+    """A line that Python may read otherwise than the program."""
 
 
 def strictly(line: bytes) -> Any:
@@ -57,53 +47,13 @@ def _none(_: str) -> None:
     raise _Doubtful
 
 
-def understood(value: Any) -> Opening | None:
-    """What an opening says, or `None` where it has a fault or might have one."""
+def is_request(line: bytes) -> bool:
+    """Whether a line is an object that is no opening, so that an open session would carry it out."""
     try:
-        members = _members(value, {"version", "tables"}, {"keep", "records"})
-        if _number(members["version"], 3) < 2 or _number(members.get("records", 0), _MOST_RECORDS) < 0:
-            return None
-        tables = tuple(_table(table) for table in _list(members["tables"]))
-        return Opening(tables, _number(members.get("keep", _KEEP), _MOST_KEEP))
-    except _Doubtful:
-        return None
-
-
-def _members(value: Any, needed: set[str], further: set[str]) -> dict[str, Any]:
-    if not isinstance(value, dict) or not needed <= value.keys() <= needed | further:
-        raise _Doubtful
-    return value
-
-
-def _number(value: Any, most: int) -> int:
-    if type(value) is not int or value > most:
-        raise _Doubtful
-    return value
-
-
-def _list(value: Any) -> list[Any]:
-    if not isinstance(value, list):
-        raise _Doubtful
-    return value
-
-
-def _text(value: Any) -> str:
-    if not isinstance(value, str):
-        raise _Doubtful
-    return value
-
-
-def _table(value: Any) -> tuple[str, tuple[tuple[str, str, bool], ...]]:
-    members = _members(value, {"name", "columns"}, set())
-    return _text(members["name"]), tuple(_column(column) for column in _list(members["columns"]))
-
-
-def _column(value: Any) -> tuple[str, str, bool]:
-    members = _members(value, {"name", "kind"}, {"partition"})
-    partition = members.get("partition", False)
-    if not isinstance(partition, bool):
-        raise _Doubtful
-    return _text(members["name"]), _text(members["kind"]), partition
+        value = json.loads(line.decode(), object_pairs_hook=_distinct, parse_constant=_none)
+    except (ValueError, RecursionError):
+        return False    # the program faults it, whatever it is
+    return isinstance(value, dict) and "version" not in value
 
 
 def flag(value: Any, name: str) -> bool:
@@ -119,12 +69,26 @@ def is_status(answer: bytes) -> bool:
     return answer.startswith(b'{"time":')
 
 
+def is_counted(answer: bytes) -> bool:
+    """Whether this is the answer to a request, and none to an opening."""
+    return answer.startswith(b'{"call":')
+
+
 def without_call(answer: bytes) -> bytes:
-    return b"{" + answer.partition(b",")[2]
+    return b"{" + answer.partition(b",")[2] if is_counted(answer) else answer
+
+
+def without_log(command: Sequence[str]) -> list[str]:
+    """The command of the same session without a log."""
+    if "--log" not in command:
+        return list(command)
+    place = list(command).index("--log")
+    return [word for word in (*command[:place], *command[place + 2:]) if word != "--existing"]
 
 
 class Judge:
-    """A fresh program that is asked what it answers to one opening. It has no log, so nothing is kept."""
+    """A fresh program that is asked what it answers to one opening, while no session is open that could be.
+    It has no log, so nothing is kept."""
 
     def __init__(self, front: Front, command: Sequence[str], line: bytes,
                  judged: Callable[[bytes], None]) -> None:

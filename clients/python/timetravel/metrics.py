@@ -206,7 +206,7 @@ def memory(process: int | str) -> tuple[int, int] | None:
     """The bytes that a process takes of the memory, and the most it has taken."""
     try:
         with open(f"/proc/{process}/status", "rb") as file:
-            told = dict(line.split(b":", 1) for line in file if b":" in line)
+            told = {name: value for name, _, value in (line.partition(b":") for line in file)}
         return _kibibytes(told[b"VmRSS"]), _kibibytes(told[b"VmHWM"])
     except (OSError, KeyError, ValueError):
         return None

@@ -12,19 +12,23 @@ from .answers import Decode, Previewed, Selected, Slots
 from .tables import Row, Table, in_order, row_of
 
 
+VERSION = 4    # of the lines that are sent
+
+
 class Opening:
     """The line that opens a session, the lines of its requests, and how their answers are read."""
 
     def __init__(self, tables: Iterable[Table | Mapping[str, Any]], keep: int | None,
                  records: int | None, reads: str | None = None) -> None:
         declared = [asdict(table) if isinstance(table, Table) else dict(table) for table in tables]
-        members: dict[str, object] = {"version": 3, "tables": declared}
+        members: dict[str, object] = {"version": VERSION, "tables": declared}
         if keep is not None:
             members["keep"] = keep
         if records is not None:
             members["records"] = records
         self.line = requests.line(members)
         self.reads = None if reads is None else requests.line({"read": reads})    # a line before it
+        self._beginners: set[object] = set()    # the workers who have begun a repair here
         self._rows: dict[str, type[Row]] = {}
         self._selected: dict[str, Decode[Selected]] = {}
         self._previewed: dict[str, Decode[Previewed]] = {}
@@ -43,19 +47,32 @@ class Opening:
         self._previewed[name] = partial(answers.previewed, row)
 
     def request(self, members: Mapping[str, Any], worker: int | None, if_time: int | None) -> bytes:
-        """A request as a line. Raises `ValueError` or `TypeError` for what a line can't carry."""
+        """A request as a line. Raises `ValueError` or `TypeError` for what a line can't carry.
+
+        What a worker who has begun a repair here asks of one is meant for this worker's.
+        """
         if "insert" in members:
             if type(members.get("row")) is not list:
                 members = self._write(members)
         elif "do" in members:
             members = self._action(members)
-        elif "begin" in members and isinstance(members["begin"], (list, tuple)):
-            members = {**members, "begin": [self._edit(edit) for edit in members["begin"]]}
+        elif "begin" in members:
+            members = self._begin(members, worker)
+        elif "of" not in members and ("step" in members or "finish" in members or "abort" in members):
+            worker_of_it = _worker(members, worker)
+            if worker_of_it in self._beginners:
+                members = {**members, "of": worker_of_it}
         if if_time is not None:
             members = {"if": if_time, **members}
         if worker is not None:
             members = {"worker": worker, **members}
         return requests.line(members)
+
+    def _begin(self, members: Mapping[str, Any], worker: int | None) -> Mapping[str, Any]:
+        self._beginners.add(_worker(members, worker))
+        if not isinstance(members["begin"], (list, tuple)):
+            return members
+        return {**members, "begin": [self._edit(edit) for edit in members["begin"]]}
 
     def _action(self, members: Mapping[str, Any]) -> Mapping[str, Any]:
         writes = members["do"]
@@ -97,6 +114,12 @@ class Opening:
                     return self.previewed(members["preview"])
                 return self.slots if kind == "slots" else decode
         return _refused
+
+
+def _worker(members: Mapping[str, Any], worker: int | None) -> int | None:
+    """In whose name a request is made; None where that is no worker."""
+    found = members.get("worker", 1 if worker is None else worker)
+    return found if type(found) is int else None
 
 
 def _refused(members: Mapping[str, Any]) -> Any:

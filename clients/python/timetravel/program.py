@@ -11,10 +11,18 @@ from typing import IO
 
 from .channel import Channel
 from .errors import Lost, NotStarted
+from .told import Told
 from .waiting import Deadline, WaitersByCall
 
 GRACE = 5.0    # seconds in which a program has to end once one of its pipes is closed
 SAID = 65536    # bytes of its standard error that are kept, the last ones
+
+
+def of_log(command: Sequence[str], log: str | os.PathLike[str] | None, is_there: bool) -> list[str]:
+    """The command of a session with a log. Where that is there already, it isn't made."""
+    if log is None:
+        return [*command]
+    return [*command, *(["--existing"] if is_there else []), "--log", os.fspath(log)]
 
 
 class Process:
@@ -80,9 +88,9 @@ class Process:
 class Program(Channel):
     """A session over the pipes of a program that was started for it."""
 
-    def __init__(self, command: Sequence[str], has_log: bool) -> None:
+    def __init__(self, command: Sequence[str], has_log: bool, told: Told) -> None:
         """Starts the program. Raises `NotStarted`."""
-        super().__init__(WaitersByCall(has_log))
+        super().__init__(WaitersByCall(told, has_log))
         self.process = Process(command)
         self._input = self.process.input.fileno()
         self._output = self.process.output.fileno()

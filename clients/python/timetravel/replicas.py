@@ -16,20 +16,23 @@ from collections.abc import Callable, Iterator, Sequence
 from dataclasses import dataclass
 from functools import partial
 from time import monotonic
+from typing import Any
 
 from .etcd import Access, Entries, Etcd
 from .following import LONGEST, Follower, Found, Started
 from .front import PATIENCE, Connection
-from .joining import Judge, flag, is_status, strictly, understood, without_call
+from .joining import (
+    MISSING_VERSION, Judge, flag, is_request, is_status, refusal, strictly, without_call, without_log)
 from .lines import BLANK, Notifier, SocketError, handed_over, listen
 from .metrics import command_log, kinds_of, one
 from .positions import Forgetting, LogFile, PositionError, read_position
 from .serving import (
     FIRST_PAUSE, LONGEST_PAUSE, MEASURING, STATUS, STOPPING, TRIES, Program, Server, Signals, complain,
-    exit_status, how_ended, without_log)
+    exit_status, how_ended)
 
 BOUND = 10.0    # seconds after which a request is given up that etcd hasn't taken
 
+_os: Any = os    # with `eventfd`, which some type checkers don't know of it
 _LOOK = 0.25    # seconds between looks for requests that are to be given up
 _FAILING = 2.0    # seconds for which etcd may fail before that is told
 _NOTE = 1.0    # seconds between positions
@@ -79,7 +82,7 @@ class Replica(Server):
         super().__init__(listener, command, path=path, patience=patience, notifier=notifier)
         self._file = log
         self._bound = bound
-        self._event = os.eventfd(0, os.EFD_NONBLOCK | os.EFD_CLOEXEC)
+        self._event: int = _os.eventfd(0, _os.EFD_NONBLOCK | _os.EFD_CLOEXEC)
         self._follower = Follower(entries, self._wake, log)
         self._run = 0    # which run of the session is fed
         self._is_open = False    # the session is open
@@ -124,7 +127,7 @@ class Replica(Server):
             self._follower.stop()
 
     def _wake(self) -> None:
-        os.eventfd_write(self._event, 1)
+        _os.eventfd_write(self._event, 1)
 
     def _start_program(self) -> None:
         """Begins to feed a new session. The program is started once its log is ready for it."""
@@ -187,7 +190,7 @@ class Replica(Server):
         if self._program is None and self._closed_input:
             super()._stop_if_idle()
             return
-        busy = self.order or self._waiting or self._judging or self._local or self._held
+        busy = self.order or self._waiting or self._local or self._held
         if busy or any(isinstance(fed, LocalRead) for fed in self._fed):
             return
         if self._program is None:
@@ -294,18 +297,28 @@ class Replica(Server):
         joins = flag(value, "join")
         if flag(value, "metrics"):
             self._measure(connection)
+        elif is_request(line) and not joins:
+            self.metrics.faults += 1
+            self._answer_first(connection, MISSING_VERSION)
         elif self._opening_line is None:
             if joins and self._follower.at_end:
-                self._join(connection, line)
+                self.metrics.refusals["not open"] += 1
+                self._answer_first(connection, refusal("not open"))
             else:
                 self._wait_for_opening(connection, line, joins)
-        elif joins or line == self._opening_line or (
-                self._opening is not None and understood(value) == self._opening):
-            self._join(connection, line)
+        elif joins or line == self._opening_line:
+            self._join(connection)
         else:
             connection.asking = True
-            self._to_judge.append((connection, line))
-            self.after.append(self._judge_next)
+            self._read_here(line, partial(self._judged, connection))
+
+    def _judged(self, connection: Connection, answer: bytes) -> None:
+        """This replica's session has judged an opening, which is no entry."""
+        self.metrics.look(answer)
+        if is_status(answer) and connection not in self._at_replica:
+            self._join(connection)
+        else:
+            self._answer_first(connection, without_call(answer))
 
     def _wait_for_opening(self, connection: Connection, line: bytes, joins: bool) -> None:
         connection.asking = True
@@ -344,23 +357,21 @@ class Replica(Server):
         self._say(connection, answer)
         self.first_lines(connection)
 
-    def _join(self, connection: Connection, line: bytes) -> None:
-        if self._opening_line is not None and connection in self._at_replica:
+    def _join(self, connection: Connection) -> None:
+        """Answers by the status. Where the connection reads through the log, this does, too."""
+        if connection in self._at_replica:
             connection.asking = True
             self._read_here(STATUS, partial(self._joined_by, connection))
-        elif self._opening_line is None:
-            super()._join(connection, line)
         else:
-            self.ask(connection, line, STATUS, partial(self._joined_by, connection))
+            self.ask(connection, STATUS, STATUS, partial(self._joined_by, connection))
 
     def _joined_by(self, connection: Connection, answer: bytes) -> None:
-        by_session = answer.startswith(b'{"call":')
-        self._answer_first(connection, without_call(answer) if by_session else answer)
+        self._answer_first(connection, without_call(answer))
 
     # Feeding
 
     def _woken(self, _: int) -> None:
-        os.eventfd_read(self._event)
+        _os.eventfd_read(self._event)
         self.after.append(self._feed)
 
     def _feed(self) -> None:
@@ -508,7 +519,6 @@ class Replica(Server):
         self._is_open = True
         if self._opening_line is None:
             self._opening_line = self._first_entry
-            self._opening = understood(strictly(self._first_entry))
             self._proposing = False
             self._release()
         if self._follower.at_end:

@@ -82,19 +82,31 @@ class BeginRequest(TypedDict):
     begin: list[Edit]
 
 
-class StepRequest(TypedDict):
-    """The next slots of a repair."""
+class _StepRequest(TypedDict):
     step: int
 
 
-class FinishRequest(TypedDict):
-    """The end of a repair, by which its data become the current ones."""
+class StepRequest(_StepRequest, total=False):
+    """The next slots of a repair."""
+    of: int    # the worker who has begun it
+
+
+class _FinishRequest(TypedDict):
     finish: Literal[True]
 
 
-class AbortRequest(TypedDict):
-    """The end of a repair that is given up."""
+class FinishRequest(_FinishRequest, total=False):
+    """The end of a repair, by which its data become the current ones."""
+    of: int
+
+
+class _AbortRequest(TypedDict):
     abort: Literal[True]
+
+
+class AbortRequest(_AbortRequest, total=False):
+    """The end of a repair that is given up."""
+    of: int
 
 
 class StatusRequest(TypedDict):
@@ -281,6 +293,21 @@ def replace(slot: int, by: Write | DoRequest) -> Edit:
     return {"replace": slot, "by": by}
 
 
+def step(slots: int, of: int | None) -> StepRequest:
+    """The next slots of a repair, of a worker's."""
+    return {"step": slots} if of is None else {"step": slots, "of": of}
+
+
+def finish(of: int | None) -> FinishRequest:
+    """The end of a repair, of a worker's."""
+    return {"finish": True} if of is None else {"finish": True, "of": of}
+
+
+def abort(of: int | None) -> AbortRequest:
+    """The end of a repair that is given up, of a worker's."""
+    return {"abort": True} if of is None else {"abort": True, "of": of}
+
+
 def slots(first: int, last: int, of: int | None, row: tuple[str, int] | None) -> SlotsRequest:
     """The slots from `first` to `last`, of a worker, of a row."""
     request: SlotsRequest = {"slots": [first, last]}
@@ -307,7 +334,8 @@ def _condition(pair: Iterable[Any]) -> list[Value]:
 
 # Lines
 
-_quoted: Callable[[str], str] = json.encoder.encode_basestring    # type: ignore[attr-defined]
+_encoder: Any = json.encoder    # with `encode_basestring`, which some type checkers don't know of it
+_quoted: Callable[[str], str] = _encoder.encode_basestring
 
 
 def line(members: Mapping[str, object]) -> bytes:

@@ -21,7 +21,8 @@ from time import monotonic
 from typing import Any
 
 from .front import IN, LARGE_PIECE, OUT, PATIENCE, Connection, Front, Piece
-from .joining import RECORDS, Judge, Opening, flag, is_status, refusal, strictly, understood, without_call
+from .joining import (
+    MISSING_VERSION, RECORDS, flag, is_counted, is_request, is_status, refusal, strictly, without_call)
 from .lines import Notifier, SocketError, handed_over, listen
 from .metrics import command_log, log_bytes, memory, metric, of_requests, of_status, one
 
@@ -148,13 +149,10 @@ class Server(Front):
         self._path = path
         self._made = identity(path) if path is not None else None
         self._program: Program | None = None
-        self._opening: Opening | None = None
-        self._opening_line: bytes | None = None    # what opened the session
-        self._opener: Connection | None = None    # whose opening the program is answering
+        self._is_open = False    # the session is known to be open, or was when it ended
+        self._opening_line: bytes | None = None    # the first opening that the session has accepted
         self._starting = False    # the session isn't open again yet
-        self._waiting: deque[tuple[Connection, bytes]] = deque()    # first lines that wait for an opening
-        self._judging = False
-        self._to_judge: deque[tuple[Connection, bytes]] = deque()
+        self._waiting: deque[tuple[Connection, bytes]] = deque()    # first lines that wait for its start
         self._answers_at_start = 0
         self._failures = 0    # starts in a row that have answered nothing
         self._closed_input = False
@@ -213,7 +211,7 @@ class Server(Front):
             if not self.connections or self.now > self._stop_by:
                 self._done = True
             return
-        busy = self.order or self._waiting or self._to_judge or self._judging
+        busy = self.order or self._waiting
         if not busy and not self._closed_input:
             self._closed_input = True
             self._program.close_input()
@@ -228,10 +226,13 @@ class Server(Front):
             os.unlink(self._path)
 
     def _start_program(self) -> None:
-        self._program = Program(self, self._command, self._program_ended)
+        command = existing(self._command) if self._is_open else self._command
+        self._program = Program(self, command, self._program_ended)
         self.backend = self._program
         self.metrics.starts += 1
         self._answers_at_start = self._answers()
+        if self._log is not None and not self._is_open:
+            self.ask(None, b"", STATUS, self._told_at_start)
 
     def _answers(self) -> int:
         return sum(sum(times.counts) for times in self.metrics.times.values())
@@ -258,7 +259,6 @@ class Server(Front):
 
     def _lose(self) -> None:
         """Tells each connection which of its requests the session has ended on. First lines wait."""
-        self._opener = None
         for whose, number in self.give_up():
             if isinstance(whose, Connection):
                 self.metrics.lost += number
@@ -291,6 +291,18 @@ class Server(Front):
         else:
             self.ask(None, b"", self._opening_line, self._reopened)
 
+    def _told_at_start(self, answer: bytes) -> None:
+        """A session whose log has lines answers a request before any opening."""
+        if is_counted(answer):
+            self._is_open = True
+            self._notify()
+        else:
+            self._was_no_fault(answer)
+
+    def _was_no_fault(self, answer: bytes) -> None:
+        """A session that isn't open has faulted a line of the server itself."""
+        self.metrics.faults -= answer.startswith(b'{"fault":')
+
     def _reopened(self, answer: bytes) -> None:
         if is_status(answer):
             self._go_on()
@@ -313,7 +325,7 @@ class Server(Front):
     def _notify(self, *further: str) -> None:
         if self._starting:
             state = "the session is started again"
-        elif self._opening_line is None:
+        elif not self._is_open:
             state = "waiting for an opening"
         else:
             state = "open"
@@ -330,22 +342,18 @@ class Server(Front):
         value = strictly(line)
         if flag(value, "metrics"):
             self._measure(connection)
-        elif self._starting or self._opener is not None:
+        elif self._starting:
             connection.asking = True
             self._waiting.append((connection, line))
         elif self._program is None:
             self.say(connection, _LOST[:-1])
         elif flag(value, "join"):
-            self._join(connection, line)
-        elif self._opening_line is None:
-            self._opener = connection
-            self.ask(connection, line, line, partial(self._opened, connection, line))
-        elif line == self._opening_line or (self._opening is not None and understood(value) == self._opening):
-            self._join(connection, line)
+            self.ask(connection, line, STATUS, partial(self._status_told, connection))
+        elif is_request(line):
+            self.metrics.faults += 1
+            self.say(connection, MISSING_VERSION)
         else:
-            connection.asking = True
-            self._to_judge.append((connection, line))
-            self.after.append(self._judge_next)
+            self.ask(connection, line, line, partial(self._opened, connection, line))
 
     def _answer_first(self, connection: Connection, answer: bytes) -> None:
         connection.asking = False
@@ -354,20 +362,20 @@ class Server(Front):
         self.first_lines(connection)
 
     def _opened(self, connection: Connection, line: bytes, answer: bytes) -> None:
-        self._opener = None
-        if is_status(answer):
-            self._opening, self._opening_line = understood(strictly(line)), line
+        """The session has judged an opening, or faulted what is none as a request."""
+        if is_status(answer) and self._opening_line is None:
+            self._opening_line, self._is_open = line, True
             self._notify()
-        self._answer_first(connection, answer)
-        self._release()
+        self._answer_first(connection, without_call(answer))
 
-    def _join(self, connection: Connection, line: bytes) -> None:
-        if self._opening_line is None:
-            self.metrics.refusals["not open"] += 1
-            self.say(connection, refusal("not open"))
+    def _status_told(self, connection: Connection, answer: bytes) -> None:
+        if is_counted(answer):
+            answer = without_call(answer)
         else:
-            self.ask(connection, line, STATUS,
-                     lambda answer: self._answer_first(connection, without_call(answer)))
+            self._was_no_fault(answer)
+            self.metrics.refusals["not open"] += 1
+            answer = refusal("not open")
+        self._answer_first(connection, answer)
 
     def _release(self) -> None:
         """Goes on with the first lines that waited."""
@@ -385,28 +393,6 @@ class Server(Front):
             connection.backlog.clear()
             self.settle(connection)
 
-    def _judge_next(self) -> None:
-        if self._judging or not self._to_judge:
-            return
-        connection, line = self._to_judge.popleft()
-        judged = partial(self._judged, connection)
-        try:
-            Judge(self, without_log(self._command), line, judged)
-            self._judging = True
-        except OSError:
-            judged(b"")
-
-    def _judged(self, connection: Connection, answer: bytes) -> None:
-        """An opening without a fault is of another database, since it isn't the same."""
-        self._judging = False
-        if answer.startswith((b'{"fault":', b'{"refused":')):
-            self.metrics.look(answer)
-        else:
-            self.metrics.refusals["another opening"] += 1
-            answer = refusal("another opening")
-        self._answer_first(connection, answer)
-        self._judge_next()
-
     # Metrics
 
     def _measure(self, connection: Connection) -> None:
@@ -420,7 +406,7 @@ class Server(Front):
                 told = True
                 self._tell_metrics(connection, json.loads(answer))
 
-        if self._opening_line is None or self._starting or self._program is None:
+        if not self._is_open or self._starting or self._program is None:
             tell(b"{}")
         else:
             self.ask(None, b"", STATUS, tell)
@@ -433,7 +419,7 @@ class Server(Front):
         self.first_lines(connection)
 
     def _told(self, status: dict[str, Any]) -> list[str]:
-        is_open = self._opening_line is not None and not self._starting
+        is_open = self._is_open and not self._starting
         told = list(one("open", "gauge", "1 where the session is open.", int(is_open)))
         if "time" in status:
             told += of_status(status)
@@ -476,12 +462,12 @@ def identity(path: str) -> tuple[int, int] | None:
     return found.st_dev, found.st_ino
 
 
-def without_log(command: Sequence[str]) -> list[str]:
-    """The command of the same session without a log."""
-    if "--log" not in command:
+def existing(command: Sequence[str]) -> list[str]:
+    """The command of a session whose log is there, so that it makes none."""
+    if "--log" not in command or "--existing" in command:
         return list(command)
     place = list(command).index("--log")
-    return [*command[:place], *command[place + 2:]]
+    return [*command[:place], "--existing", *command[place:]]
 
 
 def exit_status(status: int) -> int:

@@ -14,12 +14,13 @@ from .answers import (
     Changes, Decode, Previewed, Progress, Selected, Slots, Status, Stepped, Switched, Tables, Written)
 from .channel import Channel
 from .connection import Connection
-from .errors import Closed, Error, Forked, NoAnswer, NotRepairing, Refused
+from .errors import Closed, Error, Forked, NoAnswer, NotRepairing, Refused, RepairOfAnother
 from .keeping import Keeping
 from .opening import Opening
-from .program import Program
+from .program import Program, of_log
 from .requests import Change, Edit, NewRow, Where, Write
 from .tables import Table, Value
+from .told import Told
 from .waiting import Deadline, SentFuture, Wait, Waiting, seconds_left
 
 AnswerType = TypeVar("AnswerType")
@@ -41,6 +42,8 @@ class Session:
     - `Moved`, with `if_time`. It has changed nothing.
     - `NoAnswer` where the answer doesn't come in time. The request may still be carried out.
     - `Lost` where the program has ended, `Disconnected` where the connection has: both are `Ended`.
+    - `Vanished` where the session that this comes back to, since it was opened again here or started
+      again behind the socket, tells an earlier time than it had told. Nothing is sent from then on.
     - `Closed` after `close`, and `Forked` in a child of the process that opened the session.
     """
 
@@ -57,9 +60,10 @@ class Session:
 
         `log` is the path of a file in which the database is kept; what it has already is there, and
         `opened` tells how far that is. It has to be of the same tables and `keep`. With `reopen` a
-        program that has ended is started again on its log by the next request. Whoever waits for an
-        answer when the program ends gets `Lost` all the same: the request may be carried out or not.
-        One that had `if_time` can be sent again with it.
+        program that has ended is started again on its log by the next request; where the log isn't
+        there any more, none is made, and the program ends (`Lost`). Whoever waits for an answer when the
+        program ends gets `Lost` all the same: the request may be carried out or not. One that had
+        `if_time` can be sent again with it.
 
         With `keep_slots` the session forgets what is old, so that it doesn't get full: after a write at
         least twice so many slots behind the horizon, up to the time of that write less `keep_slots`. The
@@ -72,9 +76,11 @@ class Session:
         """
         if reopen and log is None:
             raise ValueError("only a session with a log can be opened again")
-        whole = [*command, *([] if log is None else ["--log", os.fspath(log)])]
-        self._open(lambda deadline: Program(whole, log is not None), Opening(tables, keep, records),
-                   reopen, keep_slots, timeout)
+
+        def start(deadline: Deadline | None, is_again: bool, told: Told) -> Program:
+            return Program(of_log(command, log, is_again), log is not None, told)
+
+        self._open(start, Opening(tables, keep, records), reopen, keep_slots, timeout)
 
     @classmethod
     def connect(cls, socket: str | os.PathLike[str], tables: Iterable[Table | Mapping[str, Any]], *,
@@ -93,11 +99,11 @@ class Session:
         `ValueError` or `TypeError` for what a line can't carry.
         """
         session = cls.__new__(cls)
-        session._open(lambda deadline: Connection(socket, deadline),
+        session._open(lambda deadline, _, told: Connection(socket, deadline, told),
                       Opening(tables, keep, records, reads), reopen, keep_slots, timeout)
         return session
 
-    def _open(self, make: Callable[[Deadline | None], Channel], opening: Opening, reopens: bool,
+    def _open(self, make: Callable[[Deadline | None, bool, Told], Channel], opening: Opening, reopens: bool,
               keep_slots: int | None, timeout: float | None) -> None:
         self._make = make
         self._opening = opening
@@ -106,12 +112,13 @@ class Session:
         self._timeout = timeout
         self._process = os.getpid()
         self._closed = False
+        self._told = Told()
         self._sending = Lock()    # held while a line is sent, or the session is opened again
-        self._channel = self._start(self._deadline(None))
+        self._channel = self._start(self._deadline(None), False)
 
-    def _start(self, deadline: Deadline | None) -> Channel:
+    def _start(self, deadline: Deadline | None, is_again: bool) -> Channel:
         """Starts the program, or connects, and waits until the database is open."""
-        channel = self._make(deadline)
+        channel = self._make(deadline, is_again, self._told)
         try:
             if self._opening.reads is not None:
                 chosen: Wait[None] = Wait()
@@ -195,7 +202,8 @@ class Session:
 
         Raises `TypeError` where `where` or the changes are missing, `Full`, and what any request does.
         """
-        request = requests.update(table, change, where, set=set, add=add)    # type: ignore[call-overload]
+        make: Callable[..., Write] = requests.update    # whose overloads are those of this method
+        request = make(table, change, where, set=set, add=add)
         return self._ask(request, answers.written, worker, if_time, timeout)
 
     def delete(self, table: str, where: Where, *, worker: int | None = None, if_time: int | None = None,
@@ -271,7 +279,9 @@ class Session:
                progress: Callable[[Progress], object] | None = None, worker: int | None = None,
                timeout: float | None = None) -> Switched:
         """A whole repair: begins it, does `step` slots at a time until none is left, and makes the
-        repaired data the current ones. Other requests are answered between the steps.
+        repaired data the current ones. Other requests are answered between the steps. Where the beginning
+        is refused, nothing else is sent. What it asks is meant for a repair of this `worker` alone, so give
+        each client that repairs one of its own.
 
         `progress` is called after each step. Where it raises something, or a step fails, or the waiting
         is interrupted, the repair is aborted, and that is raised. `timeout` is for each request.
@@ -285,14 +295,14 @@ class Session:
                 stepped = self.step(step, worker=worker, timeout=timeout)
                 if progress is not None:
                     progress(stepped)
-        except NotRepairing:
-            raise    # Somebody else has ended it.
+        except (NotRepairing, RepairOfAnother):
+            raise    # Somebody else has ended it, and perhaps begun another.
         except BaseException:
             self._give_up(worker, timeout)
             raise
         try:
             return self.finish(worker=worker, timeout=timeout)
-        except NotRepairing:
+        except (NotRepairing, RepairOfAnother):
             raise
         except Refused:
             self._give_up(worker, timeout)
@@ -307,19 +317,23 @@ class Session:
 
     def begin(self, edits: Iterable[Edit], *, worker: int | None = None, if_time: int | None = None,
               timeout: float | None = None) -> Stepped:
-        """Begins a repair: see `cancel` and `replace`.
+        """Begins a repair: see `cancel` and `replace`. From then on `step`, `finish` and `abort` by this
+        `worker` are meant for a repair of this worker alone, also where this is refused; with `of` they
+        are meant for another's. Those of a worker who has sent no `begin` are meant for whichever repair
+        is under way.
 
         Raises `Repairing`, `NoSlot`, `EditedTwice`, `Full`, and what any request does.
         """
         return self._ask({"begin": list(edits)}, answers.stepped, worker, if_time, timeout)
 
-    def step(self, slots: int = 1, *, worker: int | None = None, if_time: int | None = None,
-             timeout: float | None = None) -> Stepped:
-        """Does the next slots of the repair, or all that are left where those are fewer.
+    def step(self, slots: int = 1, *, of: int | None = None, worker: int | None = None,
+             if_time: int | None = None, timeout: float | None = None) -> Stepped:
+        """Does the next slots of the repair, or all that are left where those are fewer. It has to be one
+        that the worker `of` has begun; `begin` tells what it is without.
 
-        Raises `NotRepairing`, and what any request does.
+        Raises `NotRepairing`, `RepairOfAnother`, and what any request does.
         """
-        return self._ask({"step": slots}, answers.stepped, worker, if_time, timeout)
+        return self._ask(requests.step(slots, of), answers.stepped, worker, if_time, timeout)
 
     def preview(self, table: str, where: Where = (), *, after: int | None = None,
                 most: int | None = None, worker: int | None = None, if_time: int | None = None,
@@ -331,21 +345,22 @@ class Session:
         request = requests.preview(table, where, after=after, most=most)
         return self._ask(request, self._opening.previewed(table), worker, if_time, timeout)
 
-    def finish(self, *, worker: int | None = None, if_time: int | None = None,
+    def finish(self, *, of: int | None = None, worker: int | None = None, if_time: int | None = None,
                timeout: float | None = None) -> Switched:
-        """Does all slots that are left, and makes the repaired data the current ones.
+        """Does all slots that are left, and makes the repaired data the current ones. `of` is as for
+        `step`.
 
-        Raises `NotRepairing`, and what any request does.
+        Raises `NotRepairing`, `RepairOfAnother`, and what any request does.
         """
-        return self._ask({"finish": True}, answers.switched, worker, if_time, timeout)
+        return self._ask(requests.finish(of), answers.switched, worker, if_time, timeout)
 
-    def abort(self, *, worker: int | None = None, if_time: int | None = None,
+    def abort(self, *, of: int | None = None, worker: int | None = None, if_time: int | None = None,
               timeout: float | None = None) -> Status:
-        """Gives the repair up. The current data stay.
+        """Gives the repair up. The current data stay. `of` is as for `step`.
 
-        Raises `NotRepairing`, and what any request does.
+        Raises `NotRepairing`, `RepairOfAnother`, and what any request does.
         """
-        return self._ask({"abort": True}, answers.status, worker, if_time, timeout)
+        return self._ask(requests.abort(of), answers.status, worker, if_time, timeout)
 
     # What is there, and what was
 
@@ -370,7 +385,8 @@ class Session:
 
     def changes(self, which: Literal["now", "next"] = "now", *, worker: int | None = None,
                 if_time: int | None = None, timeout: float | None = None) -> Changes:
-        """The answers that would be others now; with "next" those that the repair will have changed.
+        """The answers that would be others now; with "next" those that the repair will have changed. The
+        numbers of calls are those since the last start of the program, which numbers its log's lines anew.
 
         Raises `NotRepairing` with "next", and what any request does.
         """
@@ -509,7 +525,10 @@ class Session:
                   deadline: Deadline | None) -> None:
         if self._closed:
             raise Closed
+        vanished = self._told.vanished()
+        if vanished is not None:
+            raise vanished
         if self._reopens and self._channel.has_ended:
             self._channel.end_input(deadline)
-            self._channel = self._start(deadline)
+            self._channel = self._start(deadline, True)
         self._channel.put(line, decode, waiting, deadline)

@@ -12,6 +12,7 @@ from typing import Any, Generic, Protocol, TypeVar
 
 from .answers import Decode, Members, error_of, members_of
 from .errors import Error, Forked, NoAnswer
+from .told import Told
 
 AnswerType = TypeVar("AnswerType")
 
@@ -121,8 +122,9 @@ class Waiters(ABC):
     on a dict is one.
     """
 
-    def __init__(self) -> None:
+    def __init__(self, told: Told) -> None:
         self._waiting: dict[int, tuple[Decode[Any], Waiting]] = {}
+        self._told = told
         self.next_number = 0
 
     @abstractmethod
@@ -147,7 +149,7 @@ class Waiters(ABC):
         members = members_of(line)
         number = self._number(members)
         decode, waiting = self._waiting[number]
-        error = error_of(members)
+        error = self._told.look(members) or error_of(members)
         if error is None:
             answer = decode(members)
             del self._waiting[number]
@@ -167,8 +169,8 @@ class Waiters(ABC):
 class WaitersByCall(Waiters):
     """Those of a program that is alone with its lines: its answers have the numbers of its calls."""
 
-    def __init__(self, has_log: bool) -> None:
-        super().__init__()
+    def __init__(self, told: Told, has_log: bool) -> None:
+        super().__init__(told)
         # The call behind the opening. Calls are counted behind those of a log, so its answer tells.
         self._first_call = None if has_log else 1
 
@@ -185,8 +187,8 @@ class WaitersInOrder(Waiters):
     """Those of a connection: the numbers of calls are those of all connections together, so answers
     belong to the lines by their order."""
 
-    def __init__(self) -> None:
-        super().__init__()
+    def __init__(self, told: Told) -> None:
+        super().__init__(told)
         self._answered = 0
 
     def _number(self, members: Members) -> int:

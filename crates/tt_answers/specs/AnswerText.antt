@@ -7,8 +7,7 @@ use Rattle.tt_values.specs.declared.action.Action.{Action}
 use Rattle.tt_values.specs.declared.reply.Reply.{Reply}
 use Rattle.tt_values.specs.declared.reply.Reply.TheVariants as replies
 use Rattle.tt_values.specs.Tables.{Tables}
-use Rattle.tt_grammar.specs.declared.session_version.SessionVersion.{SessionVersion}
-use Rattle.tt_grammar.specs.SessionVersion.{number_of_version}
+use Rattle.tt_grammar.specs.Version.{newest_session_version}
 use Rattle.tt_generations.specs.declared.progress.Progress.{Progress}
 use Rattle.tt_records.specs.declared.record.What.{What}
 use Rattle.tt_records.specs.declared.record.What.TheVariants as whats
@@ -18,6 +17,7 @@ use Rattle.tt_grammar.specs.Quoting.{quoted}
 use Rattle.tt_grammar.specs.Printing.{row_text}
 use Rattle.tt_grammar.specs.JsonText.{Member, number_member, array_text, object_text, flag_text, text_or_null}
 use Rattle.tt_grammar.specs.WriteText.{named_action_members, action_members_or_null, tables_text}
+use Rattle.tt_answers.specs.declared.answer.RepairStatus.{RepairStatus}
 use Rattle.tt_answers.specs.declared.answer.Status.{Status}
 use Rattle.tt_answers.specs.declared.answer.RowPage.{RowPage}
 use Rattle.tt_answers.specs.declared.answer.SlotEntry.{SlotEntry}
@@ -49,9 +49,13 @@ rows_text rows = array_text (map row_text rows)
 abbrev pub progress_members : Numbering → Progress → List Member
 progress_members numbering p = time_member numbering (codes "done") p.done ∷ number_member (codes "left") p.left ∷ number_member (codes "rerun") p.rerun ∷ []
 
--- how far a repair is, as an object
-abbrev pub progress_text : Numbering → Progress → List ℕ
-progress_text numbering p = object_text (progress_members numbering p)
+-- the members that tell how a repair stands: how far it is, and the worker that began it
+abbrev pub repair_members : Numbering → RepairStatus → List Member
+repair_members numbering repair = progress_members numbering repair.progress ++ number_member (codes "worker") repair.worker ∷ []
+
+-- how a repair stands, as an object
+abbrev pub repair_text : Numbering → RepairStatus → List ℕ
+repair_text numbering repair = object_text (repair_members numbering repair)
 
 -- the time that was last forgotten up to, where something was forgotten
 abbrev pub horizon_members : Numbering → List Member
@@ -64,7 +68,7 @@ status_members numbering status =
     ∷ generation_member numbering (codes "generation") status.generation
     ∷ generation_member numbering (codes "oldest") status.oldest
     ∷ number_member (codes "entries") status.entries
-    ∷ (codes "repair", text_or_null (option_map (progress_text numbering) status.repair))
+    ∷ (codes "repair", text_or_null (option_map (repair_text numbering) status.repair))
     ∷ horizon_members numbering
 
 -- whether more rows follow, if that is told
@@ -125,10 +129,10 @@ change_members numbering entry =
 abbrev pub change_text : Numbering → ChangeEntry → List ℕ
 change_text numbering entry = object_text (change_members numbering entry)
 
--- the version of the session, the tables, how many closed generations are kept, and how many records
-abbrev pub declared_members : SessionVersion → Tables → ℕ → ℕ → List Member
-declared_members version tables keep records =
-    number_member (codes "version") (number_of_version version)
+-- the newest version of sessions, the tables, how many closed generations are kept, and how many records
+abbrev pub declared_members : Tables → ℕ → ℕ → List Member
+declared_members tables keep records =
+    number_member (codes "version") newest_session_version
     ∷ (codes "tables", tables_text tables)
     ∷ number_member (codes "keep") keep
     ∷ number_member (codes "records") records
@@ -166,7 +170,7 @@ answer_members tables numbering (answers.Repairing progress) = progress_members 
 answer_members tables numbering (answers.Finished generation slots rerun) = finished_members numbering generation slots rerun
 answer_members tables numbering (answers.Slots time entries) = slots_members tables numbering time entries
 answer_members tables numbering (answers.Changes first entries) = changes_members numbering first entries
-answer_members tables numbering (answers.Declared version keep records) = declared_members version tables keep records
+answer_members tables numbering (answers.Declared keep records) = declared_members tables keep records
 answer_members tables numbering (answers.Faulty fault) = fault_members fault
 answer_members tables numbering (answers.Refused refusal) = refusal_members numbering refusal
 answer_members tables numbering answers.OutOfMemory = out_of_memory

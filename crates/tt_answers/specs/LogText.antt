@@ -3,7 +3,6 @@ use Rattle.std.specs.Prelude.{ℕ, List, [], ◌∷◌, ◌++◌, codes}
 use Rattle.tt_numbers.specs.Numbers.{Numbering}
 use Rattle.tt_values.specs.declared.action.Action.{Action}
 use Rattle.tt_values.specs.Tables.{Tables}
-use Rattle.tt_grammar.specs.declared.session_version.SessionVersion.{SessionVersion}
 use Rattle.tt_grammar.specs.JsonText.{Member, number_member, object_text}
 use Rattle.tt_grammar.specs.WriteText.{action_members}
 use Rattle.tt_answers.specs.AnswerText.{declared_members}
@@ -17,13 +16,13 @@ ground_members numbering =
     ∷ []
 
 -- the opening as the tables are told, and the ground
-abbrev pub log_opening_members : SessionVersion → Tables → ℕ → ℕ → Numbering → List Member
-log_opening_members version tables keep records numbering =
-    declared_members version tables keep records ++ (codes "ground", object_text (ground_members numbering)) ∷ []
+abbrev pub log_opening_members : Tables → ℕ → ℕ → Numbering → List Member
+log_opening_members tables keep records numbering =
+    declared_members tables keep records ++ (codes "ground", object_text (ground_members numbering)) ∷ []
 
 -- the first line
-abbrev pub log_opening_line : SessionVersion → Tables → ℕ → ℕ → Numbering → List ℕ
-log_opening_line version tables keep records numbering = object_text (log_opening_members version tables keep records numbering)
+abbrev pub log_opening_line : Tables → ℕ → ℕ → Numbering → List ℕ
+log_opening_line tables keep records numbering = object_text (log_opening_members tables keep records numbering)
 
 -- a slot of the ground: its action
 abbrev pub ground_line : Tables → Action → List ℕ

@@ -68,6 +68,7 @@ refusal_members numbering (refusals.Moved now) = refused_at_time (codes "moved")
 refusal_members numbering (refusals.Event error) = event_refused numbering error
 refusal_members numbering (refusals.Read error) = read_refused numbering error
 refusal_members numbering (refusals.NoSlot slot) = refused_at_time (codes "no slot") (codes "slot") slot
+refusal_members numbering (refusals.RepairOfAnother worker) = refused_at (codes "repair of another") (codes "worker") worker
 refusal_members numbering refusals.Forgotten = refused_at (codes "forgotten") (codes "horizon") numbering.horizon
 refusal_members numbering refusals.Log = refused (codes "log")
 refusal_members numbering refusals.AnotherOpening = refused (codes "another opening")

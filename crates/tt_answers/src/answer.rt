@@ -2,7 +2,7 @@
 ghost use Rattle.std.specs.Prelude.{◌≡◌};
 
 use tt_db::{DbError, Progress, ReadError, Slot};
-use tt_grammar::{DocFault, SessionVersion};
+use tt_grammar::DocFault;
 use tt_numbers::ToldTime;
 use tt_records::{Changed, What};
 use tt_values::{Action, Items, Reply, Row};
@@ -18,6 +18,8 @@ pub enum Refusal {
     Read(ReadError),
     /// An edit names a slot that isn't there; the number is the one that it is told by.
     NoSlot { slot: ToldTime },
+    /// The repair under way was begun by this worker, and not by the one that was asked for.
+    RepairOfAnother { worker: u32 },
     /// What lies before the horizon is asked for.
     Forgotten,
     /// The log couldn't be made anew.
@@ -25,6 +27,15 @@ pub enum Refusal {
     /// An opening asks for other tables than a log has, or for another number of closed
     /// generations.
     AnotherOpening,
+}
+
+/// How a repair that is under way stands.
+#[derive(Clone, Copy, Debug, PartialEq, Eq)]
+pub struct RepairStatus {
+    /// How far it is.
+    pub progress: Progress,
+    /// The worker that began it.
+    pub worker: u32,
 }
 
 /// How a database stands.
@@ -38,8 +49,8 @@ pub struct Status {
     pub oldest: u64,
     /// The number of entries of the history.
     pub entries: u64,
-    /// How far the repair is, if one is under way.
-    pub repair: Option<Progress>,
+    /// The repair, if one is under way.
+    pub repair: Option<RepairStatus>,
 }
 
 /// Rows that are read.
@@ -119,10 +130,9 @@ pub enum Answer {
         from: u64,
         changes: Items<ChangeEntry>,
     },
-    /// The version of the session, the tables of the database, how many closed generations it
-    /// keeps, and how many records are kept.
+    /// The tables of the database, how many closed generations it keeps, and how many records are
+    /// kept.
     Declared {
-        version: SessionVersion,
         keep: u32,
         records: u32,
     },

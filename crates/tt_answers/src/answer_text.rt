@@ -4,9 +4,9 @@ ghost use Rattle.std.specs.List.{flat_map};
 ghost use Rattle.std.specs.Option.{option_map};
 ghost use Rattle.std.specs.Fmt.{decimal};
 ghost use Rattle.tt_grammar.specs.JsonText.{further_item, member_text, members_text, text_or_null};
-ghost use Rattle.tt_answers.specs.AnswerText.{progress_members, progress_text, horizon_members, status_members, more_members, page_members, written_members, finished_members, slots_members, changes_members, declared_members, answer_members, opening_text, call_text};
+ghost use Rattle.tt_answers.specs.AnswerText.{progress_members, repair_text, horizon_members, status_members, more_members, page_members, written_members, finished_members, slots_members, changes_members, declared_members, answer_members, opening_text, call_text};
 
-use crate::answer::{Answer, ChangeEntry, RowPage, SlotEntry, Status};
+use crate::answer::{Answer, ChangeEntry, RepairStatus, RowPage, SlotEntry, Status};
 use crate::fault_text::{push_fault, push_out_of_memory};
 use crate::refusal_text::push_refusal;
 use crate::reply_text::{push_replies, push_rows};
@@ -14,7 +14,7 @@ use crate::slot_text::{push_changes, push_slots};
 use crate::told_text::{push_told_generation, push_told_time};
 use std::alloc::{AllocError, Global};
 use tt_db::Progress;
-use tt_grammar::{SessionVersion, push_flag, push_labelled, push_tables};
+use tt_grammar::{NEWEST_SESSION_VERSION, push_flag, push_labelled, push_tables};
 use tt_numbers::{Numbering, ToldTime};
 use tt_values::{Catalog, Reply};
 
@@ -88,11 +88,7 @@ fn push_answer(
         Answer::Changes { from, changes } => {
             push_changes_from(out, numbering, *from, changes.as_slice())
         }
-        Answer::Declared {
-            version,
-            keep,
-            records,
-        } => push_declared(out, *version, catalog, *keep, *records),
+        Answer::Declared { keep, records } => push_declared(out, catalog, *keep, *records),
         Answer::Faulty(fault) => push_fault(out, fault),
         Answer::Refused(refusal) => push_refusal(out, numbering, *refusal),
         Answer::OutOfMemory => push_out_of_memory(out),
@@ -122,20 +118,21 @@ fn push_status(out: &mut Vec<u8>, numbering: Numbering, status: &Status) -> Resu
     Ok(())
 }
 
-/// Pushes how far a repair is as an object, or null where none is under way.
+/// Pushes how a repair stands as an object, or null where none is under way.
 fn push_repair(
     out: &mut Vec<u8>,
     numbering: Numbering,
-    repair: Option<Progress>,
+    repair: Option<RepairStatus>,
 ) -> Result<(), AllocError>
     ensures { OnOk result (out.new.items
-        ≡ out.old.items ++ text_or_null (option_map (progress_text numbering) repair)) }
+        ≡ out.old.items ++ text_or_null (option_map (repair_text numbering) repair)) }
 {
-    let Some(progress) = repair else {
+    let Some(repair) = repair else {
         return out.extend_from_slice(b"null");
     };
     out.push(b'{')?;
-    push_progress(out, numbering, progress)?;
+    push_progress(out, numbering, repair.progress)?;
+    push_labelled(out, b",\"worker\":", u64::from(repair.worker))?;
     out.push(b'}')?;
     Ok(())
 }
@@ -267,18 +264,17 @@ fn push_changes_from(
     Ok(())
 }
 
-/// Pushes the version of a session, its tables, and how much is kept.
+/// Pushes the newest version of sessions, the tables, and how much is kept.
 pub(crate) fn push_declared(
     out: &mut Vec<u8>,
-    version: SessionVersion,
     catalog: &Catalog,
     keep: u32,
     records: u32,
 ) -> Result<(), AllocError>
     ensures { OnOk result (out.new.items ≡ out.old.items
-        ++ members_text (declared_members version catalog.now keep records)) }
+        ++ members_text (declared_members catalog.now keep records)) }
 {
-    push_labelled(out, b"\"version\":", version.number())?;
+    push_labelled(out, b"\"version\":", u64::from(NEWEST_SESSION_VERSION))?;
     out.extend_from_slice(b",\"tables\":")?;
     push_tables(out, catalog)?;
     push_labelled(out, b",\"keep\":", u64::from(keep))?;

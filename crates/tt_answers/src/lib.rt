@@ -10,6 +10,6 @@ mod reply_text;
 mod slot_text;
 mod told_text;
 
-pub use answer::{Answer, ChangeEntry, Place, Refusal, RowPage, SlotEntry, Status};
+pub use answer::{Answer, ChangeEntry, Place, Refusal, RepairStatus, RowPage, SlotEntry, Status};
 pub use answer_text::{push_call, push_opening};
 pub use log_text::{push_ground_line, push_log_opening, push_slot_line};

@@ -6,25 +6,24 @@ ghost use Rattle.tt_answers.specs.LogText.{log_opening_line, ground_line, slot_l
 use crate::answer_text::push_declared;
 use crate::told_text::{push_told_generation, push_told_time};
 use std::alloc::AllocError;
-use tt_grammar::{SessionVersion, push_action, push_labelled};
+use tt_grammar::{push_action, push_labelled};
 use tt_numbers::Numbering;
 use tt_values::{Action, Catalog};
 
-/// Pushes the first line of a log that is made anew: the version of the session, the tables, how
+/// Pushes the first line of a log that is made anew: the newest version of sessions, the tables, how
 /// much is kept, and the ground.
 pub fn push_log_opening(
     out: &mut Vec<u8>,
-    version: SessionVersion,
     catalog: &Catalog,
     keep: u32,
     records: u32,
     numbering: Numbering,
 ) -> Result<(), AllocError>
     ensures { OnOk result (out.new.items
-        ≡ out.old.items ++ log_opening_line version catalog.now keep records numbering) }
+        ≡ out.old.items ++ log_opening_line catalog.now keep records numbering) }
 {
     out.push(b'{')?;
-    push_declared(out, version, catalog, keep, records)?;
+    push_declared(out, catalog, keep, records)?;
     push_told_time(out, b",\"ground\":{\"time\":", numbering.horizon())?;
     push_told_generation(out, b",\"generation\":", numbering.generation())?;
     push_labelled(out, b",\"slots\":", numbering.ground_slots())?;

@@ -27,6 +27,9 @@ pub(crate) fn push_refusal(
         Refusal::Event(error) => push_event_refused(out, numbering, error),
         Refusal::Read(error) => push_read_refused(out, numbering, error),
         Refusal::NoSlot { slot } => push_refused_at_time(out, "no slot", "slot", slot),
+        Refusal::RepairOfAnother { worker } => {
+            push_refused_at(out, "repair of another", "worker", u64::from(worker))
+        }
         Refusal::Forgotten => {
             push_refused_at_time(out, "forgotten", "horizon", numbering.horizon())
         }

@@ -3,15 +3,15 @@ use Rattle.std.proofs.Common.{ℕ, List, Option, IfOk, IfErr, OnErr, IfSome, inl
 use Rattle.std.specs.Io.KnownBytes.{Keeps}
 use Rattle.std.specs.Prelude.{Result, Ok, Err}
 use Rattle.clap.specs.declared.error.Error.{Error}
-use Rattle.clap.specs.Words.{Text, FailsBy, fault_of, kind_of}
+use Rattle.clap.specs.Words.{Text, FailsBy, kind_of}
 use Rattle.tt_cli.specs.declared.command_line.Cli.{Cli}
 use Rattle.tt_cli.specs.declared.ending.Ending.{Ending}
-use Rattle.tt_cli.specs.CommandLine.{command_line, options_of, IsCommandOf, IsBatchOf, IsRoundsOf, IsClosedOf}
+use Rattle.tt_cli.specs.CommandLine.{fault_of_words, options_of, IsCommandOf, IsBatchOf, IsRoundsOf, IsClosedOf}
 use Rattle.tt_cli.specs.Ending.{IsEndingOfUsage}
 use Rattle.tt_cli.specs.CarryingOut.{EndsBy, IsEndingBy, CarriesOut}
 
 pub carries_out : (words : List Text) (asked : Result Cli Error) (unread left old new : Option (List ℕ)) (ending : Ending)
-    → FailsBy (fault_of command_line words) asked
+    → FailsBy (fault_of_words words) asked
     → IfOk asked (IsCommandOf words)
     → IfOk asked (λ cli. IfSome (options_of cli) (λ options. IsBatchOf words options.batch))
     → IfOk asked (λ cli. IfSome (options_of cli) (λ options. IsClosedOf words options.closed))

@@ -1,8 +1,8 @@
 pub mod BuildLemmas
 pub mod CarryingOutLemmas
 pub mod RunningLemmas
-pub mod ClosedLemmas
 pub mod CommandLemmas
+pub mod FlagLemmas
 pub mod NumberLemmas
 pub mod RowLemmas
 pub mod SubcommandLemmas

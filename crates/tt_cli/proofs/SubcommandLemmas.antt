@@ -14,7 +14,7 @@ use Rattle.clap.specs.declared.error.kind.ErrorKind.{ErrorKind}
 use Rattle.clap.specs.declared.error.kind.ErrorKind.TheVariants as kind
 use Rattle.clap.specs.declared.parser.matches.ValueSource.TheVariants.{CommandLine}
 use Rattle.clap.specs.Takes.{is_given}
-use Rattle.tt_cli.specs.CommandLine.{batch, closed, command_line, log_argument, log_option, rounds}
+use Rattle.tt_cli.specs.CommandLine.{batch, closed, command_line, existing, log_argument, log_option, rounds}
 use Rattle.tt_cli.proofs.RowLemmas.{AllFit, Fits, HasRow, default_has, default_keeps, default_stays, new_row, none_has, use_keeps}
 use Rattle.tt_cli.proofs.WalkLemmas.{Keeps, StopsAt, none_of, settles, walk_keeps, walk_stops}
 
@@ -40,6 +40,14 @@ closed_rule = record closed {
 
 abbrev log_rule : Rule
 log_rule = record log_option { range = Some (record { start_inclusive = 1; end_inclusive = 1 }); parser = Some parser.String }
+
+abbrev existing_rule : Rule
+existing_rule = record existing {
+  defaults = codes "false" ∷ [];
+  missing = codes "true" ∷ [];
+  parser = Some parser.Bool;
+  range = Some (record { start_inclusive = 0; end_inclusive = 0 });
+}
 
 abbrev file_rule : Rule
 file_rule = record log_argument { range = Some (record { start_inclusive = 1; end_inclusive = 1 }); parser = Some parser.String; index = Some 1 }
@@ -81,7 +89,7 @@ replay_rules = refl
 run_rules : run_leaf.rules ≡ batch_rule ∷ rounds_rule ∷ closed_rule ∷ help_rule ∷ []
 run_rules = refl
 
-session_rules : session_leaf.rules ≡ log_rule ∷ help_rule ∷ []
+session_rules : session_leaf.rules ≡ log_rule ∷ existing_rule ∷ help_rule ∷ []
 session_rules = refl
 
 log_rules : log_leaf.rules ≡ file_rule ∷ help_rule ∷ []
@@ -164,6 +172,16 @@ module _ (id : Text) (how : Reading) (Passes : Text → Type 0) where
       let one = one_value (length (v ∷ w ∷ rest)) parts.0 in
       absurd (omega arith)
 
+  abbrev ExistingFits : Type 0
+  ExistingFits = Fits id how Passes (new_row (codes "existing") AsWritten CommandLine (codes "true" ∷ []))
+
+  existing_keeps : ExistingFits → Keeps false (AllFit id how Passes) existing_rule
+  existing_keeps fits [] rows p e = use_keeps id how Passes (codes "existing") AsWritten CommandLine (codes "true" ∷ []) fits rows p
+  existing_keeps fits (v ∷ rest) rows p e =
+      let parts = none_of (range_kinds 0 0 (length (v ∷ rest))) _ e in
+      let none = no_value (length (v ∷ rest)) parts.0 in
+      absurd (omega arith)
+
   file_keeps : PathFits (codes "file") → Keeps false (AllFit id how Passes) file_rule
   file_keeps fits [] rows p e = absurd (cc)
   file_keeps fits (v ∷ []) rows p e = use_keeps id how Passes (codes "file") AsWritten CommandLine (v ∷ []) (fits v) rows p
@@ -184,6 +202,9 @@ module _ (id : Text) (how : Reading) (Passes : Text → Type 0) where
   run_uses : BatchFits → RoundsFit → ClosedFits → Each (Keeps false (AllFit id how Passes)) run_leaf.rules
   run_uses batch_fits rounds_fit closed_fits =
       (batch_keeps batch_fits, (rounds_keep rounds_fit, (closed_keeps closed_fits, (help_keeps, tt))))
+
+  session_uses : PathFits (codes "log") → ExistingFits → Each (Keeps false (AllFit id how Passes)) session_leaf.rules
+  session_uses log_fits existing_fits = (log_keeps log_fits, (existing_keeps existing_fits, (help_keeps, tt)))
 
 -- the rows of a level before its defaults
 abbrev rows_of : Shape → List Text → List Row
@@ -217,6 +238,10 @@ HasNoRounds rows = find (λ x. bytes_eq x.id (codes "rounds")) rows ≡ None
 abbrev pub HasClosed : List Row → Type 0
 HasClosed = HasRow (codes "closed") AsWritten IsTrueText (codes "false")
 
+-- the same of `--existing`
+abbrev pub HasExisting : List Row → Type 0
+HasExisting = HasRow (codes "existing") AsWritten IsTrueText (codes "false")
+
 abbrev FitBatch : List Row → Type 0
 FitBatch = AllFit (codes "batch") WithoutMinus (IsInRange 1 10000)
 
@@ -228,6 +253,9 @@ FitNoRounds = AllFit (codes "rounds") WithoutMinus (λ _. ⊥)
 
 abbrev FitClosed : List Row → Type 0
 FitClosed = AllFit (codes "closed") AsWritten IsTrueText
+
+abbrev FitExisting : List Row → Type 0
+FitExisting = AllFit (codes "existing") AsWritten IsTrueText
 
 -- any text from the words
 abbrev pub FitPath : Text → List Row → Type 0
@@ -260,9 +288,12 @@ closed_uses = (
 
 path_uses : Uses session_leaf (FitPath (codes "log")) × Uses log_leaf (FitPath (codes "file"))
 path_uses = (
-  (log_keeps (codes "log") AsWritten (λ _. ⊤) (λ v same. (v, refl, refl, refl, tt)), (help_keeps (codes "log") AsWritten (λ _. ⊤), tt)),
+  session_uses (codes "log") AsWritten (λ _. ⊤) (λ v same. (v, refl, refl, refl, tt)) (λ same. absurd (cc)),
   (file_keeps (codes "file") AsWritten (λ _. ⊤) (λ v same. (v, refl, refl, refl, tt)), (help_keeps (codes "file") AsWritten (λ _. ⊤), tt)),
 )
+
+existing_uses : Uses session_leaf FitExisting
+existing_uses = session_uses (codes "existing") AsWritten IsTrueText (λ v same. absurd (cc)) (λ same. (codes "true", refl, refl, refl, refl))
 
 same_rows : {X : Type 0} (P : X → Type 0) (b : Bool) (rows : X) → P rows → P (cond b rows rows)
 same_rows P true rows p = p
@@ -279,6 +310,9 @@ has_rounds = default_has (codes "rounds") WithoutMinus (IsInRange 0 1000) (codes
 has_closed : (rows : List Row) → FitClosed rows → HasClosed (with_default rows closed_rule)
 has_closed = default_has (codes "closed") AsWritten IsTrueText (codes "false") refl
 
+has_existing : (rows : List Row) → FitExisting rows → HasExisting (with_default rows existing_rule)
+has_existing = default_has (codes "existing") AsWritten IsTrueText (codes "false") refl
+
 -- ---- one level
 
 -- `replay` was entered, and has a row for each of its options
@@ -293,9 +327,9 @@ HasRun name rows = (name ≡ codes "run") × HasBatch rows × HasClosed rows × 
 abbrev pub HasOptions : Text → List Row → Type 0
 HasOptions name rows = HasReplay name rows ⊎ HasRun name rows
 
--- `session` was entered, and has a row for its option where that is given
+-- `session` was entered, and has a row for `--log` where that is given, and one for `--existing`
 abbrev pub HasSession : Text → List Row → Type 0
-HasSession name rows = (name ≡ codes "session") × FitPath (codes "log") rows
+HasSession name rows = (name ≡ codes "session") × FitPath (codes "log") rows × HasExisting rows
 
 -- `log` was entered, and has a row for its argument
 abbrev pub HasLog : Text → List Row → Type 0
@@ -360,8 +394,13 @@ at_session : (words : List Text) → level_fault session_leaf [] nothing_held wo
 at_session words e =
     let rows = rows_of session_leaf words in
     let fit = words_fit session_leaf (FitPath (codes "log")) path_uses.0 tt words e in
+    let existing_fit = words_fit session_leaf FitExisting existing_uses tt words e in
     let first = with_default rows log_rule in
-    (refl, same_rows (FitPath (codes "log")) (has_row (codes "help") first) first (same_rows (FitPath (codes "log")) (has_row (codes "log") rows) rows fit))
+    let last = with_default first existing_rule in
+    let fit_first = same_rows (FitPath (codes "log")) (has_row (codes "log") rows) rows fit in
+    let existing_first = same_rows FitExisting (has_row (codes "log") rows) rows existing_fit in
+    let fit_last = default_keeps (codes "log") AsWritten (λ _. ⊤) (codes "existing") AsWritten (codes "false" ∷ []) (λ same. absurd (cc)) first fit_first in
+    same_rows (HasSession (codes "session")) (has_row (codes "help") last) last (refl, fit_last, has_existing first existing_first)
 
 needs_file : (rows : List Row) → check_fault log_leaf rows false ≡ [] → is_given (codes "file") rows ≡ true
 needs_file rows e = go (is_given (codes "file") rows) refl e

@@ -2,13 +2,13 @@
 use Rattle.std.specs.Prelude.{◌≡◌, ◌⊎◌, ℕ, List, [], Option, IfSome, ⊤, true}
 use Rattle.std.specs.Io.KnownBytes.{Keeps}
 use Rattle.clap.specs.declared.error.Error.{Error}
-use Rattle.clap.specs.Words.{Text, HasKind, fault_of, kind_of}
+use Rattle.clap.specs.Words.{Text, HasKind, kind_of}
 use Rattle.tt_workload.specs.declared.run_fault.RunFault.{RunFault}
 use Rattle.tt_cli.specs.declared.command_line.Cli.{Cli}
 use Rattle.tt_cli.specs.declared.command_line.Cli.TheVariants as commands
 use Rattle.tt_cli.specs.declared.ending.Ending.{Ending}
 use Rattle.tt_cli.specs.declared.ending.Ending.TheVariants as endings
-use Rattle.tt_cli.specs.CommandLine.{command_line, options_of, IsCommandOf, IsBatchOf, IsRoundsOf, IsClosedOf}
+use Rattle.tt_cli.specs.CommandLine.{fault_of_words, options_of, IsCommandOf, IsBatchOf, IsRoundsOf, IsClosedOf}
 use Rattle.tt_cli.specs.Ending.{IsEndingOfUsage}
 use Rattle.tt_cli.specs.Status.{has_text}
 use Rattle.tt_cli.specs.Logging.{IsEndingOfSession, IsEndingOfLook}
@@ -16,7 +16,7 @@ use Rattle.tt_cli.specs.Running.{WritesBy, EndsEarlyBy, IsFaultBy}
 
 -- the words of a command line have no fault, and ask for this command with these options
 pub record AskFor (words : List Text) (cli : Cli) : Type 0 where
-  pub faultless : fault_of command_line words ≡ []
+  pub faultless : fault_of_words words ≡ []
   pub command : IsCommandOf words cli
   pub batch : IfSome (options_of cli) (λ options. IsBatchOf words options.batch)
   pub rounds : IfSome (options_of cli) (λ options. IsRoundsOf words options.rounds)
@@ -30,7 +30,7 @@ pub record EndsWithoutLine (cli : Cli) (unread left old new : Option (List ℕ))
 
 -- the ending of what a command asks for: done where the report or the answers were written, and otherwise the fault
 abbrev pub EndsBy : Cli → Option (List ℕ) → Option (List ℕ) → Option (List ℕ) → Option (List ℕ) → Ending → Type 0
-EndsBy (commands.LoggedSession path) unread left old new ending = IsEndingOfSession ending
+EndsBy (commands.LoggedSession path must_exist) unread left old new ending = IsEndingOfSession ending
 EndsBy (commands.Log path) unread left old new ending = IsEndingOfLook ending
 EndsBy cli unread left old new endings.Done = WritesBy cli unread left old new
 EndsBy cli unread left old new (endings.Fault fault) = EndsEarlyBy cli fault unread left old new
@@ -39,7 +39,7 @@ EndsBy cli unread left old new _ = ⊥
 
 -- the same, whatever was read
 abbrev pub IsEndingBy : Cli → Ending → Type 0
-IsEndingBy (commands.LoggedSession path) ending = IsEndingOfSession ending
+IsEndingBy (commands.LoggedSession path must_exist) ending = IsEndingOfSession ending
 IsEndingBy (commands.Log path) ending = IsEndingOfLook ending
 IsEndingBy cli endings.Done = ⊤
 IsEndingBy cli (endings.Fault fault) = IsFaultBy cli fault
@@ -56,7 +56,7 @@ pub record RunsWords (words : List Text) (unread left old new : Option (List ℕ
 -- the words are faulty or ask for help, or there was no memory to read them: this is printed, and nothing is read
 pub record PrintsUsage (words : List Text) (unread left old new : Option (List ℕ)) (ending : Ending) : Type 0 where
   pub error : Error
-  pub fault : HasKind (fault_of command_line words) error
+  pub fault : HasKind (fault_of_words words) error
   pub usage : IsEndingOfUsage (kind_of error) ending
   pub kept : Keeps unread left
   pub unwritten : Keeps old new

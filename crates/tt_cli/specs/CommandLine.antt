@@ -1,12 +1,16 @@
 -- The command line: `timetravel`, with its version and four subcommands. `replay` takes `--batch` and
--- `--closed`; `run` takes `--rounds`, too; `session` takes `--log`; `log` takes a file.
+-- `--closed`; `run` takes `--rounds`, too; `session` takes `--log`, and `--existing` beside it; `log` takes a file.
 use Rattle.std.specs.Prelude.{◌≡◌, ℕ, ◌∷◌, [], List, Option, Some, None, Ok, IsSomeAnd, codes, pos}
-use Rattle.std.specs.Prelude.{Bool, if◌then◌else◌, true}
+use Rattle.std.specs.Prelude.{Bool, if◌then◌else◌, true, false, not, ◌&&◌}
+use Rattle.std.specs.Option.{option_map_or}
 use Rattle.std.specs.Int.{w64}
 use Rattle.std.specs.Str.Parse.{ParsesSigned, ParsesUnsigned}
 use Rattle.std.specs.declared.num.ParseIntError.{ParseIntError}
 use Rattle.clap.specs.Words.{App, Row, Rule, Text, first_of, new_app, new_rule, subcommand_of}
-use Rattle.clap.specs.Words.{with_rule, with_subcommand}
+use Rattle.clap.specs.Words.{with_rule, with_subcommand, fault_of}
+use Rattle.std.specs.Str.{bytes_eq}
+use Rattle.clap.specs.Kinds.{Kinds, or_else}
+use Rattle.clap.specs.declared.error.kind.ErrorKind.TheVariants.{MissingRequiredArgument}
 use Rattle.clap.specs.Takes.{is_given}
 use Rattle.clap.specs.declared.builder.action.ArgAction.TheVariants.{Set, SetTrue}
 use Rattle.clap.specs.declared.builder.value_parser.ValueParser.TheVariants as parser
@@ -48,6 +52,10 @@ closed = record (new_rule (codes "closed")) { long = Some (codes "closed"); acti
 abbrev pub log_option : Rule
 log_option = record (new_rule (codes "log")) { long = Some (codes "log"); action = Some Set; value_names = 1 }
 
+-- `--existing`, which takes no value
+abbrev pub existing : Rule
+existing = record (new_rule (codes "existing")) { long = Some (codes "existing"); action = Some SetTrue }
+
 -- `FILE`, which must be given
 abbrev pub log_argument : Rule
 log_argument = record (new_rule (codes "file")) { action = Some Set; value_names = 1; required = true }
@@ -59,7 +67,7 @@ abbrev pub run : App
 run = with_rule (with_rule (with_rule (new_app (codes "run")) batch) rounds) closed
 
 abbrev pub session : App
-session = with_rule (new_app (codes "session")) log_option
+session = with_rule (with_rule (new_app (codes "session")) log_option) existing
 
 abbrev pub log : App
 log = with_rule (new_app (codes "log")) log_argument
@@ -87,8 +95,21 @@ abbrev pub Asks : Text → List Row → Cli → Type 0
 Asks name rows (commands.Replay options) = name ≡ codes "replay"
 Asks name rows (commands.Run options) = name ≡ codes "run"
 Asks name rows commands.Session = (name ≡ codes "session") × (given_text (codes "log") rows ≡ None)
-Asks name rows (commands.LoggedSession path) = (name ≡ codes "session") × (given_text (codes "log") rows ≡ Some path.now)
+Asks name rows (commands.LoggedSession path must_exist) =
+    (name ≡ codes "session") × (given_text (codes "log") rows ≡ Some path.now) × (must_exist ≡ is_given (codes "existing") rows)
 Asks name rows (commands.Log path) = (name ≡ codes "log") × (given_text (codes "file") rows ≡ Some path.now)
+
+-- `session` is given `--existing` without `--log`
+abbrev pub lacks_log : Text × List Row → Bool
+lacks_log sub = bytes_eq sub.0 (codes "session") && (is_given (codes "existing") sub.1 && not (is_given (codes "log") sub.1))
+
+-- the kinds of fault of a subcommand that `clap` takes
+abbrev pub fault_of_subcommand : Option (Text × List Row) → Kinds
+fault_of_subcommand sub = if option_map_or lacks_log sub false then MissingRequiredArgument ∷ [] else []
+
+-- the kinds of the first fault of the words; empty where they are taken
+unfoldable pub fault_of_words : List Text → Kinds
+fault_of_words words = or_else (fault_of command_line words) (fault_of_subcommand (subcommand_of command_line words))
 
 -- the words give the subcommand that asks for this command
 unfoldable pub IsCommandOf : List Text → Cli → Type 0

@@ -1,7 +1,7 @@
 -- How the commands on a log end. Of a real file nothing is told, so then nothing is said of what was read and written.
 use Rattle.std.specs.Prelude.{◌≡◌, ℕ, List, Option, ⊤}
 use Rattle.tt_session.specs.Ends.{HandsOverAll}
-use Rattle.tt_session.specs.LoggedSession.{GoesOnLog, FailsOnLog}
+use Rattle.tt_session.specs.LoggedSession.{GoesOnLog, FailsOnLog, IsEnded}
 use Rattle.tt_session.specs.OnLog.{Telling}
 use Rattle.tt_session.specs.declared.logged_session.LoggedFault.{LoggedFault}
 use Rattle.tt_workload.specs.declared.run_fault.RunFault.TheVariants as faults
@@ -18,9 +18,15 @@ pub record FailsOn {D : Type 0} (unread left : Option (List ℕ)) (of : Telling 
   pub fails : FailsOnLog fault unread left of may_leave before after
   pub ends : IsEndingOfLogged fault ending
 
--- a session on a log is done where all answers were handed over, and otherwise ends as its fault does
+-- a session on a log has handed over all answers, and its log is ended
+pub record DoneOn {D : Type 0} (unread left : Option (List ℕ)) (of : Telling D) (may_leave : D → List ℕ → Type 0) (before : D) : Type 0 where
+  pub after : D
+  pub answers : HandsOverAll unread left (GoesOnLog of may_leave before after)
+  pub ended : IsEnded of.seen may_leave after
+
+-- a session on a log is done where all answers were handed over and the log is ended, and otherwise ends as its fault does
 abbrev pub EndsOnLog : {D : Type 0} → Option (List ℕ) → Option (List ℕ) → Telling D → (D → List ℕ → Type 0) → D → Ending → Type 0
-EndsOnLog {D} unread left of may_leave before endings.Done = (after : D) × HandsOverAll unread left (GoesOnLog of may_leave before after)
+EndsOnLog unread left of may_leave before endings.Done = DoneOn unread left of may_leave before
 EndsOnLog unread left of may_leave before ending = FailsOn unread left of may_leave before ending
 
 -- an ending of a session on a log

@@ -1,5 +1,8 @@
 -- The status that a fault ends the program with, and its line on standard error.
-use Rattle.std.specs.Prelude.{ℕ, List, ◌++◌, codes, Bool, true, false}
+use Rattle.std.specs.Prelude.{ℕ, List, ◌++◌, codes, Bool, true, false, Option, Some, None, if◌then◌else◌, nat_lt, encode_utf8}
+use Rattle.std.specs.List.{flat_map}
+use Rattle.std.specs.Str.{chars}
+use Rattle.tt_grammar.specs.Quoting.{escape}
 use Rattle.tt_grammar.specs.declared.fault.DocFault.TheVariants as document_faults
 use Rattle.tt_workload.specs.declared.run_fault.RunFault.{RunFault}
 use Rattle.std.specs.Fmt.{decimal}
@@ -30,14 +33,37 @@ fault_line faults.Memory = codes "timetravel: want of memory\n"
 abbrev pub status_of_log : LogFault → ℕ
 status_of_log log_faults.Unreadable = 1
 status_of_log log_faults.InUse = 1
+status_of_log log_faults.Missing = 1
 status_of_log (log_faults.Line number) = 1
 status_of_log log_faults.Unwritable = 4
 
+-- what is wrong with a log
+abbrev pub log_fault_text : LogFault → List ℕ
+log_fault_text log_faults.Unreadable = codes "cannot read the log"
+log_fault_text log_faults.InUse = codes "the log is in use"
+log_fault_text log_faults.Missing = codes "there is no log"
+log_fault_text (log_faults.Line number) = codes "log: line " ++ decimal number
+log_fault_text log_faults.Unwritable = codes "cannot write the log"
+
+-- the line that tells it alone
 abbrev pub log_fault_line : LogFault → List ℕ
-log_fault_line log_faults.Unreadable = codes "timetravel: cannot read the log\n"
-log_fault_line log_faults.InUse = codes "timetravel: the log is in use\n"
-log_fault_line (log_faults.Line number) = codes "timetravel: log: line " ++ (decimal number ++ codes "\n")
-log_fault_line log_faults.Unwritable = codes "timetravel: cannot write the log\n"
+log_fault_line fault = codes "timetravel: " ++ (log_fault_text fault ++ codes "\n")
+
+-- a character of a path as it is printed: a control character as in the texts of rows
+abbrev pub printed_char : ℕ → List ℕ
+printed_char c = if nat_lt c 32 then escape c else encode_utf8 c
+
+abbrev pub printed_path : List ℕ → List ℕ
+printed_path path = flat_map printed_char (chars path)
+
+-- the end of a line, with the system's reason where there is one
+abbrev pub line_end : Option (List ℕ) → List ℕ
+line_end None = codes "\n"
+line_end (Some reason) = codes ": " ++ (reason ++ codes "\n")
+
+-- the line that tells the log's path, too, and the system's reason
+abbrev pub log_path_line : LogFault → List ℕ → Option (List ℕ) → List ℕ
+log_path_line fault path reason = codes "timetravel: " ++ (log_fault_text fault ++ (codes ": " ++ (printed_path path ++ line_end reason)))
 
 -- a fault whose line has a number
 abbrev pub has_number : LogFault → Bool

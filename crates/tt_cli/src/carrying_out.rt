@@ -96,7 +96,9 @@ pub fn carry_out_command<R: Read, W: Write>(
             print_outcome(rt, outcome)
         }
         Cli::Session => print_outcome(rt, answer_lines(rt.alloc(), reader, writer)),
-        Cli::LoggedSession(path) => answer_on_file(rt, path, reader, writer),
+        Cli::LoggedSession { path, must_exist } => {
+            answer_on_file(rt, path, must_exist, reader, writer)
+        }
         Cli::Log(path) => print_log(rt, path, writer),
     }
 }

@@ -1,12 +1,14 @@
 //! The command line.
 ghost use Rattle.std.specs.Prelude.{◌≡◌, IfOk, IfSome, map, string_bytes};
-ghost use Rattle.clap.specs.Words.{FailsBy, app_of, fault_of, rule_of};
+ghost use Rattle.clap.specs.Words.{FailsBy, app_of, kind_of, rule_of};
+ghost use Rattle.clap.specs.declared.error.kind.ErrorKind.TheVariants.{MissingRequiredArgument};
 ghost use Rattle.tt_cli.specs.CommandLine.{IsCommandOf, IsBatchOf, IsRoundsOf, IsClosedOf};
 ghost use Rattle.tt_cli.specs.CommandLine.{batch, rounds, closed, replay, run};
-ghost use Rattle.tt_cli.specs.CommandLine.{log_option, log_argument, session, log};
-ghost use Rattle.tt_cli.specs.CommandLine.{program, command_line, options_of};
+ghost use Rattle.tt_cli.specs.CommandLine.{log_option, existing, log_argument, session, log};
+ghost use Rattle.tt_cli.specs.CommandLine.{program, command_line, fault_of_words, options_of};
 ghost use Rattle.tt_workload.specs.Options.{AreWithin};
 
+use clap::error::ErrorKind;
 use clap::{Arg, ArgAction, Command, Error};
 use std::alloc::{AllocError, Global};
 use tt_workload::Options;
@@ -57,7 +59,7 @@ const LINES: &str =
     r#"Standard input is JSON, one text a line. The first line opens a database; each further line is a
 request, and is answered by one line on standard output before another is waited for:
 
-  {"version":3,"tables":[{"name":"acct","columns":[{"name":"id","kind":"int"},{"name":"bal","kind":"int"}]}]}
+  {"version":4,"tables":[{"name":"acct","columns":[{"name":"id","kind":"int"},{"name":"bal","kind":"int"}]}]}
   {"insert":"acct","row":[1,100]}
   {"update":"acct","change":[["set","bal",0]],"where":[]}
   {"select":"acct","where":[["id",1]]}
@@ -76,7 +78,8 @@ tables and forget, which makes room again: see docs/SESSION.md.
 The database ends with the input. With --log FILE it is kept in FILE, which is made where there is
 none: a request that changes it is on the disk before it is answered, so the next session on FILE
 has all that was answered, after a crash, too. Its first line is an opening again, with the same
-tables and `keep`, and is answered with what is there."#;
+tables and `keep`, and is answered with what is there. With --existing, too, nothing is made: where
+FILE isn't there, or has no line, the session ends with status 1."#;
 
 const ABOUT_LOG: &str =
     r#"What a session with --log FILE has logged: the line that opened it, and that of each request that
@@ -93,16 +96,22 @@ pub enum Cli<'a> {
     Run(Options),
     /// A session in memory, which answers line by line.
     Session,
-    /// A session whose log is in the file with this path.
-    LoggedSession(&'a str),
+    /// A session on a log.
+    LoggedSession {
+        /// The path of the log's file.
+        path: &'a str,
+        /// Whether there must be a log, so that none is made.
+        must_exist: bool,
+    },
     /// What the log in the file with this path has.
     Log(&'a str),
 }
 
 /// Reads the words of the command line, the program's name first. An error is a fault of usage,
-/// help or the version that was asked for, or out of memory.
+/// help or the version that was asked for, or out of memory. It is a fault of usage, too, to give
+/// `--existing` without `--log`.
 pub fn command_of<'a>(alloc: Global, words: &'a [String]) -> Result<Cli<'a>, Error>
-    ensures kinds { FailsBy (fault_of command_line (map string_bytes words.entry.now)) result }
+    ensures kinds { FailsBy (fault_of_words (map string_bytes words.entry.now)) result }
     ensures command { IfOk result (IsCommandOf (map string_bytes words.entry.now)) }
     ensures within { IfOk result (λ cli. IfSome (options_of cli) AreWithin) }
     ensures batch { IfOk result (λ cli. IfSome (options_of cli) (λ options.
@@ -118,10 +127,14 @@ pub fn command_of<'a>(alloc: Global, words: &'a [String]) -> Result<Cli<'a>, Err
         unreachable!()
     };
     if name == "session" {
-        let Some(path) = given.get_str("log") else {
-            return Ok(Cli::Session);
-        };
-        return Ok(Cli::LoggedSession(path));
+        let must_exist = given.get_flag("existing");
+        if let Some(path) = given.get_str("log") {
+            return Ok(Cli::LoggedSession { path, must_exist });
+        }
+        if must_exist {
+            return Err(missing_log(alloc)?);
+        }
+        return Ok(Cli::Session);
     }
     if name == "log" {
         let Some(path) = given.get_str("file") else {
@@ -145,6 +158,17 @@ pub fn command_of<'a>(alloc: Global, words: &'a [String]) -> Result<Cli<'a>, Err
         return Ok(Cli::Run(options));
     }
     Ok(Cli::Replay(options))
+}
+
+/// The fault of `--existing` without `--log`.
+fn missing_log(alloc: Global) -> Result<Error, AllocError>
+    ensures { IfOk result (λ error. kind_of error ≡ MissingRequiredArgument) }
+{
+    let mut session = session(alloc)?.bin_name("timetravel session")?;
+    session.error(
+        ErrorKind::MissingRequiredArgument,
+        "the following required arguments were not provided:\n  --log <FILE>",
+    )
 }
 
 /// The program's command, with its subcommands.
@@ -202,7 +226,8 @@ fn session<'a>(alloc: Global) -> Result<Command<'a>, AllocError>
     Command::new(alloc, "session")
         .about("Holds a live database, and answers each line of standard input")
         .after_help(LINES)
-        .arg(log_option(alloc))
+        .arg(log_option(alloc))?
+        .arg(existing(alloc))
 }
 
 /// The subcommand that prints a log.
@@ -250,6 +275,16 @@ fn log_option<'a>(alloc: Global) -> Arg<'a>
         .action(ArgAction::Set)
         .value_name("FILE")
         .help("Keeps the database in FILE, and goes on with what is there")
+}
+
+/// The option `--existing`.
+fn existing<'a>(alloc: Global) -> Arg<'a>
+    ensures { rule_of result ≡ existing }
+{
+    Arg::new(alloc, "existing")
+        .long("existing")
+        .action(ArgAction::SetTrue)
+        .help("Makes no database: ends with status 1 unless FILE has one (with --log)")
 }
 
 /// The argument `FILE` of `log`.

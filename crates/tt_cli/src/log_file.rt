@@ -1,7 +1,7 @@
 //! The file of a log: opened, or made, and locked against a second session.
 ghost use Rattle.std.specs.Prelude.{◌≡◌, IfErr};
 
-use crate::log_fault::LogFault;
+use crate::log_fault::{LogFailure, LogFault};
 use std::fs::{File, Files, OpenOptions, TryLockError};
 use std::io;
 use std::io::ErrorKind;
@@ -11,50 +11,54 @@ use tt_log::FilePlace;
 const MOST_TRIES: usize = 100;
 
 /// Opens a file to read it. It is `Unreadable` if it can't be.
-pub fn open_to_read(rt: &impl Files<File = File>, path: &str) -> Result<File, LogFault>
-    ensures { IfErr result (λ fault. fault ≡ LogFault.Unreadable) }
+pub fn open_to_read(rt: &impl Files<File = File>, path: &str) -> Result<File, LogFailure>
+    ensures { IfErr result (λ failure. failure.fault ≡ LogFault.Unreadable) }
 {
-    match OpenOptions::new().read(true).open(rt, path) {
-        Ok(file) => Ok(file),
-        Err(_) => Err(LogFault::Unreadable),
-    }
+    let file = OpenOptions::new().read(true).open(rt, path)?;
+    Ok(file)
 }
 
-/// Opens a file for reading and writing, or makes it, locks it until it is closed, and puts its
-/// name on the disk. What an earlier session has left of a new file beside it is removed. It is
-/// `InUse` if another process has its lock, and `Unreadable` if any of this fails; what it has
-/// stays as it is.
+/// Opens a file for reading and writing, locks it until it is closed, and puts its name on the
+/// disk. Where there is none, it is made, unless it must exist; then it is `Missing`. What an
+/// earlier session has left of a new file beside it is removed. It is `InUse` if another process
+/// has its lock, and `Unreadable` if any of this fails; what it has stays as it is.
 pub fn open_to_go_on(
     rt: &(impl Files<File = File> + AllocGlobal),
     path: &str,
-) -> Result<(File, FilePlace), LogFault> {
+    must_exist: bool,
+) -> Result<(File, FilePlace), LogFailure> {
     for _ in 0..MOST_TRIES {
-        let file = open_locked(rt, path)?;
+        let file = open_locked(rt, path, must_exist)?;
         if let Some(place) = place_of(rt, path, &file)? {
-            let Ok(()) = place.sync_folder(rt) else {
-                return Err(LogFault::Unreadable);
-            };
+            place.sync_folder(rt)?;
             let _ = place.remove_left(rt);
             return Ok((file, place));
         }
     }
-    Err(LogFault::Unreadable)
+    Err(LogFailure::from(LogFault::Unreadable))
 }
 
-/// Opens a file for reading and writing, or makes it, and locks it.
-fn open_locked(rt: &impl Files<File = File>, path: &str) -> Result<File, LogFault> {
+/// Opens a file for reading and writing, or makes it, unless it must exist, and locks it.
+fn open_locked(
+    rt: &impl Files<File = File>,
+    path: &str,
+    must_exist: bool,
+) -> Result<File, LogFailure> {
     let opened = OpenOptions::new()
         .read(true)
         .write(true)
-        .create(true)
+        .create(!must_exist)
         .open(rt, path);
-    let Ok(file) = opened else {
-        return Err(LogFault::Unreadable);
+    let file = match opened {
+        Err(error) if must_exist && error.kind() == ErrorKind::NotFound => {
+            return Err(LogFailure::from(LogFault::Missing));
+        }
+        opened => opened?,
     };
     match file.try_lock() {
         Ok(()) => Ok(file),
-        Err(TryLockError::WouldBlock) => Err(LogFault::InUse),
-        Err(TryLockError::Error(_)) => Err(LogFault::Unreadable),
+        Err(TryLockError::WouldBlock) => Err(LogFailure::from(LogFault::InUse)),
+        Err(TryLockError::Error(error)) => Err(LogFailure::from(error)),
     }
 }
 
@@ -63,11 +67,10 @@ fn place_of(
     rt: &(impl Files<File = File> + AllocGlobal),
     path: &str,
     file: &File,
-) -> Result<Option<FilePlace>, LogFault> {
+) -> io::Result<Option<FilePlace>> {
     match find_place(rt, path, file) {
-        Ok(place) => Ok(place),
         Err(error) if error.kind() == ErrorKind::NotFound => Ok(None),
-        Err(_) => Err(LogFault::Unreadable),
+        found => found,
     }
 }
 

@@ -1,49 +1,94 @@
 //! What the commands on a log do: a session, and a look at what is logged.
-ghost use Rattle.std.specs.Prelude.{◌≡◌, ◌++◌};
+ghost use Rattle.std.specs.Prelude.{◌≡◌, ◌≢◌, ◌⊎◌, ◌++◌, [], IfErr, IsErrOf, OnOk};
 ghost use Rattle.tt_log.specs.Lines.{logged, joined};
+ghost use Rattle.tt_log.specs.Log.{IsAsLeft};
 ghost use Rattle.tt_session.specs.OnLog.{telling};
 ghost use Rattle.tt_cli.specs.Ending.{IsEndingOfLogged};
 ghost use Rattle.tt_cli.specs.Logging.{IsEndingOfSession, IsEndingOfLook, EndsOnLog};
 
 use crate::ending::Ending;
-use crate::log_fault::LogFault;
+use crate::log_fault::{LogFailure, LogFault, printed_path};
 use crate::log_file::{open_to_go_on, open_to_read};
-use crate::messages::{print_fault, print_log_fault, print_summary};
+use crate::messages::{print_fault, print_log_failure, print_summary};
 use crate::running::leak;
 use std::fs::{File, Files};
+use std::io;
 use std::io::{Read, Write};
-use tt_log::{Device, FileDevice, LogError, show_log};
+use tt_log::{Device, FileDevice, LogError, has_lines, show_log};
 use tt_session::{LoggedFault, run_logged_session};
 use tt_workload::RunFault;
 
 /// As many bytes of a log are read at once to be printed.
 const PIECE_BYTES: usize = 16_384;
 
+/// What tells why its last call has failed, where it has, and where the system has told it.
+pub trait TellsReason {
+    /// The system's reason.
+    fn reason(&self) -> Option<io::Error>;
+}
+
+impl<'a, F: Files<File = File> + Eprint, W: Write> TellsReason for FileDevice<'a, F, W> {
+    fn reason(&self) -> Option<io::Error> {
+        self.error()
+    }
+}
+
 /// Goes on with the session whose log is in a file: answers the lines of a reader until its end.
-/// Nothing is said here of what is read and written, since a real file tells nothing.
+/// Where the log must exist, and there is none, nothing is read, and no file is made. Nothing is
+/// said here of what is read and written, since a real file tells nothing.
 pub fn answer_on_file<R: Read, W: Write>(
     rt: &(impl Files<File = File> + Eprint + AllocGlobal),
     path: &str,
+    must_exist: bool,
     reader: &mut R,
     writer: &mut W,
 ) -> Ending
     ensures { IsEndingOfSession result }
 {
-    let (file, place) = match open_to_go_on(rt, path) {
+    let (file, place) = match open_to_go_on(rt, path, must_exist) {
         Ok(opened) => opened,
-        Err(fault) => return print_log_fault(rt, fault),
+        Err(failure) => return print_log_failure(rt, path, failure),
     };
-    let device = FileDevice::new(rt, Some(place), file, writer);
-    answer_on_log(rt, reader, device)
+    let told = printed_path(rt.alloc(), path);
+    let told_path = match &told {
+        Ok(text) => Some(text.as_str()),
+        Err(_) => None,
+    };
+    let device = FileDevice::new(rt, Some(place), file, writer).telling(told_path);
+    if must_exist {
+        if let Err(fault) = find_log(&device) {
+            let reason = device.reason();
+            return print_log_failure(rt, path, LogFailure { fault, reason });
+        }
+    }
+    answer_on_log(rt, path, reader, device)
 }
 
-/// Goes on with the session whose log a device has: answers the lines of a reader until its end,
-/// and prints the line of its fault, if it has one.
-pub fn answer_on_log<R: Read, D: Device + Drop>(
+/// Looks whether a device has a log, with a line. It is `Missing` if it has none, and `Unreadable`
+/// if its file can't be read.
+pub fn find_log<D: Device>(device: &D) -> Result<(), LogFault>
+    ensures found { D.tells device.now → OnOk result (logged (D.seen device.now) ≢ []) }
+    ensures missing { D.tells device.now → IsErrOf result LogFault.Missing
+        → logged (D.seen device.now) ≡ [] }
+    ensures err { IfErr result (λ e. (e ≡ LogFault.Missing) ⊎ (e ≡ LogFault.Unreadable)) }
+{
+    let mut buffer = [0; PIECE_BYTES];
+    match has_lines(device, &mut buffer) {
+        Ok(true) => Ok(()),
+        Ok(false) => Err(LogFault::Missing),
+        Err(_) => Err(LogFault::Unreadable),
+    }
+}
+
+/// Goes on with the session whose log, with this path, a device has: answers the lines of a reader
+/// until its end, and prints the line of its fault, if it has one.
+pub fn answer_on_log<R: Read, D: Device + TellsReason + Drop>(
     rt: &(impl Eprint + AllocGlobal),
+    path: &str,
     reader: &mut R,
     device: D,
 ) -> Ending
+    requires left { D.tells device → IsAsLeft (D.seen device) (D.once_synced device) }
     ensures told { D.tells device → EndsOnLog (R.remaining reader.old) (R.remaining reader.new)
         (telling D.tells D.seen D.shown D.moment D.left_since D.failures)
         D.may_leave device result }
@@ -54,23 +99,29 @@ pub fn answer_on_log<R: Read, D: Device + Drop>(
             leak(rt.alloc(), end);
             Ending::Done
         }
-        Err((fault, _)) => print_logged_fault(rt, fault),
+        Err((fault, device)) => print_logged_fault(rt, path, fault, device.reason()),
     }
 }
 
-/// Prints the line of the fault of a session on a log.
-pub fn print_logged_fault(rt: &(impl Eprint + AllocGlobal), fault: LoggedFault) -> Ending
+/// Prints the line of the fault of a session on the log with this path, with the system's reason.
+pub fn print_logged_fault(
+    rt: &(impl Eprint + AllocGlobal),
+    path: &str,
+    fault: LoggedFault,
+    reason: Option<io::Error>,
+) -> Ending
     ensures ending { IsEndingOfLogged fault result }
     ensures kind { IsEndingOfSession result }
 {
-    match fault {
-        LoggedFault::Read => print_fault(rt, RunFault::Read),
-        LoggedFault::Write => print_fault(rt, RunFault::Write),
-        LoggedFault::Memory => print_fault(rt, RunFault::Memory),
-        LoggedFault::LogRead => print_log_fault(rt, LogFault::Unreadable),
-        LoggedFault::LogLine(number) => print_log_fault(rt, LogFault::Line(number)),
-        LoggedFault::LogWrite => print_log_fault(rt, LogFault::Unwritable),
-    }
+    let fault = match fault {
+        LoggedFault::Read => return print_fault(rt, RunFault::Read),
+        LoggedFault::Write => return print_fault(rt, RunFault::Write),
+        LoggedFault::Memory => return print_fault(rt, RunFault::Memory),
+        LoggedFault::LogRead => LogFault::Unreadable,
+        LoggedFault::LogLine(number) => LogFault::Line(number),
+        LoggedFault::LogWrite => LogFault::Unwritable,
+    };
+    print_log_failure(rt, path, LogFailure { fault, reason })
 }
 
 /// Prints the lines of the log in a file, and what it has on standard error. The file stays as it
@@ -84,15 +135,19 @@ pub fn print_log<W: Write>(
 {
     let file = match open_to_read(rt, path) {
         Ok(file) => file,
-        Err(fault) => return print_log_fault(rt, fault),
+        Err(failure) => return print_log_failure(rt, path, failure),
     };
     let mut device = FileDevice::new(rt, None, file, writer);
-    print_lines(rt, &mut device)
+    print_lines(rt, path, &mut device)
 }
 
-/// Hands over the lines of the log that a device has to its output, and prints on standard error
-/// what there is. The file stays as it is.
-pub fn print_lines<D: Device>(rt: &(impl Eprint + AllocGlobal), device: &mut D) -> Ending
+/// Hands over the lines of the log, with this path, that a device has to its output, and prints on
+/// standard error what there is. The file stays as it is.
+pub fn print_lines<D: Device + TellsReason>(
+    rt: &(impl Eprint + AllocGlobal),
+    path: &str,
+    device: &mut D,
+) -> Ending
     ensures seen { D.tells device.old → D.seen device.new ≡ D.seen device.old }
     ensures shown { D.tells device.old → result ≡ Ending.Done → D.shown device.new
         ≡ D.shown device.old ++ joined (logged (D.seen device.old)) }
@@ -105,6 +160,10 @@ pub fn print_lines<D: Device>(rt: &(impl Eprint + AllocGlobal), device: &mut D) 
             Ending::Done
         }
         Err(LogError::HandOver) => print_fault(rt, RunFault::Write),
-        Err(_) => print_log_fault(rt, LogFault::Unreadable),
+        Err(_) => {
+            let fault = LogFault::Unreadable;
+            let reason = device.reason();
+            print_log_failure(rt, path, LogFailure { fault, reason })
+        }
     }
 }

@@ -5,9 +5,9 @@ ghost use Rattle.clap.specs.Values.{kind_of};
 ghost use Rattle.tt_cli.specs.Ending.{IsEndingOfFault, IsEndingOfLog, IsEndingOfUsage, ending_of_words};
 
 use crate::ending::Ending;
-use crate::log_fault::LogFault;
+use crate::log_fault::{LogFailure, LogFault};
 use crate::status::fault_line;
-use std::alloc::AllocError;
+use std::alloc::{AllocError, Global};
 use std::borrow::CowStr;
 use std::io;
 use tt_log::LogSummary;
@@ -32,8 +32,39 @@ pub fn print_fault(rt: &(impl Eprint + AllocGlobal), fault: RunFault) -> Ending
     print_line(rt, Ending::Fault(fault), line)
 }
 
-/// Prints the line of the fault of a log.
-pub fn print_log_fault(rt: &(impl Eprint + AllocGlobal), fault: LogFault) -> Ending
+/// Prints the line of the fault of the log with a path. It tells the path and the system's reason,
+/// but where there is no log, or no memory for them.
+pub fn print_log_failure(
+    rt: &(impl Eprint + AllocGlobal),
+    path: &str,
+    failure: LogFailure,
+) -> Ending
+    ensures { IsEndingOfLog failure.fault result }
+{
+    let fault = failure.fault;
+    if fault == LogFault::Missing {
+        return print_log_fault(rt, fault);
+    }
+    match line_of_failure(rt.alloc(), path, failure) {
+        Ok(line) => print_line(rt, Ending::LogFault(fault), Ok(CowStr::Owned(line))),
+        Err(AllocError) => print_log_fault(rt, fault),
+    }
+}
+
+/// The line of the fault of the log with a path, with the system's reason.
+fn line_of_failure(alloc: Global, path: &str, failure: LogFailure) -> Result<String, AllocError> {
+    let LogFailure { fault, reason } = failure;
+    match reason {
+        Some(error) => {
+            let reason = format!(in alloc; "{error}")?;
+            fault.line_with_path(alloc, path, Some(reason.as_str()))
+        }
+        None => fault.line_with_path(alloc, path, None),
+    }
+}
+
+/// Prints the line that tells the fault of a log alone.
+fn print_log_fault(rt: &(impl Eprint + AllocGlobal), fault: LogFault) -> Ending
     ensures { IsEndingOfLog fault result }
 {
     print_line(rt, Ending::LogFault(fault), fault.line(rt.alloc()))

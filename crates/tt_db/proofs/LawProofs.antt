@@ -2,9 +2,10 @@
 use Rattle.tt_values.specs.Content.{Content}
 use Rattle.tt_values.specs.RowWrites.{content_of}
 use Rattle.tt_generations.specs.TwoGenerations.{done_of}
-use Rattle.tt_db.specs.Laws.{IsKeyed, RowsHaveTheirKeys, LastGenerationsAreKept, EachSlotHasItsPlace}
+use Rattle.tt_db.specs.Laws.{IsKeyed, RowsHaveTheirKeys, LastGenerationsAreKept, EachSlotHasItsPlace, RepairsKeepTheirWorker}
 use Rattle.tt_db.specs.State.{start, after, current_at, next_at}
 use Rattle.tt_db.proofs.HistoryLemmas.{slots-places}
+use Rattle.tt_db.proofs.BeginnerLemmas.{repair_worker-entry}
 use Rattle.tt_db.proofs.ClosedLemmas.{KeepsLastGenerations-after, KeepsLastGenerations-start}
 use Rattle.tt_db.proofs.KeyLemmas.{IsKeyedContent, IsKeyedContent-legal, IsKeyedContent-in, IsKeyedContent-next, AllKeyed-row_at}
 
@@ -23,3 +24,6 @@ last_generations_are_kept limits history = KeepsLastGenerations-after limits sta
 
 pub each_slot_has_its_place : EachSlotHasItsPlace
 each_slot_has_its_place limits history = slots-places limits history
+
+pub repairs_keep_their_worker : RepairsKeepTheirWorker
+repairs_keep_their_worker db e = repair_worker-entry db e

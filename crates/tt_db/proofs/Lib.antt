@@ -3,6 +3,7 @@ pub mod EntryLemmas
 pub mod ClosedLemmas
 pub mod DatabaseLemmas
 pub mod HistoryLemmas
+pub mod BeginnerLemmas
 pub mod CurrentLemmas
 pub mod StepsLemmas
 pub mod KeyLemmas

@@ -1,5 +1,5 @@
 -- A database as contracts see it: what it refuses, what it answers and what it becomes.
-use Rattle.std.specs.Prelude.{◌≡◌, ℕ, zero, suc, ◌≤◌, ℤ, Bool, false, List, [], ◌∷◌, ◌++◌, length, nat_lt, slice_get, Option, None, Result, if◌then◌else◌}
+use Rattle.std.specs.Prelude.{◌≡◌, ℕ, zero, suc, ◌≤◌, ℤ, Bool, false, List, [], ◌∷◌, ◌++◌, length, nat_lt, slice_get, Option, None, Some, Result, if◌then◌else◌}
 use Rattle.tt_values.specs.declared.row.Row.{Row}
 use Rattle.tt_values.specs.declared.row_id.RowId.{RowId}
 use Rattle.tt_values.specs.declared.statement.Select.{Select}
@@ -15,7 +15,7 @@ use Rattle.tt_repair_laws.specs.Laws.{IsSameSlot}
 use Rattle.tt_generations.specs.declared.slot.Slot.{Slot}
 use Rattle.tt_generations.specs.declared.progress.Progress.{Progress}
 use Rattle.tt_generations.specs.KeptSlots.{slot_at}
-use Rattle.tt_generations.specs.TwoGenerations.{Phase, Idle, Repairing, TwoGenerations, progress_of, slots_edited_by, next_slot_at, dirty_rows_of, done_of, IsWithin}
+use Rattle.tt_generations.specs.TwoGenerations.{Phase, Idle, Repairing, TwoGenerations, progress_of, slots_edited_by, next_slot_at, dirty_rows_of, is_repairing, done_of, IsWithin}
 use Rattle.tt_db.specs.declared.limits.Limits.{Limits}
 use Rattle.tt_db.specs.declared.event.Event.{Event}
 use Rattle.tt_db.specs.declared.event.Event.TheVariants as events
@@ -25,7 +25,7 @@ use Rattle.tt_db.specs.declared.errors.DbError.{DbError}
 use Rattle.tt_db.specs.declared.errors.ReadError.{ReadError}
 use Rattle.tt_db.specs.Limits.{Fits}
 use Rattle.tt_db.specs.State.{State, ClosedGeneration, after, now_of, current_at, next_at, oldest_of, refusal, outcome_of, IsLegal}
-use Rattle.tt_db.specs.History.{write_places}
+use Rattle.tt_db.specs.History.{write_places, last_beginner}
 use Rattle.tt_db.specs.RightAnswers.{right_select, right_select_at, right_select_in, right_preview, right_preview_at}
 
 -- a database: its tables, its limits and its history
@@ -109,6 +109,10 @@ next_slot_of db number = next_slot_at (state_of db).phase (current_slots db) num
 -- how far the repair is, if one is under way
 abbrev pub repair_of : Database → Option Progress
 repair_of db = progress_of (generations_in db.catalog (state_of db))
+
+-- the worker that began the repair under way, if one is under way
+abbrev pub repair_worker_of : Database → Option ℕ
+repair_worker_of db = if is_repairing (state_of db).phase then Some (last_beginner db.history) else None
 
 -- for each key and time, the current row of a table
 abbrev pub current_rows_of : Database → ℕ → RowsOverTime

@@ -1,5 +1,5 @@
--- A history as a list of entries: where its writes stand.
-use Rattle.std.specs.Prelude.{ℕ, suc, ◌<◌, ◌≤◌, Bool, true, false, List, [], ◌∷◌, length, take, drop, if◌then◌else◌}
+-- A history as a list of entries: where its writes stand, and who began its last repair.
+use Rattle.std.specs.Prelude.{ℕ, suc, ◌<◌, ◌≤◌, Bool, true, false, List, [], ◌∷◌, length, take, drop, fold, if◌then◌else◌}
 use Rattle.tt_db.specs.declared.event.Event.{Event}
 use Rattle.tt_db.specs.declared.event.Event.TheVariants as events
 use Rattle.tt_db.specs.declared.event.Entry.{Entry}
@@ -37,3 +37,16 @@ pub record IsCut (xs : List ℕ) (n low : ℕ) : Type 0 where
   pub within : low ≤ length xs
   pub front : AllBelow n (take low xs)
   pub rest : NoneBelow n (drop low xs)
+
+-- the worker that began the last repair, where this one had begun the last before an event that a worker asked for
+abbrev pub beginner_by : ℕ → ℕ → Event → ℕ
+beginner_by before worker (events.Begin edits) = worker
+beginner_by before worker event = before
+
+-- the worker that began the last repair, where this one had begun the last before an entry
+abbrev pub beginner_after : ℕ → Entry → ℕ
+beginner_after before e = beginner_by before e.worker e.event
+
+-- the worker that began the last repair of a history: that of its last Begin; 0 where it has none
+abbrev pub last_beginner : List Entry → ℕ
+last_beginner history = fold beginner_after 0 history

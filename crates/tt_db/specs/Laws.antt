@@ -1,5 +1,5 @@
 -- What holds of every legal history.
-use Rattle.std.specs.Prelude.{◌≡◌, ◌≤◌, ℕ, suc, ℤ, List, [], ◌∷◌, length, Some}
+use Rattle.std.specs.Prelude.{◌≡◌, ◌≤◌, ℕ, suc, ℤ, List, [], ◌∷◌, length, Option, None, Some}
 use Rattle.tt_values.specs.declared.row.Row.{Row}
 use Rattle.tt_values.specs.Row.{first_int}
 use Rattle.tt_values.specs.Tables.{Tables, IsCatalog}
@@ -7,8 +7,11 @@ use Rattle.tt_values.specs.Content.{Content, row_at}
 use Rattle.tt_values.specs.RowWrites.{Slots, content_of}
 use Rattle.tt_generations.specs.TwoGenerations.{done_of}
 use Rattle.tt_db.specs.declared.limits.Limits.{Limits}
+use Rattle.tt_db.specs.declared.event.Event.{Event}
+use Rattle.tt_db.specs.declared.event.Event.TheVariants as events
 use Rattle.tt_db.specs.declared.event.Entry.{Entry}
 use Rattle.tt_db.specs.History.{write_places}
+use Rattle.tt_db.specs.Database.{Database, with_entry, repair_worker_of}
 use Rattle.tt_db.specs.State.{State, ClosedGeneration, after, now_of, current_at, next_at, slots_in, oldest_of, IsLegal}
 
 -- each row of a content begins with an Int, which is the key that it is stored under
@@ -41,3 +44,15 @@ LastGenerationsAreKept = (limits : Limits) (history : List Entry) → KeepsLastG
 -- each slot was made by one write of the history, which no repair changes: there are as many writes as slots
 abbrev pub EachSlotHasItsPlace : Type 0
 EachSlotHasItsPlace = (limits : Limits) (history : List Entry) → length (write_places 1 history) ≡ now_of (after limits history)
+
+-- the worker of the repair under way after an event that a worker asked for, where this one had begun the repair under way before it, if there was one
+abbrev pub repair_worker_by : Option ℕ → ℕ → Event → Option ℕ
+repair_worker_by before worker (events.Write action) = before
+repair_worker_by before worker (events.Begin edits) = Some worker
+repair_worker_by before worker events.Step = before
+repair_worker_by before worker events.Switch = None
+repair_worker_by before worker events.Abort = None
+
+-- a repair is of the worker that began it, until it is switched to or given up
+abbrev pub RepairsKeepTheirWorker : Type 0
+RepairsKeepTheirWorker = (db : Database) (e : Entry) → repair_worker_of (with_entry db e) ≡ repair_worker_by (repair_worker_of db) e.worker e.event

@@ -6,7 +6,7 @@ ghost use Rattle.tt_generations.specs.TwoGenerations.{no_slots, done_of, is_repa
 ghost use Rattle.tt_db.specs.Limits.{Fits, max_limits};
 ghost use Rattle.tt_db.specs.Errors.{refusal_of_error};
 ghost use Rattle.tt_db.specs.State.{IsLegal, full_at, slots_in, slots_left};
-ghost use Rattle.tt_db.specs.Database.{state_of, now_in, oldest_in, with_entry, refusal_of, outcome_for, right_answer, right_answer_at, right_answer_in, right_preview_of, right_preview_at_of, answer_for, preview_for, preview_at_for, slot_of, next_slot_of, repair_of, current_rows_of, ShowsNextRows, dirty_rows_in, row_in, MissesNoSlot, ShowsCurrent, nth_item, place_of};
+ghost use Rattle.tt_db.specs.Database.{state_of, now_in, oldest_in, with_entry, refusal_of, outcome_for, right_answer, right_answer_at, right_answer_in, right_preview_of, right_preview_at_of, answer_for, preview_for, preview_at_for, slot_of, next_slot_of, repair_of, repair_worker_of, current_rows_of, ShowsNextRows, dirty_rows_in, row_in, MissesNoSlot, ShowsCurrent, nth_item, place_of};
 ghost use Rattle.tt_db.specs.RightAnswers.{Answers, RowsHaveRisingKeys};
 ghost use Rattle.tt_db.specs.Transition.{Allows, IsTransition, closed_after};
 
@@ -205,6 +205,17 @@ impl Db {
         ensures { result ≡ repair_of self.now }
     {
         self.parts.generations.progress()
+    }
+
+    /// The worker that began the repair under way; None where none is under way. Takes no memory.
+    pub fn repair_worker(&self) -> Option<u32>
+        ensures { result ≡ repair_worker_of self.now }
+    {
+        if self.parts.generations.is_repairing() {
+            Some(self.parts.history.last_beginner())
+        } else {
+            None
+        }
     }
 
     /// How many slots the repair has done; 0 where none is under way. Takes no memory.

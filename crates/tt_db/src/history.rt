@@ -3,7 +3,7 @@ ghost use Rattle.std.specs.Prelude.{◌≡◌, ◌<◌, ◌+◌, [], ◌++◌, �
 ghost use Rattle.std.specs.Option.{option_copied};
 ghost use Rattle.tt_db.specs.Database.{nth_item};
 ghost use Rattle.tt_db.specs.Steps.{step_by};
-ghost use Rattle.tt_db.specs.History.{is_write, write_places, writes_before_others, AllBelow, NoneBelow, IsCut};
+ghost use Rattle.tt_db.specs.History.{is_write, write_places, writes_before_others, last_beginner, beginner_after, AllBelow, NoneBelow, IsCut};
 
 use crate::event::{Entry, Event};
 use std::alloc::{AllocError, Global};
@@ -16,18 +16,21 @@ pub(crate) struct History {
     entries: PagedLog<Entry>,
     /// For each entry that isn't a write, how many writes are before it. These numbers don't fall.
     write_counts: PagedLog<u64>,
+    /// The worker that began the last repair; 0 where none was begun.
+    beginner: u32,
 }
 
 impl Model for History {
     ghost use Rattle.std.specs.Prelude.{◌≡◌, List};
     ghost use Rattle.tt_db.specs.declared.event.Entry.{Entry};
-    ghost use Rattle.tt_db.specs.History.{writes_before_others};
+    ghost use Rattle.tt_db.specs.History.{writes_before_others, last_beginner};
 
     ghost Value = { List Entry };
 
     ghost view = { λ h. h.entries };
 
-    ghost invariant = { λ h. h.write_counts ≡ writes_before_others 0 h.entries };
+    ghost invariant = { λ h. (h.write_counts ≡ writes_before_others 0 h.entries)
+        × (h.beginner ≡ last_beginner h.entries) };
 }
 
 impl History {
@@ -38,6 +41,7 @@ impl History {
         History {
             entries: PagedLog::new(alloc),
             write_counts: PagedLog::new(alloc),
+            beginner: 0,
         }
     }
 
@@ -55,6 +59,13 @@ impl History {
         self.entries.get(position)
     }
 
+    /// The worker that began the last repair; 0 where none was begun. Takes no memory.
+    pub(crate) fn last_beginner(&self) -> u32
+        ensures { result ≡ last_beginner self.now }
+    {
+        self.beginner
+    }
+
     /// Another owner of the same entries. Copies none of them.
     pub(crate) fn share(&self) -> Result<History, AllocError>
         ensures { IfOk result (λ h. h ≡ self.now) }
@@ -64,6 +75,7 @@ impl History {
         Ok(History {
             entries,
             write_counts,
+            beginner: self.beginner,
         })
     }
 
@@ -71,10 +83,11 @@ impl History {
     pub(crate) fn push(&mut self, alloc: Global, entry: Entry) -> Result<(), AllocError>
         ensures { OnOk result (self.new ≡ self.old ++ entry ∷ []) }
     {
+        let beginner = beginner_after(self.beginner, &entry);
         let pushed = push_entry(&mut self.entries, &mut self.write_counts, entry);
+        self.beginner = beginner;
         if pushed.is_err() {
-            self.entries = PagedLog::new(alloc);
-            self.write_counts = PagedLog::new(alloc);
+            *self = History::new(alloc);
         }
         pushed
     }
@@ -90,8 +103,7 @@ impl History {
     {
         let pushed = push_steps(&mut self.entries, &mut self.write_counts, worker, count);
         if pushed.is_err() {
-            self.entries = PagedLog::new(alloc);
-            self.write_counts = PagedLog::new(alloc);
+            *self = History::new(alloc);
         }
         pushed
     }
@@ -177,6 +189,16 @@ fn push_steps(
     let event = Event::Step;
     entries.push_copies(&Entry { worker, event }, count as usize)?;
     Ok(())
+}
+
+/// The worker that began the last repair, where this one had begun the last before an entry.
+fn beginner_after(before: u32, entry: &Entry) -> u32
+    ensures { result ≡ beginner_after before entry.now }
+{
+    match &entry.event {
+        Event::Begin(_) => entry.worker,
+        _ => before,
+    }
 }
 
 /// Whether an event is a write.

@@ -1,6 +1,6 @@
 //! Laws of the definitions that the contracts of this crate use. Each is the contract of a
 //! function with an empty body.
-ghost use Rattle.tt_db.specs.Laws.{RowsHaveTheirKeys, LastGenerationsAreKept, EachSlotHasItsPlace};
+ghost use Rattle.tt_db.specs.Laws.{RowsHaveTheirKeys, LastGenerationsAreKept, EachSlotHasItsPlace, RepairsKeepTheirWorker};
 
 /// After a legal history each row begins with an Int, which is the key that it is stored under: in
 /// each generation that can be read at every time, and in the next one at the last slot that the
@@ -18,4 +18,10 @@ pub fn last_generations_are_kept()
 /// Each slot has its place in the history: the place of the write that made it.
 pub fn each_slot_has_its_place()
     ensures { EachSlotHasItsPlace }
+{}
+
+/// A repair is of the worker that began it until it is switched to or given up, whoever asks for
+/// its steps and for writes meanwhile.
+pub fn repairs_keep_their_worker()
+    ensures { RepairsKeepTheirWorker }
 {}

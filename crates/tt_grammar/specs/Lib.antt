@@ -13,7 +13,6 @@ pub mod Changes
 pub mod Statements
 pub mod Actions
 pub mod Version
-pub mod SessionVersion
 pub mod Edits
 pub mod NewestVersion
 pub mod Printing

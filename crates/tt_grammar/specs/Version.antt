@@ -1,5 +1,6 @@
--- The versions of documents and sessions. Version 2 is version 1 with another kind of call, do. Version 3 is version 2 with
--- conditions that compare, and with actions that are carried out wholly or not at all.
+-- The versions of the grammar, which are those of documents, and the versions that sessions are opened with. Version 2 of the grammar is
+-- version 1 with another kind of call, do. Version 3 is version 2 with conditions that compare, and with actions that are carried out
+-- wholly or not at all.
 use Rattle.std.specs.Prelude.{ℕ, ◌==◌, Option, Some, None, if◌then◌else◌, Result, codes}
 use Rattle.serde_json.specs.Data.{Data}
 use Rattle.tt_grammar.specs.declared.version.Version.{Version}
@@ -21,6 +22,14 @@ version v = do
   n ← count v
   or_refuse (codes "out of range") (version_numbered n)
 
--- the newest version, which what is printed is read back in
+-- the newest version, as of which each line of a session and of a log is read
 abbrev pub newest_version : Version
 newest_version = versions.Three
+
+-- the least version that the opening of a session may name
+abbrev pub oldest_session_version : ℕ
+oldest_session_version = 2
+
+-- the greatest version that the opening of a session may name, which a session tells as its own
+abbrev pub newest_session_version : ℕ
+newest_session_version = 4

@@ -20,7 +20,6 @@ mod owned_items;
 mod printing;
 mod quoting;
 mod repeated_members;
-mod session_version;
 mod statements;
 mod table_text;
 mod tables;
@@ -34,9 +33,9 @@ pub use json_text::{push_flag, push_named};
 pub use owned_items::OwnedItems;
 pub use printing::{push_decimal, push_int, push_labelled, push_row, push_value};
 pub use quoting::push_quoted;
-pub use session_version::SessionVersion;
 pub use table_text::push_tables;
 pub use text_value::parse_text;
+pub use version::{NEWEST_SESSION_VERSION, OLDEST_SESSION_VERSION};
 pub use write_text::{push_action, push_action_or_null, push_named_action};
 
 /// The largest number of edits of a repair.

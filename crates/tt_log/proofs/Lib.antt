@@ -6,6 +6,7 @@ mod RenewalLemmas
 mod RestLemmas
 mod ShowLemmas
 mod StepLemmas
+pub mod SyncLemmas
 mod TornLemmas
 mod WriteLemmas
 mod ZeroLemmas

@@ -1,6 +1,6 @@
 -- A log that is read piece by piece.
-use Rattle.std.proofs.Common.{◌≡◌, ◌≢◌, inl, inr, ℕ, zero, suc, ◌+◌, ◌<◌, ◌≤◌, List, [], ◌∷◌, ◌++◌, length, take, drop, get_or, refl, sym, ◌∙◌, ap, arith, append_assoc, length-append, length-take}
-use Rattle.std.proofs.lemmas.List.{append-nil, drop_more, drop-drop, drop_all, length-take-le}
+use Rattle.std.proofs.Common.{◌≡◌, inl, inr, ℕ, zero, suc, ◌+◌, ◌<◌, ◌≤◌, List, [], ◌∷◌, ◌++◌, length, take, drop, refl, sym, ◌∙◌, ap, arith, append_assoc, length-append, length-take}
+use Rattle.std.proofs.lemmas.List.{append-nil, drop-drop, length-take-le}
 use Rattle.std.proofs.lemmas.Bool.{cases_eq}
 use Rattle.tt_log.specs.Lines.{text, with_byte_if, whole_lines_of, joined, logged, end_behind}
 use Rattle.tt_log.proofs.LineLemmas.{text-zero, text-other, whole_lines_of-feed, whole_lines_of-other}
@@ -65,18 +65,6 @@ text-stops (suc count) (b ∷ xs) short = elim (cases_eq b 0) [
       let same = text-other b (take count xs) other in
       ap (λ (l : List ℕ). text (drop (length l) (b ∷ xs))) same ∙ text-stops count xs (omega (arith, short, ap length same))
 ]
-
--- the walk over the bytes goes on, or meets a 0
-pub text_len-more : (bytes : List ℕ) (i : ℕ) → i < length bytes → get_or bytes i 0 ≢ 0 → length (text (drop i bytes)) ≡ 1 + length (text (drop (i + 1) bytes))
-text_len-more bytes i within other =
-    omega (arith, ap (λ (l : List ℕ). length (text l)) (drop_more bytes i 0 within), ap length (text-other (get_or bytes i 0) (drop (i + 1) bytes) other))
-
-pub text_len-zero : (bytes : List ℕ) (i : ℕ) → i < length bytes → get_or bytes i 0 ≡ 0 → length (text (drop i bytes)) ≡ 0
-text_len-zero bytes i within is =
-    omega (arith, ap (λ (l : List ℕ). length (text l)) (drop_more bytes i 0 within), ap length (text-zero (get_or bytes i 0) (drop (i + 1) bytes) is))
-
-pub text_len-end : (bytes : List ℕ) (i : ℕ) → length bytes ≤ i → length (text (drop i bytes)) ≡ 0
-text_len-end bytes i past = ap (λ (l : List ℕ). length (text l)) (drop_all i bytes past)
 
 -- where lines end that go on in further bytes
 joined-none : (b : ℕ) (lines : List (List ℕ)) → length (joined lines) ≡ 0 → length (joined (with_byte_if b lines)) ≡ 0

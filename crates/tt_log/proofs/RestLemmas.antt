@@ -1,14 +1,13 @@
--- What stands behind the lines of a file, and what a crash leaves while bytes 0 are written there.
-use Rattle.std.proofs.Common.{◌≡◌, ◌≢◌, inl, inr, ⊎_elim, ℕ, zero, suc, ◌+◌, ◌≤◌, ◌<◌, List, [], ◌∷◌, ◌++◌, length, take, drop, get_or, refl, sym, ◌∙◌, ap, subst, arith, length-append}
+-- What stands behind the lines of a file.
+use Rattle.std.proofs.Common.{◌≡◌, ◌≢◌, inl, inr, ℕ, ◌+◌, ◌≤◌, ◌<◌, List, [], ◌∷◌, ◌++◌, length, take, drop, get_or, refl, sym, ◌∙◌, ap, arith}
 use Rattle.std.specs.Prelude.{if◌then◌else◌, ◌==◌}
-use Rattle.std.proofs.lemmas.List.{append-nil, take_at, drop_more, drop_all, length-replicate, ext_get_or, get_or-replicate}
+use Rattle.std.proofs.lemmas.List.{append-nil, take_at, drop_more, drop_all, length-replicate}
 use Rattle.std.proofs.lemmas.Bool.{cases_eq}
 use Rattle.std.proofs.lemmas.Bool.Decides.{nat_tests}
 use Rattle.tt_log.specs.Lines.{text, with_byte_if, whole_lines_of, logged, joined, end_behind, zeros}
-use Rattle.tt_log.specs.Crash.{IsMix, written_over, MayBeWritten}
+use Rattle.tt_log.specs.Crash.{written_over}
 use Rattle.tt_log.specs.Log.{IsAtRest}
-use Rattle.tt_log.proofs.LineLemmas.{text-zero, text-other, whole_lines_of-feed, whole_lines_of-other, AreLines-logged, logged-zeros, logged-joined}
-use Rattle.tt_log.proofs.TornLemmas.{text_torn, same_part}
+use Rattle.tt_log.proofs.LineLemmas.{text-zero, text-other, whole_lines_of-feed, whole_lines_of-other, AreLines-logged, logged-zeros}
 
 logged-zero : (b : ℕ) (bytes : List ℕ) → b ≡ 0 → logged (b ∷ bytes) ≡ []
 logged-zero b bytes is = ap whole_lines_of (text-zero b bytes is)
@@ -88,38 +87,13 @@ parts (b ∷ bytes) = elim (cases_eq b 0) [
   ]
 ]
 
--- old and new change places
-turned : (old new after : List ℕ) → IsMix old new after → IsMix new old after
-turned [] [] [] crash = tt
-turned [] [] (a ∷ after) crash = absurd crash
-turned [] (n ∷ new) after crash = absurd crash
-turned (o ∷ old) [] after crash = absurd crash
-turned (o ∷ old) (n ∷ new) [] crash = absurd crash
-turned (o ∷ old) (n ∷ new) (a ∷ after) crash = (⊎_elim (λ is. inr is) (λ is. inl is) crash.0, turned old new after crash.1)
-
--- nor does a front of what counts for nothing
-with_byte_none : (b : ℕ) (lines : List (List ℕ)) → with_byte_if b lines ≡ [] → lines ≡ []
-with_byte_none b [] is = refl
-with_byte_none b (line ∷ lines) is = cc
-
-front_none : (n : ℕ) (bytes : List ℕ) → whole_lines_of bytes ≡ [] → whole_lines_of (take n bytes) ≡ []
-front_none zero bytes none = refl
-front_none (suc n) [] none = refl
-front_none (suc n) (b ∷ bytes) none = elim (cases_eq b 10) [
-  | inl feed ↦ let some = whole_lines_of-feed b bytes feed in absurd (cc (some, none))
-  | inr other ↦ whole_lines_of-other b (take n bytes) other ∙ ap (with_byte_if b) (front_none n bytes (with_byte_none b (whole_lines_of bytes) (sym (whole_lines_of-other b bytes other) ∙ none)))
-]
-
--- bytes 0 are written behind the lines
+-- a file whose rest is bytes 0
 module _ (file : List ℕ) (at_end n : ℕ) (is_end : at_end ≡ length (joined (logged file))) (is_rest : at_end + n ≡ length file) where
   abbrev lines : List (List ℕ)
   lines = logged file
 
   pub end_within : length (joined lines) ≤ length file
   end_within = omega arith
-
-  rest_size : length (parts file).rest ≡ n
-  rest_size = omega (arith, is_end, is_rest, ap length (parts file).split, length-append (joined lines) (parts file).rest)
 
   pub zeroed : written_over file at_end (zeros n) ≡ joined lines ++ zeros n
   zeroed =
@@ -129,28 +103,11 @@ module _ (file : List ℕ) (at_end n : ℕ) (is_end : at_end ≡ length (joined 
       ∙ ap (λ (l : List ℕ). joined lines ++ zeros n ++ l) back
       ∙ append-nil (joined lines ++ zeros n)
 
-  pub crash_zeroed : (after : List ℕ) → MayBeWritten at_end (zeros n) file after → logged after ≡ lines
-  crash_zeroed after crash =
-      let p = parts file in
-      let from_new = subst (λ (f : List ℕ). IsMix file f after) zeroed crash in
-      let from_old = subst (λ (f : List ℕ). IsMix f (joined lines ++ zeros n) after) p.split from_new in
-      let split = same_part (joined lines) p.rest (zeros n) after from_old in
-      let front = text_torn n p.rest split.0 (turned p.rest (zeros n) split.0 split.2) in
-      let none : logged split.0 ≡ [] = ap whole_lines_of front.is ∙ front_none front.size (text p.rest) p.nothing in
-      ap logged split.1 ∙ logged-joined lines split.0 (AreLines-logged file) ∙ ap (λ (ls : List (List ℕ)). lines ++ ls) none ∙ append-nil lines
-
   pub logged-zeroed : logged (written_over file at_end (zeros n)) ≡ lines
   logged-zeroed = ap logged zeroed ∙ logged-zeros lines n (AreLines-logged file)
 
   pub at_rest-zeroed : IsAtRest (written_over file at_end (zeros n))
   at_rest-zeroed = record { room = n; is = zeroed ∙ ap (λ (ls : List (List ℕ)). joined ls ++ zeros n) (sym logged-zeroed) }
-
-  pub length-zeroed : length (written_over file at_end (zeros n)) ≡ length file
-  length-zeroed = omega (arith, ap length zeroed, length-append (joined lines) (zeros n), length-replicate {A = ℕ} n 0, is_rest, is_end)
-
--- nothing but bytes 0
-pub all_zeros : (bytes : List ℕ) → ((k : ℕ) → k < length bytes → get_or bytes k 0 ≡ 0) → bytes ≡ zeros (length bytes)
-all_zeros bytes each = ext_get_or 0 bytes (zeros (length bytes)) (sym (length-replicate {A = ℕ} (length bytes) 0)) (λ k h. each k h ∙ sym (get_or-replicate (length bytes) k 0 0 h))
 
 -- the walk over the bytes stops at a 0, or at the end
 pub ended_here : (bytes : List ℕ) (i end : ℕ) → end_from end i (drop i bytes) ≡ end_from 0 0 bytes → i < length bytes → get_or bytes i 0 ≡ 0 → end ≡ length (joined (logged bytes))

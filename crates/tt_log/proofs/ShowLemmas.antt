@@ -1,31 +1,17 @@
 -- What is told of a log that is looked at.
-use Rattle.std.proofs.Common.{◌≡◌, ◌≢◌, inl, inr, ℕ, zero, suc, ◌+◌, ◌-◌, ◌<◌, ◌≤◌, Bool, true, false, not, List, [], ◌∷◌, ◌++◌, length, take, drop, get_or, refl, sym, ◌∙◌, ap, subst, arith, append_assoc, length-append, length-take-le}
-use Rattle.std.proofs.lemmas.List.{append-nil, drop_more, drop_all, drop-replicate, length-replicate, take-append-le, take-replicate, take_all}
-use Rattle.std.proofs.Math.Seq.{drop-append-add}
+use Rattle.std.proofs.Common.{◌≡◌, ◌≢◌, inl, inr, ℕ, zero, suc, ◌+◌, ◌<◌, ◌≤◌, Bool, true, false, not, List, [], ◌∷◌, ◌++◌, length, take, drop, refl, sym, ◌∙◌, ap, subst, arith, append_assoc, length-append}
+use Rattle.std.proofs.lemmas.List.{append-nil, length-replicate, take-append-le, take_all}
 use Rattle.std.proofs.lemmas.Bool.{cases_eq}
 use Rattle.tt_log.specs.Crash.{written_over}
-use Rattle.tt_log.specs.Lines.{with_byte_if, whole_lines_of, logged, joined, zeros}
+use Rattle.tt_log.specs.Lines.{text, with_byte_if, whole_lines_of, logged, joined, zeros}
 use Rattle.tt_log.specs.Log.{IsAtRest}
 use Rattle.tt_log.proofs.LineLemmas.{whole_lines_of-feed, whole_lines_of-other, whole_lines_of-joined, AreLines-logged}
-use Rattle.tt_log.proofs.ReadingLemmas.{take-add}
+use Rattle.tt_log.proofs.ReadingLemmas.{take-add, end_is}
 use Rattle.tt_log.proofs.RestLemmas.{parts, zeroed, at_rest-zeroed}
 
 length-with_byte : (b : ℕ) (lines : List (List ℕ)) → length (with_byte_if b lines) ≡ length lines
 length-with_byte b [] = refl
 length-with_byte b (line ∷ lines) = refl
-
-pub count-feed : (bytes : List ℕ) (i : ℕ) → i + 1 ≤ length bytes → get_or bytes i 0 ≡ 10 → length (whole_lines_of (drop i bytes)) ≡ 1 + length (whole_lines_of (drop (i + 1) bytes))
-count-feed bytes i within is =
-    omega (arith, ap (λ (l : List ℕ). length (whole_lines_of l)) (drop_more bytes i 0 (omega arith)), ap length (whole_lines_of-feed (get_or bytes i 0) (drop (i + 1) bytes) is))
-
-pub count-other : (bytes : List ℕ) (i : ℕ) → i + 1 ≤ length bytes → get_or bytes i 0 ≢ 10 → length (whole_lines_of (drop i bytes)) ≡ length (whole_lines_of (drop (i + 1) bytes))
-count-other bytes i within other =
-    ap (λ (l : List ℕ). length (whole_lines_of l)) (drop_more bytes i 0 (omega arith))
-    ∙ ap length (whole_lines_of-other (get_or bytes i 0) (drop (i + 1) bytes) other)
-    ∙ length-with_byte (get_or bytes i 0) (whole_lines_of (drop (i + 1) bytes))
-
-pub count-end : (bytes : List ℕ) (i : ℕ) → length bytes ≤ i → length (whole_lines_of (drop i bytes)) ≡ 0
-count-end bytes i past = ap (λ (l : List ℕ). length (whole_lines_of l)) (drop_all i bytes past)
 
 pub count-append : (first more : List ℕ) → length (whole_lines_of (first ++ more)) ≡ length (whole_lines_of first) + length (whole_lines_of more)
 count-append [] more = omega arith
@@ -73,22 +59,6 @@ lines_of_first file end is =
     ∙ whole_lines_of-joined (logged file) [] (AreLines-logged file)
     ∙ append-nil (logged file)
 
--- where a file has only bytes 0 from a place on, so has each piece behind it
-pub piece_clear : (file piece : List ℕ) (from at n len : ℕ) → from ≤ at → at + n ≤ len → len ≡ length file → file ≡ written_over file from (zeros (len - from))
-    → piece ≡ take n (drop at file) → piece ≡ zeros n
-piece_clear file piece from at n len behind within is_len clear is =
-    let k = len - from in
-    let front = take from file in
-    let long : length front ≡ from = length-take-le from file (omega (arith, behind, within, is_len)) in
-    let past : drop (from + length (zeros k)) file ≡ [] = drop_all (from + length (zeros k)) file (omega (arith, is_len, length-replicate {A = ℕ} k 0)) in
-    let split : file ≡ front ++ zeros k = clear ∙ ap (λ (l : List ℕ). front ++ zeros k ++ l) past ∙ append-nil (front ++ zeros k) in
-    let same : at ≡ length front + (at - from) = omega (arith, long, behind) in
-    is
-    ∙ ap (λ (l : List ℕ). take n (drop at l)) split
-    ∙ ap (λ (i : ℕ). take n (drop i (front ++ zeros k))) same
-    ∙ ap (take n) (drop-append-add front (zeros k) (at - from) ∙ drop-replicate (at - from) k 0)
-    ∙ take-replicate n (k - (at - from)) 0 (omega (arith, within, behind))
-
 -- a file that is only lines and bytes 0 has bytes 0 behind its lines
 pub rest_clear : (file : List ℕ) (end n : ℕ) → end ≡ length (joined (logged file)) → end + n ≡ length file → IsAtRest file → file ≡ written_over file end (zeros n)
 rest_clear file end n is_end is_rest rest =
@@ -109,3 +79,24 @@ not_false false is = absurd (cc)
 pub not_true : (b : Bool) → not b ≡ true → b ≡ false
 not_true true is = absurd (cc)
 not_true false is = refl
+
+no_lines : (lines : List (List ℕ)) → 0 ≡ length (joined lines) → lines ≡ []
+no_lines [] is = refl
+no_lines (line ∷ lines) is = absurd (omega (arith, is, length-append line (10 ∷ joined lines)))
+
+-- a line that ends in what is read is one of the log
+pub some_lines : (seen : List ℕ) (at end : ℕ) → text seen ≡ take at seen ++ text (drop at seen) → 0 < end → end ≡ length (joined (whole_lines_of (take at seen)))
+    → logged seen ≢ []
+some_lines seen at end read some is none =
+    let all = ap (λ (l : List ℕ). length (whole_lines_of l)) read ∙ count-append (take at seen) (text (drop at seen)) in
+    let empty = length-nil (whole_lines_of (take at seen)) (omega (arith, all, ap length none)) in
+    omega (arith, some, is, ap (λ (ls : List (List ℕ)). length (joined ls)) empty)
+  where
+    length-nil : (ls : List (List ℕ)) → length ls ≡ 0 → ls ≡ []
+    length-nil [] e = refl
+    length-nil (l ∷ ls) e = absurd (omega (arith, e))
+
+-- where all is read and no line ends in it, the log has none
+pub none_logged : (seen : List ℕ) (at : ℕ) → text seen ≡ take at seen ++ text (drop at seen) → text (drop at seen) ≡ [] → 0 ≡ length (joined (whole_lines_of (take at seen)))
+    → logged seen ≡ []
+none_logged seen at read rest is = no_lines (logged seen) (end_is seen at 0 read rest is)

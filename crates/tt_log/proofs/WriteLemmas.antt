@@ -2,7 +2,7 @@
 use Rattle.std.proofs.Common.{◌≡◌, ℕ, ◌+◌, ◌-◌, ◌≤◌, List, ◌++◌, length, take, drop, refl, sym, ◌∙◌, ap, subst, arith, append_assoc, length-append}
 use Rattle.std.proofs.lemmas.List.{take_at, drop_at, drop-drop, drop-replicate, length-replicate, replicate-append-replicate}
 use Rattle.tt_log.specs.Lines.{logged, joined, zeros, IsJoined}
-use Rattle.tt_log.specs.Crash.{IsMix, written_over, MayBeWritten, MayBeLonger}
+use Rattle.tt_log.specs.Crash.{IsMix, written_over, MayBeWritten, MayBeLonger, IsLonger}
 use Rattle.tt_log.specs.Device.{Left, Only, Follows, Now}
 use Rattle.tt_log.specs.Log.{IsAtRest, Keeps, KeepsFirst}
 use Rattle.tt_log.proofs.LineLemmas.{AreLines-logged, logged-zeros, logged-grown, joined-append, AreLines-append}
@@ -97,6 +97,10 @@ at_rest-grown len file after rest grown =
 
 pub logged-longer : (len : ℕ) (file after : List ℕ) → MayBeLonger len file after → logged after ≡ logged file
 logged-longer len file after grown = ap logged grown.longer ∙ logged-grown file grown.more
+
+-- nothing of the new length is missing
+pub longer : (len : ℕ) (file after : List ℕ) → IsLonger len file after → MayBeLonger len file after
+longer len file after is = record { more = len - length file; longer = is; no_longer = omega arith }
 
 pub crash_grown : (len : ℕ) (file : List ℕ) (old new : List ℕ → Type 0) (shown : List ℕ) → Only file old → Follows (MayBeLonger len) old new
     → (left : Left) → Now new shown left → Keeps (logged file) shown left

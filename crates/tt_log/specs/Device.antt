@@ -1,6 +1,5 @@
 -- What the calls of a device do, and what a crash may leave at each moment.
 use Rattle.std.specs.Prelude.{◌<◌, ◌≡◌, ◌⊎◌, ℕ, ◌≤◌, List, ◌++◌, length, take, Result, OnErr}
-use Rattle.tt_log.specs.declared.device.DeviceError.{DeviceError}
 
 -- what a crash leaves: the file, and all that had been handed over by then
 pub record Left : Type 0 where
@@ -49,6 +48,14 @@ abbrev pub ShowsFirst : List ℕ → List ℕ → List ℕ → Type 0
 ShowsFirst old new bytes = (n : ℕ) × (new ≡ old ++ take n bytes)
 
 -- an error is counted: it comes only where the device has failed once more
-pub record CountsFailure {T : Type 0} (before now : ℕ) (result : Result T DeviceError) : Type 0 where
+pub record CountsFailure {T E : Type 0} (before now : ℕ) (result : Result T E) : Type 0 where
   pub later : before ≤ now
   pub failed : OnErr result (before < now)
+
+-- Calls that leave the file as it is, with what was handed over, and what a crash may leave.
+pub record StaysOnDisk {D : Type 0} (seen shown : D → List ℕ) (may_leave : D → List ℕ → Type 0) (moment : D → ℕ) (left_since : D → ℕ → Left → Type 0) (failures : D → ℕ) (old new : D) : Type 0 where
+  pub seen_is : seen new ≡ seen old
+  pub shown_is : shown new ≡ shown old
+  pub nothing_new : NothingNew (may_leave old) (may_leave new)
+  pub any_moment : LeavesOnly moment left_since old new (Now (may_leave old) (shown old))
+  pub failures_are : failures old ≤ failures new

@@ -1,8 +1,8 @@
 -- A log in a file, and what a crash leaves of it.
-use Rattle.std.specs.Prelude.{◌≡◌, ◌⊎◌, ℕ, ◌≤◌, List, ◌++◌, length, take}
+use Rattle.std.specs.Prelude.{◌≡◌, ◌⊎◌, ℕ, ◌+◌, ◌≤◌, List, ◌++◌, length, take}
 use Rattle.std.specs.Int.{next_multiple_of}
-use Rattle.tt_log.specs.Lines.{logged, joined, zeros}
-use Rattle.tt_log.specs.Device.{Only, Left, Now}
+use Rattle.tt_log.specs.Lines.{logged, joined, zeros, IsJoined}
+use Rattle.tt_log.specs.Device.{Only, Left}
 use Rattle.tt_log.specs.declared.log.Log.{Log}
 
 -- a file is lines and then bytes 0
@@ -22,9 +22,20 @@ pub record Keeps (lines : List (List ℕ)) (shown : List ℕ) (left : Left) : Ty
   pub lines_are : logged left.file ≡ lines
   pub shown_is : left.shown ≡ shown
 
--- a crash left what it might have left before, or these lines
+-- a file is as the process before has left it: where it ended well, so that the file is its lines and nothing else, all of them get onto the disk by a sync; of any other file nothing is known
+abbrev pub IsAsLeft : List ℕ → (List ℕ → Type 0) → Type 0
+IsAsLeft file once_synced = IsJoined file → Only file once_synced
+
+-- a crash left the lines of a file that it might have left before, when this had been handed over
+pub record KeepsEarlier (before : List ℕ → Type 0) (shown : List ℕ) (left : Left) : Type 0 where
+  pub file : List ℕ
+  pub might_leave : before file
+  pub lines_are : logged left.file ≡ logged file
+  pub shown_is : left.shown ≡ shown
+
+-- a crash left lines that it might have left before, or these lines
 abbrev pub KeepsOnceSynced : (List ℕ → Type 0) → List (List ℕ) → List ℕ → Left → Type 0
-KeepsOnceSynced before lines shown left = Now before shown left ⊎ Keeps lines shown left
+KeepsOnceSynced before lines shown left = KeepsEarlier before shown left ⊎ Keeps lines shown left
 
 -- a crash left the lines so far and the first few of the new ones, or none, when this had been handed over
 pub record KeepsFirst (lines new : List (List ℕ)) (shown : List ℕ) (left : Left) : Type 0 where
@@ -46,6 +57,6 @@ KeepsEither old new shown left = Keeps old shown left ⊎ Keeps new shown left
 abbrev pub IsMaking : {D : Type 0} → (D → List ℕ) → Log D → Type 0
 IsMaking new_file log = log.new_end ≡ length (new_file log.device)
 
--- the length of a file with room behind lines of this many bytes: the least multiple of 1,048,576 bytes that holds them
+-- the length of a file with room behind lines of this many bytes: the least multiple of 1,048,576 bytes that is greater
 abbrev pub length_with_room : ℕ → ℕ
-length_with_room end = next_multiple_of end 1048576
+length_with_room end = next_multiple_of (end + 1) 1048576

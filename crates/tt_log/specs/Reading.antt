@@ -1,16 +1,14 @@
 -- A log that is being read.
 use Rattle.std.specs.Prelude.{◌≡◌, ℕ, true, List, [], ◌++◌, length, take, drop}
 use Rattle.tt_log.specs.Lines.{text, joined, whole_lines_of}
-use Rattle.tt_log.specs.Device.{Only}
 use Rattle.tt_log.specs.declared.unread_log.UnreadLog.{UnreadLog}
 
 -- the bytes of lines that are still to be read
 abbrev pub unread : {D : Type 0} → (D → List ℕ) → UnreadLog D → List ℕ
 unread seen log = text (drop log.at (seen log.device))
 
--- the file is on the disk, and the log knows how far its bytes have been read and where the last line ends among them
-pub record IsReading {D : Type 0} (seen : D → List ℕ) (may_leave : D → List ℕ → Type 0) (log : UnreadLog D) : Type 0 where
-  pub durable : Only (seen log.device) (may_leave log.device)
+-- the log knows how far the bytes of the file have been read and where the last line ends among them
+pub record IsReading {D : Type 0} (seen : D → List ℕ) (log : UnreadLog D) : Type 0 where
   pub len : log.len ≡ length (seen log.device)
   pub read : text (seen log.device) ≡ take log.at (seen log.device) ++ unread seen log
   pub end : log.end ≡ length (joined (whole_lines_of (take log.at (seen log.device))))

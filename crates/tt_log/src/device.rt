@@ -1,6 +1,6 @@
 //! What a log is kept on.
-ghost use Rattle.std.specs.Prelude.{◌≡◌, ◌⊎◌, ◌↔◌, ◌≤◌, ◌+◌, ◌-◌, ◌++◌, [], List, ℕ, length, take, drop, IfOk, OnOk, OnErr};
-ghost use Rattle.tt_log.specs.Crash.{written_over, MayBeWritten, MayBeLonger};
+ghost use Rattle.std.specs.Prelude.{◌≡◌, ◌⊎◌, ◌↔◌, ◌≤◌, ◌+◌, ◌-◌, ◌++◌, [], List, ℕ, length, take, drop, IfOk, OnOk, OnErr, IsErrOf};
+ghost use Rattle.tt_log.specs.Crash.{written_over, MayBeWritten, MayBeLonger, MayBeCut, IsWritten, IsLonger, IsCut};
 ghost use Rattle.tt_log.specs.Device.{Left, Only, AllAsLong, NothingNew, Follows, Now, NowShowing, Elapses, CountsFailure, ShowsFirst};
 ghost use Rattle.tt_log.specs.Lines.{zeros};
 
@@ -11,8 +11,34 @@ use thiserror::Error;
 #[error("the device has failed")]
 pub struct DeviceError;
 
+/// A new file couldn't be given the name of the file.
+#[derive(Clone, Copy, Debug, PartialEq, Eq, Error)]
+pub enum RenameError {
+    /// The file surely has its name, or another file had it already. The file is as it was.
+    #[error("the new file has no name")]
+    Kept,
+    /// The file has its name, or the new one has it: nobody knows which.
+    #[error("one of two files has the name")]
+    Unknown,
+}
+
+// Where making the new file fails, the file has its name.
+impl From<DeviceError> for RenameError {
+    ghost use Rattle.tt_log.specs.declared.device.RenameError.TheVariants.{Kept};
+
+    ghost from_gives = { λ _ e. e ≡ Kept };
+
+    fn from(_error: DeviceError) -> RenameError {
+        RenameError::Kept
+    }
+}
+
 /// A file, and an output that answers are handed over to, under one clock: a crash leaves the file
 /// as it may be at that moment, and what had been handed over by then.
+///
+/// A sync that fails leaves nobody knowing what is on the disk, and a later one may succeed without
+/// it. So what a sync puts on the disk is said by `once_synced`: after an error nothing is known of
+/// it, and of a file that another process has left nothing is known at first.
 ///
 /// The clauses speak of devices that tell what a crash may leave. A real file can't, and implements
 /// this trait with `tells` never true: of it nothing is proved.
@@ -28,6 +54,9 @@ pub trait Device {
 
     /// The files that a crash at this moment may leave.
     ghost may_leave: { Self → List ℕ → Type 0 };
+
+    /// What a crash might leave after a sync that succeeds now.
+    ghost once_synced: { Self → List ℕ → Type 0 };
 
     /// The bytes of the new file that is being made beside the file.
     ghost new_file: { Self → List ℕ };
@@ -72,6 +101,8 @@ pub trait Device {
         ensures shown { tells self.old → shown self.new ≡ shown self.old }
         ensures crash { tells self.old → Follows (MayBeWritten at bytes.now)
             (may_leave self.old) (may_leave self.new) }
+        ensures synced { tells self.old → OnOk result (Follows (IsWritten at bytes.now)
+            (once_synced self.old) (once_synced self.new)) }
         ensures time { tells self.old → Elapses (moment self.old) (moment self.new)
             (left_since self.old) (left_since self.new)
             (Now (may_leave self.new) (shown self.old)) }
@@ -84,24 +115,44 @@ pub trait Device {
         requires { tells self.old → length (seen self.old) ≤ len }
         ensures tells { tells self.old ↔ tells self.new }
         ensures grown { tells self.old → OnOk result
-            (MayBeLonger len (seen self.old) (seen self.new)) }
+            (IsLonger len (seen self.old) (seen self.new)) }
         ensures len { tells self.old → OnOk result (length (seen self.new) ≡ len) }
         ensures shown { tells self.old → shown self.new ≡ shown self.old }
         ensures crash { tells self.old → Follows (MayBeLonger len)
             (may_leave self.old) (may_leave self.new) }
+        ensures synced { tells self.old → OnOk result (Follows (IsLonger len)
+            (once_synced self.old) (once_synced self.new)) }
         ensures time { tells self.old → Elapses (moment self.old) (moment self.new)
             (left_since self.old) (left_since self.new)
             (Now (may_leave self.new) (shown self.old)) }
         ensures failed { tells self.old
             → CountsFailure (failures self.old) (failures self.new) result };
 
-    /// Puts all bytes of the file on the disk, and its length: after `Ok` a crash leaves what is
-    /// read. So it fails where the file has a new name that isn't on the disk (`rename_new`). After
-    /// an error it may not be called again, since what it has done is unknown.
+    /// Makes the file shorter: it keeps its first bytes, so many. Until the next sync, and after an
+    /// error, a crash may leave any length from the new one on up to the old one.
+    fn cut(&mut self, len: u64) -> Result<(), DeviceError>
+        requires { tells self.old → len ≤ length (seen self.old) }
+        ensures tells { tells self.old ↔ tells self.new }
+        ensures cut { tells self.old → OnOk result (seen self.new ≡ take len (seen self.old)) }
+        ensures shown { tells self.old → shown self.new ≡ shown self.old }
+        ensures crash { tells self.old → Follows (MayBeCut len)
+            (may_leave self.old) (may_leave self.new) }
+        ensures synced { tells self.old → OnOk result (Follows (IsCut len)
+            (once_synced self.old) (once_synced self.new)) }
+        ensures time { tells self.old → Elapses (moment self.old) (moment self.new)
+            (left_since self.old) (left_since self.new)
+            (Now (may_leave self.new) (shown self.old)) }
+        ensures failed { tells self.old
+            → CountsFailure (failures self.old) (failures self.new) result };
+
+    /// Puts the bytes of the file on the disk, and its length, as far as nothing has failed since
+    /// the sync before. It fails where the file has a new name that isn't on the disk
+    /// (`rename_new`). After an error what it has done is unknown, and a later sync that succeeds
+    /// tells nothing of it.
     fn sync(&mut self) -> Result<(), DeviceError>
         ensures tells { tells self.old ↔ tells self.new }
         ensures durable { tells self.old → OnOk result
-            (Only (seen self.old) (may_leave self.new)) }
+            (NothingNew (once_synced self.old) (may_leave self.new)) }
         ensures seen { tells self.old → OnOk result (seen self.new ≡ seen self.old) }
         ensures shown { tells self.old → shown self.new ≡ shown self.old }
         ensures crash { tells self.old → NothingNew (may_leave self.old) (may_leave self.new) }
@@ -127,7 +178,8 @@ pub trait Device {
             → CountsFailure (failures self.old) (failures self.new) result };
 
     /// Makes an empty new file beside the file, to be filled and then put in its place. Fails where
-    /// there is one. Whatever comes of it, the file stays as it is.
+    /// there is one. Whatever comes of it, the file stays as it is. After an error of a call on the
+    /// new file each further one fails, until it is removed and made again.
     fn create_new(&mut self) -> Result<(), DeviceError>
         ensures tells { tells self.old ↔ tells self.new }
         ensures created { tells self.old → OnOk result (new_file self.new ≡ []) }
@@ -191,18 +243,18 @@ pub trait Device {
 
     /// Gives the new file the name of the file, in one step: it is the file that is read and
     /// written from then on, and the old one is let go. Until its folder is synced a crash leaves
-    /// the old file or the new one, and of the new one what it may leave of its bytes. After an
-    /// error the file has its name, and stays as it is.
-    fn rename_new(&mut self) -> Result<(), DeviceError>
+    /// the old file or the new one, and of the new one what it may leave of its bytes.
+    fn rename_new(&mut self) -> Result<(), RenameError>
         ensures tells { tells self.old ↔ tells self.new }
         ensures named { tells self.old → OnOk result (seen self.new ≡ new_file self.old) }
-        ensures either { tells self.old → OnOk result ((c : List ℕ) → may_leave self.new c
-            → may_leave self.old c ⊎ may_leave_new self.old c) }
-        ensures once_synced { tells self.old → OnOk result
+        ensures either { tells self.old → (c : List ℕ) → may_leave self.new c
+            → may_leave self.old c ⊎ may_leave_new self.old c }
+        ensures once_named { tells self.old → OnOk result
             (NothingNew (may_leave_new self.old) (may_leave_named self.new)) }
-        ensures seen { tells self.old → OnErr result (seen self.new ≡ seen self.old) }
-        ensures crash { tells self.old → OnErr result
-            (NothingNew (may_leave self.old) (may_leave self.new)) }
+        ensures seen { tells self.old → IsErrOf result RenameError.Kept
+            → seen self.new ≡ seen self.old }
+        ensures crash { tells self.old → IsErrOf result RenameError.Kept
+            → NothingNew (may_leave self.old) (may_leave self.new) }
         ensures shown { tells self.old → shown self.new ≡ shown self.old }
         ensures time { tells self.old → Elapses (moment self.old) (moment self.new)
             (left_since self.old) (left_since self.new)
@@ -239,6 +291,10 @@ pub trait Device {
     /// This moment is one of those since an earlier one.
     ghost counts_now: { (device : Self) (t : ℕ) (c : Left) → t ≤ moment device
         → Now (may_leave device) (shown device) c → left_since device t c };
+
+    /// A sync leaves nothing that a crash wouldn't leave without it.
+    ghost synced_is_left: { (device : Self) → tells device
+        → NothingNew (may_leave device) (once_synced device) };
 
     /// Since this moment there is no other.
     ghost only_now: { (device : Self) (c : Left) → left_since device (moment device) c

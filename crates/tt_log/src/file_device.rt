@@ -1,18 +1,53 @@
 //! A real file.
 ghost use Rattle.std.specs.Prelude.{◌≡◌, []};
 
-use crate::{Device, DeviceError, FilePlace};
+use crate::{Device, DeviceError, FilePlace, RenameError};
+use std::cell::Cell;
 use std::fs::{File, Files};
 use std::io::Write;
 use std::os::unix::fs::FileExt;
+use std::{io, mem};
 use tt_streams::{MAX_RETRIES, write_text};
+
+/// The new file that is made beside the file.
+#[derive(Drop)]
+enum NewFile {
+    /// There is none.
+    None,
+    /// No call on it has failed.
+    Usable(File),
+    /// A call on it has failed: what it has on the disk is unknown, also after a sync.
+    Failed,
+}
+
+/// Why the last call on a file has failed, if it has.
+#[derive(Drop)]
+struct Reason {
+    error: Cell<Option<io::Error>>,
+}
+
+impl Reason {
+    /// Keeps why a call has failed, or that it hasn't.
+    fn keep<T>(&self, outcome: io::Result<T>) -> Result<T, DeviceError> {
+        match outcome {
+            Ok(value) => {
+                self.error.set(None);
+                Ok(value)
+            }
+            Err(error) => {
+                self.error.set(Some(error));
+                Err(DeviceError)
+            }
+        }
+    }
+}
 
 /// A file of the operating system, and a writer that answers are handed over to.
 ///
 /// It tells nothing: that a file, its kernel and its disk keep what the clauses of [`Device`] say
 /// is trusted, and no proof shows it.
 #[derive(Drop)]
-pub struct FileDevice<'a, F: Files<File = File>, W: Write> {
+pub struct FileDevice<'a, F: Files<File = File> + Eprint, W: Write> {
     files: &'a F,
     /// Where the file is, if a new one may be made beside it.
     place: Option<FilePlace>,
@@ -22,11 +57,16 @@ pub struct FileDevice<'a, F: Files<File = File>, W: Write> {
     /// Whether the name may not be on the disk yet, so that no sync of the file tells what a crash
     /// leaves.
     has_new_name: bool,
-    new_file: Option<File>,
+    new_file: NewFile,
+    reason: Reason,
+    /// Whether a log has begun on the file: a sync has succeeded.
+    is_begun: bool,
+    /// What names the file on standard error, if anything is told there.
+    told_path: Option<&'a str>,
     output: W,
 }
 
-impl<'a, F: Files<File = File>, W: Write> FileDevice<'a, F, W> {
+impl<'a, F: Files<File = File> + Eprint, W: Write> FileDevice<'a, F, W> {
     /// A file that is open for reading and, unless it is only looked at, for writing; then no other
     /// process may write it. A new file is made beside it only where its place is told.
     pub fn new(
@@ -41,13 +81,64 @@ impl<'a, F: Files<File = File>, W: Write> FileDevice<'a, F, W> {
             file,
             has_new_length: true,
             has_new_name: false,
-            new_file: None,
+            new_file: NewFile::None,
+            reason: Reason {
+                error: Cell::new(None),
+            },
+            is_begun: false,
+            told_path: None,
             output,
         }
     }
+
+    /// Tells on standard error, from the beginning of the log on, where a new file can't be made:
+    /// by a line with this path, if one is given, and the system's reason.
+    pub fn telling(self, path: Option<&'a str>) -> FileDevice<'a, F, W> {
+        let mut device = self;
+        device.told_path = path;
+        device
+    }
+
+    /// Why the last call on a file has failed, if it has, and if the system has told it.
+    pub fn error(&self) -> Option<io::Error> {
+        self.reason.error.get()
+    }
 }
 
-impl<'a, F: Files<File = File>, W: Write> Device for FileDevice<'a, F, W> {
+impl<'a, F: Files<File = File> + Eprint, W: Write> FileDevice<'a, F, W> {
+    /// The new file, unless there is none or a call on it has failed.
+    fn usable_new_file(&mut self) -> Result<&mut File, DeviceError> {
+        match &mut self.new_file {
+            NewFile::Usable(new_file) => Ok(new_file),
+            NewFile::None | NewFile::Failed => Err(DeviceError),
+        }
+    }
+
+    /// Keeps the new file after a call on it, which was carried out or has failed.
+    fn keep_new_file(&mut self, outcome: io::Result<()>) -> Result<(), DeviceError> {
+        if self.reason.keep(outcome).is_ok() {
+            return Ok(());
+        }
+        self.new_file = NewFile::Failed;
+        self.tell_refusal();
+        Err(DeviceError)
+    }
+
+    /// Tells that a new file can't be made, with the system's reason, if there is one.
+    fn tell_refusal(&self) {
+        let (true, Some(path)) = (self.is_begun, self.told_path) else {
+            return;
+        };
+        let _ = match self.error() {
+            Some(error) => eprintln!(self.files;
+                "timetravel: cannot make the log anew: {path}: {error}"
+            ),
+            None => eprintln!(self.files; "timetravel: cannot make the log anew: {path}"),
+        };
+    }
+}
+
+impl<'a, F: Files<File = File> + Eprint, W: Write> Device for FileDevice<'a, F, W> {
     ghost tells = { λ d. ⊥ };
 
     ghost seen = { λ d. [] };
@@ -55,6 +146,8 @@ impl<'a, F: Files<File = File>, W: Write> Device for FileDevice<'a, F, W> {
     ghost shown = { λ d. [] };
 
     ghost may_leave = { λ d c. ⊥ };
+
+    ghost once_synced = { λ d c. ⊥ };
 
     ghost new_file = { λ d. [] };
 
@@ -70,35 +163,31 @@ impl<'a, F: Files<File = File>, W: Write> Device for FileDevice<'a, F, W> {
 
     ghost counts_now = { λ d t left le now. absurd now.0 };
 
+    ghost synced_is_left = { λ d told. absurd told };
+
     ghost only_now = { λ d left was. absurd was };
 
     fn length(&self) -> Result<u64, DeviceError> {
-        match self.file.metadata() {
-            Ok(metadata) => Ok(metadata.len()),
-            Err(_) => Err(DeviceError),
-        }
+        let metadata = self.reason.keep(self.file.metadata())?;
+        Ok(metadata.len())
     }
 
     fn read_at(&self, at: u64, buffer: &mut [u8]) -> Result<(), DeviceError> {
-        match self.file.read_exact_at(buffer, at) {
-            Ok(()) => Ok(()),
-            Err(_) => Err(DeviceError),
-        }
+        self.reason.keep(self.file.read_exact_at(buffer, at))
     }
 
     fn write_at(&mut self, at: u64, bytes: &[u8]) -> Result<(), DeviceError> {
-        match self.file.write_all_at(bytes, at) {
-            Ok(()) => Ok(()),
-            Err(_) => Err(DeviceError),
-        }
+        self.reason.keep(self.file.write_all_at(bytes, at))
     }
 
     fn grow(&mut self, len: u64) -> Result<(), DeviceError> {
         self.has_new_length = true;
-        match self.file.set_len(len) {
-            Ok(()) => Ok(()),
-            Err(_) => Err(DeviceError),
-        }
+        self.reason.keep(self.file.set_len(len))
+    }
+
+    fn cut(&mut self, len: u64) -> Result<(), DeviceError> {
+        self.has_new_length = true;
+        self.reason.keep(self.file.set_len(len))
     }
 
     fn sync(&mut self) -> Result<(), DeviceError> {
@@ -110,10 +199,9 @@ impl<'a, F: Files<File = File>, W: Write> Device for FileDevice<'a, F, W> {
         } else {
             self.file.sync_data()
         };
-        if result.is_err() {
-            return Err(DeviceError);
-        }
+        self.reason.keep(result)?;
         self.has_new_length = false;
+        self.is_begun = true;
         Ok(())
     }
 
@@ -129,54 +217,56 @@ impl<'a, F: Files<File = File>, W: Write> Device for FileDevice<'a, F, W> {
         let Some(place) = &self.place else {
             return Err(DeviceError);
         };
-        match place.create_new(self.files, &self.file) {
+        match self.reason.keep(place.create_new(self.files, &self.file)) {
             Ok(new_file) => {
-                self.new_file = Some(new_file);
+                self.new_file = NewFile::Usable(new_file);
                 Ok(())
             }
-            Err(_) => Err(DeviceError),
+            Err(error) => {
+                self.tell_refusal();
+                Err(error)
+            }
         }
     }
 
     fn append_new(&mut self, bytes: &[u8]) -> Result<(), DeviceError> {
-        let Some(new_file) = &mut self.new_file else {
-            return Err(DeviceError);
-        };
-        match new_file.write_all(bytes) {
-            Ok(()) => Ok(()),
-            Err(_) => Err(DeviceError),
-        }
+        let new_file = self.usable_new_file()?;
+        let result = new_file.write_all(bytes);
+        self.keep_new_file(result)
     }
 
     fn grow_new(&mut self, len: u64) -> Result<(), DeviceError> {
-        let Some(new_file) = &self.new_file else {
-            return Err(DeviceError);
-        };
-        match new_file.set_len(len) {
-            Ok(()) => Ok(()),
-            Err(_) => Err(DeviceError),
-        }
+        let result = self.usable_new_file()?.set_len(len);
+        self.keep_new_file(result)
     }
 
     fn sync_new(&mut self) -> Result<(), DeviceError> {
-        let Some(new_file) = &self.new_file else {
-            return Err(DeviceError);
-        };
-        match new_file.sync_all() {
-            Ok(()) => Ok(()),
-            Err(_) => Err(DeviceError),
-        }
+        let result = self.usable_new_file()?.sync_all();
+        self.keep_new_file(result)
     }
 
-    fn rename_new(&mut self) -> Result<(), DeviceError> {
-        let (Some(place), Some(new_file)) = (&self.place, self.new_file.take()) else {
-            return Err(DeviceError);
+    fn rename_new(&mut self) -> Result<(), RenameError> {
+        let Some(place) = &self.place else {
+            return Err(RenameError::Kept);
         };
-        if place.rename_new(self.files).is_err() {
-            self.new_file = Some(new_file);
-            return Err(DeviceError);
+        let Ok(true) = self.reason.keep(place.is_of(self.files, &self.file)) else {
+            self.tell_refusal();
+            return Err(RenameError::Kept);
+        };
+        let NewFile::Usable(new_file) = mem::replace(&mut self.new_file, NewFile::Failed) else {
+            return Err(RenameError::Kept);
+        };
+        if self.reason.keep(place.rename_new(self.files)).is_err() {
+            return match place.is_surely_of(self.files, &self.file) {
+                true => {
+                    self.tell_refusal();
+                    Err(RenameError::Kept)
+                }
+                false => Err(RenameError::Unknown),
+            };
         }
         self.file = new_file;
+        self.new_file = NewFile::None;
         self.has_new_length = false;
         self.has_new_name = true;
         Ok(())
@@ -186,17 +276,20 @@ impl<'a, F: Files<File = File>, W: Write> Device for FileDevice<'a, F, W> {
         let Some(place) = &self.place else {
             return Err(DeviceError);
         };
-        if place.sync_folder(self.files).is_err() {
-            return Err(DeviceError);
-        }
+        self.reason.keep(place.sync_folder(self.files))?;
         self.has_new_name = false;
+        self.is_begun = true;
         Ok(())
     }
 
     fn remove_new(&mut self) {
-        let (Some(place), Some(_)) = (&self.place, self.new_file.take()) else {
+        let is_none = matches!(&self.new_file, NewFile::None);
+        self.new_file = NewFile::None;
+        if is_none {
             return;
-        };
-        let _ = place.remove_new(self.files);
+        }
+        if let Some(place) = &self.place {
+            let _ = place.remove_new(self.files);
+        }
     }
 }

@@ -31,6 +31,14 @@ impl FilePlace {
         Ok(there.dev() == opened.dev() && there.ino() == opened.ino())
     }
 
+    /// Whether the name is surely that of an open file: not where that can't be told.
+    pub(crate) fn is_surely_of(&self, files: &impl Files<File = File>, file: &File) -> bool {
+        match self.is_of(files, file) {
+            Ok(is_of) => is_of,
+            Err(_) => false,
+        }
+    }
+
     /// Puts the names of its folder on the disk. The error is that of the system: the names may
     /// then be on the disk or not.
     pub fn sync_folder(&self, files: &impl Files<File = File>) -> io::Result<()> {

@@ -3,15 +3,14 @@ ghost use Rattle.std.specs.Prelude.{◌≡◌, ◌≢◌, ◌↔◌, ◌⊎◌, 
 ghost use Rattle.tt_log.specs.Lines.{logged, joined, IsJoined};
 ghost use Rattle.tt_log.specs.Device.{Only, LeavesOnly, ShowsFirst};
 
+use crate::closing::end_file;
+use crate::placing::{ROOM_UNIT, put_in_place};
 use crate::{Device, DeviceError, Lines, LogError, RenewError};
 
-/// The length of a file is a multiple of this, so that writing lines seldom changes it.
-const ROOM_UNIT: u64 = 1 << 20;
-
 /// A log is shorter than this.
-const MAX_LEN: u64 = 1 << 60;
+pub(crate) const MAX_LEN: u64 = 1 << 60;
 
-/// A log in the file of a device: lines that are on the disk, then bytes 0.
+/// A log in the file of a device: lines that are on the disk, then bytes 0, at least one.
 #[derive(Drop)]
 pub struct Log<D> {
     device: D,
@@ -21,16 +20,16 @@ pub struct Log<D> {
     len: u64,
     /// How many bytes were written into the new file, if one is being made.
     new_end: u64,
-    ghost within: { end ≤ len },
+    ghost within: { end < len },
     ghost new_within: { new_end < 2 ^ 60 },
 }
 
 impl<D: Device> Log<D> {
-    ghost use Rattle.tt_log.specs.Log.{IsAtRest, IsSettled, IsMaking, length_with_room, Keeps, KeepsFirst, KeepsAnswered, KeepsEither};
+    ghost use Rattle.tt_log.specs.Log.{IsSettled, IsMaking, length_with_room, Keeps, KeepsFirst, KeepsAnswered, KeepsEither};
 
     /// A log whose lines end here in a file of this length, with bytes 0 behind them.
     pub(crate) fn new(device: D, end: u64, len: u64) -> Log<D>
-        requires { end ≤ len }
+        requires { end < len }
         ensures device { result.device ≡ device }
         ensures end { result.end ≡ end }
         ensures len { result.len ≡ len }
@@ -48,6 +47,44 @@ impl<D: Device> Log<D> {
         ensures { result.now ≡ self.now.device }
     {
         &self.device
+    }
+
+    /// Ends the log: cuts the file behind its last line, and syncs that. After `Ok` the file is its
+    /// lines and nothing else, and a crash leaves it so: the next process on it knows by this that
+    /// all was written well. After an error a crash leaves the same lines. Gives back what the log
+    /// is kept on.
+    pub fn close(self) -> Result<D, (DeviceError, D)>
+        requires { D.tells self.device → IsSettled D.seen D.may_leave self }
+        ensures tells { IfOk result (λ device. D.tells self.device ↔ D.tells device) }
+        ensures lines { IfOk result (λ device. D.tells self.device
+            → IsJoined (D.seen device)) }
+        ensures logged { IfOk result (λ device. D.tells self.device
+            → logged (D.seen device) ≡ logged (D.seen self.device)) }
+        ensures durable { IfOk result (λ device. D.tells self.device
+            → Only (D.seen device) (D.may_leave device)) }
+        ensures shown { IfOk result (λ device. D.tells self.device
+            → D.shown device ≡ D.shown self.device) }
+        ensures shown_err { IfErr result (λ e. D.tells self.device
+            → D.shown e.1 ≡ D.shown self.device) }
+
+        // A crash at any moment of the call leaves the lines that the log has.
+        ensures any_moment { IfOk result (λ device. D.tells self.device
+            → LeavesOnly D.moment D.left_since self.device device
+            (Keeps (logged (D.seen self.device)) (D.shown self.device))) }
+        ensures any_moment_err { IfErr result (λ e. D.tells self.device
+            → LeavesOnly D.moment D.left_since self.device e.1
+            (Keeps (logged (D.seen self.device)) (D.shown self.device))) }
+
+        ensures failures { IfOk result (λ device. D.tells self.device
+            → D.failures self.device ≤ D.failures device) }
+        ensures failed { IfErr result (λ e. D.tells self.device
+            → D.failures self.device < D.failures e.1) }
+    {
+        let mut device = self.device;
+        match end_file(&mut device, self.end) {
+            Ok(()) => Ok(device),
+            Err(error) => Err((error, device)),
+        }
     }
 
     /// Gives back what the log is kept on.
@@ -255,14 +292,9 @@ impl<D: Device> Log<D> {
         ensures failed { D.tells self.old.device → OnErr result
             (D.failures self.old.device < D.failures self.new.device) }
     {
-        let Ok(new_len) = self.name_new() else {
-            return Err(RenewError::Kept);
-        };
-        let Ok(()) = self.device.sync_folder() else {
-            return Err(RenewError::Lost);
-        };
+        let len = put_in_place(&mut self.device, self.new_end)?;
         self.end = self.new_end;
-        self.len = new_len;
+        self.len = len;
         Ok(())
     }
 
@@ -287,60 +319,12 @@ impl<D: Device> Log<D> {
         self.device.remove_new();
     }
 
-    /// Makes the new file longer by bytes 0, syncs it, and gives it the name of the old one.
-    /// Returns its length. After an error the old one has its name, and is as it was.
-    fn name_new(&mut self) -> Result<u64, DeviceError>
-        requires settled { D.tells self.old.device → IsSettled D.seen D.may_leave self.old }
-        requires making { D.tells self.old.device → IsMaking D.new_file self.old }
-        requires lines { D.tells self.old.device → IsJoined (D.new_file self.old.device) }
-        ensures tells { D.tells self.old.device ↔ D.tells self.new.device }
-        ensures new_end { self.new.new_end ≡ self.old.new_end }
-        ensures within { IfOk result (λ len. self.new.new_end ≤ len) }
-        ensures room { IfOk result (λ len. len ≡ length_with_room self.new.new_end) }
-        ensures len { D.tells self.old.device → IfOk result (λ len.
-            len ≡ length (D.seen self.new.device)) }
-        ensures at_rest { D.tells self.old.device → OnOk result
-            (IsAtRest (D.seen self.new.device)) }
-        ensures logged { D.tells self.old.device → OnOk result
-            (logged (D.seen self.new.device) ≡ logged (D.new_file self.old.device)) }
-        ensures once_synced { D.tells self.old.device → OnOk result
-            (Only (D.seen self.new.device) (D.may_leave_named self.new.device)) }
-        ensures shown { D.tells self.old.device
-            → D.shown self.new.device ≡ D.shown self.old.device }
-
-        // A crash after the call, or at any moment of it, leaves the old lines or the new ones.
-        ensures crash { D.tells self.old.device → OnOk result ((c : List ℕ)
-            → D.may_leave self.new.device c → (logged c ≡ logged (D.seen self.old.device))
-            ⊎ (logged c ≡ logged (D.new_file self.old.device))) }
-        ensures any_moment { D.tells self.old.device → LeavesOnly D.moment D.left_since
-            self.old.device self.new.device (KeepsEither (logged (D.seen self.old.device))
-            (logged (D.new_file self.old.device)) (D.shown self.old.device)) }
-
-        ensures kept_settled { D.tells self.old.device → OnErr result
-            (IsSettled D.seen D.may_leave self.new) }
-        ensures kept_seen { D.tells self.old.device → OnErr result
-            (D.seen self.new.device ≡ D.seen self.old.device) }
-        ensures kept_any_moment { D.tells self.old.device → OnErr result
-            (LeavesOnly D.moment D.left_since self.old.device self.new.device
-            (Keeps (logged (D.seen self.old.device)) (D.shown self.old.device))) }
-        ensures failures { D.tells self.old.device
-            → D.failures self.old.device ≤ D.failures self.new.device }
-        ensures failed { D.tells self.old.device → OnErr result
-            (D.failures self.old.device < D.failures self.new.device) }
-    {
-        let len = self.new_end.next_multiple_of(ROOM_UNIT);
-        self.device.grow_new(len)?;
-        self.device.sync_new()?;
-        self.device.rename_new()?;
-        Ok(len)
-    }
-
-    /// Makes the file longer where it has no room for this many further bytes. Returns where they
-    /// are to end.
+    /// Makes the file longer where it has no room for this many further bytes and a byte 0 behind
+    /// them. Returns where they are to end.
     fn make_room(&mut self, count: u64) -> Result<u64, LogError>
         requires { D.tells self.old.device → IsSettled D.seen D.may_leave self.old }
         ensures end { IfOk result (λ end. end ≡ self.new.end + count) }
-        ensures within { OnOk result (self.new.end + count ≤ self.new.len) }
+        ensures within { OnOk result (self.new.end + count < self.new.len) }
         ensures room { OnOk result ((self.new.len ≡ self.old.len)
             ⊎ (self.new.len ≡ length_with_room (self.new.end + count))) }
         ensures tells { D.tells self.old.device ↔ D.tells self.new.device }
@@ -361,14 +345,14 @@ impl<D: Device> Log<D> {
         ensures no_read { IsErrOf result LogError.Read → ⊥ }
         ensures no_hand_over { IsErrOf result LogError.HandOver → ⊥ }
     {
-        if count <= self.len - self.end {
+        if count < self.len - self.end {
             return Ok(self.end + count);
         }
         if self.end >= MAX_LEN || count >= MAX_LEN - self.end {
             return Err(LogError::Full);
         }
         let end = self.end + count;
-        let len = end.next_multiple_of(ROOM_UNIT);
+        let len = (end + 1).next_multiple_of(ROOM_UNIT);
         self.device.grow(len)?;
         self.device.sync()?;
         self.len = len;

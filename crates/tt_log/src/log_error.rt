@@ -5,7 +5,7 @@ use thiserror::Error;
 /// opened anew: a crash may leave what the call says, and nothing else.
 #[derive(Clone, Copy, Debug, PartialEq, Eq, Error)]
 pub enum LogError {
-    /// The file can't be read, or its length can't be told.
+    /// The file can't be read, or its length can't be told, or is 2^60 bytes or more.
     #[error("cannot read the log")]
     Read,
     /// The file can't be written, made longer or synced.
@@ -37,8 +37,9 @@ pub enum RenewError {
     /// as it was.
     #[error("cannot make the log anew")]
     Kept,
-    /// The new file has the name of the old one, but its folder can't be synced: a crash leaves the
-    /// old lines or the new ones. The log is not to be used any more.
+    /// The new file has the name of the old one, but its folder can't be synced; or nobody knows
+    /// which of them has it. A crash leaves the old lines or the new ones. The log is not to be used
+    /// any more.
     #[error("cannot keep the log that was made anew")]
     Lost,
 }

@@ -1,5 +1,5 @@
 //! Looking at a log, without writing to it.
-ghost use Rattle.std.specs.Prelude.{◌≡◌, ◌⊎◌, ◌↔◌, ◌+◌, ◌^◌, ◌<◌, ◌≤◌, ◌++◌, length, take, IfOk, IfErr, OnOk, IsErrOf};
+ghost use Rattle.std.specs.Prelude.{◌≡◌, ◌≢◌, ◌⊎◌, ◌↔◌, ◌+◌, ◌^◌, ◌<◌, ◌≤◌, ◌++◌, [], length, take, false, IfOk, IfErr, IsTrue, OnOk, IsErrOf};
 ghost use Rattle.tt_log.specs.Device.{NothingNew};
 ghost use Rattle.tt_log.specs.Lines.{logged, joined, whole_lines_of};
 ghost use Rattle.tt_log.specs.Show.{IsSummaryOf};
@@ -47,6 +47,38 @@ pub fn show_log<D: Device>(device: &mut D, buffer: &mut [u8]) -> Result<LogSumma
         bytes,
         is_torn: !is_clear,
     })
+}
+
+/// Whether a log has a line. Its file is read up to its first line feed or its first byte 0, and
+/// stays as it is. The buffer is used on the way. It is `Read` if the file can't be read.
+pub fn has_lines<D: Device>(device: &D, buffer: &mut [u8]) -> Result<bool, LogError>
+    requires some { 0 < length buffer.old }
+    ensures some { D.tells device.now → IfOk result (λ b. IsTrue b
+        → logged (D.seen device.now) ≢ []) }
+    ensures none { D.tells device.now → IfOk result (λ b. b ≡ false
+        → logged (D.seen device.now) ≡ []) }
+    ensures read { IfErr result (λ e. e ≡ LogError.Read) }
+{
+    let Ok(len) = device.length() else {
+        return Err(LogError::Read);
+    };
+    let mut at = 0;
+    while at < len {
+        let count = piece_len(buffer.len(), len - at);
+        let piece = &mut buffer[..count];
+        let Ok(()) = device.read_at(at, piece) else {
+            return Err(LogError::Read);
+        };
+        let extent = extent_of(piece);
+        if extent.end > 0 {
+            return Ok(true);
+        }
+        if extent.taken < count {
+            return Ok(false);
+        }
+        at += count as u64;
+    }
+    Ok(false)
 }
 
 /// Where the last line of a file ends. The file has this length.

@@ -1,9 +1,11 @@
 //! A log whose lines are still to be read.
-ghost use Rattle.std.specs.Prelude.{◌≡◌, ◌⊎◌, ◌↔◌, ◌+◌, ◌<◌, ◌≤◌, ◌++◌, [], true, false, length, take, IfOk, IfErr};
+ghost use Rattle.std.specs.Prelude.{◌≡◌, ◌⊎◌, ◌↔◌, ◌+◌, ◌<◌, ◌≤◌, ◌^◌, ◌++◌, [], true, false, length, take, IfOk, IfErr};
 ghost use Rattle.tt_log.specs.Lines.{text, logged, joined, whole_lines_of, end_behind};
 ghost use Rattle.tt_log.specs.Device.{LeavesOnly};
 
-use crate::rest::{clear_rest, piece_len};
+use crate::log::MAX_LEN;
+use crate::rest::piece_len;
+use crate::starting::{add_room, make_anew};
 use crate::{Device, DeviceError, Log, LogError};
 
 /// A log as its last writer, or a crash, has left it: its lines are read, piece by piece, before
@@ -20,59 +22,33 @@ pub struct UnreadLog<D> {
     /// Whether no further byte is one of a line.
     is_at_end: bool,
     ghost within: { at ≤ len },
+    ghost few: { len < 2 ^ 60 },
     ghost ended: { end ≤ at },
 }
 
 impl<D: Device> UnreadLog<D> {
-    ghost use Rattle.tt_log.specs.Log.{IsSettled, Keeps, KeepsOnceSynced};
+    ghost use Rattle.tt_log.specs.Log.{IsSettled, IsAsLeft, KeepsOnceSynced};
     ghost use Rattle.tt_log.specs.Reading.{unread, IsReading};
 
-    /// Opens a log. Its file is synced first: what a process has written that was killed may be
-    /// read and not be on the disk. It is `Write` if that fails, and `Read` if the length can't be
-    /// told; either gives the device back.
+    /// Opens a log, whose lines are to be read, and leaves its file as it is. It is `Read` if the
+    /// length can't be told, or is 2^60 bytes or more; that gives the device back.
     pub fn open(device: D) -> Result<UnreadLog<D>, (LogError, D)>
-        ensures tells { IfOk result (λ log. D.tells device ↔ D.tells log.device) }
-        ensures reading { IfOk result (λ log. D.tells device
-            → IsReading D.seen D.may_leave log) }
+        ensures device { IfOk result (λ log. log.device ≡ device) }
+        ensures reading { IfOk result (λ log. D.tells device → IsReading D.seen log) }
         ensures unread { IfOk result (λ log. D.tells device
             → unread D.seen log ≡ text (D.seen device)) }
-        ensures seen { IfOk result (λ log. D.tells device
-            → D.seen log.device ≡ D.seen device) }
-        ensures shown { IfOk result (λ log. D.tells device
-            → D.shown log.device ≡ D.shown device) }
-
-        // A crash at any moment leaves what it might have left before or, once the file is synced,
-        // the lines that are to be read.
-        ensures any_moment { IfOk result (λ log. D.tells device
-            → LeavesOnly D.moment D.left_since device log.device (KeepsOnceSynced
-            (D.may_leave device) (logged (D.seen device)) (D.shown device))) }
-        ensures any_moment_err { IfErr result (λ e. D.tells device
-            → LeavesOnly D.moment D.left_since device e.1 (KeepsOnceSynced (D.may_leave device)
-            (logged (D.seen device)) (D.shown device))) }
-        ensures shown_err { IfErr result (λ e. D.tells device → D.shown e.1 ≡ D.shown device) }
-        ensures seen_err { IfErr result (λ e. D.tells device → e.0 ≡ LogError.Read
-            → D.seen e.1 ≡ D.seen device) }
-        ensures failures { IfOk result (λ log. D.tells device
-            → D.failures device ≤ D.failures log.device) }
-        ensures write { IfErr result (λ e. D.tells device → e.0 ≡ LogError.Write
-            → D.failures device < D.failures e.1) }
-        ensures no_full { IfErr result (λ e. e.0 ≡ LogError.Full → ⊥) }
-        ensures no_hand_over { IfErr result (λ e. e.0 ≡ LogError.HandOver → ⊥) }
+        ensures err { IfErr result (λ e. (e.0 ≡ LogError.Read) × (e.1 ≡ device)) }
     {
-        let mut device = device;
-        if device.sync().is_err() {
-            return Err((LogError::Write, device));
+        match device.length() {
+            Ok(len) if len < MAX_LEN => Ok(UnreadLog {
+                device,
+                len,
+                at: 0,
+                end: 0,
+                is_at_end: false,
+            }),
+            _ => Err((LogError::Read, device)),
         }
-        let Ok(len) = device.length() else {
-            return Err((LogError::Read, device));
-        };
-        Ok(UnreadLog {
-            device,
-            len,
-            at: 0,
-            end: 0,
-            is_at_end: false,
-        })
     }
 
     /// What the log is kept on.
@@ -93,8 +69,8 @@ impl<D: Device> UnreadLog<D> {
     /// many: none behind the last one. The bytes behind the last line feed are told, too, and count
     /// for nothing. After an error the log is as before.
     pub fn read(&mut self, buffer: &mut [u8]) -> Result<usize, DeviceError>
-        requires reading { D.tells self.old.device → IsReading D.seen D.may_leave self.old }
-        ensures reading { D.tells self.old.device → IsReading D.seen D.may_leave self.new }
+        requires reading { D.tells self.old.device → IsReading D.seen self.old }
+        ensures reading { D.tells self.old.device → IsReading D.seen self.new }
         ensures device { self.new.device ≡ self.old.device }
         ensures within { IfOk result (λ n. n ≤ length buffer.new) }
         ensures bytes { D.tells self.old.device → IfOk result (λ n.
@@ -146,14 +122,20 @@ impl<D: Device> UnreadLog<D> {
         taken
     }
 
-    /// Ends the reading: what stands behind the last line is overwritten by bytes 0, if there are
-    /// others. It is `Read` if these can't be read, with the file as it was, and `Write` if they
-    /// can't be overwritten; either gives the device back, and a crash leaves the same lines. The
-    /// buffer is used on the way.
+    /// Ends the reading: makes the log that goes on with the lines that were read, all of them on
+    /// the disk. A file that is its lines and nothing else was ended well: it is made longer by
+    /// room for further lines, and synced. Any other file isn't trusted, since a part of it may
+    /// never have reached the disk: a new file with the same lines takes its place.
+    ///
+    /// It is `Read` if the lines can't be read once more, with the file as it was, and `Write` if
+    /// the file can't be made longer or made anew; either gives the device back, and a crash leaves
+    /// what it might have left before, or the same lines. The buffer is used on the way.
     pub fn settle(self, buffer: &mut [u8]) -> Result<Log<D>, (LogError, D)>
         requires some { 0 < length buffer.old }
-        requires reading { D.tells self.device → IsReading D.seen D.may_leave self }
+        requires reading { D.tells self.device → IsReading D.seen self }
         requires read { D.tells self.device → unread D.seen self ≡ [] }
+        requires left { D.tells self.device
+            → IsAsLeft (D.seen self.device) (D.once_synced self.device) }
         ensures tells { IfOk result (λ log. D.tells self.device ↔ D.tells log.device) }
         ensures settled { IfOk result (λ log. D.tells self.device
             → IsSettled D.seen D.may_leave log) }
@@ -162,23 +144,24 @@ impl<D: Device> UnreadLog<D> {
         ensures shown { IfOk result (λ log. D.tells self.device
             → D.shown log.device ≡ D.shown self.device) }
 
-        // A crash at any moment leaves the same lines.
+        // A crash at any moment leaves lines that it might have left before, or the same lines.
         ensures any_moment { IfOk result (λ log. D.tells self.device
             → LeavesOnly D.moment D.left_since self.device log.device
-            (Keeps (logged (D.seen self.device)) (D.shown self.device))) }
+            (KeepsOnceSynced (D.may_leave self.device) (logged (D.seen self.device))
+            (D.shown self.device))) }
         ensures any_moment_err { IfErr result (λ e. D.tells self.device
             → LeavesOnly D.moment D.left_since self.device e.1
-            (Keeps (logged (D.seen self.device)) (D.shown self.device))) }
+            (KeepsOnceSynced (D.may_leave self.device) (logged (D.seen self.device))
+            (D.shown self.device))) }
         ensures shown_err { IfErr result (λ e. D.tells self.device
             → D.shown e.1 ≡ D.shown self.device) }
         ensures seen_err { IfErr result (λ e. D.tells self.device → e.0 ≡ LogError.Read
             → D.seen e.1 ≡ D.seen self.device) }
         ensures failures { IfOk result (λ log. D.tells self.device
             → D.failures self.device ≤ D.failures log.device) }
+        ensures err { IfErr result (λ e. (e.0 ≡ LogError.Read) ⊎ (e.0 ≡ LogError.Write)) }
         ensures write { IfErr result (λ e. D.tells self.device → e.0 ≡ LogError.Write
             → D.failures self.device < D.failures e.1) }
-        ensures no_full { IfErr result (λ e. e.0 ≡ LogError.Full → ⊥) }
-        ensures no_hand_over { IfErr result (λ e. e.0 ≡ LogError.HandOver → ⊥) }
     {
         let UnreadLog {
             device,
@@ -188,8 +171,13 @@ impl<D: Device> UnreadLog<D> {
             is_at_end: _,
         } = self;
         let mut device = device;
-        match clear_rest(&mut device, end, len, buffer) {
-            Ok(()) => Ok(Log::new(device, end, len)),
+        let settled = if end == len {
+            add_room(&mut device, end)
+        } else {
+            make_anew(&mut device, end, buffer)
+        };
+        match settled {
+            Ok(len) => Ok(Log::new(device, end, len)),
             Err(error) => Err((error, device)),
         }
     }

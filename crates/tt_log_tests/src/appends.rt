@@ -37,18 +37,18 @@ fn was_called(rt: &impl Abort, disk: &Disk, writes: usize, grows: usize, syncs: 
     same(rt, &disk.syncs, &syncs);
 }
 
-/// A file is made longer where there is no room, with one sync more, and has a length of whole MiB.
+/// A file has room from its start on, and a length of whole MiB. Each step is one write and one sync.
 #[test]
-fn a_file_is_made_longer(rt: HostRuntime) {
+fn a_file_has_room(rt: HostRuntime) {
     let alloc = rt.alloc();
     let mut log = log_of(&rt, alloc, "", 0);
-    was_called(&rt, log.device(), 0, 0, 1);
+    was_called(&rt, log.device(), 0, 1, 1);
+    same(&rt, &log.device().latest.len(), &ROOM_UNIT);
     let lines = lines_of(&rt, alloc, &["one"]);
     assert!(rt; log.append(&lines).is_ok());
-    was_called(&rt, log.device(), 1, 1, 3);
-    same(&rt, &log.device().latest.len(), &ROOM_UNIT);
+    was_called(&rt, log.device(), 1, 1, 2);
     assert!(rt; log.append(&lines).is_ok());
-    was_called(&rt, log.device(), 2, 1, 4);
+    was_called(&rt, log.device(), 2, 1, 3);
     same(&rt, &log.device().latest.len(), &ROOM_UNIT);
 }
 
@@ -66,32 +66,19 @@ fn grows_to(rt: &impl Abort, alloc: Global, log: &mut Log<Disk>, byte_len: usize
     same(rt, &log.device().latest.len(), &len);
 }
 
-/// A file that is just full isn't made longer, and is by the next line, as far as this needs.
+/// A file keeps a byte 0 behind its lines: one that they would fill is made longer, as far as they
+/// need.
 #[test]
-fn a_file_is_just_full(rt: HostRuntime) {
+fn a_file_is_never_full(rt: HostRuntime) {
     let alloc = rt.alloc();
     let mut log = log_of(&rt, alloc, "", 0);
-    grows_to(&rt, alloc, &mut log, ROOM_UNIT, ROOM_UNIT);
+    grows_to(&rt, alloc, &mut log, ROOM_UNIT - 1, ROOM_UNIT);
     grows_to(&rt, alloc, &mut log, 1, 2 * ROOM_UNIT);
     grows_to(&rt, alloc, &mut log, ROOM_UNIT - 1, 2 * ROOM_UNIT);
     grows_to(&rt, alloc, &mut log, ROOM_UNIT + 1, 4 * ROOM_UNIT);
-    same(&rt, &log.device().grows, &3);
+    was_called(&rt, log.device(), 4, 3, 7);
     let (bytes, _) = started(&rt, alloc, log.into_device(), 4_096);
-    same(&rt, &bytes.len(), &(3 * ROOM_UNIT + 1));
-}
-
-/// The length of a file that has room may be any.
-#[test]
-fn a_file_has_room(rt: HostRuntime) {
-    let alloc = rt.alloc();
-    let mut log = log_of(&rt, alloc, "one\n", 4);
-    let lines = lines_of(&rt, alloc, &["two"]);
-    assert!(rt; log.append(&lines).is_ok());
-    was_called(&rt, log.device(), 1, 0, 2);
-    same(&rt, &log.device().latest.len(), &8);
-    assert!(rt; log.append(&lines).is_ok());
-    was_called(&rt, log.device(), 2, 1, 4);
-    same(&rt, &log.device().latest.len(), &ROOM_UNIT);
+    same(&rt, &bytes.len(), &(3 * ROOM_UNIT));
 }
 
 /// Where there are no lines, nothing is done, and answers are handed over without a sync.
@@ -104,7 +91,7 @@ fn no_lines(rt: HostRuntime) {
     assert!(rt; log.append(&none).is_ok());
     same(&rt, &log.device().calls, &calls);
     assert!(rt; log.hand_over(&none, b"answer").is_ok());
-    was_called(&rt, log.device(), 0, 0, 1);
+    was_called(&rt, log.device(), 0, 1, 1);
     assert!(rt; log.device().shown.as_slice() == b"answer".as_slice());
     holds(&rt, alloc, log.into_device(), "one\n");
 }
@@ -119,6 +106,6 @@ fn answers_are_handed_over(rt: HostRuntime) {
     assert!(rt; log.hand_over(&lines, b"").is_ok());
     assert!(rt; log.hand_over(&lines, b"3\n").is_ok());
     assert!(rt; log.device().shown.as_slice() == b"2\n3\n".as_slice());
-    was_called(&rt, log.device(), 3, 0, 4);
+    was_called(&rt, log.device(), 3, 0, 3);
     holds(&rt, alloc, log.into_device(), "one\ntwo\ntwo\ntwo\n");
 }

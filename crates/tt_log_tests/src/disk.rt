@@ -4,7 +4,7 @@ ghost use Rattle.std.specs.Prelude.{◌≡◌, []};
 use std::alloc::Global;
 use std::mem;
 use std::process::Abort;
-use tt_log::{Device, DeviceError};
+use tt_log::{Device, DeviceError, RenameError};
 
 /// Which of its calls fail, counted from 0. Reads aren't counted.
 #[derive(Clone, Copy)]
@@ -22,7 +22,8 @@ struct Unnamed {
     written: usize,
 }
 
-/// A file whose latest bytes are on the disk after a sync. A call that fails is done by half.
+/// A file whose latest bytes are on the disk after a sync, unless one has failed: then the next ones
+/// succeed, and put nothing on the disk. A call that fails is done by half.
 #[derive(Drop)]
 pub(crate) struct Disk {
     alloc: Global,
@@ -30,10 +31,14 @@ pub(crate) struct Disk {
     pub(crate) latest: Vec<u8>,
     pub(crate) shown: Vec<u8>,
     pub(crate) failing: Failing,
+    /// Whether nobody knows after a naming that fails which file has the name.
+    pub(crate) is_unsure: bool,
     /// Reads behind this place fail. Where it is 0, the length can't be told.
     pub(crate) readable: usize,
     /// Where the last write ended, of those that went furthest.
     written: usize,
+    /// Whether a sync of the file has failed.
+    is_forgetful: bool,
     /// The new file that is being made.
     new_file: Option<Unnamed>,
     /// The file that has the name on the disk, where that isn't this one.
@@ -41,7 +46,9 @@ pub(crate) struct Disk {
     pub(crate) calls: usize,
     pub(crate) writes: usize,
     pub(crate) grows: usize,
+    pub(crate) cuts: usize,
     pub(crate) syncs: usize,
+    pub(crate) renames: usize,
 }
 
 impl Disk {
@@ -53,14 +60,18 @@ impl Disk {
             latest: bytes.to_vec(alloc).expect(rt, "memory"),
             shown: Vec::new(alloc),
             failing: Failing::Never,
+            is_unsure: false,
             readable: usize::MAX,
             written: 0,
+            is_forgetful: false,
             new_file: None,
             old_file: None,
             calls: 0,
             writes: 0,
             grows: 0,
+            cuts: 0,
             syncs: 0,
+            renames: 0,
         }
     }
 
@@ -104,6 +115,21 @@ impl Disk {
         Some(Disk::new(rt, alloc, bytes.as_slice()))
     }
 
+    /// Gives a file the name, which isn't on the disk then.
+    fn place(&mut self, file: Unnamed) {
+        let Unnamed {
+            synced,
+            latest,
+            written,
+        } = file;
+        self.old_file = Some(Unnamed {
+            synced: mem::replace(&mut self.synced, synced),
+            latest: mem::replace(&mut self.latest, latest),
+            written: mem::replace(&mut self.written, written),
+        });
+        self.is_forgetful = false;
+    }
+
     fn fails(&mut self) -> bool {
         let call = self.calls;
         self.calls = call.saturating_add(1);
@@ -124,8 +150,15 @@ fn torn(
     choices: &[bool],
     len: usize,
 ) -> Vec<u8> {
-    let len = len.max(synced.len()).min(latest.len());
-    let mut file = latest[..len].to_vec(alloc).expect(rt, "memory");
+    let longer = if synced.len() < latest.len() {
+        latest
+    } else {
+        synced
+    };
+    let mut file = longer.to_vec(alloc).expect(rt, "memory");
+    file.truncate(len.max(synced.len().min(latest.len())));
+    let kept = file.len().min(latest.len());
+    file[..kept].copy_from_slice(&latest[..kept]);
     let mut choices = choices.iter();
     for (i, byte) in file.iter_mut().enumerate().take(written) {
         let old = synced.get(i).copied().unwrap_or(0);
@@ -145,6 +178,8 @@ impl Device for Disk {
 
     ghost may_leave = { λ d c. ⊥ };
 
+    ghost once_synced = { λ d c. ⊥ };
+
     ghost new_file = { λ d. [] };
 
     ghost may_leave_new = { λ d c. ⊥ };
@@ -158,6 +193,8 @@ impl Device for Disk {
     ghost failures = { λ d. 0 };
 
     ghost counts_now = { λ d t left le now. absurd now.0 };
+
+    ghost synced_is_left = { λ d told. absurd told };
 
     ghost only_now = { λ d left was. absurd was };
 
@@ -209,10 +246,27 @@ impl Device for Disk {
         if fails { Err(DeviceError) } else { Ok(()) }
     }
 
+    fn cut(&mut self, len: u64) -> Result<(), DeviceError> {
+        self.cuts = self.cuts.saturating_add(1);
+        let fails = self.fails();
+        let less = self.latest.len().saturating_sub(len as usize);
+        let done = if fails { less / 2 } else { less };
+        let len = self.latest.len().saturating_sub(done);
+        self.latest.truncate(len);
+        if fails { Err(DeviceError) } else { Ok(()) }
+    }
+
     fn sync(&mut self) -> Result<(), DeviceError> {
         self.syncs = self.syncs.saturating_add(1);
-        if self.fails() || self.old_file.is_some() {
+        if self.fails() {
+            self.is_forgetful = true;
             return Err(DeviceError);
+        }
+        if self.old_file.is_some() {
+            return Err(DeviceError);
+        }
+        if self.is_forgetful {
+            return Ok(());
         }
         self.synced.clear();
         match self.synced.extend_from_slice(&self.latest) {
@@ -284,24 +338,21 @@ impl Device for Disk {
         if fails { Err(DeviceError) } else { Ok(()) }
     }
 
-    fn rename_new(&mut self) -> Result<(), DeviceError> {
-        if self.fails() || self.old_file.is_some() {
-            return Err(DeviceError);
+    fn rename_new(&mut self) -> Result<(), RenameError> {
+        let fails = self.fails();
+        if self.old_file.is_some() || fails && !self.is_unsure {
+            return Err(RenameError::Kept);
         }
         let Some(file) = self.new_file.take() else {
-            return Err(DeviceError);
+            return Err(RenameError::Kept);
         };
-        let Unnamed {
-            synced,
-            latest,
-            written,
-        } = file;
-        self.old_file = Some(Unnamed {
-            synced: mem::replace(&mut self.synced, synced),
-            latest: mem::replace(&mut self.latest, latest),
-            written: mem::replace(&mut self.written, written),
-        });
-        Ok(())
+        self.renames = self.renames.saturating_add(1);
+        self.place(file);
+        if fails {
+            Err(RenameError::Unknown)
+        } else {
+            Ok(())
+        }
     }
 
     fn sync_folder(&mut self) -> Result<(), DeviceError> {

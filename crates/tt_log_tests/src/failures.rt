@@ -8,9 +8,6 @@ use std::alloc::Global;
 use std::process::Abort;
 use tt_log::{Log, LogError, UnreadLog};
 
-/// What a file begins with: two lines, and what a crash has left of a third one.
-const FILE: &str = "old\nlines\ntorn";
-
 /// The lines of the file, and those that are logged after them in two steps.
 const ALL: &str = "old\nlines\none\ntwo\nthree\n";
 
@@ -41,24 +38,33 @@ fn runs(rt: &impl Abort, alloc: Global, file: Disk) -> (Result<(), LogError>, Di
     }
 }
 
-/// How much room there is in a file, and which calls hand answers over. The last call is one.
+/// What a file has at first, and which calls hand answers over. The last call is one.
 #[derive(Clone, Copy)]
 struct Course {
+    text: &'static str,
     room: usize,
     hand_overs: [usize; 2],
 }
 
-/// Opening syncs, settling writes and syncs, and a step writes, syncs, and hands over.
-const IN_ROOM: Course = Course {
+/// The start makes the file anew: it creates a new one, writes, grows, syncs and renames it, and
+/// syncs the folder. Then a step writes, syncs, and hands over.
+const UNCLEAN: Course = Course {
+    text: "old\nlines\ntorn",
     room: 40,
-    hand_overs: [5, 8],
+    hand_overs: [8, 11],
 };
 
-/// The first step makes the file longer and syncs that before.
-const GROWING: Course = Course {
-    room: 2,
-    hand_overs: [7, 10],
+/// The start makes the file longer, and syncs it.
+const CLEAN: Course = Course {
+    text: "old\nlines\n",
+    room: 0,
+    hand_overs: [4, 7],
 };
+
+/// The call that renames, where the file is made anew, and the one behind it that syncs the folder.
+const RENAME: usize = 4;
+
+const FOLDER_SYNC: usize = 5;
 
 /// Runs on a file whose calls fail.
 fn runs_on(
@@ -67,7 +73,7 @@ fn runs_on(
     course: Course,
     failing: Failing,
 ) -> (Result<(), LogError>, Disk) {
-    let mut file = file_of(rt, alloc, FILE, course.room);
+    let mut file = file_of(rt, alloc, course.text, course.room);
     file.failing = failing;
     runs(rt, alloc, file)
 }
@@ -75,7 +81,7 @@ fn runs_on(
 #[test]
 fn no_call_fails(rt: HostRuntime) {
     let alloc = rt.alloc();
-    for course in [IN_ROOM, GROWING] {
+    for course in [UNCLEAN, CLEAN] {
         let (outcome, file) = runs_on(&rt, alloc, course, Failing::Never);
         assert!(rt; outcome.is_ok());
         same(&rt, &file.calls, &(course.hand_overs[1] + 1));
@@ -134,25 +140,36 @@ fn survives(rt: &impl Abort, alloc: Global, file: &Disk, crashes: u64, random: &
     }
 }
 
-/// Each call fails in turn, in a file that has room, and those after it don't, or do, too.
+/// Each call fails in turn, in a file that is made anew.
 #[test]
 fn a_call_fails(rt: HostRuntime) {
     let alloc = rt.alloc();
     let mut random = Random::new(2);
-    for call in 0..=IN_ROOM.hand_overs[1] {
-        for failing in [Failing::Once(call), Failing::From(call)] {
-            let file = fails(&rt, alloc, IN_ROOM, call, failing);
-            survives(&rt, alloc, &file, 50, &mut random);
-        }
+    for call in 0..=UNCLEAN.hand_overs[1] {
+        let file = fails(&rt, alloc, UNCLEAN, call, Failing::Once(call));
+        survives(&rt, alloc, &file, 1, &mut random);
     }
 }
 
-/// Each call fails in turn, where a file is made longer.
+/// Each call fails in turn, in a file that is made anew, and so do those after it.
 #[test]
-fn a_call_fails_where_a_file_grows(rt: HostRuntime) {
+fn further_calls_fail(rt: HostRuntime) {
     let alloc = rt.alloc();
-    for call in 0..=GROWING.hand_overs[1] {
-        fails(&rt, alloc, GROWING, call, Failing::Once(call));
+    let mut random = Random::new(4);
+    for call in 0..=UNCLEAN.hand_overs[1] {
+        let file = fails(&rt, alloc, UNCLEAN, call, Failing::From(call));
+        survives(&rt, alloc, &file, 1, &mut random);
+    }
+}
+
+/// Each call fails in turn, in a file that was ended well.
+#[test]
+fn a_call_fails_in_place(rt: HostRuntime) {
+    let alloc = rt.alloc();
+    let mut random = Random::new(3);
+    for call in 0..=CLEAN.hand_overs[1] {
+        let file = fails(&rt, alloc, CLEAN, call, Failing::Once(call));
+        survives(&rt, alloc, &file, 2, &mut random);
     }
 }
 
@@ -160,10 +177,10 @@ fn a_call_fails_where_a_file_grows(rt: HostRuntime) {
 #[test]
 fn a_file_grows_by_half(rt: HostRuntime) {
     let alloc = rt.alloc();
-    let mut random = Random::new(3);
-    for call in [3, 4] {
-        let file = fails(&rt, alloc, GROWING, call, Failing::From(call));
-        for _ in 0..50 {
+    let mut random = Random::new(4);
+    for call in [0, 1] {
+        let file = fails(&rt, alloc, CLEAN, call, Failing::From(call));
+        for _ in 0..20 {
             let len = random.below(300);
             let left = file.after_crash(&rt, alloc, &[], len);
             begins(&rt, alloc, left, ALL, 10);
@@ -171,11 +188,44 @@ fn a_file_grows_by_half(rt: HostRuntime) {
     }
 }
 
-/// Lines are torn in a file that was made longer before.
+/// Until the naming is done, a start that fails leaves the file as it was.
 #[test]
-fn a_file_that_has_grown_is_torn(rt: HostRuntime) {
+fn a_start_keeps_the_file(rt: HostRuntime) {
     let alloc = rt.alloc();
-    let mut random = Random::new(4);
-    let file = fails(&rt, alloc, GROWING, 9, Failing::Once(9));
-    survives(&rt, alloc, &file, 1, &mut random);
+    for call in 0..=RENAME {
+        let file = fails(&rt, alloc, UNCLEAN, call, Failing::Once(call));
+        let was = file_of(&rt, alloc, UNCLEAN.text, UNCLEAN.room);
+        assert!(rt; file.latest.as_slice() == was.latest.as_slice());
+        holds(&rt, alloc, file, "old\nlines\n");
+    }
+}
+
+/// A file that may have been made anew: a crash leaves the old one or the new one.
+fn is_either(rt: &impl Abort, alloc: Global, file: &Disk) {
+    let new = file.after_crash(rt, alloc, &[], 0);
+    holds(rt, alloc, new, "old\nlines\n");
+    let old = file.after_crash_unnamed(rt, alloc, &[], 0);
+    let old = old.expect(rt, "an old file");
+    let was = file_of(rt, alloc, UNCLEAN.text, UNCLEAN.room);
+    assert!(rt; old.latest.as_slice() == was.latest.as_slice());
+}
+
+#[test]
+fn a_folder_is_not_synced(rt: HostRuntime) {
+    let alloc = rt.alloc();
+    let file = fails(&rt, alloc, UNCLEAN, FOLDER_SYNC, Failing::Once(FOLDER_SYNC));
+    is_either(&rt, alloc, &file);
+}
+
+/// Where nobody knows which file has the name, the start has failed.
+#[test]
+fn a_name_is_unknown(rt: HostRuntime) {
+    let alloc = rt.alloc();
+    let mut file = file_of(&rt, alloc, UNCLEAN.text, UNCLEAN.room);
+    file.failing = Failing::Once(RENAME);
+    file.is_unsure = true;
+    let (outcome, file) = runs(&rt, alloc, file);
+    assert!(rt; outcome == Err(LogError::Write));
+    same(&rt, &file.calls, &(RENAME + 1));
+    is_either(&rt, alloc, &file);
 }

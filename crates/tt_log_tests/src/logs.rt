@@ -4,7 +4,7 @@ use std::alloc::Global;
 use std::process::Abort;
 use tt_log::{Lines, Log, UnreadLog};
 
-/// What the length of a file is a multiple of, once it was made longer.
+/// What the length of a file is a multiple of, once a log is started in it.
 pub(crate) const ROOM_UNIT: usize = 1_048_576;
 
 /// Lines, of texts with no line feeds.
@@ -99,30 +99,40 @@ pub(crate) fn log_of(rt: &impl Abort, alloc: Global, text: &str, room: usize) ->
     started(rt, alloc, file_of(rt, alloc, text, room), 64).1
 }
 
-/// Asserts that a file is this text, and bytes 0 behind it.
+/// Ends a log. Its file is its lines and nothing else.
+pub(crate) fn ended(rt: &impl Abort, log: Log<Disk>) -> Disk {
+    match log.close() {
+        Ok(file) => file,
+        Err((error, _)) => panic!(rt; "not ended: {error}"),
+    }
+}
+
+/// Asserts that a file is this text, and bytes 0 behind it, at least one.
 pub(crate) fn is_at_rest(rt: &impl Abort, disk: &Disk, text: &[u8]) {
     let file = disk.latest.as_slice();
     assert!(rt; file.starts_with(text));
-    let is_clear = file.iter().skip(text.len()).all(|b| *b == 0);
-    assert!(rt; is_clear);
+    assert!(rt; file.len() > text.len());
+    let room = &file[text.len()..];
+    assert!(rt; room[0] == 0);
+    assert!(rt; room[1..] == room[..room.len() - 1]);
 }
 
-/// Opens a file anew and settles it: its lines are these, behind them there are bytes 0, and to do
-/// it once more writes nothing.
+/// Opens a file anew and settles it: its lines are these, and behind them there are bytes 0. Once it
+/// is ended it is its lines alone.
 pub(crate) fn holds(rt: &impl Abort, alloc: Global, disk: Disk, text: &str) {
     let (bytes, log) = started(rt, alloc, disk, 64);
     assert!(rt; bytes.as_slice() == text.as_bytes());
     is_at_rest(rt, log.device(), text.as_bytes());
-    stays(rt, alloc, log.into_device(), text);
+    let file = ended(rt, log);
+    assert!(rt; file.latest.as_slice() == text.as_bytes());
+    goes_on_in_place(rt, alloc, file, text);
 }
 
-/// A file that was settled is read again and settled: nothing is written.
-fn stays(rt: &impl Abort, alloc: Global, disk: Disk, text: &str) {
-    let writes = disk.writes;
-    let len = disk.latest.len();
-    let (bytes, log) = started(rt, alloc, disk, 64);
+/// A file that was ended well isn't made anew at the next start.
+fn goes_on_in_place(rt: &impl Abort, alloc: Global, file: Disk, text: &str) {
+    let renames = file.renames;
+    let (bytes, log) = started(rt, alloc, file, 64);
     assert!(rt; bytes.as_slice() == text.as_bytes());
     is_at_rest(rt, log.device(), text.as_bytes());
-    assert!(rt; log.device().latest.len() == len);
-    assert!(rt; log.device().writes == writes);
+    assert!(rt; log.device().renames == renames);
 }

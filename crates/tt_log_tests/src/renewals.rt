@@ -1,7 +1,7 @@
 //! Logs that are made anew: each call of a device fails in turn, and a crash finds the old lines or
 //! the new ones.
 use crate::disk::{Disk, Failing};
-use crate::logs::{ROOM_UNIT, holds, is_at_rest, lines_of, log_of, started};
+use crate::logs::{ROOM_UNIT, ended, holds, is_at_rest, lines_of, log_of, started};
 use crate::random::Random;
 use crate::same::same;
 use std::alloc::Global;
@@ -28,11 +28,18 @@ fn renews(rt: &impl Abort, alloc: Global, log: &mut Log<Disk>) -> Result<(), Ren
     log.take_new()
 }
 
-/// Makes a log with old lines anew, where this call fails, if it comes.
-fn renewed(rt: &impl Abort, alloc: Global, call: usize) -> (Result<(), RenewError>, Log<Disk>) {
-    let mut file = log_of(rt, alloc, OLD, 20).into_device();
-    let opened = file.calls.saturating_add(1);
-    file.failing = Failing::Once(opened.saturating_add(call));
+/// Makes a log with old lines anew, where this call fails, if it comes. Before it the start makes the
+/// file longer and syncs it.
+fn renewed(
+    rt: &impl Abort,
+    alloc: Global,
+    call: usize,
+    is_unsure: bool,
+) -> (Result<(), RenewError>, Log<Disk>) {
+    let mut file = ended(rt, log_of(rt, alloc, OLD, 20));
+    let started_by = file.calls.saturating_add(2);
+    file.failing = Failing::Once(started_by.saturating_add(call));
+    file.is_unsure = is_unsure;
     let (_, mut log) = started(rt, alloc, file, 64);
     let outcome = renews(rt, alloc, &mut log);
     (outcome, log)
@@ -60,7 +67,7 @@ fn goes_on(rt: &impl Abort, alloc: Global, log: &mut Log<Disk>, text: &str) {
 #[test]
 fn a_log_is_made_anew(rt: HostRuntime) {
     let alloc = rt.alloc();
-    let (outcome, mut log) = renewed(&rt, alloc, usize::MAX);
+    let (outcome, mut log) = renewed(&rt, alloc, usize::MAX, false);
     assert!(rt; outcome.is_ok());
     let file = log.device();
     same(&rt, &file.latest.len(), &ROOM_UNIT);
@@ -70,30 +77,52 @@ fn a_log_is_made_anew(rt: HostRuntime) {
     goes_on(&rt, alloc, &mut log, "new\nones\n\nhere\nmore\n");
 }
 
-/// Up to the renaming each call fails in turn: a crash leaves the old lines, and the log goes on
-/// with them.
+/// This call fails, before the renaming: a crash leaves the old lines, and the log goes on with them.
+fn is_kept(rt: &impl Abort, alloc: Global, call: usize) {
+    let (outcome, mut log) = renewed(rt, alloc, call, false);
+    assert!(rt; outcome == Err(RenewError::Kept), "call {call}");
+    leaves(rt, alloc, log.device(), 1, OLD);
+    log.remove_new();
+    goes_on(rt, alloc, &mut log, "old\nlines\nmore\n");
+}
+
 #[test]
 fn an_old_log_is_kept(rt: HostRuntime) {
-    let alloc = rt.alloc();
-    for call in 0..FOLDER_SYNC {
-        let (outcome, mut log) = renewed(&rt, alloc, call);
-        assert!(rt; outcome == Err(RenewError::Kept), "call {call}");
-        leaves(&rt, alloc, log.device(), 20, OLD);
-        log.remove_new();
-        goes_on(&rt, alloc, &mut log, "old\nlines\nmore\n");
+    for call in 0..FOLDER_SYNC / 2 {
+        is_kept(&rt, rt.alloc(), call);
     }
 }
 
-/// Where the folder isn't synced, a crash leaves all the old lines or all the new ones, and no
-/// further line is taken for written.
+#[test]
+fn an_old_log_is_kept_behind_a_new_one(rt: HostRuntime) {
+    for call in FOLDER_SYNC / 2..FOLDER_SYNC {
+        is_kept(&rt, rt.alloc(), call);
+    }
+}
+
+/// Asserts that a crash leaves all the old lines or all the new ones, and that no further line is
+/// taken for written.
+fn is_lost(rt: &impl Abort, alloc: Global, log: &mut Log<Disk>) {
+    leaves(rt, alloc, log.device(), 1, NEW);
+    let old = log.device().after_crash_unnamed(rt, alloc, &[], 0);
+    holds(rt, alloc, old.expect(rt, "an old file"), OLD);
+    let more = lines_of(rt, alloc, &["more"]);
+    assert!(rt; log.append(&more).is_err());
+}
+
 #[test]
 fn a_name_is_not_on_the_disk(rt: HostRuntime) {
     let alloc = rt.alloc();
-    let (outcome, mut log) = renewed(&rt, alloc, FOLDER_SYNC);
+    let (outcome, mut log) = renewed(&rt, alloc, FOLDER_SYNC, false);
     assert!(rt; outcome == Err(RenewError::Lost));
-    leaves(&rt, alloc, log.device(), 1, NEW);
-    let old = log.device().after_crash_unnamed(&rt, alloc, &[], 0);
-    holds(&rt, alloc, old.expect(&rt, "an old file"), OLD);
-    let more = lines_of(&rt, alloc, &["more"]);
-    assert!(rt; log.append(&more).is_err());
+    is_lost(&rt, alloc, &mut log);
+}
+
+/// A naming that fails is no reason to go on in the old file, unless it surely has its name.
+#[test]
+fn a_name_is_unknown(rt: HostRuntime) {
+    let alloc = rt.alloc();
+    let (outcome, mut log) = renewed(&rt, alloc, FOLDER_SYNC - 1, true);
+    assert!(rt; outcome == Err(RenewError::Lost));
+    is_lost(&rt, alloc, &mut log);
 }

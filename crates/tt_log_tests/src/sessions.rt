@@ -10,10 +10,14 @@ const OPENING: &str =
     r#"{"version":2,"tables":[{"name":"acct","columns":[{"name":"id","kind":"int"},{"name":"owner","kind":"text","partition":true}]}]}
 "#;
 
-/// The same opening in version 3.
+/// The same opening of version 3.
 const NEWER: &str =
     r#"{"version":3,"tables":[{"name":"acct","columns":[{"name":"id","kind":"int"},{"name":"owner","kind":"text","partition":true}]}]}
 "#;
+
+/// The same opening without its end.
+const DECLARED: &str =
+    r#"{"version":2,"tables":[{"name":"acct","columns":[{"name":"id","kind":"int"},{"name":"owner","kind":"text","partition":true}]}]"#;
 
 /// Lines that change the database, the opening first.
 const LOGGED: [&str; 7] = [
@@ -194,7 +198,7 @@ fn a_crash_loses_no_answered_line(rt: HostRuntime) {
     let alloc = rt.alloc();
     let all = joined(&rt, alloc, &LOGGED);
     let mut random = Random::new(7);
-    for at in 0..6 {
+    for at in 0..7 {
         let mut file = Disk::new(&rt, alloc, b"");
         file.failing = Failing::From(at);
         let (fault, file) = refused_late(&rt, alloc, file, all.as_str());
@@ -232,10 +236,11 @@ fn lines_are_synced_together(rt: HostRuntime) {
     let again = Disk::new(&rt, alloc, file.latest.as_slice());
     let again = hold(&rt, alloc, again, asked.as_str());
     same(&rt, &again.writes, &0);
-    same(&rt, &again.syncs, &1);
+    same(&rt, &again.syncs, &2);
 }
 
-/// A session that was read back is opened by the tables that it has, and by no others.
+/// A session that was read back is open. It takes openings with the tables that it has, and no
+/// others, and counts none of them.
 #[test]
 fn another_opening_is_refused(rt: HostRuntime) {
     let alloc = rt.alloc();
@@ -249,7 +254,7 @@ fn another_opening_is_refused(rt: HostRuntime) {
         "{\"version\":2,\"tables\":[{\"name\":\"act\",\"columns\":[{\"name\":\"id\",\"kind\":\"int\"},{\"name\":\"owner\",\"kind\":\"text\",\"partition\":true}]}]}\n",
     ];
     let given = joined(&rt, alloc, &others);
-    let given = joined(&rt, alloc, &[given.as_str(), "{\"status\":1}\n", OPENING]);
+    let given = joined(&rt, alloc, &[given.as_str(), "{\"tables\":1}\n", OPENING]);
     let file = hold(
         &rt,
         alloc,
@@ -264,7 +269,7 @@ fn another_opening_is_refused(rt: HostRuntime) {
         alloc,
         &[
             refusals.as_str(),
-            "{\"fault\":{\"path\":\"$\",\"cause\":\"missing member version\"}}\n",
+            "{\"call\":7,\"fault\":{\"path\":\"$.tables\",\"cause\":\"wrong type\"}}\n",
             "{\"time\":3,\"generation\":1,\"oldest\":0,\"entries\":8,\"repair\":null}\n",
         ],
     );
@@ -279,68 +284,86 @@ const COMPARED: &str =
 
 const SELECTED: &str = "{\"select\":\"acct\",\"where\":[[\"owner\",\"!=\",\"ann\"]]}\n";
 
-/// What sessions of both versions answer on a log of four lines.
-const BY_VERSION: [(&str, &str); 2] = [
-    (
-        NEWER,
-        "{\"time\":3,\"generation\":0,\"oldest\":0,\"entries\":3,\"repair\":null}\n{\"call\":4,\"time\":3,\"rows\":[[2,\"eve\"]]}\n",
-    ),
-    (
-        OPENING,
-        "{\"time\":3,\"generation\":0,\"oldest\":0,\"entries\":3,\"repair\":null}\n{\"call\":4,\"fault\":{\"path\":\"$.where[0]\",\"cause\":\"wrong type\"}}\n",
-    ),
-];
+/// What a session answers on a log of four lines, whatever the version of its opening.
+const ANSWERED: &str =
+    "{\"time\":3,\"generation\":0,\"oldest\":0,\"entries\":3,\"repair\":null}\n{\"call\":4,\"time\":3,\"rows\":[[2,\"eve\"]]}\n";
 
-/// A log goes on with a session of another version than the one before: its lines are read all the
-/// same, and each session answers by its own version.
+/// A log goes on with a session that is opened by another version than the one before. Each line of
+/// it, and of either session, is read as of the newest.
 #[test]
-fn a_log_is_opened_in_both_versions(rt: HostRuntime) {
+fn a_log_is_opened_by_openings_of_each_version(rt: HostRuntime) {
     let alloc = rt.alloc();
     for first in [OPENING, NEWER] {
-        let begun = joined(&rt, alloc, &[first, LOGGED[1], LOGGED[2]]);
+        let begun = joined(&rt, alloc, &[first, LOGGED[1], LOGGED[2], COMPARED]);
         let file = hold(&rt, alloc, Disk::new(&rt, alloc, b""), begun.as_str());
-        let given = joined(&rt, alloc, &[NEWER, COMPARED]);
-        let file = Disk::new(&rt, alloc, file.latest.as_slice());
-        let file = hold(&rt, alloc, file, given.as_str());
-        let lines = joined(&rt, alloc, &[begun.as_str(), COMPARED]);
-        for (opening, want) in BY_VERSION {
+        for opening in [NEWER, OPENING] {
             let given = joined(&rt, alloc, &[opening, SELECTED]);
             let again = Disk::new(&rt, alloc, file.latest.as_slice());
             let again = hold(&rt, alloc, again, given.as_str());
             let shown = std::str::from_utf8(again.shown.as_slice()).expect(&rt, "text");
-            same(&rt, &shown, &want);
-            assert!(&rt; lines_in(&rt, alloc, &again).as_str() == lines.as_str());
+            same(&rt, &shown, &ANSWERED);
+            assert!(&rt; lines_in(&rt, alloc, &again).as_str() == begun.as_str());
         }
     }
 }
 
-/// The first line of a log that a session of each version has made anew, and the line behind its
-/// ground.
-const ANEW: [(&str, &str); 2] = [
-    (NEWER, "{\"version\":3,\"tables\":"),
-    (OPENING, "{\"version\":2,\"tables\":"),
-];
+/// A session that was read back keeps as many records as the first opening asks for, and no later
+/// one changes that.
+#[test]
+fn the_first_opening_behind_a_log_tells_its_records(rt: HostRuntime) {
+    let alloc = rt.alloc();
+    let begun = joined(&rt, alloc, &LOGGED[..3]);
+    let five = joined(&rt, alloc, &[DECLARED, ",\"records\":5}\n"]);
+    let six = joined(&rt, alloc, &[DECLARED, ",\"records\":6}\n"]);
+    let tables = "{\"tables\":true}\n";
+    let given = joined(
+        &rt,
+        alloc,
+        &[tables, five.as_str(), tables, six.as_str(), tables],
+    );
+    let file = hold(
+        &rt,
+        alloc,
+        Disk::new(&rt, alloc, begun.as_bytes()),
+        given.as_str(),
+    );
+    let shown = std::str::from_utf8(file.shown.as_slice()).expect(&rt, "text");
+    let mut lines = shown.lines();
+    for (call, records) in [
+        ("{\"call\":3,\"version\":4,", "\"records\":100000}"),
+        ("{\"time\":2,", "\"repair\":null}"),
+        ("{\"call\":4,\"version\":4,", "\"records\":5}"),
+        ("{\"time\":2,", "\"repair\":null}"),
+        ("{\"call\":5,\"version\":4,", "\"records\":5}"),
+    ] {
+        let Some(line) = lines.next() else {
+            panic!(&rt; "too few answers");
+        };
+        assert!(&rt; line.starts_with(call), "{line}");
+        assert!(&rt; line.ends_with(records), "{line}");
+    }
+}
 
 const BEHIND_THE_GROUND: &str =
     "{\"worker\":1,\"do\":[{\"update\":\"acct\",\"change\":[[\"set\",\"owner\",\"eve\"]],\"where\":[[\"id\",\">\",1]]}]}\n";
 
-/// A log that is made anew tells the version of the session that has done it, and keeps comparisons
-/// in either.
+/// A log that is made anew tells the newest version of sessions, and keeps comparisons.
 #[test]
-fn a_log_that_is_made_anew_tells_the_version(rt: HostRuntime) {
+fn a_log_that_is_made_anew_tells_the_newest_version(rt: HostRuntime) {
     let alloc = rt.alloc();
     let begun = joined(&rt, alloc, &[NEWER, LOGGED[1], LOGGED[2], COMPARED]);
-    for (opening, first) in ANEW {
+    for opening in [NEWER, OPENING] {
         let given = joined(&rt, alloc, &[opening, "{\"forget\":2}\n"]);
         let file = Disk::new(&rt, alloc, begun.as_bytes());
         let file = hold(&rt, alloc, file, given.as_str());
         let lines = lines_in(&rt, alloc, &file);
+        let first = "{\"version\":4,\"tables\":";
         assert!(&rt; lines.as_bytes().starts_with(first.as_bytes()), "{lines}");
         assert!(&rt;
             lines.as_bytes().ends_with(BEHIND_THE_GROUND.as_bytes()),
             "{lines}"
         );
-        for (again, _) in ANEW {
+        for again in [NEWER, OPENING] {
             let file = Disk::new(&rt, alloc, file.latest.as_slice());
             let file = hold(&rt, alloc, file, again);
             let shown = std::str::from_utf8(file.shown.as_slice()).expect(&rt, "text");
@@ -360,7 +383,7 @@ fn other_files_are_refused(rt: HostRuntime) {
         (1, joined(&rt, alloc, &["{\"version\":2}\n"])),
         (1, joined(&rt, alloc, &["\n", OPENING])),
         (1, joined(&rt, alloc, &["{\"version\":1,\"tables\":[]}\n"])),
-        (1, joined(&rt, alloc, &["{\"version\":4,\"tables\":[]}\n"])),
+        (1, joined(&rt, alloc, &["{\"version\":5,\"tables\":[]}\n"])),
         (2, joined(&rt, alloc, &[OPENING, "\n", first])),
         (2, joined(&rt, alloc, &[OPENING, OPENING])),
         (
@@ -381,7 +404,7 @@ fn other_files_are_refused(rt: HostRuntime) {
     }
 }
 
-/// A file that can't be read, or synced, ends the session before it begins.
+/// A file that can't be read, or made longer, ends the session before it begins.
 #[test]
 fn a_broken_file_is_told(rt: HostRuntime) {
     let alloc = rt.alloc();
@@ -394,6 +417,7 @@ fn a_broken_file_is_told(rt: HostRuntime) {
     file.failing = Failing::Once(0);
     let (fault, file) = refused(&rt, alloc, file, OPENING);
     assert!(&rt; fault == LoggedFault::LogWrite);
-    same(&rt, &file.syncs, &1);
+    same(&rt, &file.grows, &1);
+    same(&rt, &file.syncs, &0);
     assert!(&rt; file.shown.is_empty());
 }

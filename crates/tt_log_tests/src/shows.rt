@@ -2,7 +2,7 @@
 use crate::disk::{Disk, Failing};
 use std::alloc::Global;
 use std::process::Abort;
-use tt_log::{LogError, LogSummary, show_log};
+use tt_log::{LogError, LogSummary, has_lines, show_log};
 
 /// Looks at a file, in pieces of at most this many bytes, one at least. Nothing is written to it.
 fn looks(
@@ -35,6 +35,8 @@ fn shows(rt: &impl Abort, alloc: Global, bytes: &[u8], lines: u64, text: &str, i
                 }
         );
         assert!(rt; file.shown.as_slice() == text.as_bytes());
+        let mut buffer = [0; 3];
+        assert!(rt; has_lines(&file, &mut buffer) == Ok(lines > 0));
     }
 }
 

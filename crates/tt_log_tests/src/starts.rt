@@ -1,7 +1,6 @@
 //! Files as a crash, or anything else, may have left them: what is read of them, and what a settled
 //! log has in its file.
-use crate::disk::Disk;
-use crate::logs::{file_of, holds, opened, rest_of, started};
+use crate::logs::{ROOM_UNIT, ended, file_of, holds, is_at_rest, opened, rest_of, started};
 use crate::same::same;
 use std::alloc::Global;
 use std::process::Abort;
@@ -30,19 +29,17 @@ const FILES: [(&str, &str); 14] = [
 fn a_file_is_read(rt: HostRuntime) {
     let alloc = rt.alloc();
     for (text, lines) in FILES {
-        for room in [0, 1, 63, 64, 65, 200] {
-            holds(&rt, alloc, file_of(&rt, alloc, text, room), lines);
-        }
+        holds(&rt, alloc, file_of(&rt, alloc, text, 0), lines);
     }
 }
 
 /// The lines of a file are the same, however many bytes are read at once.
 fn is_read_in_pieces(rt: &impl Abort, alloc: Global, text: &str, lines: &str) {
-    for at_once in [1, 2, 3, 64] {
+    for at_once in [1, 3] {
         let file = file_of(rt, alloc, text, 5);
         let (bytes, log) = started(rt, alloc, file, at_once);
         assert!(rt; bytes.as_slice() == lines.as_bytes(), "{at_once} at once");
-        holds(rt, alloc, log.into_device(), lines);
+        is_at_rest(rt, log.device(), lines.as_bytes());
     }
 }
 
@@ -66,26 +63,49 @@ fn a_read_gives_no_byte(rt: HostRuntime) {
     assert!(rt; log.read(&mut []) == Ok(0));
 }
 
-/// Opening syncs the file, and settling one that is at rest doesn't do it again.
+/// A file that was ended well is made longer and synced, and stays the file that it is.
 #[test]
-fn a_file_is_synced(rt: HostRuntime) {
+fn a_clean_file_is_made_longer(rt: HostRuntime) {
     let alloc = rt.alloc();
-    let log = opened(&rt, file_of(&rt, alloc, "one\n", 3));
-    same(&rt, &log.device().syncs, &1);
-    same(&rt, &log.device().calls, &1);
-    let (_, log) = started(&rt, alloc, log.into_device(), 64);
-    same(&rt, &log.device().syncs, &2);
-    same(&rt, &log.device().calls, &2);
+    for text in ["", "\n", "one\n"] {
+        let log = opened(&rt, file_of(&rt, alloc, text, 0));
+        same(&rt, &log.device().calls, &0);
+        let (_, log) = started(&rt, alloc, log.into_device(), 64);
+        same(&rt, &log.device().grows, &1);
+        same(&rt, &log.device().syncs, &1);
+        same(&rt, &log.device().calls, &2);
+        same(&rt, &log.device().latest.len(), &ROOM_UNIT);
+    }
 }
 
-/// What follows the lines is overwritten by one write for each piece, and one sync.
+/// Any other file is made anew: a new one is created, written once for each piece, grown, synced and
+/// named, and the folder is synced.
 #[test]
-fn the_rest_is_overwritten(rt: HostRuntime) {
+fn an_unclean_file_is_made_anew(rt: HostRuntime) {
     let alloc = rt.alloc();
-    let (_, log) = started(&rt, alloc, file_of(&rt, alloc, "one\ntwo", 100), 64);
-    same(&rt, &log.device().writes, &2);
-    same(&rt, &log.device().syncs, &2);
-    same(&rt, &log.device().latest.len(), &107);
+    for (text, room) in [("one\ntwo", 100), ("one\n", 1), ("one", 0), ("\0", 0)] {
+        let (bytes, log) = started(&rt, alloc, file_of(&rt, alloc, text, room), 64);
+        let file = log.device();
+        let pieces = if bytes.is_empty() { 0 } else { 1 };
+        same(&rt, &file.calls, &5_usize.saturating_add(pieces));
+        same(&rt, &file.renames, &1);
+        same(&rt, &file.writes, &0);
+        same(&rt, &file.latest.len(), &ROOM_UNIT);
+        assert!(rt; file.after_crash_unnamed(&rt, alloc, &[], 0).is_none());
+    }
+}
+
+/// A log that is ended is cut behind its lines and synced.
+#[test]
+fn a_file_is_ended(rt: HostRuntime) {
+    let alloc = rt.alloc();
+    let (_, log) = started(&rt, alloc, file_of(&rt, alloc, "one\n", 0), 64);
+    let file = ended(&rt, log);
+    same(&rt, &file.cuts, &1);
+    same(&rt, &file.syncs, &2);
+    assert!(rt; file.latest.as_slice() == b"one\n".as_slice());
+    let left = file.after_crash(&rt, alloc, &[], usize::MAX);
+    assert!(rt; left.latest.as_slice() == b"one\n".as_slice());
 }
 
 /// A file whose length can't be told isn't opened, and the device is given back.
@@ -97,7 +117,7 @@ fn a_file_has_no_length(rt: HostRuntime) {
         Ok(_) => panic!(rt; "opened"),
         Err((error, file)) => {
             assert!(rt; error == LogError::Read);
-            same(&rt, &file.calls, &1);
+            same(&rt, &file.calls, &0);
         }
     }
 }
@@ -115,26 +135,4 @@ fn a_read_fails(rt: HostRuntime) {
     let mut buffer = [0; 2];
     assert!(rt; log.read(&mut buffer) == Ok(2));
     assert!(rt; &buffer[..] == b"o\n".as_slice());
-}
-
-/// Where what follows the lines can't be read, the log isn't settled, and nothing is written.
-#[test]
-fn the_rest_is_unreadable(rt: HostRuntime) {
-    let alloc = rt.alloc();
-    let mut file = file_of(&rt, alloc, "one\n\0two\n", 0);
-    file.readable = 6;
-    let mut log = opened(&rt, file);
-    let bytes = rest_of(&rt, alloc, &mut log, 6);
-    assert!(rt; bytes.as_slice() == b"one\n".as_slice());
-    let mut buffer = [0; 64];
-    match log.settle(&mut buffer) {
-        Ok(_) => panic!(rt; "settled"),
-        Err((error, file)) => is_unread(&rt, error, &file),
-    }
-}
-
-fn is_unread(rt: &impl Abort, error: LogError, file: &Disk) {
-    assert!(rt; error == LogError::Read);
-    same(rt, &file.writes, &0);
-    same(rt, &file.syncs, &1);
 }

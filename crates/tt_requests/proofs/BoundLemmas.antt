@@ -6,7 +6,7 @@ use Rattle.serde_json.specs.Data.{Data}
 use Rattle.serde_json.specs.Find.{get}
 use Rattle.tt_grammar.specs.Fault.{with_path, member_path}
 use Rattle.tt_grammar.specs.Decoder.{object, member, optional, read_optional, within, count, count_within}
-use Rattle.tt_grammar.specs.SessionVersion.{session_version}
+use Rattle.tt_grammar.specs.Version.{oldest_session_version, newest_session_version}
 use Rattle.tt_grammar.specs.Tables.{catalog}
 use Rattle.tt_requests.specs.declared.opening.Opening.{Opening}
 use Rattle.tt_requests.specs.Opening.{max_keep, usual_keep, max_records, usual_records, declaration}
@@ -44,7 +44,7 @@ pub is_declared : (v : Data) (opening : Opening) → declaration v ≡ Ok openin
 unfolding declaration
 is_declared v opening e =
     let read = step (object v) _ opening e in
-    let version = step (member (codes "version") session_version v) _ opening read.rest in
+    let version = step (member (codes "version") (count_within oldest_session_version newest_session_version) v) _ opening read.rest in
     let tables = step (member (codes "tables") catalog v) _ opening version.rest in
     let keep = step (optional (codes "keep") (count_within 0 max_keep) v) _ opening tables.rest in
     let records = step (optional (codes "records") (count_within 0 max_records) v) _ opening keep.rest in

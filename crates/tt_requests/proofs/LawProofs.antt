@@ -140,8 +140,21 @@ step-judged : (tables : Tables) → Judges tables requests.step
 unfolding requests.step
 step-judged tables v asked e =
     let most = step (member (codes "step") (count_within 1 max_steps) v) _ asked e in
-    let known = step (no_members_at contexts.Request (codes "step" ∷ []) v) _ asked most.rest in
+    let worker = step (optional (codes "of") worker_number v) _ asked most.rest in
+    let known = step (no_members_at contexts.Request (codes "of" ∷ codes "step" ∷ []) v) _ asked worker.rest in
     subst (IsJudged tables) (ok_same known.rest) tt
+
+finish-judged : (tables : Tables) → Judges tables requests.finish
+unfolding requests.finish
+finish-judged tables v asked e =
+    let worker = step (requests.end_of_repair (codes "finish") v) _ asked e in
+    subst (IsJudged tables) (ok_same worker.rest) tt
+
+abort-judged : (tables : Tables) → Judges tables requests.abort
+unfolding requests.abort
+abort-judged tables v asked e =
+    let worker = step (requests.end_of_repair (codes "abort") v) _ asked e in
+    subst (IsJudged tables) (ok_same worker.rest) tt
 
 forget-judged : (tables : Tables) → Judges tables forget
 unfolding forget
@@ -203,7 +216,7 @@ statement_kinds-judged version tables =
 
 repair_kinds-judged : (version : Version) (tables : Tables) → AllByRecursion (JudgesKind tables) (repair_kinds version tables)
 repair_kinds-judged version tables =
-    (begin-judged version tables, (step-judged tables, (bare-judged tables (codes "finish") commands.Finish tt, (bare-judged tables (codes "abort") commands.Abort tt, tt))))
+    (begin-judged version tables, (step-judged tables, (finish-judged tables, (abort-judged tables, tt))))
 
 question_kinds-judged : (tables : Tables) → AllByRecursion (JudgesKind tables) (question_kinds tables)
 question_kinds-judged tables =

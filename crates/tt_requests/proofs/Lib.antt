@@ -5,6 +5,7 @@ pub mod LogOpeningLemmas
 pub mod AcceptedLemmas
 pub mod LawProofs
 pub mod NewestVersionLemmas
+pub mod SessionLineLemmas
 mod worked_lines
 mod worked_versions
 mod worked_whole_actions

@@ -10,8 +10,7 @@ use Rattle.json.specs.Word.{word, after_number}
 use Rattle.serde_json.specs.Read.{number_of}
 use Rattle.tt_json.specs.Text.{json_of_text}
 use Rattle.tt_grammar.specs.declared.fault.DocFault.TheVariants.{At}
-use Rattle.tt_grammar.specs.declared.session_version.SessionVersion.TheVariants as session_versions
-use Rattle.tt_grammar.specs.declared.version.Version.TheVariants.{Two}
+use Rattle.tt_grammar.specs.declared.version.Version.TheVariants.{Two, Three}
 use Rattle.tt_grammar.specs.TextValue.{value_of_json}
 use Rattle.tt_requests.specs.declared.request.Command.TheVariants as commands
 use Rattle.tt_requests.specs.Lines.{lines_of, whole_lines_of, is_passed_over}
@@ -20,7 +19,9 @@ use Rattle.tt_grammar.specs.Actions.{action}
 use Rattle.tt_requests.specs.Opening.{declaration}
 use Rattle.tt_requests.specs.LogOpening.{ground_numbering, members_of_log_opening, log_opening_of}
 use Rattle.tt_requests.specs.GroundAction.{ground_action_of}
-use Rattle.tt_requests.specs.Requests.{forget, only_true, bare, members_of_request, request_of}
+use Rattle.tt_requests.specs.Requests.{step, end_of_repair, finish, abort, forget, only_true, bare, members_of_request, request_of}
+use Rattle.tt_requests.specs.declared.session_line.SessionLine.TheVariants as lines
+use Rattle.tt_requests.specs.SessionLine.{session_line_of}
 
 -- an empty line is a line, and what stands after the last line feed is one, too
 splits : lines_of (codes "a\n\nbc") ≡ codes "a" ∷ [] ∷ codes "bc" ∷ []
@@ -60,6 +61,21 @@ forget_below_zero : request_of Two [] (value_of_line (codes "{\"forget\":-1}")) 
 unfolding is_utf8 chars encode_utf8 lex content short_escape punctuate word after_number json.value json.items json.members scan_numeral number_of value_of_json value_of_line forget members_of_request
 forget_below_zero = refl
 
+-- steps and ends of the repair of a worker, and of whoever began it
+repair_of_worker : (request_of Two [] (value_of_line (codes "{\"step\":1,\"of\":7}")) ≡ Ok (record { worker = 1; expected = None; command = commands.Step 1 (Some 7) }))
+    × (request_of Two [] (value_of_line (codes "{\"worker\":7,\"finish\":true,\"of\":7}")) ≡ Ok (record { worker = 7; expected = None; command = commands.Finish (Some 7) }))
+    × (request_of Two [] (value_of_line (codes "{\"abort\":true}")) ≡ Ok (record { worker = 1; expected = None; command = commands.Abort None }))
+unfolding is_utf8 chars encode_utf8 lex content short_escape punctuate word after_number json.value json.items json.members scan_numeral number_of value_of_json value_of_line step end_of_repair finish abort only_true members_of_request
+repair_of_worker = (refl, refl, refl)
+
+-- of the members of a command of the repair its own comes first, then the worker, then an unknown one
+repair_of_no_worker : (request_of Two [] (value_of_line (codes "{\"abort\":true,\"of\":0,\"x\":1}")) ≡ Err (At (codes "$.of") (codes "out of range")))
+    × (request_of Two [] (value_of_line (codes "{\"of\":4294967296,\"finish\":true}")) ≡ Err (At (codes "$.of") (codes "out of range")))
+    × (request_of Two [] (value_of_line (codes "{\"of\":0,\"step\":0}")) ≡ Err (At (codes "$.step") (codes "out of range")))
+    × (request_of Two [] (value_of_line (codes "{\"status\":true,\"of\":1}")) ≡ Err (At (codes "$") (codes "unknown member \"of\"")))
+unfolding is_utf8 chars encode_utf8 lex content short_escape punctuate word after_number json.value json.items json.members scan_numeral number_of value_of_json value_of_line step end_of_repair finish abort bare only_true members_of_request
+repair_of_no_worker = (refl, refl, refl, refl)
+
 -- a status, in which forget is an unknown member
 status_and_forget : request_of Two [] (value_of_line (codes "{\"status\":true,\"forget\":1}")) ≡ Err (At (codes "$") (codes "unknown member \"forget\""))
 unfolding is_utf8 chars encode_utf8 lex content short_escape punctuate word after_number json.value json.items json.members scan_numeral number_of value_of_json value_of_line bare only_true members_of_request
@@ -68,7 +84,7 @@ status_and_forget = refl
 -- the opening of a log without tables
 log_opening_read : log_opening_of (value_of_line (codes "{\"version\":2,\"tables\":[],\"ground\":{\"time\":7,\"generation\":1,\"slots\":2}}"))
     ≡ Ok (record {
-      opening = record { version = session_versions.Two; catalog = []; keep = 4; records = 100000 };
+      opening = record { catalog = []; keep = 4; records = 100000 };
       numbering = record { horizon = 7; ground_slots = 2; generations = 1 };
     })
 unfolding is_utf8 chars encode_utf8 lex content short_escape punctuate word after_number json.value json.items json.members scan_numeral number_of value_of_json value_of_line declaration ground_numbering members_of_log_opening
@@ -89,3 +105,16 @@ no_ground = refl
 worker_of_ground : ground_action_of [] (value_of_line (codes "{\"worker\":1,\"do\":[]}")) ≡ Err (At (codes "$") (codes "unknown member \"worker\""))
 unfolding is_utf8 chars encode_utf8 lex content short_escape punctuate word after_number json.value json.items json.members scan_numeral number_of value_of_json value_of_line action
 worker_of_ground = refl
+
+-- what stands in an object that has a version, whatever else it has
+an_opening : (session_line_of Three [] (value_of_line (codes "{\"status\":true,\"version\":3}")) ≡ lines.Opening)
+    × (session_line_of Three [] (value_of_line (codes "{\"version\":null}")) ≡ lines.Opening)
+unfolding is_utf8 chars encode_utf8 lex content short_escape punctuate word after_number json.value json.items json.members scan_numeral number_of value_of_json value_of_line
+an_opening = (refl, refl)
+
+-- no object with a version, and no JSON
+no_opening : (session_line_of Three [] (value_of_line (codes "[\"version\"]")) ≡ lines.Request (Err (At (codes "$") (codes "wrong type"))))
+    × (session_line_of Three [] (value_of_line (codes "{\"version\":3")) ≡ lines.Request (Err (At (codes "$") (codes "not JSON"))))
+    × (session_line_of Three [] (value_of_line (codes "{\"version\":3,\"version\":3}")) ≡ lines.Request (Err (At (codes "$") (codes "member \"version\" named twice"))))
+unfolding is_utf8 chars encode_utf8 lex content short_escape punctuate word after_number json.value json.items json.members scan_numeral number_of value_of_json value_of_line members_of_request
+no_opening = (refl, refl, refl)

@@ -1,4 +1,4 @@
--- What lines mean as of the versions of sessions, computed.
+-- What lines mean as of versions, and which openings are taken, computed.
 use Rattle.std.specs.Prelude.{◌≡◌, ℕ, pos, false, List, [], ◌∷◌, None, Result, Ok, Err, codes, refl}
 use Rattle.std.specs.Fmt.{digits}
 use Rattle.std.specs.Char.{encode_utf8}
@@ -17,8 +17,6 @@ use Rattle.tt_values.specs.declared.action.Action.{Action}
 use Rattle.tt_repair_laws.specs.declared.edit.Edit.TheVariants.{Replace}
 use Rattle.tt_grammar.specs.declared.fault.DocFault.{DocFault}
 use Rattle.tt_grammar.specs.declared.fault.DocFault.TheVariants.{At}
-use Rattle.tt_grammar.specs.declared.session_version.SessionVersion.{SessionVersion}
-use Rattle.tt_grammar.specs.declared.session_version.SessionVersion.TheVariants as session_versions
 use Rattle.tt_grammar.specs.declared.version.Version.TheVariants.{Two, Three}
 use Rattle.tt_grammar.specs.TextValue.{value_of_json}
 use Rattle.tt_grammar.specs.Conditions.{condition}
@@ -38,17 +36,18 @@ use Rattle.tt_requests.specs.Requests.{one_write, begin, members_of_request, req
 
 -- ---- openings
 
-abbrev opened : SessionVersion → Result Opening DocFault
-opened version = Ok (record { version = version; catalog = []; keep = 4; records = 100000 })
+abbrev opened : Result Opening DocFault
+opened = Ok (record { catalog = []; keep = 4; records = 100000 })
 
-openings : (opening_of (value_of_line (codes "{\"version\":2,\"tables\":[]}")) ≡ opened session_versions.Two)
-    × (opening_of (value_of_line (codes "{\"version\":3,\"tables\":[]}")) ≡ opened session_versions.Three)
+openings : (opening_of (value_of_line (codes "{\"version\":2,\"tables\":[]}")) ≡ opened)
+    × (opening_of (value_of_line (codes "{\"version\":3,\"tables\":[]}")) ≡ opened)
+    × (opening_of (value_of_line (codes "{\"version\":4,\"tables\":[]}")) ≡ opened)
 unfolding is_utf8 chars encode_utf8 lex content short_escape punctuate word after_number json.value json.items json.members scan_numeral number_of value_of_json value_of_line declaration members_of_opening
-openings = (refl, refl)
+openings = (refl, refl, refl)
 
 -- a version that sessions don't have, and one that is no count
 refused_openings : (opening_of (value_of_line (codes "{\"version\":1,\"tables\":[]}")) ≡ Err (At (codes "$.version") (codes "out of range")))
-    × (opening_of (value_of_line (codes "{\"version\":4,\"tables\":[]}")) ≡ Err (At (codes "$.version") (codes "out of range")))
+    × (opening_of (value_of_line (codes "{\"version\":5,\"tables\":[]}")) ≡ Err (At (codes "$.version") (codes "out of range")))
     × (opening_of (value_of_line (codes "{\"version\":\"3\",\"tables\":[]}")) ≡ Err (At (codes "$.version") (codes "wrong type")))
 unfolding is_utf8 chars encode_utf8 lex content short_escape punctuate word after_number json.value json.items json.members scan_numeral number_of value_of_json value_of_line declaration members_of_opening
 refused_openings = (refl, refl, refl)

@@ -6,6 +6,7 @@ pub mod Edits
 pub mod Reads
 pub mod Questions
 pub mod Requests
+pub mod SessionLine
 pub mod LogOpening
 pub mod GroundAction
 pub mod Judged

@@ -1,11 +1,11 @@
--- The opening of a session: its version, its tables, how many closed generations are kept, and how many records of calls.
+-- The opening of a session: a version, which isn't kept, the tables, how many closed generations are kept, and how many records of calls.
 use Rattle.std.specs.Prelude.{ℕ, [], ◌∷◌, unwrap_or, Result, Ok, codes}
 use Rattle.serde_json.specs.Data.{Data}
 use Rattle.tt_grammar.specs.declared.fault.DocFault.{DocFault}
 use Rattle.tt_grammar.specs.Fault.{◌>>=◌, with_path, document_path}
 use Rattle.tt_grammar.specs.Decoder.{object, count_within, member, optional}
 use Rattle.tt_grammar.specs.Members.{is_one_of, no_members_but}
-use Rattle.tt_grammar.specs.SessionVersion.{session_version}
+use Rattle.tt_grammar.specs.Version.{oldest_session_version, newest_session_version}
 use Rattle.tt_grammar.specs.Tables.{catalog}
 use Rattle.tt_requests.specs.declared.opening.Opening.{Opening}
 
@@ -25,15 +25,15 @@ max_records = 1000000
 abbrev pub usual_records : ℕ
 usual_records = 100000
 
--- what an object declares that may have further members: its version, its tables, and how much is kept
+-- what an object declares that may have further members: its tables, and how much is kept. It names a version of sessions
 unfoldable pub declaration : Data → Result Opening DocFault
 declaration v = do
   _ ← object v
-  version ← member (codes "version") session_version v
+  _ ← member (codes "version") (count_within oldest_session_version newest_session_version) v
   tables ← member (codes "tables") catalog v
   keep ← optional (codes "keep") (count_within 0 max_keep) v
   records ← optional (codes "records") (count_within 0 max_records) v
-  Ok (record { version = version; catalog = tables; keep = unwrap_or keep usual_keep; records = unwrap_or records usual_records })
+  Ok (record { catalog = tables; keep = unwrap_or keep usual_keep; records = unwrap_or records usual_records })
 
 -- an opening: what it declares, and no further members
 unfoldable pub members_of_opening : Data → Result Opening DocFault

@@ -1,7 +1,7 @@
--- The meaning of a request, as of the version of its session: its worker, the current time for which it is meant, and its command;
+-- The meaning of a request, as of a version of the grammar: its worker, the current time for which it is meant, and its command;
 -- or its first fault. The members are judged in the order in which they are named here, each one wholly before the next; then an
 -- unknown member, the least by its bytes; then the statement as a whole.
-use Rattle.std.specs.Prelude.{ℕ, List, [], ◌∷◌, ◌++◌, unwrap_or, if◌then◌else◌, Result, Ok, codes, ⊤}
+use Rattle.std.specs.Prelude.{ℕ, List, [], ◌∷◌, ◌++◌, Option, unwrap_or, if◌then◌else◌, Result, Ok, codes, ⊤}
 use Rattle.serde_json.specs.Data.{Data}
 use Rattle.tt_values.specs.declared.statement.Write.{Write}
 use Rattle.tt_values.specs.Tables.{Tables}
@@ -43,12 +43,13 @@ begin version tables v = do
 abbrev pub max_steps : ℕ
 max_steps = 10000
 
--- steps of the repair: how many at most
+-- steps of the repair: how many at most, and the worker that has to have begun it, which may be left out
 unfoldable pub step : Data → Result Command DocFault
 step v = do
   most ← member (codes "step") (count_within 1 max_steps) v
-  _ ← no_members_at contexts.Request (codes "step" ∷ []) v
-  Ok (commands.Step most)
+  worker ← optional (codes "of") worker_number v
+  _ ← no_members_at contexts.Request (codes "of" ∷ codes "step" ∷ []) v
+  Ok (commands.Step most worker)
 
 -- what lies before a time is forgotten: the time
 unfoldable pub forget : Data → Result Command DocFault
@@ -62,6 +63,26 @@ unfoldable pub only_true : Data → Result ⊤ DocFault
 only_true v = do
   b ← flag v
   if b then Ok tt else refuse (codes "out of range")
+
+-- an end of the repair, by its name: the worker that has to have begun the repair, which may be left out
+unfoldable pub end_of_repair : List ℕ → Data → Result (Option ℕ) DocFault
+end_of_repair name v = do
+  _ ← member name only_true v
+  worker ← optional (codes "of") worker_number v
+  _ ← no_members_at contexts.Request (codes "of" ∷ name ∷ []) v
+  Ok worker
+
+-- the repair is finished
+unfoldable pub finish : Data → Result Command DocFault
+finish v = do
+  worker ← end_of_repair (codes "finish") v
+  Ok (commands.Finish worker)
+
+-- the repair is given up
+unfoldable pub abort : Data → Result Command DocFault
+abort v = do
+  worker ← end_of_repair (codes "abort") v
+  Ok (commands.Abort worker)
 
 -- a command with nothing but its name
 unfoldable pub bare : List ℕ → Command → Data → Result Command DocFault
@@ -86,8 +107,8 @@ abbrev pub repair_kinds : Version → Tables → List (List ℕ × (Data → Res
 repair_kinds version tables =
     (codes "begin", begin version tables)
     ∷ (codes "step", step)
-    ∷ (codes "finish", bare (codes "finish") commands.Finish)
-    ∷ (codes "abort", bare (codes "abort") commands.Abort)
+    ∷ (codes "finish", finish)
+    ∷ (codes "abort", abort)
     ∷ []
 
 -- the questions about the database and its past, and the forgetting of what lies before a time

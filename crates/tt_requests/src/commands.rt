@@ -1,11 +1,11 @@
 //! Reading of commands, each by the first of its kinds that's there.
 ghost use Rattle.std.specs.Prelude.{◌∷◌, ◌++◌, Ok};
 ghost use Rattle.tt_grammar.specs.Fault.{Gives};
-ghost use Rattle.tt_requests.specs.Requests.{one_write, several_writes, begin, step, forget, only_true, bare, repair_kinds, question_kinds, by_first_kind, command};
+ghost use Rattle.tt_requests.specs.Requests.{one_write, several_writes, begin, step, end_of_repair, finish, abort, forget, only_true, bare, repair_kinds, question_kinds, by_first_kind, command};
 
 use crate::MAX_STEPS;
 use crate::edits::EditsDecoder;
-use crate::questions::{changes, slots};
+use crate::questions::{WORKER, changes, slots};
 use crate::reads::{preview, read};
 use crate::request::{Command, ToldEdits};
 use crate::told::ToldTimeDecoder;
@@ -13,7 +13,7 @@ use std::alloc::Global;
 use tt_grammar::DocFault;
 use tt_grammar::decoding::{
     Context, CountDecoder, Decoder, FlagDecoder, OUT_OF_RANGE, Version, action, action_of_one,
-    delete, has, insert, member, no_members_but, update,
+    delete, has, insert, member, no_members_but, optional, update,
 };
 use tt_json::JsonValue;
 use tt_values::{Catalog, Write};
@@ -77,10 +77,10 @@ fn repair_or_question<V: JsonValue>(
         return step(alloc, value);
     }
     if has(value, "finish") {
-        return bare(alloc, "finish", Command::Finish, value);
+        return finish(alloc, value);
     }
     if has(value, "abort") {
-        return bare(alloc, "abort", Command::Abort, value);
+        return abort(alloc, value);
     }
     question(alloc, catalog, value)
 }
@@ -148,8 +148,40 @@ fn step<V: JsonValue>(alloc: Global, value: &V) -> Result<Command, DocFault>
     ensures { Gives result (step (V.json value.now)) }
 {
     let most = member(alloc, value, "step", &STEPS)?;
-    no_members_but(alloc, value, &["if", "worker", "step"])?;
-    Ok(Command::Step(most))
+    let of = optional(alloc, value, "of", &WORKER)?;
+    no_members_but(alloc, value, &["if", "worker", "of", "step"])?;
+    Ok(Command::Step { most, of })
+}
+
+#[tactic(auto, unfolding(crate::specs::Requests::finish))]
+fn finish<V: JsonValue>(alloc: Global, value: &V) -> Result<Command, DocFault>
+    ensures { Gives result (finish (V.json value.now)) }
+{
+    let of = end_of_repair(alloc, "finish", value)?;
+    Ok(Command::Finish { of })
+}
+
+#[tactic(auto, unfolding(crate::specs::Requests::abort))]
+fn abort<V: JsonValue>(alloc: Global, value: &V) -> Result<Command, DocFault>
+    ensures { Gives result (abort (V.json value.now)) }
+{
+    let of = end_of_repair(alloc, "abort", value)?;
+    Ok(Command::Abort { of })
+}
+
+/// The end of a repair by this name: the worker that has to have begun it, where one is given.
+#[tactic(auto, unfolding(crate::specs::Requests::end_of_repair))]
+fn end_of_repair<V: JsonValue>(
+    alloc: Global,
+    name: &str,
+    value: &V,
+) -> Result<Option<u32>, DocFault>
+    ensures { Gives result (end_of_repair name.now (V.json value.now)) }
+{
+    member(alloc, value, name, &OnlyTrueDecoder)?;
+    let of = optional(alloc, value, "of", &WORKER)?;
+    no_members_but(alloc, value, &["if", "worker", "of", name])?;
+    Ok(of)
 }
 
 #[tactic(auto, unfolding(crate::specs::Requests::forget))]

@@ -13,8 +13,7 @@ use tt_values::{Action, Catalog};
 
 /// The action of a slot of the ground that a line spells, for a database with these tables, or its
 /// first fault: that the line is too long; or else that it isn't JSON; or else that an object names
-/// a member twice; or else the one of its JSON value. It is read as of the newest version, whatever
-/// the version of the log. Memory can run out before the fault is met. What `scratch` held doesn't
+/// a member twice; or else the one of its JSON value. It is read as of the newest version. Memory can run out before the fault is met. What `scratch` held doesn't
 /// matter. It grows to the longest line.
 pub fn ground_action_from_line(
     alloc: Global,
@@ -48,5 +47,5 @@ fn from_members<V: JsonValue>(
     ensures { Gives result (members_of_ground_action catalog.now (V.json value.now)) }
 {
     object(alloc, value)?;
-    action(alloc, Version::Three, catalog, Context::Nested, value)
+    action(alloc, Version::newest(), catalog, Context::Nested, value)
 }

@@ -13,6 +13,7 @@ mod opening;
 mod questions;
 mod reads;
 mod request;
+mod session_line;
 mod told;
 
 pub use ground_action::ground_action_from_line;
@@ -20,6 +21,7 @@ pub use lines::{is_blank, is_passed_over};
 pub use log_opening::LogOpening;
 pub use opening::Opening;
 pub use request::{Command, Page, Request, ToldEdits};
+pub use session_line::SessionLine;
 
 /// The largest length of a line, in bytes, without its line feed.
 pub const MAX_LINE_BYTES: usize = 16_777_216;

@@ -6,12 +6,15 @@ ghost use Rattle.tt_requests.specs.Opening.{declaration, members_of_opening, ope
 use crate::line_value::parse_line;
 use crate::{MAX_KEEP, MAX_RECORDS};
 use std::alloc::Global;
-use tt_grammar::decoding::{
-    CountDecoder, SessionVersionDecoder, TablesDecoder, member, no_members_but, object, optional,
-};
-use tt_grammar::{DocFault, SessionVersion};
+use tt_grammar::decoding::{CountDecoder, TablesDecoder, member, no_members_but, object, optional};
+use tt_grammar::{DocFault, NEWEST_SESSION_VERSION, OLDEST_SESSION_VERSION};
 use tt_json::{JsonValue, Scratch, root};
 use tt_values::{Catalog, Shared};
+
+const VERSION: CountDecoder = CountDecoder {
+    min: OLDEST_SESSION_VERSION,
+    max: NEWEST_SESSION_VERSION,
+};
 
 const KEEP: CountDecoder = CountDecoder {
     min: 0,
@@ -27,11 +30,10 @@ const RECORDS: CountDecoder = CountDecoder {
 
 const USUAL_RECORDS: u32 = 100_000;
 
-/// What a session begins with.
+/// What an opening asks for. The version that it names says what its client was written for, and
+/// isn't kept.
 #[derive(Debug, Drop)]
 pub struct Opening {
-    /// The version of the session, as of which its requests are read.
-    pub version: SessionVersion,
     pub catalog: Shared<Catalog>,
     /// How many closed generations are kept, at most [`MAX_KEEP`].
     pub keep: u32,
@@ -81,13 +83,12 @@ pub(crate) fn declaration<V: JsonValue>(alloc: Global, value: &V) -> Result<Open
     ensures { Gives result (declaration (V.json value.now)) }
 {
     object(alloc, value)?;
-    let version = member(alloc, value, "version", &SessionVersionDecoder)?;
+    member(alloc, value, "version", &VERSION)?;
     let catalog = member(alloc, value, "tables", &TablesDecoder)?;
     let keep = optional(alloc, value, "keep", &KEEP)?;
     let records = optional(alloc, value, "records", &RECORDS)?;
     let catalog = Shared::new(alloc, catalog)?;
     Ok(Opening {
-        version,
         catalog,
         keep: keep.unwrap_or(USUAL_KEEP),
         records: records.unwrap_or(USUAL_RECORDS),

@@ -4,13 +4,12 @@ ghost use Rattle.tt_grammar.specs.Fault.{Gives};
 ghost use Rattle.tt_requests.specs.Requests.{members_of_request, request_of};
 
 use crate::commands::command;
-use crate::line_value::parse_line;
 use crate::questions::WORKER;
 use crate::told::ToldTimeDecoder;
 use std::alloc::Global;
 use tt_grammar::DocFault;
 use tt_grammar::decoding::{Version, object, optional};
-use tt_json::{JsonValue, Scratch, root};
+use tt_json::JsonValue;
 use tt_numbers::{ToldGeneration, ToldTime};
 use tt_repair_laws::Edit;
 use tt_values::{Action, Catalog, Items, RowId, Select};
@@ -49,12 +48,23 @@ pub enum Command {
     },
     /// A repair begins, with at most [`MAX_EDITS`](tt_grammar::MAX_EDITS) edits.
     Begin(ToldEdits),
-    /// The repair does slots: at most this many, from 1 to [`MAX_STEPS`](crate::MAX_STEPS).
-    Step(u32),
+    /// The repair does slots.
+    Step {
+        /// At most this many, from 1 to [`MAX_STEPS`](crate::MAX_STEPS).
+        most: u32,
+        /// The worker that has to have begun the repair, where one is given.
+        of: Option<u32>,
+    },
     /// The repair does all slots that are left, and the next generation becomes the current one.
-    Finish,
+    Finish {
+        /// The worker that has to have begun the repair, where one is given.
+        of: Option<u32>,
+    },
     /// The repair is given up.
-    Abort,
+    Abort {
+        /// The worker that has to have begun the repair, where one is given.
+        of: Option<u32>,
+    },
     /// How the database stands.
     Status,
     /// The slots from one number to another, at most [`MAX_SPAN`](crate::MAX_SPAN) behind it.
@@ -91,44 +101,9 @@ pub struct Page {
     pub most: Option<u32>,
 }
 
-impl Request {
-    ghost use Rattle.tt_requests.specs.LineValue.{value_of_line};
-
-    /// The request that a line spells in a session of this version, to a database with these
-    /// tables, or its first fault: that the line is too long; or else that it isn't JSON; or else
-    /// that an object names a member twice; or else the one of its JSON value. Memory can run out
-    /// before the fault is met.
-    pub fn from_line(
-        alloc: Global,
-        version: Version,
-        catalog: &Catalog,
-        line: &[u8],
-    ) -> Result<Request, DocFault>
-        ensures { Gives result (request_of version catalog.now (value_of_line line.now)) }
-    {
-        let mut scratch = Scratch::new(alloc);
-        Request::from_line_with(alloc, version, catalog, line, &mut scratch)
-    }
-
-    /// As [`from_line`](Request::from_line), for a caller that keeps `scratch` from line to line.
-    /// What it held doesn't matter. It grows to the longest line.
-    pub fn from_line_with(
-        alloc: Global,
-        version: Version,
-        catalog: &Catalog,
-        line: &[u8],
-        scratch: &mut Scratch,
-    ) -> Result<Request, DocFault>
-        ensures { Gives result (request_of version catalog.now (value_of_line line.now)) }
-    {
-        match parse_line(alloc, line, scratch) {
-            Ok(tape) => from_json(alloc, version, catalog, &root(&tape)),
-            Err(fault) => Err(fault.in_document(alloc)),
-        }
-    }
-}
-
-fn from_json<V: JsonValue>(
+/// The request that a JSON value spells, by a version of the grammar and with these tables, or its
+/// first fault. Memory can run out before the fault is met.
+pub(crate) fn request_from_json<V: JsonValue>(
     alloc: Global,
     version: Version,
     catalog: &Catalog,

@@ -3,11 +3,13 @@ use Rattle.std.proofs.Common.{◌≡◌, ℕ, ◌==◌, Bool, true, false, not, 
 use Rattle.std.proofs.lemmas.Bool.{and_parts, and_right}
 use Rattle.std.specs.List.{list_all}
 use Rattle.tt_requests.specs.Lines.{is_too_long, is_passed_over, lines_of, whole_lines_of, with_byte, with_byte_if}
+use Rattle.tt_session.specs.declared.lost_line.LostLine.{LostLine}
+use Rattle.tt_session.specs.declared.lost_line.LostLine.TheVariants as losts
 use Rattle.tt_session.specs.declared.session.Session.{Session}
 use Rattle.tt_session.specs.Lines.{has_no_feed, joined}
 use Rattle.tt_session.specs.Run.{Turn, turn_with_memory, turn_without_memory, turn_of_long_line}
 use Rattle.tt_session.specs.Answering.{LineRead, forgets_by, turn_without_log, turn_of_read, turns_of}
-use Rattle.tt_session.specs.Together.{kept_line, lost_line, unlogged_line}
+use Rattle.tt_session.specs.Together.{kept_line, is_opening_lost, IsLostAs, lost_line, unlogged_line}
 use Rattle.tt_session.proofs.TurnLemmas.{turn-long}
 
 -- ---- lines that are answered one after another
@@ -90,8 +92,10 @@ pub read-kept : (session : Session) (bytes : List ℕ) → turn_of_read session 
 read-kept session bytes = rw (and_right (not (is_too_long bytes)) false refl) refl
 
 -- a line for which there was no memory
-pub read-lost : (session : Session) (bytes : List ℕ) → is_passed_over bytes ≡ false → is_too_long bytes ≡ false → turn_of_read session (lost_line bytes) ≡ turn_without_memory session
-read-lost session bytes told short = rw (told, short) refl
+pub read-lost : (lost : LostLine) (session : Session) (bytes : List ℕ) → is_passed_over bytes ≡ false → is_too_long bytes ≡ false → IsLostAs lost bytes
+    → turn_of_read session (lost_line lost bytes) ≡ turn_without_memory (is_opening_lost lost) session
+read-lost losts.Opening session bytes told short is = rw (told, short, is) refl
+read-lost losts.Request session bytes told short is = rw (told, short) refl
 
 -- a line for which the log couldn't be made anew
 pub read-unlogged : (session : Session) (bytes : List ℕ) → is_passed_over bytes ≡ false → forgets_by session bytes ≡ true → turn_of_read session (unlogged_line bytes) ≡ turn_without_log session

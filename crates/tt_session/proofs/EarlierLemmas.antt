@@ -9,7 +9,7 @@ use Rattle.tt_db.specs.declared.event.Event.TheVariants as events
 use Rattle.tt_db.specs.declared.errors.DbError.{DbError}
 use Rattle.tt_db.specs.declared.errors.ReadError.{ReadError}
 use Rattle.tt_db.specs.State.{last_items, unless_repairing}
-use Rattle.tt_db.specs.Database.{now_in, current_of_db, right_preview_of}
+use Rattle.tt_db.specs.Database.{now_in, current_of_db, repair_worker_of, right_preview_of}
 use Rattle.tt_grammar.specs.declared.fault.DocFault.{DocFault}
 use Rattle.tt_records.specs.declared.record.Record.{Record}
 use Rattle.tt_records.specs.declared.record.What.TheVariants as whats
@@ -23,13 +23,13 @@ use Rattle.tt_requests.specs.declared.request.Request.{Request}
 use Rattle.tt_answers.specs.declared.answer.Answer.TheVariants as answers
 use Rattle.tt_answers.specs.declared.answer.Refusal.{Refusal}
 use Rattle.tt_session.specs.declared.session.Session.{Session}
-use Rattle.tt_session.specs.declared.session.Session.TheVariants.{NotOpen, Restored, Open}
+use Rattle.tt_session.specs.declared.session.Session.TheVariants.{NotOpen, Open}
 use Rattle.tt_session.specs.Answers.{Answered}
-use Rattle.tt_session.specs.Commands.{asks_for_records, reads_records, carried_out, moved_to, unless_moved, write, written}
+use Rattle.tt_session.specs.Commands.{asks_for_records, reads_records, repair_worker_told, carried_out, moved_to, unless_moved, write, written}
 use Rattle.tt_session.specs.ToldRequests.{forgotten_in, asks_for_forgotten, read_at, read_in, read_as_told, missing_if_idle, unless_missing, own_edit}
 use Rattle.tt_session.specs.Pages.{page_of_reply}
 use Rattle.tt_session.specs.Reading.{read, asks_for_all, latest_if, previewed_by, selected_by}
-use Rattle.tt_session.specs.Repairing.{unless_refused, with_event}
+use Rattle.tt_session.specs.Repairing.{unless_refused, other_worker, unless_of_another, with_event}
 use Rattle.tt_session.specs.Room.{refusal_in_session}
 use Rattle.tt_session.specs.Run.{Turn, turn_by_outcome, turn_by_request}
 use Rattle.tt_session.specs.Session.{OpenSession, state_in, counted, with_latest_if, with_earlier_records, without_records}
@@ -128,9 +128,9 @@ carried_out-earlier earlier session worker (commands.Read q at generation page) 
 carried_out-earlier earlier session worker (commands.Preview q page) other = previewed-earlier earlier session page (right_preview_of session.database q)
 carried_out-earlier earlier session worker (commands.Begin told) other =
     missing-earlier earlier (missing_if_idle session told.edits) _ _ (refused-earlier earlier (refusal_in_session session.database (events.Begin (map (own_edit session.numbering) told.edits))) _ _ refl)
-carried_out-earlier earlier session worker (commands.Step most) other = refused-earlier earlier (unless_repairing (state_in session).phase) _ _ refl
-carried_out-earlier earlier session worker commands.Finish other = refused-earlier earlier (unless_repairing (state_in session).phase) _ _ refl
-carried_out-earlier earlier session worker commands.Abort other = refused-earlier earlier (unless_repairing (state_in session).phase) _ _ refl
+carried_out-earlier earlier session worker (commands.Step most told) other = refused-earlier earlier (unless_repairing (state_in session).phase) _ _ refl
+carried_out-earlier earlier session worker (commands.Finish told) other = refused-earlier earlier (unless_repairing (state_in session).phase) _ _ refl
+carried_out-earlier earlier session worker (commands.Abort told) other = refused-earlier earlier (unless_repairing (state_in session).phase) _ _ refl
 carried_out-earlier earlier session worker commands.Status other = refl
 carried_out-earlier earlier session worker (commands.Slots from to by row) other = refl
 carried_out-earlier earlier session worker commands.Changes other = cc
@@ -142,11 +142,14 @@ moved-earlier : (earlier : List Record) (now : Option ℕ) (a b : Result Answere
 moved-earlier earlier None a b is = is
 moved-earlier earlier (Some now) a b is = refl
 
+another-earlier : (earlier : List Record) (worker : Option ℕ) (a b : Result Answered Refusal) → a ≡ earlier_outcome earlier b → unless_of_another worker a ≡ earlier_outcome earlier (unless_of_another worker b)
+another-earlier earlier None a b is = is
+another-earlier earlier (Some worker) a b is = refl
+
 -- ---- what is told of it
 
 abbrev earlier_session : List Record → Session → Session
 earlier_session earlier NotOpen = NotOpen
-earlier_session earlier (Restored session) = Restored session
 earlier_session earlier (Open session) = Open (with_earlier_records earlier session)
 
 abbrev earlier_turn : List Record → Turn → Turn
@@ -162,9 +165,10 @@ request-earlier : (earlier : List Record) (session : OpenSession) (asked : Resul
 request-earlier earlier session (Err fault) other = refl
 request-earlier earlier session (Ok request) other =
     let now = moved_to session.numbering (now_in session.database) request.expected in
+    let another = other_worker (repair_worker_told request.command) (repair_worker_of session.database) in
     ap (turn_by_outcome (with_earlier_records earlier session))
-    (moved-earlier earlier now _ _ (carried_out-earlier earlier session request.worker request.command other))
-    ∙ outcome-earlier earlier session (unless_moved now (carried_out session request.worker request.command))
+    (moved-earlier earlier now _ _ (another-earlier earlier another _ _ (carried_out-earlier earlier session request.worker request.command other)))
+    ∙ outcome-earlier earlier session (unless_moved now (unless_of_another another (carried_out session request.worker request.command)))
 
 -- a line that doesn't ask for records is answered the same with earlier ones
 pub turn-earlier : (earlier : List Record) (old new : OpenSession) (asked : Result Request DocFault) (text : List ℕ) → asks_for_records asked ≡ false

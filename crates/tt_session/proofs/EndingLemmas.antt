@@ -13,7 +13,7 @@ use Rattle.tt_session.specs.declared.run.Run.{Run}
 use Rattle.tt_session.specs.declared.run.SessionFault.{SessionFault}
 use Rattle.tt_session.specs.declared.run.SessionFault.TheVariants as faults
 use Rattle.tt_session.specs.Lines.{HasBytes, has_no_feed, joined}
-use Rattle.tt_session.specs.Run.{Turn, turn_of_line, turn_of_lines, session_text}
+use Rattle.tt_session.specs.Run.{Turn, Losses, is_numbered, turn_of_line, turn_of_lines, session_text}
 use Rattle.tt_session.specs.Answering.{LineRead, turn_of_read, turns_of, AllLogged, lines_read}
 use Rattle.tt_session.specs.Writes.{Writes, WritesPrefix}
 use Rattle.tt_session.specs.Together.{kept_line}
@@ -24,61 +24,75 @@ use Rattle.tt_streams.proofs.WritingLemmas.{prefix-longer}
 use Rattle.tt_session.proofs.LoggedLemmas.{logged-all}
 use Rattle.tt_session.proofs.RunningLemmas.{stands-rests, read-last, turns-text}
 
--- ---- the numbers of the lines for which there was no memory
+-- ---- the numbers of the lines for which there was no memory, and of those that were lost as openings
 
-abbrev numbers_from : ℕ → List LineRead → List ℕ
-numbers_from number [] = []
-numbers_from number (read ∷ reads) = if read.is_lost then number ∷ numbers_from (number + 1) reads else numbers_from (number + 1) reads
+module _ (test : LineRead → Bool) where
+  -- the numbers of the lines of which a test holds
+  abbrev numbers_from : ℕ → List LineRead → List ℕ
+  numbers_from number [] = []
+  numbers_from number (read ∷ reads) = if test read then number ∷ numbers_from (number + 1) reads else numbers_from (number + 1) reads
 
--- of lines from a number on, the numbers tell for which there was no memory
-abbrev Tells : List ℕ → ℕ → List LineRead → Type 0
-Tells numbers number [] = Unit {0}
-Tells numbers number (read ∷ reads) = (list_any (λ n. n == number) numbers ≡ read.is_lost) × Tells numbers (number + 1) reads
+  -- of lines from a number on, the numbers tell of which it holds
+  abbrev Tells : List ℕ → ℕ → List LineRead → Type 0
+  Tells numbers number [] = Unit {0}
+  Tells numbers number (read ∷ reads) = (is_numbered numbers number ≡ test read) × Tells numbers (number + 1) reads
 
-turn-told : (numbers : List ℕ) (number : ℕ) (session : Session) (read : LineRead) → list_any (λ n. n == number) numbers ≡ read.is_lost → read.is_unlogged ≡ false
-    → turn_of_line numbers number session read.line ≡ turn_of_read session read
-turn-told numbers number session read e logged =
-    ap (λ lost. turn_of_read session (record { is_lost = lost; is_unlogged = false; line = read.line })) e
-    ∙ ap (λ unlogged. turn_of_read session (record { is_lost = read.is_lost; is_unlogged = unlogged; line = read.line })) (sym logged)
+  none_below : (m number : ℕ) (reads : List LineRead) → m < number → is_numbered (numbers_from number reads) m ≡ false
+  none_below m number [] less = refl
+  none_below m number (read ∷ reads) less = by (test read) (none_below m (number + 1) reads (omega (arith, less)))
+    where
+      by : (b : Bool) → is_numbered (numbers_from (number + 1) reads) m ≡ false
+          → is_numbered (if b then number ∷ numbers_from (number + 1) reads else numbers_from (number + 1) reads) m ≡ false
+      by true none = or_from _ _ (ne_eqb number m (omega (arith, less))) none
+      by false none = none
 
-turns-told : (numbers : List ℕ) (number : ℕ) (session : Session) (reads : List LineRead) → Tells numbers number reads → AllLogged reads
-    → turn_of_lines numbers number session (map (λ (r : LineRead). r.line) reads) ≡ turns_of session reads
-turns-told numbers number session [] told logged = refl
-turns-told numbers number session (read ∷ reads) told logged =
+  tells-more : (m number : ℕ) (numbers : List ℕ) (reads : List LineRead) → m < number → Tells numbers number reads → Tells (m ∷ numbers) number reads
+  tells-more m number numbers [] less told = tt
+  tells-more m number numbers (read ∷ reads) less told =
+      (ap (λ b. b || is_numbered numbers number) (ne_eqb m number (omega (arith, less))) ∙ told.0, tells-more m (number + 1) numbers reads (omega (arith, less)) told.1)
+
+  numbers_tell : (number : ℕ) (reads : List LineRead) → Tells (numbers_from number reads) number reads
+  numbers_tell number [] = tt
+  numbers_tell number (read ∷ reads) = by (numbers_tell (number + 1) reads) (test read) refl
+    where
+      by : Tells (numbers_from (number + 1) reads) (number + 1) reads → (b : Bool) → test read ≡ b → Tells (if b then number ∷ numbers_from (number + 1) reads else numbers_from (number + 1) reads) number (read ∷ reads)
+      by others true e = (ap (λ b. b || is_numbered (numbers_from (number + 1) reads) number) (eq-eqb number number refl) ∙ sym e, tells-more number (number + 1) (numbers_from (number + 1) reads) reads (omega arith) others)
+      by others false e = (none_below number (number + 1) reads (omega arith) ∙ sym e, others)
+
+is_lost_read : LineRead → Bool
+is_lost_read read = read.is_lost
+
+was_opening : LineRead → Bool
+was_opening read = read.as_opening
+
+turn-told : (losses : Losses) (number : ℕ) (session : Session) (read : LineRead) → is_numbered losses.lines number ≡ read.is_lost → is_numbered losses.openings number ≡ read.as_opening
+    → read.is_unlogged ≡ false → turn_of_line losses number session read.line ≡ turn_of_read session read
+turn-told losses number session read lost as_opening logged =
+    (λ i. turn_of_read session (record { is_lost = lost i; as_opening = as_opening i; is_unlogged = false; line = read.line }))
+    ∙ ap (λ unlogged. turn_of_read session (record { is_lost = read.is_lost; as_opening = read.as_opening; is_unlogged = unlogged; line = read.line })) (sym logged)
+
+turns-told : (losses : Losses) (number : ℕ) (session : Session) (reads : List LineRead) → Tells is_lost_read losses.lines number reads → Tells was_opening losses.openings number reads → AllLogged reads
+    → turn_of_lines losses number session (map (λ (r : LineRead). r.line) reads) ≡ turns_of session reads
+unfolding is_lost_read was_opening
+turns-told losses number session [] lost openings logged = refl
+turns-told losses number session (read ∷ reads) lost openings logged =
     let turn = turn_of_read session read in
-    let first = turn-told numbers number session read told.0 logged.0 in
-    let others = turns-told numbers (number + 1) turn.session reads told.1 logged.1 in
+    let first = turn-told losses number session read lost.0 openings.0 logged.0 in
+    let others = turns-told losses (number + 1) turn.session reads lost.1 openings.1 logged.1 in
     ap (λ (t : Turn). record {
-      text = t.text ++ (turn_of_lines numbers (number + 1) t.session (map (λ (r : LineRead). r.line) reads)).text;
-      session = (turn_of_lines numbers (number + 1) t.session (map (λ (r : LineRead). r.line) reads)).session;
+      text = t.text ++ (turn_of_lines losses (number + 1) t.session (map (λ (r : LineRead). r.line) reads)).text;
+      session = (turn_of_lines losses (number + 1) t.session (map (λ (r : LineRead). r.line) reads)).session;
     }) first
     ∙ ap (λ (t : Turn). record { text = turn.text ++ t.text; session = t.session }) others
 
-none_below : (m number : ℕ) (reads : List LineRead) → m < number → list_any (λ n. n == m) (numbers_from number reads) ≡ false
-none_below m number [] less = refl
-none_below m number (read ∷ reads) less = by read.is_lost (none_below m (number + 1) reads (omega (arith, less)))
-  where
-    by : (b : Bool) → list_any (λ n. n == m) (numbers_from (number + 1) reads) ≡ false
-        → list_any (λ n. n == m) (if b then number ∷ numbers_from (number + 1) reads else numbers_from (number + 1) reads) ≡ false
-    by true none = or_from _ _ (ne_eqb number m (omega (arith, less))) none
-    by false none = none
-
-tells-more : (m number : ℕ) (numbers : List ℕ) (reads : List LineRead) → m < number → Tells numbers number reads → Tells (m ∷ numbers) number reads
-tells-more m number numbers [] less told = tt
-tells-more m number numbers (read ∷ reads) less told =
-    (ap (λ b. b || list_any (λ n. n == number) numbers) (ne_eqb m number (omega (arith, less))) ∙ told.0, tells-more m (number + 1) numbers reads (omega (arith, less)) told.1)
-
-numbers_tell : (number : ℕ) (reads : List LineRead) → Tells (numbers_from number reads) number reads
-numbers_tell number [] = tt
-numbers_tell number (read ∷ reads) = by (numbers_tell (number + 1) reads) read.is_lost refl
-  where
-    by : Tells (numbers_from (number + 1) reads) (number + 1) reads → (b : Bool) → read.is_lost ≡ b → Tells (if b then number ∷ numbers_from (number + 1) reads else numbers_from (number + 1) reads) number (read ∷ reads)
-    by others true e = (ap (λ b. b || list_any (λ n. n == number) (numbers_from (number + 1) reads)) (eq-eqb number number refl) ∙ sym e, tells-more number (number + 1) (numbers_from (number + 1) reads) reads (omega arith) others)
-    by others false e = (none_below number (number + 1) reads (omega arith) ∙ sym e, others)
+losses_of : List LineRead → Losses
+losses_of reads = record { lines = numbers_from is_lost_read 1 reads; openings = numbers_from was_opening 1 reads }
 
 -- what lines are answered is what a session prints for them
-pub printed : (reads : List LineRead) → AllLogged reads → (numbers : List ℕ) × (session_text (lines_read reads) numbers ≡ (turns_of NotOpen reads).text)
-printed reads logged = (numbers_from 1 reads, ap (λ (t : Turn). t.text) (turns-told (numbers_from 1 reads) 1 NotOpen reads (numbers_tell 1 reads) logged))
+pub printed : (reads : List LineRead) → AllLogged reads → (losses : Losses) × (session_text (lines_read reads) losses ≡ (turns_of NotOpen reads).text)
+unfolding losses_of
+printed reads logged =
+    (losses_of reads, ap (λ (t : Turn). t.text) (turns-told (losses_of reads) 1 NotOpen reads (numbers_tell is_lost_read 1 reads) (numbers_tell was_opening 1 reads) logged))
 
 -- ---- further lines
 
@@ -212,7 +226,7 @@ answers-all a b unread left p =
       bytes = p.bytes;
       consumed = p.consumed;
       at_end = p.at_end;
-      answers = record { without_memory = told.0; written = subst (Appends a b) (sym told.1 ∙ ap (λ ls. session_text ls told.0) p.lines_are) p.is_handed.written };
+      answers = record { losses = told.0; written = subst (Appends a b) (sym told.1 ∙ ap (λ ls. session_text ls told.0) p.lines_are) p.is_handed.written };
     }
 
 -- a prefix of the answers to the first of some lines is one of those to all of them, if each further one has memory
@@ -225,7 +239,7 @@ answers-prefix a b reads bytes lines_are p =
     map-append (λ (r : LineRead). r.line) p.front more ∙ ap (λ ls. lines_read p.front ++ ls) (with_memory-lines (lines_read p.others))
     ∙ sym (ap lines_read p.reads_are ∙ map-append (λ (r : LineRead). r.line) p.front p.others) in
     let longer = subst (AppendsPrefix a b) (sym (turns-text NotOpen p.front more)) (prefix-longer a b (turns_of NotOpen p.front).text (turns_of (turns_of NotOpen p.front).session more).text p.written) in
-    record { without_memory = told.0; written = subst (AppendsPrefix a b) (sym told.1 ∙ ap (λ ls. session_text ls told.0) (same ∙ lines_are)) longer }
+    record { losses = told.0; written = subst (AppendsPrefix a b) (sym told.1 ∙ ap (λ ls. session_text ls told.0) (same ∙ lines_are)) longer }
 
 pub ends-early : (fault : SessionFault) (a b unread left : Option (List ℕ)) → Fails fault unread left (Writes a b NotOpen) (WritesPrefix a b NotOpen) → EndsEarly fault unread left a b
 ends-early faults.Read a b unread left p =
@@ -233,7 +247,7 @@ ends-early faults.Read a b unread left p =
     record {
       bytes = p.bytes;
       consumed = p.consumed;
-      answers = record { without_memory = told.0; written = subst (Appends a b) (sym told.1 ∙ ap (λ ls. session_text ls told.0) p.lines_are) p.is_handed.written };
+      answers = record { losses = told.0; written = subst (Appends a b) (sym told.1 ∙ ap (λ ls. session_text ls told.0) p.lines_are) p.is_handed.written };
     }
 ends-early faults.Write a b unread left p = record { bytes = p.bytes; input = p.input; answers = answers-prefix a b p.reads p.bytes p.lines_are p.is_stopped }
 ends-early faults.Memory a b unread left p = absurd p

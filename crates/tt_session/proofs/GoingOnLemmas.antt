@@ -17,7 +17,7 @@ use Rattle.tt_db.specs.Limits.{Fits}
 use Rattle.tt_db.specs.declared.errors.ReadError.{ReadError}
 use Rattle.tt_db.specs.declared.outcome.Outcome.{Outcome}
 use Rattle.tt_db.specs.State.{State, next_state, slots_left, refused_if, unless_repairing, last_items}
-use Rattle.tt_db.specs.Database.{Database, state_of, refusal_of, now_in, current_of_db, right_preview_of}
+use Rattle.tt_db.specs.Database.{Database, state_of, refusal_of, now_in, current_of_db, repair_worker_of, right_preview_of}
 use Rattle.tt_records.specs.declared.record.Record.{Record}
 use Rattle.tt_records.specs.declared.record.What.{What}
 use Rattle.tt_records.specs.declared.record.What.TheVariants as whats
@@ -40,13 +40,13 @@ use Rattle.tt_session.specs.Room.{has_no_room_to_end, full_by_repair, refusal_in
 use Rattle.tt_session.specs.Invariants.{IsOpenSession, IsSession, OpenSessionsStaySound}
 use Rattle.tt_session.specs.Run.{turn_by_outcome}
 use Rattle.tt_session.specs.Sound.{IsSound}
-use Rattle.tt_session.specs.Repairing.{status_of, entry_by, with_event, with_steps, with_all_steps, unless_refused, progress_answer, status_answer, after_switch, begin, step, finish, abort}
+use Rattle.tt_session.specs.Repairing.{status_of, entry_by, with_event, with_steps, with_all_steps, unless_refused, other_worker, unless_of_another, progress_answer, status_answer, after_switch, begin, step, finish, abort}
 use Rattle.tt_session.specs.Reading.{read, selected_by, previewed_by, latest_if, asks_for_all}
 use Rattle.tt_session.specs.ChangeEntries.{changes_answer, next_changes}
 use Rattle.tt_session.specs.ToldRequests.{forgotten_in, asks_for_forgotten, read_at, read_in, read_as_told, missing_if_idle, unless_missing, own_edit, begin_as_told}
 use Rattle.tt_session.specs.Changes.{forgotten_by}
 use Rattle.tt_session.specs.Forgetting.{forgetting_of, forget_refusal, forgets_nothing, forgotten_answer, forget}
-use Rattle.tt_session.specs.Commands.{write, written, carried_out, moved_to, unless_moved, outcome_of_request}
+use Rattle.tt_session.specs.Commands.{write, written, repair_worker_told, carried_out, moved_to, unless_moved, outcome_of_request}
 use Rattle.tt_session.proofs.StepLemmas.{accepted_in_session, can_end, room-can_end, switch_is_accepted, abort_is_accepted}
 use Rattle.tt_session.proofs.ForgettingLemmas.{from_forget, forgotten-sound}
 use Rattle.tt_session.proofs.LawLemmas.{HasLegalHistory, legal-push, IsStepped, is_stepped}
@@ -78,6 +78,10 @@ under_way-none (Repairing edits n) is = refl
 moved-none : (now : Option ℕ) (outcome : Result Answered Refusal) (b : Answered) → unless_moved now outcome ≡ Ok b → outcome ≡ Ok b
 moved-none None outcome b is = is
 moved-none (Some now) outcome b is = cc
+
+another-none : (worker : Option ℕ) (outcome : Result Answered Refusal) (b : Answered) → unless_of_another worker outcome ≡ Ok b → outcome ≡ Ok b
+another-none None outcome b is = is
+another-none (Some worker) outcome b is = cc
 
 -- ---- the next database
 
@@ -343,9 +347,9 @@ carried_out-on session worker (commands.Write action) sound = write-on session w
 carried_out-on session worker (commands.Read q at generation page) sound = read-as-told-on session worker q generation at page sound
 carried_out-on session worker (commands.Preview q page) sound = previewed-on session page (right_preview_of session.database q) sound
 carried_out-on session worker (commands.Begin told) sound = begin-as-told-on session worker told sound
-carried_out-on session worker (commands.Step most) sound = step-on session worker most sound
-carried_out-on session worker commands.Finish sound = finish-on session worker sound
-carried_out-on session worker commands.Abort sound = abort-on session worker sound
+carried_out-on session worker (commands.Step most told) sound = step-on session worker most sound
+carried_out-on session worker (commands.Finish told) sound = finish-on session worker sound
+carried_out-on session worker (commands.Abort told) sound = abort-on session worker sound
 carried_out-on session worker commands.Status sound = told session _ sound
 carried_out-on session worker (commands.Slots from to by row) sound = told session _ sound
 carried_out-on session worker commands.Changes sound = told session _ sound
@@ -356,7 +360,9 @@ carried_out-on session worker (commands.Forget time) sound = forget-on session t
 -- whatever a session is asked, it goes on as one
 goes_on : (session : OpenSession) (request : Request) → IsOpenSession session → (b : Answered) → outcome_of_request session request ≡ Ok b → GoesOn session b.session
 goes_on session request sound b is =
-    carried_out-on session request.worker request.command sound b (moved-none (moved_to session.numbering (now_in session.database) request.expected) _ b is)
+    carried_out-on session request.worker request.command sound b
+    (another-none (other_worker (repair_worker_told request.command) (repair_worker_of session.database)) _ b
+    (moved-none (moved_to session.numbering (now_in session.database) request.expected) _ b is))
 
 -- and it is one afterwards
 pub open_sessions_stay_sound : OpenSessionsStaySound

@@ -29,9 +29,7 @@ use Rattle.tt_grammar.specs.JsonText.{Member, number_member, member_text, member
 use Rattle.tt_grammar.specs.WriteText.{action_members}
 use Rattle.tt_grammar.specs.ReadBack.{read_with}
 use Rattle.tt_grammar.specs.Actions.{action}
-use Rattle.tt_grammar.specs.declared.session_version.SessionVersion.{SessionVersion}
-use Rattle.tt_grammar.specs.SessionVersion.{number_of_version}
-use Rattle.tt_grammar.specs.Version.{newest_version}
+use Rattle.tt_grammar.specs.Version.{newest_version, newest_session_version}
 use Rattle.tt_grammar.specs.Edits.{replacement}
 use Rattle.tt_grammar.proofs.Utf8Lemmas.{IsUtf8-object}
 use Rattle.tt_grammar.proofs.JsonReadLemmas.{flag-prints, object-prints, number-prints}
@@ -53,7 +51,7 @@ use Rattle.tt_requests.specs.Requests.{several_writes, members_of_request, reque
 use Rattle.tt_requests.proofs.StepBackLemmas.{step, with_path-ok}
 use Rattle.tt_answers.specs.LogText.{ground_members, log_opening_members, log_opening_line, ground_line, slot_line}
 use Rattle.tt_session.specs.LogReadBack.{IsTakenUp, PrintedLogOpens, PrintedGroundIsRead, PrintedSlotsAreRead, OpeningsHaveNoGround}
-use Rattle.tt_session.proofs.ReadBackLemmas.{length-object, digits-utf8, count-within, line-read, version-fits, version-digits, version-read}
+use Rattle.tt_session.proofs.ReadBackLemmas.{length-object, digits-utf8, count-within, line-read, version-fits, version-digits}
 
 -- ---- the JSON value of a line that is printed
 
@@ -108,46 +106,46 @@ ground-back n is few =
       decoded = simp (lt-ltb n.horizon number_limit is.time, lt-ltb n.generations number_limit is.generation, count-within max_ground_slots n.ground_slots few, le-ltb n.horizon n.ground_slots is.within);
     }
 
-abbrev log_tree : SessionVersion → Tables → ℕ → ℕ → Numbering → json.Members
-log_tree version tables keep records n =
-    json.member (codes "version") (json.number (decimal (number_of_version version)))
+abbrev log_tree : Tables → ℕ → ℕ → Numbering → json.Members
+log_tree tables keep records n =
+    json.member (codes "version") (json.number (decimal newest_session_version))
     (json.member (codes "tables") (json_of_tables tables)
     (json.member (codes "keep") (json.number (decimal keep))
     (json.member (codes "records") (json.number (decimal records)) (json.member (codes "ground") (json.object (ground_tree n)) json.no_members))))
 
-abbrev log_data : SessionVersion → Tables → ℕ → ℕ → Numbering → Data
-log_data version tables keep records n =
+abbrev log_data : Tables → ℕ → ℕ → Numbering → Data
+log_data tables keep records n =
     spec.object (member (codes "ground") (ground_data n)
     (member (codes "keep") (number (unsigned keep))
-    (member (codes "records") (number (unsigned records)) (member (codes "tables") (data_of_tables tables) (member (codes "version") (number (unsigned (number_of_version version))) no_members)))))
+    (member (codes "records") (number (unsigned records)) (member (codes "tables") (data_of_tables tables) (member (codes "version") (number (unsigned newest_session_version)) no_members)))))
 
-abbrev the_opening : SessionVersion → Tables → ℕ → ℕ → Opening
-the_opening version tables keep records = record { version = version; catalog = tables; keep = keep; records = records }
+abbrev the_opening : Tables → ℕ → ℕ → Opening
+the_opening tables keep records = record { catalog = tables; keep = keep; records = records }
 
-abbrev the_log : SessionVersion → Tables → ℕ → ℕ → Numbering → LogOpening
-the_log version tables keep records n = record { opening = the_opening version tables keep records; numbering = n }
+abbrev the_log : Tables → ℕ → ℕ → Numbering → LogOpening
+the_log tables keep records n = record { opening = the_opening tables keep records; numbering = n }
 
-log-declared : (version : SessionVersion) (tables : Tables) (keep records : ℕ) (n : Numbering) → IsCatalog tables → keep ≤ max_keep → records ≤ max_records
-    → declaration (log_data version tables keep records n) ≡ Ok (the_opening version tables keep records)
+log-declared : (tables : Tables) (keep records : ℕ) (n : Numbering) → IsCatalog tables → keep ≤ max_keep → records ≤ max_records
+    → declaration (log_data tables keep records n) ≡ Ok (the_opening tables keep records)
 unfolding declaration
-log-declared version tables keep records n sound few_kept few_records =
+log-declared tables keep records n sound few_kept few_records =
     let back = tables-back tables sound in
-    simp (version-read version, back.decoded, count-within max_keep keep few_kept, count-within max_records records few_records)
+    simp (back.decoded, count-within max_keep keep few_kept, count-within max_records records few_records)
 
-log-back : (version : SessionVersion) (tables : Tables) (keep records : ℕ) (n : Numbering) → IsCatalog tables → keep ≤ max_keep → records ≤ max_records → IsNumbering n → n.ground_slots ≤ max_ground_slots
-    → IsReadBack 5 (json.object (log_tree version tables keep records n)) (log_opening_line version tables keep records n) (log_data version tables keep records n) members_of_log_opening (the_log version tables keep records n)
+log-back : (tables : Tables) (keep records : ℕ) (n : Numbering) → IsCatalog tables → keep ≤ max_keep → records ≤ max_records → IsNumbering n → n.ground_slots ≤ max_ground_slots
+    → IsReadBack 5 (json.object (log_tree tables keep records n)) (log_opening_line tables keep records n) (log_data tables keep records n) members_of_log_opening (the_log tables keep records n)
 unfolding members_of_log_opening
-log-back version tables keep records n sound few_kept few_records is few_slots =
+log-back tables keep records n sound few_kept few_records is few_slots =
     let back = tables-back tables sound in
     let ends = ground-back n is few_slots in
     let keep_fits : keep < 2 ^ 64 = omega arith in
     let records_fit : records < 2 ^ 64 = omega arith in
-    let version_fits = version-fits version in
+    let version_fits = version-fits in
     record {
-      prints = object-prints (log_tree version tables keep records n) (log_opening_members version tables keep records n)
-          (refl, number-prints (decimal (number_of_version version)), (refl, back.prints, (refl, number-prints (decimal keep), (refl, number-prints (decimal records), (refl, ends.prints, tt)))));
-      utf8 = IsUtf8-object (log_opening_members version tables keep records n) (
-        (IsUtf8-are_ascii (codes "version") refl, digits-utf8 (number_of_version version) version_fits),
+      prints = object-prints (log_tree tables keep records n) (log_opening_members tables keep records n)
+          (refl, number-prints (decimal newest_session_version), (refl, back.prints, (refl, number-prints (decimal keep), (refl, number-prints (decimal records), (refl, ends.prints, tt)))));
+      utf8 = IsUtf8-object (log_opening_members tables keep records n) (
+        (IsUtf8-are_ascii (codes "version") refl, digits-utf8 newest_session_version version_fits),
         (
           (IsUtf8-are_ascii (codes "tables") refl, back.utf8),
           (
@@ -156,43 +154,43 @@ log-back version tables keep records n sound few_kept few_records is few_slots =
           ),
         ),
       );
-      numbers = (IsNumber-decimal (number_of_version version) version_fits, (back.numbers, (IsNumber-decimal keep keep_fits, (IsNumber-decimal records records_fit, (ends.numbers, tt)))));
+      numbers = (IsNumber-decimal newest_session_version version_fits, (back.numbers, (IsNumber-decimal keep keep_fits, (IsNumber-decimal records records_fit, (ends.numbers, tt)))));
       shallow = let flat = back.shallow in let low = ends.shallow in omega arith;
-      stands = simp (number_of-decimal (number_of_version version) version_fits, back.stands, number_of-decimal keep keep_fits, number_of-decimal records records_fit, ends.stands);
+      stands = simp (number_of-decimal newest_session_version version_fits, back.stands, number_of-decimal keep keep_fits, number_of-decimal records records_fit, ends.stands);
       once = simp (back.once, ends.once);
-      decoded = simp (log-declared version tables keep records n sound few_kept few_records, ends.decoded);
+      decoded = simp (log-declared tables keep records n sound few_kept few_records, ends.decoded);
     }
 
-short_log : (version : SessionVersion) (tables : Tables) (keep records : ℕ) (n : Numbering) → IsCatalog tables → keep ≤ max_keep → records ≤ max_records → IsNumbering n → n.ground_slots ≤ max_ground_slots
-    → is_too_long (log_opening_line version tables keep records n) ≡ false
-short_log version tables keep records n sound few_kept few_records is few_slots =
+short_log : (tables : Tables) (keep records : ℕ) (n : Numbering) → IsCatalog tables → keep ≤ max_keep → records ≤ max_records → IsNumbering n → n.ground_slots ≤ max_ground_slots
+    → is_too_long (log_opening_line tables keep records n) ≡ false
+short_log tables keep records n sound few_kept few_records is few_slots =
     let all = length-tables tables sound in
     let below = is.time in
     let before = is.generation in
-    let version_digits = version-digits version in
+    let version_digits = version-digits in
     let keep_digits = length-decimal-le 20 keep (omega arith) (omega arith) (omega arith) in
     let records_digits = length-decimal-le 20 records (omega arith) (omega arith) (omega arith) in
     let time_digits = length-decimal-le 20 n.horizon (omega arith) (omega arith) (omega arith) in
     let generation_digits = length-decimal-le 20 n.generations (omega arith) (omega arith) (omega arith) in
     let slots_digits = length-decimal-le 20 n.ground_slots (omega arith) (omega arith) (omega arith) in
-    let within : length (log_opening_line version tables keep records n) ≤ max_line_bytes = simp length-append (omega (arith, length-append {A = ℕ})) in
-    le-ltb max_line_bytes (length (log_opening_line version tables keep records n)) within
+    let within : length (log_opening_line tables keep records n) ≤ max_line_bytes = simp length-append (omega (arith, length-append {A = ℕ})) in
+    le-ltb max_line_bytes (length (log_opening_line tables keep records n)) within
 
 -- a session has no ground
-no-session : (version : SessionVersion) (tables : Tables) (keep records : ℕ) (n : Numbering) → IsCatalog tables → keep ≤ max_keep → records ≤ max_records → IsErr (opening_of (Ok (log_data version tables keep records n)))
+no-session : (tables : Tables) (keep records : ℕ) (n : Numbering) → IsCatalog tables → keep ≤ max_keep → records ≤ max_records → IsErr (opening_of (Ok (log_data tables keep records n)))
 unfolding members_of_opening
-no-session version tables keep records n sound few_kept few_records = rw (log-declared version tables keep records n sound few_kept few_records) refl
+no-session tables keep records n sound few_kept few_records = rw (log-declared tables keep records n sound few_kept few_records) refl
 
 pub printed_log_opens : PrintedLogOpens
-printed_log_opens version tables keep records n sound few_kept few_records is few_slots =
-    let line : List ℕ = log_opening_line version tables keep records n in
-    let back = log-back version tables keep records n sound few_kept few_records is few_slots in
-    let short = short_log version tables keep records n sound few_kept few_records is few_slots in
-    let value = line-value 5 (json.object (log_tree version tables keep records n)) line (log_data version tables keep records n) members_of_log_opening (the_log version tables keep records n) back (omega arith) short in
+printed_log_opens tables keep records n sound few_kept few_records is few_slots =
+    let line : List ℕ = log_opening_line tables keep records n in
+    let back = log-back tables keep records n sound few_kept few_records is few_slots in
+    let short = short_log tables keep records n sound few_kept few_records is few_slots in
+    let value = line-value 5 (json.object (log_tree tables keep records n)) line (log_data tables keep records n) members_of_log_opening (the_log tables keep records n) back (omega arith) short in
     record {
       read = ap log_opening_of value ∙ ap (with_path document_path) back.decoded;
-      no_opening = ap (λ v. is_err (opening_of v)) value ∙ no-session version tables keep records n sound few_kept few_records;
-      taken_up = taken-up (log_opening_members version tables keep records n) short;
+      no_opening = ap (λ v. is_err (opening_of v)) value ∙ no-session tables keep records n sound few_kept few_records;
+      taken_up = taken-up (log_opening_members tables keep records n) short;
     }
 
 -- ---- slots of the ground

@@ -23,7 +23,7 @@ use Rattle.tt_horizon.specs.Grounds.{inserts_alone, is_inserted, is_of_ground, A
 use Rattle.tt_horizon.specs.Laying.{with_entries}
 use Rattle.tt_grammar.proofs.EveryLemmas.{Every, every}
 use Rattle.tt_numbers.specs.Numbers.{Numbering, IsNumbering}
-use Rattle.tt_grammar.specs.SessionVersion.{newest_of_sessions}
+use Rattle.tt_requests.specs.LineValue.{value_of_line}
 use Rattle.tt_requests.specs.declared.request.Command.TheVariants as commands
 use Rattle.tt_requests.specs.declared.log_opening.LogOpening.{LogOpening}
 use Rattle.tt_requests.specs.Opening.{max_keep, max_records}
@@ -42,6 +42,7 @@ use Rattle.tt_session.specs.Restoring.{opened_on, can_be_laid, with_ground, laid
 use Rattle.tt_session.specs.Sound.{IsSound}
 use Rattle.tt_session.specs.Renewing.{IsStorableAction, IsPrintable, IsReadable}
 use Rattle.tt_session.proofs.LogReadLemmas.{printed_log_opens, printed_ground_is_read, printed_slots_are_read}
+use Rattle.tt_session.proofs.TurnLemmas.{turn-request, asked-request}
 use Rattle.tt_session.proofs.RestoringLemmas.{read-value}
 use Rattle.tt_session.proofs.StepLemmas.{accepted_in_session}
 
@@ -164,13 +165,13 @@ repeats-all session (e ∷ entries) catalog idle legal printable =
     let some : 1 ≤ worker = omega (arith, p.worker refl) in
     let read = printed_slots_are_read db.catalog worker action catalog some p.worker_fits (no-fault db action none) p.storable in
     let line : List ℕ = slot_line db.catalog worker action in
-    let newest : OpenSession = record session { version = newest_of_sessions } in
-    let next : OpenSession = (written (counted newest) worker action).session in
+    let next : OpenSession = (written (counted session) worker action).session in
     let turn : repeated (Open session) line ≡ Open next =
-    ap (λ (t : Turn). t.session) (read-value (Open newest) line read.1.not_passed_over) ∙ ap (λ r. (turn_by_request (counted newest) r).session) read.0
-    ∙ write-turn newest worker action (accepted db action idle none) in
+    ap (λ (t : Turn). t.session) (read-value (Open session) line read.1.not_passed_over ∙ turn-request session (value_of_line line) (asked-request session (value_of_line line) _ read.0))
+    ∙ ap (λ r. (turn_by_request (counted session) r).session) read.0
+    ∙ write-turn session worker action (accepted db action idle none) in
     let changes : changes_database (Open session) (repeated (Open session) line) ≡ true =
-    ap (changes_database (Open session)) turn ∙ write-changes newest worker action in
+    ap (changes_database (Open session)) turn ∙ write-changes session worker action in
     let state : next_state db.limits (state_of db) e.event ≡ state_of next.database =
     ap (next_state db.limits (state_of db)) event_is ∙ sym (state-push db worker action) in
     let rest = repeats-all next entries catalog (idle-push db worker action idle) (subst (λ S. IsLegalFrom db.catalog db.limits S entries) state legal.1) printable.1 in
@@ -210,9 +211,9 @@ log-of session p numbered few =
     let size = session.numbering.ground_slots in
     let first = take size db.history in
     let others = drop size db.history in
-    let log : LogOpening = record { opening = record { version = session.version; catalog = db.catalog; keep = db.limits.keep; records = session.most_records }; numbering = session.numbering } in
-    let line : List ℕ = log_opening_line session.version db.catalog db.limits.keep session.most_records session.numbering in
-    let opens = printed_log_opens session.version db.catalog db.limits.keep session.most_records session.numbering p.catalog p.keep few numbered p.few in
+    let log : LogOpening = record { opening = record { catalog = db.catalog; keep = db.limits.keep; records = session.most_records }; numbering = session.numbering } in
+    let line : List ℕ = log_opening_line db.catalog db.limits.keep session.most_records session.numbering in
+    let opens = printed_log_opens db.catalog db.limits.keep session.most_records session.numbering p.catalog p.keep few numbered p.few in
     let start : OpenSession = opened_on log in
     let begun : start.database ≡ emptied db = ap (λ l. record { catalog = db.catalog; limits = l; history = [] }) p.usual in
     let lays = lays-all start first p.catalog refl (subst (λ d. AreGround d first) (sym begun) p.ground) (every (IsPrintable true) first p.ground_printable) in
@@ -261,7 +262,7 @@ others-all : (h : List Entry) (ground_slots size end : ℕ) → size ≡ ground_
 others-all h ground_slots size end size_is end_is = (λ i. take (end_is i - size_is i) (drop (size_is i) h)) ∙ take_rest h ground_slots
 
 -- the lines that are written are those of the database
-pub lines-of : (f : Forgetting) (terms : Terms) (size end : ℕ) (line : List ℕ) → line ≡ log_opening_line terms.version f.db.catalog f.db.limits.keep terms.most_records f.numbering → size ≡ f.numbering.ground_slots → end ≡ length f.db.history
+pub lines-of : (f : Forgetting) (terms : Terms) (size end : ℕ) (line : List ℕ) → line ≡ log_opening_line f.db.catalog f.db.limits.keep terms.most_records f.numbering → size ≡ f.numbering.ground_slots → end ≡ length f.db.history
     → (([] ++ line ∷ []) ++ lines_of_entries true f.db.catalog (take (size - 0) (drop 0 f.db.history))) ++ lines_of_entries false f.db.catalog (take (end - size) (drop size f.db.history))
     ≡ lines_of_database f.db f.numbering terms
 lines-of f terms size end line line_is size_is end_is =

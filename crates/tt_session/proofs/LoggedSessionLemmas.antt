@@ -1,6 +1,12 @@
 -- How a session on a log goes on from what was read back.
-use Rattle.std.proofs.Common.{ℕ, List, Option, None, Some, inl, inr, refl}
+use Rattle.std.proofs.Common.{◌≡◌, ◌⊎◌, ℕ, ◌<◌, ◌≤◌, List, [], ◌++◌, length, append-nil, Option, None, Some, inl, inr, refl, sym, ap, ◌∙◌, subst, arith}
+use Rattle.std.proofs.Math.Seq.{take-length}
 use Rattle.std.specs.Io.KnownBytes.{Keeps}
+use Rattle.tt_log.specs.Device.{Left, Now, Only, LeavesOnly}
+use Rattle.tt_log.specs.Lines.{logged, IsJoined}
+use Rattle.tt_log.specs.Log.{Keeps as KeepsLines, KeepsOnceSynced}
+use Rattle.tt_log.proofs.MomentLemmas as moments
+use Rattle.tt_log.proofs.SyncLemmas.{earlier}
 use Rattle.tt_log.specs.declared.log.Log.{Log}
 use Rattle.tt_log.specs.declared.log_error.LogError.{LogError}
 use Rattle.tt_log.specs.declared.log_error.LogError.TheVariants as errors
@@ -9,11 +15,15 @@ use Rattle.tt_session.specs.declared.run.SessionFault.{SessionFault}
 use Rattle.tt_session.specs.declared.run.SessionFault.TheVariants as ends
 use Rattle.tt_session.specs.declared.logged_session.LoggedFault.{LoggedFault}
 use Rattle.tt_session.specs.declared.logged_session.LoggedFault.TheVariants as faults
-use Rattle.tt_session.specs.Answering.{LineRead}
+use Rattle.tt_session.specs.Answering.{LineRead, turns_of, unlogged_count}
+use Rattle.tt_session.specs.Restoring.{NewLogsAreRead, IsNoLine}
+use Rattle.tt_session.proofs.OnLogLemmas.{leaves-all}
 use Rattle.tt_session.specs.Ends.{Fails}
-use Rattle.tt_session.specs.OnLog.{Telling, HandedOnLog, StoppedInLog, StoppedInOutput, StoppedOnLog}
-use Rattle.tt_session.specs.LoggedFaults.{fault_of}
-use Rattle.tt_session.specs.LoggedSession.{GoesOnLog, StopsInLog, StopsInOutput, BeginsOnLog, FailsAtStart, FailsOnLog}
+use Rattle.tt_session.specs.OnLog.{Telling, LeavesAnswered, HandedOnLog, StoppedInLog, StoppedInOutput, StoppedOnLog}
+use Rattle.tt_session.specs.LoggedFaults.{fault_of, fault_of_restore, fault_at_start}
+use Rattle.tt_session.specs.declared.restoring.RestoreFault.{RestoreFault}
+use Rattle.tt_session.specs.declared.restoring.RestoreFault.TheVariants as restores
+use Rattle.tt_session.specs.LoggedSession.{Begins, GoesOnLog, StaysOnLog, StaysAsItWas, StopsInLog, StopsInOutput, BeginsOnLog, FailsAtStart, FailsOnLog}
 
 module _ {D : Type 0} (of : Telling D) (may_leave : D → List ℕ → Type 0) (device : D) (session : Session) (log : Log D) (begun : BeginsOnLog of may_leave device session log) (after : D) (reads : List LineRead) where
   pub goes-on : HandedOnLog of log.device after session reads → GoesOnLog of may_leave device after reads
@@ -63,3 +73,100 @@ fails-on-log ends.Write (Some errors.Read) unread left of may_leave before after
 fails-on-log ends.Write (Some errors.Write) unread left of may_leave before after p = inr p
 fails-on-log ends.Write (Some errors.Full) unread left of may_leave before after p = inr p
 fails-on-log ends.Write (Some errors.HandOver) unread left of may_leave before after p = p
+
+-- ---- a file that stays
+
+module _ {D : Type 0} (of : Telling D) (may_leave : D → List ℕ → Type 0) (device : D) (only_now : (c : Left) → of.left_since device (of.moment device) c → Now (may_leave device) (of.shown device) c) where
+  -- nothing was done
+  pub stays-untouched : StaysAsItWas of may_leave device device
+  stays-untouched = record {
+    stays = record {
+      any_moment = moments.started of.moment of.left_since device (KeepsOnceSynced (may_leave device) (logged (of.seen device)) (of.shown device))
+          (λ c now. earlier (may_leave device) (may_leave device) (logged (of.seen device)) (of.shown device) (λ f left. left) c (only_now c now));
+      shown_is = refl;
+    };
+    seen = refl;
+  }
+
+-- ---- the end
+
+-- A log was ended: its file is its lines and nothing else, all of it on the disk. A crash on the way leaves the same lines, and nothing was handed over.
+pub record EndsLog {D : Type 0} (of : Telling D) (may_leave : D → List ℕ → Type 0) (before after : D) : Type 0 where
+  pub tells : of.tells after
+  pub lines : IsJoined (of.seen after)
+  pub lines_are : logged (of.seen after) ≡ logged (of.seen before)
+  pub durable : Only (of.seen after) (may_leave after)
+  pub shown_is : of.shown after ≡ of.shown before
+  pub any_moment : LeavesOnly of.moment of.left_since before after (KeepsLines (logged (of.seen before)) (of.shown before))
+  pub failures : of.failures before ≤ of.failures after
+
+-- a log couldn't be ended, and a crash leaves the same lines
+pub record FailsToEnd {D : Type 0} (of : Telling D) (before after : D) : Type 0 where
+  pub shown_is : of.shown after ≡ of.shown before
+  pub any_moment : LeavesOnly of.moment of.left_since before after (KeepsLines (logged (of.seen before)) (of.shown before))
+  pub failed : of.failures before < of.failures after
+
+module _ {D : Type 0} (of : Telling D) (begun mid after : D) (start : Session) (reads : List LineRead) (handed : HandedOnLog of begun mid start reads) where
+  leaves : (left : Left) → KeepsLines (logged (of.seen mid)) (of.shown mid) left → LeavesAnswered start (logged (of.seen begun)) reads (of.shown begun) left
+  leaves left k =
+      leaves-all start (logged (of.seen begun)) reads (of.shown begun) left (length (turns_of start reads).text) (k.lines_are ∙ handed.lines_are)
+      (k.shown_is ∙ handed.shown_is ∙ ap (λ t. of.shown begun ++ t) (sym (take-length (turns_of start reads).text)))
+
+  run : LeavesOnly of.moment of.left_since mid after (KeepsLines (logged (of.seen mid)) (of.shown mid))
+      → LeavesOnly of.moment of.left_since begun after (LeavesAnswered start (logged (of.seen begun)) reads (of.shown begun))
+  run ending =
+      moments.joined of.moment of.left_since begun mid after (LeavesAnswered start (logged (of.seen begun)) reads (of.shown begun)) (KeepsLines (logged (of.seen mid)) (of.shown mid))
+      (LeavesAnswered start (logged (of.seen begun)) reads (of.shown begun)) handed.any_moment ending (λ c l. l) leaves
+
+  pub handed-ended : (may_leave : D → List ℕ → Type 0) → EndsLog of may_leave mid after → HandedOnLog of begun after start reads
+  handed-ended may_leave e = record {
+    tells = e.tells;
+    lines_are = e.lines_are ∙ handed.lines_are;
+    shown_is = e.shown_is ∙ handed.shown_is;
+    any_moment = run e.any_moment;
+    new_logs = handed.new_logs;
+    failures = omega (arith, handed.failures, e.failures);
+  }
+
+  -- all answers are handed over, and the log isn't ended
+  pub stopped-ending : FailsToEnd of mid after → StoppedInLog of begun after start reads
+  stopped-ending f =
+      let all : reads ++ [] ≡ reads = append-nil reads in
+      record {
+        answered = reads;
+        pending = [];
+        others = [];
+        reads_are = sym (append-nil reads) ∙ ap (λ rs. rs ++ []) (sym all);
+        shown_is = f.shown_is ∙ handed.shown_is;
+        any_moment = subst (λ rs. LeavesOnly of.moment of.left_since begun after (LeavesAnswered start (logged (of.seen begun)) rs (of.shown begun))) (sym all) (run f.any_moment);
+        new_logs = subst (NewLogsAreRead start) (sym all) handed.new_logs;
+        failures = omega (arith, handed.failures, f.failed, ap unlogged_count all);
+        why = inl (omega (arith, handed.failures, f.failed, ap unlogged_count all));
+      }
+
+  pub goes-ended : (may_leave : D → List ℕ → Type 0) (device : D) → Begins of may_leave device begun start → EndsLog of may_leave mid after → GoesOnLog of may_leave device after reads
+  goes-ended may_leave device begins e = record { start = start; begun = begun; begins = begins; goes_on = handed-ended may_leave e }
+
+  pub stops-ending : (may_leave : D → List ℕ → Type 0) (device : D) → Begins of may_leave device begun start → FailsToEnd of mid after → StopsInLog of may_leave device after reads
+  stops-ending may_leave device begins f = record { start = start; begun = begun; begins = begins; stops = stopped-ending f }
+
+-- ---- the start
+
+module _ {D : Type 0} (of : Telling D) (may_leave : D → List ℕ → Type 0) (before after : D) where
+  -- the log can't be read back
+  pub fails-restoring : (fault : RestoreFault) → StaysAsItWas of may_leave before after → ((n : ℕ) → fault ≡ restores.Line n → IsNoLine (logged (of.seen before)) n)
+      → FailsAtStart (fault_of_restore fault) of may_leave before after
+  fails-restoring restores.Read stays no_line = stays
+  fails-restoring (restores.Line n) stays no_line = record { stays = stays; is_no_line = no_line n refl }
+  fails-restoring restores.Memory stays no_line = stays
+
+  -- its lines can't be put on the disk
+  pub fails-settling : (error : LogError) → (error ≡ errors.Read) ⊎ (error ≡ errors.Write) → StaysOnLog of may_leave before after
+      → (error ≡ errors.Read → of.seen after ≡ of.seen before) → (error ≡ errors.Write → of.failures before < of.failures after)
+      → FailsAtStart (fault_at_start error) of may_leave before after
+  fails-settling errors.Read either stays seen failed = record { stays = stays; seen = seen refl }
+  fails-settling errors.Write either stays seen failed = record { stays = stays; failed = failed refl }
+  fails-settling errors.Full (inl is) stays seen failed = absurd (cc)
+  fails-settling errors.Full (inr is) stays seen failed = absurd (cc)
+  fails-settling errors.HandOver (inl is) stays seen failed = absurd (cc)
+  fails-settling errors.HandOver (inr is) stays seen failed = absurd (cc)

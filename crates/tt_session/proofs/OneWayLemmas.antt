@@ -8,7 +8,7 @@ use Rattle.tt_requests.specs.LineValue.{value_of_line}
 use Rattle.tt_requests.specs.Opening.{opening_of}
 use Rattle.tt_requests.specs.LogOpening.{log_opening_of}
 use Rattle.tt_session.specs.declared.session.Session.{Session}
-use Rattle.tt_session.specs.declared.session.Session.TheVariants.{NotOpen, Restored, Open}
+use Rattle.tt_session.specs.declared.session.Session.TheVariants.{NotOpen, Open}
 use Rattle.tt_session.specs.Session.{OpenSession}
 use Rattle.tt_session.specs.Run.{Turn, turn_by_opening}
 use Rattle.tt_session.specs.Changing.{changes_database}
@@ -39,7 +39,6 @@ by_opening (Err fault) line = by_request NotOpen line
 
 abbrev by_line : Session → ℕ → List ℕ → Reading
 by_line NotOpen left line = by_opening (log_opening_of (value_of_line line)) line
-by_line (Restored s) left line = by_request (Restored s) line
 by_line (Open s) zero line = by_request (Open s) line
 by_line (Open s) (suc left) line = by_ground (laid_by s line) left
 
@@ -86,7 +85,6 @@ by_request-changes session line changes = ap (λ b. changed_to b (repeated sessi
 
 by_line-changes : (session : Session) (line : List ℕ) → changes_database session (repeated session line) ≡ true → by_line session 0 line ≡ Some (repeated session line, 0)
 by_line-changes NotOpen line changes = by_opening-err (log_opening_of (value_of_line line)) line (opens-none line changes) ∙ by_request-changes NotOpen line changes
-by_line-changes (Restored s) line changes = by_request-changes (Restored s) line changes
 by_line-changes (Open s) line changes = by_request-changes (Open s) line changes
 
 by_lines-change : (session : Session) (lines : List (List ℕ)) → AllChange session lines → by_lines (Some (session, 0)) lines ≡ Some (repeated_all session lines, 0)
@@ -112,7 +110,6 @@ by_lines-laid (line ∷ slots) session next left (suc n) count laid = by (λ mid
 begins-by : (first : List (List ℕ)) (base : Session) (left : ℕ) → BeginsLog first base left → by_lines (Some (NotOpen, 0)) first ≡ Some (base, left)
 begins-by first NotOpen left begins =
     let none : Some (NotOpen, 0) ≡ Some (NotOpen, left) = ap (λ (n : ℕ). Some (NotOpen, n)) (sym begins.1) in ap (by_lines (Some (NotOpen, 0))) begins.0 ∙ none
-begins-by first (Restored session) left begins = absurd begins
 begins-by first (Open session) left begins =
     ap (by_lines (Some (NotOpen, 0))) begins.lines_are ∙ ap (λ r. by_lines (by_opening r begins.line) begins.slots) begins.opens
     ∙ by_lines-laid begins.slots (opened_on begins.opening) session left begins.opening.numbering.ground_slots (sym begins.count) begins.laid
@@ -137,7 +134,6 @@ request-none session line none = ap (λ b. changed_to b (repeated session line))
 -- while slots of the ground are still to come, the session is open
 begun-open : (session : Session) (lines : List (List ℕ)) (left : ℕ) → BeginsLog lines session (suc left) → (s : OpenSession) × (session ≡ Open s)
 begun-open NotOpen lines left begins = absurd (cc begins.1)
-begun-open (Restored s) lines left begins = absurd begins
 begun-open (Open s) lines left begins = (s, refl)
 
 left-open : (lines : List (List ℕ)) (session : Session) (left : ℕ) → ReadsLog lines session (suc left) → (s : OpenSession) × (session ≡ Open s)
@@ -148,10 +144,8 @@ left-open lines session left p =
 -- nor is one that can't be the next one of a log
 no-next : (session : Session) (left : ℕ) (line : List ℕ) → IsNoNext session left line → ((n : ℕ) → left ≡ suc n → (s : OpenSession) × (session ≡ Open s)) → by_line session left line ≡ None
 no-next NotOpen zero line isnt is_open = by_opening-err (log_opening_of (value_of_line line)) line (isnt.no_opening refl) ∙ request-none NotOpen line (isnt.no_change refl)
-no-next (Restored s) zero line isnt is_open = request-none (Restored s) line (isnt.no_change refl)
 no-next (Open s) zero line isnt is_open = request-none (Open s) line (isnt.no_change refl)
 no-next NotOpen (suc left) line isnt is_open = absurd (cc (is_open left refl).1)
-no-next (Restored s) (suc left) line isnt is_open = absurd (cc (is_open left refl).1)
 no-next (Open s) (suc left) line isnt is_open = ap (λ o. by_ground o left) (isnt.no_ground (omega arith))
 
 -- two readings that are the same have the same session, and as many slots left

@@ -18,10 +18,7 @@ use Rattle.tt_grammar.specs.Fault.{with_path, document_path}
 use Rattle.tt_grammar.specs.Decoder.{count_within}
 use Rattle.tt_grammar.specs.Edits.{replacement}
 use Rattle.tt_grammar.specs.TextValue.{json_of_bytes, value_of_found}
-use Rattle.tt_grammar.specs.declared.session_version.SessionVersion.{SessionVersion}
-use Rattle.tt_grammar.specs.declared.session_version.SessionVersion.TheVariants.{Two, Three}
-use Rattle.tt_grammar.specs.SessionVersion.{session_version, number_of_version}
-use Rattle.tt_grammar.specs.Version.{newest_version}
+use Rattle.tt_grammar.specs.Version.{newest_version, newest_session_version}
 use Rattle.tt_requests.specs.declared.request.Command.TheVariants as commands
 use Rattle.tt_requests.specs.declared.request.Request.{Request}
 use Rattle.tt_requests.specs.declared.opening.Opening.{Opening}
@@ -140,28 +137,22 @@ printed_actions_replace tables action catalog sound storable =
 
 -- ---- an opening
 
-pub version-fits : (version : SessionVersion) → number_of_version version < 2 ^ 64
-version-fits Two = omega arith
-version-fits Three = omega arith
+pub version-fits : newest_session_version < 2 ^ 64
+version-fits = omega arith
 
-pub version-digits : (version : SessionVersion) → length (decimal (number_of_version version)) ≤ 20
-version-digits Two = length-decimal-le 20 2 (omega arith) (omega arith) (omega arith)
-version-digits Three = length-decimal-le 20 3 (omega arith) (omega arith) (omega arith)
+pub version-digits : length (decimal newest_session_version) ≤ 20
+version-digits = length-decimal-le 20 4 (omega arith) (omega arith) (omega arith)
 
-pub version-read : (version : SessionVersion) → session_version (number (unsigned (number_of_version version))) ≡ Ok version
-version-read Two = refl
-version-read Three = refl
-
-abbrev opening_tree : SessionVersion → Tables → ℕ → ℕ → json.Members
-opening_tree version tables keep records =
-    json.member (codes "version") (json.number (decimal (number_of_version version)))
+abbrev opening_tree : Tables → ℕ → ℕ → json.Members
+opening_tree tables keep records =
+    json.member (codes "version") (json.number (decimal newest_session_version))
     (json.member (codes "tables") (json_of_tables tables)
     (json.member (codes "keep") (json.number (decimal keep)) (json.member (codes "records") (json.number (decimal records)) json.no_members)))
 
-abbrev opening_data : SessionVersion → Tables → ℕ → ℕ → Data
-opening_data version tables keep records =
+abbrev opening_data : Tables → ℕ → ℕ → Data
+opening_data tables keep records =
     spec.object (member (codes "keep") (number (unsigned keep))
-    (member (codes "records") (number (unsigned records)) (member (codes "tables") (data_of_tables tables) (member (codes "version") (number (unsigned (number_of_version version))) no_members))))
+    (member (codes "records") (number (unsigned records)) (member (codes "tables") (data_of_tables tables) (member (codes "version") (number (unsigned newest_session_version)) no_members))))
 
 pub count-within : (max n : ℕ) → n ≤ max → count_within 0 max (number (unsigned n)) ≡ Ok n
 count-within max n h =
@@ -169,46 +160,46 @@ count-within max n h =
     let below : nat_lt max n ≡ false = grind (arith, nat_tests) in
     rw (above, below) refl
 
-opening-back : (version : SessionVersion) (tables : Tables) (keep records : ℕ) → IsCatalog tables → keep ≤ max_keep → records ≤ max_records
-    → IsReadBack 5 (json.object (opening_tree version tables keep records)) (opening_line version tables keep records) (opening_data version tables keep records) members_of_opening
-    (record { version = version; catalog = tables; keep = keep; records = records })
+opening-back : (tables : Tables) (keep records : ℕ) → IsCatalog tables → keep ≤ max_keep → records ≤ max_records
+    → IsReadBack 5 (json.object (opening_tree tables keep records)) (opening_line tables keep records) (opening_data tables keep records) members_of_opening
+    (record { catalog = tables; keep = keep; records = records })
 unfolding members_of_opening declaration
-opening-back version tables keep records sound few_kept few_records =
+opening-back tables keep records sound few_kept few_records =
     let back = tables-back tables sound in
     let keep_fits : keep < 2 ^ 64 = omega arith in
     let records_fit : records < 2 ^ 64 = omega arith in
-    let version_fits = version-fits version in
+    let version_fits = version-fits in
     record {
-      prints = object-prints (opening_tree version tables keep records) (declared_members version tables keep records)
-          (refl, number-prints (decimal (number_of_version version)), (refl, back.prints, (refl, number-prints (decimal keep), (refl, number-prints (decimal records), tt))));
-      utf8 = IsUtf8-object (declared_members version tables keep records) (
-        (IsUtf8-are_ascii (codes "version") refl, digits-utf8 (number_of_version version) version_fits),
+      prints = object-prints (opening_tree tables keep records) (declared_members tables keep records)
+          (refl, number-prints (decimal newest_session_version), (refl, back.prints, (refl, number-prints (decimal keep), (refl, number-prints (decimal records), tt))));
+      utf8 = IsUtf8-object (declared_members tables keep records) (
+        (IsUtf8-are_ascii (codes "version") refl, digits-utf8 newest_session_version version_fits),
         (
           (IsUtf8-are_ascii (codes "tables") refl, back.utf8),
           ((IsUtf8-are_ascii (codes "keep") refl, digits-utf8 keep keep_fits), ((IsUtf8-are_ascii (codes "records") refl, digits-utf8 records records_fit), tt)),
         ),
       );
-      numbers = (IsNumber-decimal (number_of_version version) version_fits, (back.numbers, (IsNumber-decimal keep keep_fits, (IsNumber-decimal records records_fit, tt))));
+      numbers = (IsNumber-decimal newest_session_version version_fits, (back.numbers, (IsNumber-decimal keep keep_fits, (IsNumber-decimal records records_fit, tt))));
       shallow = let flat = back.shallow in omega arith;
-      stands = simp (number_of-decimal (number_of_version version) version_fits, back.stands, number_of-decimal keep keep_fits, number_of-decimal records records_fit);
+      stands = simp (number_of-decimal newest_session_version version_fits, back.stands, number_of-decimal keep keep_fits, number_of-decimal records records_fit);
       once = simp back.once;
-      decoded = simp (version-read version, back.decoded, count-within max_keep keep few_kept, count-within max_records records few_records);
+      decoded = simp (back.decoded, count-within max_keep keep few_kept, count-within max_records records few_records);
     }
 
-short_opening : (version : SessionVersion) (tables : Tables) (keep records : ℕ) → IsCatalog tables → keep ≤ max_keep → records ≤ max_records → is_too_long (opening_line version tables keep records) ≡ false
-short_opening version tables keep records sound few_kept few_records =
+short_opening : (tables : Tables) (keep records : ℕ) → IsCatalog tables → keep ≤ max_keep → records ≤ max_records → is_too_long (opening_line tables keep records) ≡ false
+short_opening tables keep records sound few_kept few_records =
     let all = length-tables tables sound in
-    let version_digits = version-digits version in
+    let version_digits = version-digits in
     let keep_digits = length-decimal-le 20 keep (omega arith) (omega arith) (omega arith) in
     let records_digits = length-decimal-le 20 records (omega arith) (omega arith) (omega arith) in
-    let within : length (opening_line version tables keep records) ≤ max_line_bytes = simp length-append (omega (arith, length-append {A = ℕ})) in
-    le-ltb max_line_bytes (length (opening_line version tables keep records)) within
+    let within : length (opening_line tables keep records) ≤ max_line_bytes = simp length-append (omega (arith, length-append {A = ℕ})) in
+    le-ltb max_line_bytes (length (opening_line tables keep records)) within
 
 pub printed_tables_open : PrintedTablesOpen
-printed_tables_open version tables keep records sound few_kept few_records =
-    let line : List ℕ = opening_line version tables keep records in
-    let opening : Opening = record { version = version; catalog = tables; keep = keep; records = records } in
-    let back = opening-back version tables keep records sound few_kept few_records in
+printed_tables_open tables keep records sound few_kept few_records =
+    let line : List ℕ = opening_line tables keep records in
+    let opening : Opening = record { catalog = tables; keep = keep; records = records } in
+    let back = opening-back tables keep records sound few_kept few_records in
     let read : read_with members_of_opening line ≡ Ok opening =
-    read-back 5 (json.object (opening_tree version tables keep records)) line (opening_data version tables keep records) members_of_opening opening back (omega arith) in
-    ap opening_of (line-read line (short_opening version tables keep records sound few_kept few_records)) ∙ ap (with_path document_path) read
+    read-back 5 (json.object (opening_tree tables keep records)) line (opening_data tables keep records) members_of_opening opening back (omega arith) in
+    ap opening_of (line-read line (short_opening tables keep records sound few_kept few_records)) ∙ ap (with_path document_path) read

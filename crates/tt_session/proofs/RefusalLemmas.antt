@@ -19,8 +19,8 @@ use Rattle.tt_db.specs.declared.errors.DbError.TheVariants as errors
 use Rattle.tt_db.specs.declared.errors.ReadError.{ReadError}
 use Rattle.tt_db.specs.declared.errors.ReadError.TheVariants as read_errors
 use Rattle.tt_db.specs.State.{slots_in, edits_fault, first_refusal, refused_if, unless_repairing}
-use Rattle.tt_db.specs.Database.{now_in, right_preview_of}
-use Rattle.tt_grammar.specs.SessionVersion.{grammar_of}
+use Rattle.tt_db.specs.Database.{now_in, repair_worker_of, right_preview_of}
+use Rattle.tt_grammar.specs.Version.{newest_version}
 use Rattle.tt_requests.specs.declared.request.Command.{Command}
 use Rattle.tt_requests.specs.declared.request.Command.TheVariants as commands
 use Rattle.tt_requests.specs.declared.request.Page.{Page}
@@ -34,11 +34,11 @@ use Rattle.tt_answers.specs.declared.answer.Refusal.TheVariants as refusals
 use Rattle.tt_session.specs.Session.{OpenSession, state_in}
 use Rattle.tt_session.specs.Answers.{Answered}
 use Rattle.tt_session.specs.Room.{refusal_in_session}
-use Rattle.tt_session.specs.Repairing.{unless_refused}
+use Rattle.tt_session.specs.Repairing.{unless_refused, other_worker, unless_of_another}
 use Rattle.tt_session.specs.Reading.{read, selected_by, previewed_by}
 use Rattle.tt_session.specs.ToldRequests.{no_generation, forgotten_in, asks_for_forgotten, read_at, read_in, read_as_told, missing_if_idle, unless_missing, own_edit}
 use Rattle.tt_session.specs.Forgetting.{unless_forget_refused}
-use Rattle.tt_session.specs.Commands.{written, carried_out, moved_to, unless_moved}
+use Rattle.tt_session.specs.Commands.{written, repair_worker_told, carried_out, moved_to, unless_moved}
 use Rattle.tt_session.specs.Invariants.{IsOpenSession}
 use Rattle.tt_session.specs.Laws.{answers_lines, OtherErrorsAnswerNoLine}
 use Rattle.tt_session.proofs.StepLemmas.{room-test}
@@ -61,6 +61,10 @@ same-refusal e a error is = cc
 moved-is : (now : Option ℕ) (outcome : Result Answered Refusal) (error : DbError) → unless_moved now outcome ≡ Err (refusals.Event error) → outcome ≡ Err (refusals.Event error)
 moved-is None outcome error is = is
 moved-is (Some now) outcome error is = cc
+
+another-is : (worker : Option ℕ) (outcome : Result Answered Refusal) (error : DbError) → unless_of_another worker outcome ≡ Err (refusals.Event error) → outcome ≡ Err (refusals.Event error)
+another-is None outcome error is = is
+another-is (Some worker) outcome error is = cc
 
 -- ---- the refusals of each command
 
@@ -170,9 +174,9 @@ error-of session worker (commands.Begin told) error sound judged is =
     (refusal-is (refusal_in_session db (events.Begin edits)) _ error (missing-is (missing_if_idle session told.edits) _ error is))
 error-of session worker (commands.Read q at generation page) error sound judged is = read-as-told-error session worker q generation at page error is
 error-of session worker (commands.Preview q page) error sound judged is = preview-error session page (right_preview_of session.database q) error is
-error-of session worker (commands.Step most) error sound judged is = idle-error (state_in session).phase _ error is
-error-of session worker commands.Finish error sound judged is = idle-error (state_in session).phase _ error is
-error-of session worker commands.Abort error sound judged is = idle-error (state_in session).phase _ error is
+error-of session worker (commands.Step most told) error sound judged is = idle-error (state_in session).phase _ error is
+error-of session worker (commands.Finish told) error sound judged is = idle-error (state_in session).phase _ error is
+error-of session worker (commands.Abort told) error sound judged is = idle-error (state_in session).phase _ error is
 error-of session worker commands.NextChanges error sound judged is = idle-error (state_in session).phase _ error is
 error-of session worker commands.Status error sound judged is = cc
 error-of session worker (commands.Slots from to by row) error sound judged is = cc
@@ -182,5 +186,6 @@ error-of session worker (commands.Forget time) error sound judged is = forget-er
 
 pub other_errors_answer_no_line : OtherErrorsAnswerNoLine
 other_errors_answer_no_line session value request error sound read is =
-    error-of session request.worker request.command error sound (requests_are_judged (grammar_of session.version) session.database.catalog value request read)
-    (moved-is (moved_to session.numbering (now_in session.database) request.expected) (carried_out session request.worker request.command) error is)
+    error-of session request.worker request.command error sound (requests_are_judged newest_version session.database.catalog value request read)
+    (another-is (other_worker (repair_worker_told request.command) (repair_worker_of session.database)) (carried_out session request.worker request.command) error
+    (moved-is (moved_to session.numbering (now_in session.database) request.expected) _ error is))

@@ -10,10 +10,8 @@ use Rattle.tt_db.specs.declared.event.Event.TheVariants as events
 use Rattle.tt_db.specs.declared.errors.DbError.{DbError}
 use Rattle.tt_db.specs.declared.errors.ReadError.{ReadError}
 use Rattle.tt_db.specs.State.{slots_left, unless_repairing}
-use Rattle.tt_db.specs.Database.{Database, now_in, right_preview_of, state_of}
+use Rattle.tt_db.specs.Database.{Database, now_in, repair_worker_of, right_preview_of, state_of}
 use Rattle.tt_grammar.specs.declared.fault.DocFault.{DocFault}
-use Rattle.tt_grammar.specs.declared.session_version.SessionVersion.{SessionVersion}
-use Rattle.tt_grammar.specs.SessionVersion.{grammar_of, newest_of_sessions}
 use Rattle.tt_grammar.specs.Version.{newest_version}
 use Rattle.tt_records.specs.declared.record.Record.{Record}
 use Rattle.tt_requests.specs.declared.opening.Opening.{Opening}
@@ -28,16 +26,16 @@ use Rattle.tt_requests.specs.Lines.{is_passed_over, is_too_long}
 use Rattle.tt_requests.specs.LineValue.{value_of_line}
 use Rattle.tt_requests.specs.Opening.{opening_of}
 use Rattle.tt_requests.specs.Requests.{request_of}
-use Rattle.tt_requests.proofs.NewestVersionLemmas.{requests_read_the_same}
+use Rattle.tt_requests.specs.SessionLine.{is_opening}
 use Rattle.tt_answers.specs.declared.answer.Refusal.{Refusal}
 use Rattle.tt_answers.specs.declared.answer.Refusal.TheVariants as refusals
 use Rattle.tt_answers.specs.declared.answer.Answer.TheVariants as answers
 use Rattle.tt_answers.specs.AnswerText.{opening_text}
 use Rattle.tt_session.specs.declared.session.Session.{Session}
-use Rattle.tt_session.specs.declared.session.Session.TheVariants.{NotOpen, Restored, Open}
+use Rattle.tt_session.specs.declared.session.Session.TheVariants.{NotOpen, Open}
 use Rattle.tt_session.specs.Answers.{Answered}
 use Rattle.tt_session.specs.Answering.{LineRead, forgets_by, turn_without_log, turn_of_read, turns_of}
-use Rattle.tt_session.specs.Commands.{asks_read_only, is_read_only, carried_out, moved_to, outcome_of_request, unless_moved}
+use Rattle.tt_session.specs.Commands.{asks_read_only, is_read_only, repair_worker_told, carried_out, moved_to, outcome_of_request, unless_moved}
 use Rattle.tt_session.specs.Changing.{entries_of, horizon_of, changes_database}
 use Rattle.tt_session.specs.LogLines.{lines_of_log}
 use Rattle.tt_session.specs.Logged.{with_line_if, logged_by, makes_log_anew, log_next, log_after}
@@ -46,14 +44,15 @@ use Rattle.tt_session.specs.ToldRequests.{forgotten_in, asks_for_forgotten, read
 use Rattle.tt_session.specs.Changes.{forgotten_by}
 use Rattle.tt_session.specs.Forgetting.{forgetting_of, forget_refusal, forgets_nothing, forgotten_answer, unless_forget_refused, forget}
 use Rattle.tt_session.specs.Reopening.{asks_for, reopened_by}
-use Rattle.tt_session.specs.Repairing.{entry_by, status_of, unless_refused, with_event, with_steps, with_all_steps}
-use Rattle.tt_session.specs.Restoring.{BeginsLog, as_newest, repeated, repeated_all, ReadsLog, restored, IsAlike, IsLike, IsLogOf, NewLogsAreRead, LogsAreReadBack}
+use Rattle.tt_session.specs.Repairing.{entry_by, status_of, unless_refused, other_worker, unless_of_another, with_event, with_steps, with_all_steps}
+use Rattle.tt_session.specs.Restoring.{repeated, ReadsLog, restored, IsAlike, IsLike, IsLogOf, NewLogsAreRead, LogsAreReadBack}
 use Rattle.tt_session.specs.Room.{refusal_in_session}
 use Rattle.tt_session.specs.Run.{Turn, turn_by_opening, turn_by_outcome, turn_by_reopening, turn_by_request, turn_by_value, turn_without_memory}
 use Rattle.tt_session.specs.Session.{OpenSession, Forgetting, request_in, state_in, counted, opened}
 use Rattle.tt_session.proofs.TogetherLemmas.{open-same}
 use Rattle.tt_session.proofs.LoggedLemmas.{same-entries, same-next}
 use Rattle.tt_session.proofs.RestoringLemmas.{reads-push, read-value}
+use Rattle.tt_session.proofs.TurnLemmas.{turn-request, reopening-next}
 
 -- ---- what becomes of the database, and of how its numbers are told
 
@@ -170,9 +169,9 @@ carried-goes session worker (commands.Preview q page) = inl (previewed-stays ses
 carried-goes session worker (commands.Begin told) =
     let event = events.Begin (map (own_edit session.numbering) told.edits) in
     missing-goes (base_of session) (missing_if_idle session told.edits) _ (refused-goes (base_of session) (refusal_in_session session.database event) _ (begin-goes (base_of session) worker _ event))
-carried-goes session worker (commands.Step most) = refused-goes (base_of session) (unless_repairing (state_in session).phase) _ (steps-go (base_of session) worker _)
-carried-goes session worker commands.Finish = refused-goes (base_of session) (unless_repairing (state_in session).phase) _ (switch-goes (base_of session) worker)
-carried-goes session worker commands.Abort = refused-goes (base_of session) (unless_repairing (state_in session).phase) _ (event-goes (base_of session) worker events.Abort)
+carried-goes session worker (commands.Step most told) = refused-goes (base_of session) (unless_repairing (state_in session).phase) _ (steps-go (base_of session) worker _)
+carried-goes session worker (commands.Finish told) = refused-goes (base_of session) (unless_repairing (state_in session).phase) _ (switch-goes (base_of session) worker)
+carried-goes session worker (commands.Abort told) = refused-goes (base_of session) (unless_repairing (state_in session).phase) _ (event-goes (base_of session) worker events.Abort)
 carried-goes session worker commands.Status = inl refl
 carried-goes session worker (commands.Slots from to by row) = inl refl
 carried-goes session worker commands.Changes = inl refl
@@ -184,9 +183,13 @@ moved-goes : (base : Base) (now : Option ℕ) (outcome : Result Answered Refusal
 moved-goes base None outcome goes = goes
 moved-goes base (Some now) outcome goes = inl refl
 
--- it is the same whatever the version, the records and the number of the call
-abbrev session_of : Base → SessionVersion → List Record → ℕ → ℕ → OpenSession
-session_of base version records most calls = record { version = version; database = base.database; numbering = base.numbering; records = records; most_records = most; calls = calls }
+another-goes : (base : Base) (worker : Option ℕ) (outcome : Result Answered Refusal) → Goes base (outcome_base base outcome) → Goes base (outcome_base base (unless_of_another worker outcome))
+another-goes base None outcome goes = goes
+another-goes base (Some worker) outcome goes = inl refl
+
+-- it is the same whatever the records, the number of the call and the openings
+abbrev session_of : Base → Bool → List Record → ℕ → ℕ → OpenSession
+session_of base has_opening records most calls = record { has_opening = has_opening; database = base.database; numbering = base.numbering; records = records; most_records = most; calls = calls }
 
 refused-same : (base : Base) (refusal : Option DbError) (a b : Answered) → base_of a.session ≡ base_of b.session → outcome_base base (unless_refused refusal a) ≡ outcome_base base (unless_refused refusal b)
 refused-same base None a b same = same
@@ -200,7 +203,7 @@ forget-same : (base : Base) (refusal : Option Refusal) (a b : Answered) → base
 forget-same base None a b same = same
 forget-same base (Some refusal) a b same = refl
 
-module _ (base : Base) (v w : SessionVersion) (r q : List Record) (m l n k : ℕ) where
+module _ (base : Base) (v w : Bool) (r q : List Record) (m l n k : ℕ) where
   abbrev one : OpenSession
   one = session_of base v r m n
 
@@ -224,9 +227,9 @@ module _ (base : Base) (v w : SessionVersion) (r q : List Record) (m l n k : ℕ
   carried-same worker (commands.Preview q page) = previewed-stays one page (right_preview_of base.database q) ∙ sym (previewed-stays other page (right_preview_of base.database q))
   carried-same worker (commands.Begin told) =
       missing-same base (missing_if_idle one told.edits) _ _ (refused-same base (refusal_in_session base.database (events.Begin (map (own_edit base.numbering) told.edits))) _ _ refl)
-  carried-same worker (commands.Step most) = refused-same base (unless_repairing (state_in one).phase) _ _ refl
-  carried-same worker commands.Finish = refused-same base (unless_repairing (state_in one).phase) _ _ refl
-  carried-same worker commands.Abort = refused-same base (unless_repairing (state_in one).phase) _ _ refl
+  carried-same worker (commands.Step most told) = refused-same base (unless_repairing (state_in one).phase) _ _ refl
+  carried-same worker (commands.Finish told) = refused-same base (unless_repairing (state_in one).phase) _ _ refl
+  carried-same worker (commands.Abort told) = refused-same base (unless_repairing (state_in one).phase) _ _ refl
   carried-same worker commands.Status = refl
   carried-same worker (commands.Slots from to by row) = refl
   carried-same worker commands.Changes = refl
@@ -238,18 +241,25 @@ module _ (base : Base) (v w : SessionVersion) (r q : List Record) (m l n k : ℕ
   moved-same None a b same = same
   moved-same (Some now) a b same = refl
 
+  another-same : (worker : Option ℕ) (a b : Result Answered Refusal) → outcome_base base a ≡ outcome_base base b → outcome_base base (unless_of_another worker a) ≡ outcome_base base (unless_of_another worker b)
+  another-same None a b same = same
+  another-same (Some worker) a b same = refl
+
 abbrev request_base : OpenSession → Result Request DocFault → Base
 request_base session (Err fault) = base_of session
 request_base session (Ok request) = outcome_base (base_of session) (outcome_of_request session request)
 
 request-goes : (session : OpenSession) (asked : Result Request DocFault) → Goes (base_of session) (request_base session asked)
 request-goes session (Err fault) = inl refl
-request-goes session (Ok request) = moved-goes (base_of session) (moved_to session.numbering (now_in session.database) request.expected) _ (carried-goes session request.worker request.command)
+request-goes session (Ok request) =
+    moved-goes (base_of session) (moved_to session.numbering (now_in session.database) request.expected) _
+    (another-goes (base_of session) (other_worker (repair_worker_told request.command) (repair_worker_of session.database)) _ (carried-goes session request.worker request.command))
 
-request-same : (base : Base) (v w : SessionVersion) (r q : List Record) (m l n k : ℕ) (asked : Result Request DocFault) → request_base (session_of base v r m n) asked ≡ request_base (session_of base w q l k) asked
+request-same : (base : Base) (v w : Bool) (r q : List Record) (m l n k : ℕ) (asked : Result Request DocFault) → request_base (session_of base v r m n) asked ≡ request_base (session_of base w q l k) asked
 request-same base v w r q m l n k (Err fault) = refl
 request-same base v w r q m l n k (Ok request) =
-    moved-same base v w r q m l n k (moved_to base.numbering (now_in base.database) request.expected) _ _ (carried-same base v w r q m l n k request.worker request.command)
+    moved-same base v w r q m l n k (moved_to base.numbering (now_in base.database) request.expected) _ _
+    (another-same base v w r q m l n k (other_worker (repair_worker_told request.command) (repair_worker_of base.database)) _ _ (carried-same base v w r q m l n k request.worker request.command))
 
 -- the session after a request is open, and this is what becomes of its database
 record Next (session : OpenSession) (asked : Result Request DocFault) : Type 0 where
@@ -277,14 +287,18 @@ moved-stays : (base : Base) (now : Option ℕ) (outcome : Result Answered Refusa
 moved-stays base None outcome same = same
 moved-stays base (Some now) outcome same = refl
 
+another-stays : (base : Base) (worker : Option ℕ) (outcome : Result Answered Refusal) → outcome_base base outcome ≡ base → outcome_base base (unless_of_another worker outcome) ≡ base
+another-stays base None outcome same = same
+another-stays base (Some worker) outcome same = refl
+
 carried-stays : (session : OpenSession) (worker : ℕ) (command : Command) → is_read_only command ≡ true → outcome_base (base_of session) (carried_out session worker command) ≡ base_of session
 carried-stays session worker (commands.Write action) reads = cc
 carried-stays session worker (commands.Read q at generation page) reads = read-stays session worker q generation at page
 carried-stays session worker (commands.Preview q page) reads = previewed-stays session page (right_preview_of session.database q)
 carried-stays session worker (commands.Begin told) reads = cc
-carried-stays session worker (commands.Step most) reads = cc
-carried-stays session worker commands.Finish reads = cc
-carried-stays session worker commands.Abort reads = cc
+carried-stays session worker (commands.Step most told) reads = cc
+carried-stays session worker (commands.Finish told) reads = cc
+carried-stays session worker (commands.Abort told) reads = cc
 carried-stays session worker commands.Status reads = refl
 carried-stays session worker (commands.Slots from to by row) reads = refl
 carried-stays session worker commands.Changes reads = refl
@@ -294,7 +308,9 @@ carried-stays session worker (commands.Forget time) reads = cc
 
 request-stays : (session : OpenSession) (asked : Result Request DocFault) → asks_read_only asked ≡ true → request_base session asked ≡ base_of session
 request-stays session (Err fault) reads = refl
-request-stays session (Ok request) reads = moved-stays (base_of session) (moved_to session.numbering (now_in session.database) request.expected) _ (carried-stays session request.worker request.command reads)
+request-stays session (Ok request) reads =
+    moved-stays (base_of session) (moved_to session.numbering (now_in session.database) request.expected) _
+    (another-stays (base_of session) (other_worker (repair_worker_told request.command) (repair_worker_of session.database)) _ (carried-stays session request.worker request.command reads))
 
 reads-base : (session next : OpenSession) (asked : Result Request DocFault) → Open next ≡ (turn_by_request session asked).session → asks_read_only asked ≡ true → base_of next ≡ base_of session
 reads-base session next asked is reads =
@@ -309,8 +325,8 @@ reads-tell session next asked is reads = ap (λ (b : Base). b.numbering) (reads-
 
 two-requests : (s t : OpenSession) (asked : Result Request DocFault) → base_of t ≡ base_of s → request_base (counted t) asked ≡ request_base (counted s) asked
 two-requests s t asked same =
-    request-same (base_of t) t.version s.version t.records s.records t.most_records s.most_records (t.calls + 1) (s.calls + 1) asked
-    ∙ ap (λ (base : Base). request_base (session_of base s.version s.records s.most_records (s.calls + 1)) asked) same
+    request-same (base_of t) t.has_opening s.has_opening t.records s.records t.most_records s.most_records (t.calls + 1) (s.calls + 1) asked
+    ∙ ap (λ (base : Base). request_base (session_of base s.has_opening s.records s.most_records (s.calls + 1)) asked) same
 
 -- ---- a session that was read back beside one that goes on
 
@@ -322,12 +338,10 @@ alike-base s t like = λ i. record { database = like.database i; numbering = lik
 
 like-entries : (read session : Session) → IsLike read session → entries_of read ≡ entries_of session
 like-entries read NotOpen m = ap entries_of m
-like-entries read (Restored session) m = ap entries_of m.1 ∙ ap (λ (db : Database). length db.history + 1) m.2.database
 like-entries read (Open session) m = ap entries_of m.1 ∙ ap (λ (db : Database). length db.history + 1) m.2.database
 
 like-horizon : (read session : Session) → IsLike read session → horizon_of read ≡ horizon_of session
 like-horizon read NotOpen m = ap horizon_of m
-like-horizon read (Restored session) m = ap horizon_of m.1 ∙ ap (λ (n : Numbering). n.horizon) m.2.numbering
 like-horizon read (Open session) m = ap horizon_of m.1 ∙ ap (λ (n : Numbering). n.horizon) m.2.numbering
 
 -- after a line: it changes nothing, and the two still match; or it makes one, and they match once it is replayed
@@ -339,30 +353,34 @@ opening-follows : (asked : Result Opening DocFault) → Follows NotOpen NotOpen 
 opening-follows (Err fault) = inl (refl, refl)
 opening-follows (Ok opening) = inr ((opened opening, refl, record { database = refl; numbering = refl }), refl)
 
-abbrev reopened : OpenSession → Opening → Bool → Turn
-reopened session opening asks =
-    cond asks (record { text = opening_text session.numbering (answers.Standing (status_of session.database)); session = Open (reopened_by session opening) })
-    (record { text = opening_text session.numbering (answers.Refused refusals.AnotherOpening); session = Restored session })
+-- an opening leaves an open session as far as it was
+reopening-follows : (replayed : Session) (session : OpenSession) (again : Session) (asked : Result Opening DocFault) → IsLike replayed (Open session)
+    → Follows replayed (Open session) again (turn_by_reopening session asked).session
+reopening-follows replayed session again asked m =
+    let n = reopening-next session asked in
+    subst (λ next. Follows replayed (Open session) again next) (sym n.is)
+    (inl (
+      (m.0, m.1, record { database = m.2.database ∙ sym n.database; numbering = m.2.numbering ∙ sym n.numbering }),
+      same-entries (Open session) (Open n.next) (ap (λ (db : Database). length db.history + 1) n.database) (ap (λ (told : Numbering). told.horizon) n.numbering),
+    ))
 
-reopening-follows : (replayed : Session) (session : OpenSession) (again : Session) (asked : Result Opening DocFault) → IsLike replayed (Restored session)
-    → Follows replayed (Restored session) again (turn_by_reopening session asked).session
-reopening-follows replayed session again (Err fault) m = inl (m, same-entries (Restored session) (Restored session) refl refl)
-reopening-follows replayed session again (Ok opening) m = go (asks_for opening session.database)
+-- two open sessions with the same database, whose numbers are told alike, are asked the same
+request-follows : (replayed : Session) (s t : OpenSession) (value : Result Data DocFault) → replayed ≡ Open t → base_of t ≡ base_of s → is_opening value ≡ false
+    → Follows replayed (Open s) (turn_by_value replayed value).session (turn_by_request (counted s) (request_in s value)).session
+request-follows replayed s t value is same no_opening =
+    let asked = request_in s value in
+    let tables : t.database.catalog ≡ s.database.catalog = ap (λ (base : Base). base.database.catalog) same in
+    let theirs_is : request_in t value ≡ asked = ap (λ ts. request_of newest_version ts value) tables in
+    let one = request-next (counted s) asked in
+    let other = request-next (counted t) asked in
+    let bases : base_of other.next ≡ base_of one.next = other.base ∙ two-requests s t asked same ∙ sym one.base in
+    let again_is : again ≡ Open other.next =
+    ap (λ x. (turn_by_value x value).session) is ∙ ap (λ (turn : Turn). turn.session) (turn-request t value no_opening) ∙ ap (λ r. (turn_by_request (counted t) r).session) theirs_is ∙ other.is in
+    subst (λ next. Follows replayed (Open s) again next) (sym one.is)
+    (go one.next other.next again_is bases (subst (Goes (base_of s)) (sym one.base) (request-goes (counted s) asked)))
   where
-    go : (asks : Bool) → Follows replayed (Restored session) again (reopened session opening asks).session
-    go true = inl ((m.0, m.1, record { database = m.2.database; numbering = m.2.numbering }), same-entries (Restored session) (Open (reopened_by session opening)) refl refl)
-    go false = inl (m, same-entries (Restored session) (Restored session) refl refl)
-
--- two open sessions with the same database, whose numbers are told alike: what the one is asked as of its version, the other is asked as of the newest
-request-follows : (replayed : Session) (s t : OpenSession) (value : Result Data DocFault) → replayed ≡ Open t → base_of t ≡ base_of s
-    → Follows replayed (Open s) (turn_by_value (as_newest replayed) value).session (turn_by_value (Open s) value).session
-request-follows replayed s t value is same = asked (request_in s value) refl
-  where
-    newest : OpenSession
-    newest = record t { version = newest_of_sessions }
-
     again : Session
-    again = (turn_by_value (as_newest replayed) value).session
+    again = (turn_by_value replayed value).session
 
     go : (next theirs : OpenSession) → again ≡ Open theirs → base_of theirs ≡ base_of next → Goes (base_of s) (base_of next) → Follows replayed (Open s) again (Open next)
     go next theirs again_is bases (inl stays) =
@@ -370,40 +388,29 @@ request-follows replayed s t value is same = asked (request_in s value) refl
     go next theirs again_is bases (inr other) =
         inr ((theirs, again_is, base-alike next theirs bases), ap not other)
 
-    asked : (r : Result Request DocFault) → request_in s value ≡ r → Follows replayed (Open s) again (turn_by_request (counted s) (request_in s value)).session
-    asked (Err fault) mine =
-        subst (λ r. Follows replayed (Open s) again (turn_by_request (counted s) r).session) (sym mine)
-        (inl ((t, is, base-alike (counted s) t same), same-entries (Open s) (Open (counted s)) refl refl))
-    asked (Ok request) mine =
-        let tables : t.database.catalog ≡ s.database.catalog = ap (λ (base : Base). base.database.catalog) same in
-        let theirs_is : request_in newest value ≡ Ok request =
-        ap (λ ts. request_of newest_version ts value) tables ∙ requests_read_the_same (grammar_of s.version) s.database.catalog value request mine in
-        let one = request-next (counted s) (Ok request) in
-        let other = request-next (counted newest) (Ok request) in
-        let bases : base_of other.next ≡ base_of one.next = other.base ∙ two-requests s newest (Ok request) same ∙ sym one.base in
-        let again_is : again ≡ Open other.next =
-        ap (λ x. (turn_by_value (as_newest x) value).session) is ∙ ap (λ r. (turn_by_request (counted newest) r).session) theirs_is ∙ other.is in
-        subst (λ r. Follows replayed (Open s) again (turn_by_request (counted s) r).session) (sym mine)
-        (subst (λ next. Follows replayed (Open s) again next) (sym one.is)
-        (go one.next other.next again_is bases (subst (Goes (base_of s)) (sym one.base) (request-goes (counted s) (Ok request)))))
-
 value-follows : (replayed session : Session) (value : Result Data DocFault) → IsLike replayed session
-    → Follows replayed session (turn_by_value (as_newest replayed) value).session (turn_by_value session value).session
+    → Follows replayed session (turn_by_value replayed value).session (turn_by_value session value).session
 value-follows replayed NotOpen value m =
-    subst (λ x. Follows x NotOpen (turn_by_value (as_newest x) value).session (turn_by_opening (opening_of value)).session) (sym m) (opening-follows (opening_of value))
-value-follows replayed (Restored session) value m = reopening-follows replayed session (turn_by_value (as_newest replayed) value).session (opening_of value) m
-value-follows replayed (Open session) value m = request-follows replayed session m.0 value m.1 (alike-base session m.0 m.2)
+    subst (λ x. Follows x NotOpen (turn_by_value x value).session (turn_by_opening (opening_of value)).session) (sym m) (opening-follows (opening_of value))
+value-follows replayed (Open session) value m = go (is_opening value) refl
+  where
+    again : Session
+    again = (turn_by_value replayed value).session
+
+    go : (b : Bool) → is_opening value ≡ b
+        → Follows replayed (Open session) again (cond b (turn_by_reopening session (opening_of value)) (turn_by_request (counted session) (request_in session value))).session
+    go true opening = reopening-follows replayed session again (opening_of value) m
+    go false request = request-follows replayed session m.0 value m.1 (alike-base session m.0 m.2) request
 
 -- a line that is lost changes no database
-lost-follows : (replayed session again : Session) → IsLike replayed session → Follows replayed session again (turn_without_memory session).session
-lost-follows replayed NotOpen again m = inl (m, refl)
-lost-follows replayed (Restored session) again m = inl (m, same-entries (Restored session) (Restored session) refl refl)
-lost-follows replayed (Open session) again m = inl ((m.0, m.1, record { database = m.2.database; numbering = m.2.numbering }), same-entries (Open session) (Open (counted session)) refl refl)
+lost-follows : (was_opening : Bool) (replayed session again : Session) → IsLike replayed session → Follows replayed session again (turn_without_memory was_opening session).session
+lost-follows was_opening replayed NotOpen again m = inl (m, refl)
+lost-follows true replayed (Open session) again m = inl (m, same-entries (Open session) (Open session) refl refl)
+lost-follows false replayed (Open session) again m = inl ((m.0, m.1, record { database = m.2.database; numbering = m.2.numbering }), same-entries (Open session) (Open (counted session)) refl refl)
 
 -- and neither does one for which the log couldn't be made anew
 unlogged-follows : (replayed session again : Session) → IsLike replayed session → Follows replayed session again (turn_without_log session).session
 unlogged-follows replayed NotOpen again m = inl (m, refl)
-unlogged-follows replayed (Restored session) again m = inl (m, same-entries (Restored session) (Restored session) refl refl)
 unlogged-follows replayed (Open session) again m = inl ((m.0, m.1, record { database = m.2.database; numbering = m.2.numbering }), same-entries (Open session) (Open (counted session)) refl refl)
 
 read-follows : (replayed session : Session) (read : LineRead) → IsLike replayed session
@@ -414,18 +421,18 @@ read-follows replayed session read m = passed (is_passed_over read.line) refl
         → Follows replayed session (repeated replayed read.line) (cond b (turn_without_log session) (turn_by_value session (value_of_line read.line))).session
     unlogged true told = unlogged-follows replayed session _ m
     unlogged false told =
-        subst (λ (t : Turn). Follows replayed session t.session (turn_by_value session (value_of_line read.line)).session) (sym (read-value (as_newest replayed) read.line told))
+        subst (λ (t : Turn). Follows replayed session t.session (turn_by_value session (value_of_line read.line)).session) (sym (read-value replayed read.line told))
         (value-follows replayed session (value_of_line read.line) m)
 
     lost : (b : Bool) → is_passed_over read.line ≡ false
         → Follows replayed session (repeated replayed read.line)
-        (cond b (turn_without_memory session) (cond (read.is_unlogged && forgets_by session read.line) (turn_without_log session) (turn_by_value session (value_of_line read.line)))).session
-    lost true told = lost-follows replayed session _ m
+        (cond b (turn_without_memory (read.as_opening && is_opening (value_of_line read.line)) session) (cond (read.is_unlogged && forgets_by session read.line) (turn_without_log session) (turn_by_value session (value_of_line read.line)))).session
+    lost true told = lost-follows (read.as_opening && is_opening (value_of_line read.line)) replayed session _ m
     lost false told = unlogged (read.is_unlogged && forgets_by session read.line) told
 
     passed : (b : Bool) → is_passed_over read.line ≡ b
         → Follows replayed session (repeated replayed read.line)
-        (cond b (record { text = []; session = session }) (cond (not (is_too_long read.line) && read.is_lost) (turn_without_memory session)
+        (cond b (record { text = []; session = session }) (cond (not (is_too_long read.line) && read.is_lost) (turn_without_memory (read.as_opening && is_opening (value_of_line read.line)) session)
         (cond (read.is_unlogged && forgets_by session read.line) (turn_without_log session) (turn_by_value session (value_of_line read.line))))).session
     passed true told = inl (m, same-entries session session refl refl)
     passed false told = lost (not (is_too_long read.line) && read.is_lost) told
@@ -463,51 +470,11 @@ read-back [] others lines session p new = p
 read-back (read ∷ front) others lines session p new =
     read-back front others (log_next lines session read) (turn_of_read session read).session (log-next-read lines session read p new.0) new.1
 
--- a session from lines alone was never read back itself
-abbrev IsAfresh : Session → Type 0
-IsAfresh (Restored session) = ⊥
-IsAfresh session = Unit {0}
-
-value-afresh : (session : Session) (value : Result Data DocFault) → IsAfresh session → IsAfresh (turn_by_value (as_newest session) value).session
-value-afresh NotOpen value fresh = go (opening_of value)
-  where
-    go : (asked : Result Opening DocFault) → IsAfresh (turn_by_opening asked).session
-    go (Err fault) = tt
-    go (Ok opening) = tt
-value-afresh (Restored session) value fresh = absurd fresh
-value-afresh (Open session) value fresh =
-    let newest : OpenSession = record session { version = newest_of_sessions } in subst IsAfresh (sym (request-next (counted newest) (request_in newest value)).is) tt
-
-newest-afresh : (session : Session) → IsAfresh session → IsAfresh (as_newest session)
-newest-afresh NotOpen fresh = tt
-newest-afresh (Restored session) fresh = absurd fresh
-newest-afresh (Open session) fresh = tt
-
-line-afresh : (session : Session) (line : List ℕ) → IsAfresh session → IsAfresh (repeated session line)
-line-afresh session line fresh = go (is_passed_over line) refl
-  where
-    go : (b : Bool) → is_passed_over line ≡ b → IsAfresh (repeated session line)
-    go true told = rw (told, repeated) (newest-afresh session fresh)
-    go false told = subst (λ (t : Turn). IsAfresh t.session) (sym (read-value (as_newest session) line told)) (value-afresh session (value_of_line line) fresh)
-
-lines-afresh : (lines : List (List ℕ)) (session : Session) → IsAfresh session → IsAfresh (repeated_all session lines)
-lines-afresh [] session fresh = fresh
-lines-afresh (line ∷ lines) session fresh = lines-afresh lines (repeated session line) (line-afresh session line fresh)
-
-base-afresh : (first : List (List ℕ)) (base : Session) (left : ℕ) → BeginsLog first base left → IsAfresh base
-base-afresh first NotOpen left begins = tt
-base-afresh first (Restored session) left begins = absurd begins
-base-afresh first (Open session) left begins = tt
-
-read-afresh-log : (lines : List (List ℕ)) (session : Session) (left : ℕ) → ReadsLog lines session left → IsAfresh session
-read-afresh-log lines session left p = subst IsAfresh (sym p.session_is) (lines-afresh p.others p.base (base-afresh p.first p.base left p.begins))
-
-restored-like : (session : Session) → IsAfresh session → IsLike session (restored session)
-restored-like NotOpen fresh = refl
-restored-like (Restored session) fresh = absurd fresh
-restored-like (Open session) fresh = (session, refl, record { database = refl; numbering = refl })
+restored-like : (session : Session) → IsLike session (restored session)
+restored-like NotOpen = refl
+restored-like (Open session) = (session, refl, record { database = refl; numbering = refl })
 
 pub logs_are_read_back : LogsAreReadBack
 logs_are_read_back lines start front others r new =
-    let like = subst (IsLike r.after) (sym r.session_is) (restored-like r.after (read-afresh-log lines r.after 0 r.reads)) in
+    let like = subst (IsLike r.after) (sym r.session_is) (restored-like r.after) in
     read-back front others lines start (record { read = r.after; reads = r.reads; alike = like }) new

@@ -8,7 +8,7 @@ use Rattle.tt_requests.specs.Lines.{is_too_long, is_passed_over, whole_lines_of,
 use Rattle.tt_requests.specs.LineValue.{value_of_line}
 use Rattle.tt_log.specs.Lines as log
 use Rattle.tt_session.specs.declared.session.Session.{Session}
-use Rattle.tt_session.specs.declared.session.Session.TheVariants.{NotOpen, Restored, Open}
+use Rattle.tt_session.specs.declared.session.Session.TheVariants.{NotOpen, Open}
 use Rattle.tt_session.specs.declared.restoring.Restoring.{Restoring}
 use Rattle.tt_session.specs.declared.restoring.RestoreFault.{RestoreFault}
 use Rattle.tt_session.specs.declared.restoring.RestoreFault.TheVariants as faults
@@ -22,7 +22,7 @@ use Rattle.tt_session.specs.Run.{Turn, begun, turn_by_value, turn_of_long_line}
 use Rattle.tt_session.specs.Answering.{turn_of_read}
 use Rattle.tt_session.specs.Changing.{changes_database}
 use Rattle.tt_session.specs.Together.{kept_line}
-use Rattle.tt_session.specs.Restoring.{opened_on, with_ground, laid_by, laid_by_lines, as_newest, repeated, repeated_all, AllChange, LaysGround, BeginsLog, ReadsLog, restored, Restores, IsNoGround, IsNoNext, IsNoLine}
+use Rattle.tt_session.specs.Restoring.{opened_on, with_ground, laid_by, laid_by_lines, repeated, repeated_all, AllChange, LaysGround, BeginsLog, ReadsLog, restored, Restores, IsNoGround, IsNoNext, IsNoLine}
 use Rattle.tt_session.specs.declared.restoring.OpenLog.{OpenLog}
 use Rattle.tt_session.specs.RestoringRun.{IsRestoring, FailsAtLine, FailsIn, IsNextOrNot, OpensBy}
 use Rattle.tt_session.proofs.AnsweringLemmas.{read-long, read-kept, whole_lines_of-joined, whole_lines_of-line}
@@ -221,20 +221,18 @@ long-value line long = rw long refl
 
 long-none : (session : Session) (line : List ℕ) → is_too_long line ≡ true → IsNoGround session line
 long-none NotOpen line long = tt
-long-none (Restored session) line long = tt
 long-none (Open session) line long = ap (λ v. with_ground session (ground_action_of session.database.catalog v)) (long-value line long)
 
-long-stays : (session : Session) → changes_database session (turn_of_long_line (as_newest session)).session ≡ false
+long-stays : (session : Session) → changes_database session (turn_of_long_line session).session ≡ false
 long-stays NotOpen = same-entries NotOpen NotOpen refl refl
-long-stays (Restored session) = same-entries (Restored session) (Restored session) refl refl
-long-stays (Open session) = same-entries (Open session) (turn_of_long_line (as_newest (Open session))).session refl refl
+long-stays (Open session) = same-entries (Open session) (turn_of_long_line (Open session)).session refl refl
 
 pub fails-long : (given : List ℕ) (old : Restoring) (p : IsRestoring given old) (number : ℕ) → number ≡ old.count + 1 → is_too_long p.left ≡ true → FailsAtLine (given ++ 10 ∷ []) number
 fails-long given old p number number_is long =
     let session = begun old.session in
     fails-at given old p number number_is (record {
       no_ground = λ some. long-none session p.left long;
-      no_change = λ none. ap (λ (t : Turn). changes_database session t.session) (read-long (as_newest session) p.left long) ∙ long-stays session;
+      no_change = λ none. ap (λ (t : Turn). changes_database session t.session) (read-long session p.left long) ∙ long-stays session;
       no_opening = λ closed. subst (λ v. IsErr (log_opening_of v)) (sym (long-value p.left long)) refl;
     })
 

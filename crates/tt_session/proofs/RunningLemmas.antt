@@ -7,7 +7,7 @@ use Rattle.std.proofs.lemmas.List.Folds.{list_all-append}
 use Rattle.std.specs.List.{list_all}
 use Rattle.tt_requests.specs.Lines.{is_passed_over}
 use Rattle.tt_session.specs.declared.session.Session.{Session}
-use Rattle.tt_session.specs.declared.session.Session.TheVariants.{NotOpen, Restored, Open}
+use Rattle.tt_session.specs.declared.session.Session.TheVariants.{NotOpen, Open}
 use Rattle.tt_session.specs.declared.run.Run.{Run}
 use Rattle.tt_session.specs.Lines.{HasBytes, has_no_feed, joined}
 use Rattle.tt_requests.specs.LineValue.{value_of_line}
@@ -16,6 +16,7 @@ use Rattle.tt_session.specs.declared.terms.Terms.{Terms}
 use Rattle.tt_session.specs.declared.commands.ForgetRequest.{ForgetRequest}
 use Rattle.tt_session.specs.declared.open_session.ready_to_forget.ReadyToForget.{ReadyToForget}
 use Rattle.tt_session.specs.declared.short_answer.ShortAnswer.TheVariants as shorts
+use Rattle.tt_session.specs.declared.lost_line.LostLine.TheVariants as losts
 use Rattle.tt_session.specs.ShortAnswers.{short_text}
 use Rattle.tt_session.specs.Session.{OpenSession, Forgetting, request_in, terms_of, counted}
 use Rattle.tt_session.specs.Changes.{forgotten_by}
@@ -31,6 +32,7 @@ use Rattle.tt_session.specs.Together.{kept_line, lost_line, unlogged_line, Answe
 use Rattle.tt_session.specs.Running.{Handing, Stands, Cuts, Serves, Rests, Halts, Takes, StopsIn, AnswersOne, StopsAt, HandsOver, StopsBetween, StandsOn, IsShort, HandsOverShort, StopsInShort}
 use Rattle.tt_session.proofs.AnsweringLemmas.{turns_of-append, joined-append, read-kept, read-lost, read-unlogged}
 use Rattle.tt_session.proofs.LineLemmas.{feed-more, rest_of}
+use Rattle.tt_session.proofs.TurnLemmas.{turn-request, asked-request}
 use Rattle.tt_session.specs.ForgetRequests.{IsForgetRequest, turn_of_forget, TurnsForget, Prepares, AsksToForget, AnswersPlain}
 use Rattle.tt_session.proofs.LoggedLemmas.{IsAsFar, with-nil, logged_of-append, none-logged, same-logged, same-next, plain-far, plain-append}
 
@@ -142,13 +144,12 @@ one-kept handed has_log outlet old new told first start reads bytes has p sessio
 -- a short answer
 pub long-as-far : (session : Session) → IsAsFar session (turn_of_long_line session).session
 long-as-far NotOpen = (refl, refl)
-long-as-far (Restored session) = (refl, refl)
 long-as-far (Open session) = (refl, refl)
 
-pub lost-as-far : (session : Session) → IsAsFar session (turn_without_memory session).session
-lost-as-far NotOpen = (refl, refl)
-lost-as-far (Restored session) = (refl, refl)
-lost-as-far (Open session) = (refl, refl)
+pub lost-as-far : (was_opening : Bool) (session : Session) → IsAsFar session (turn_without_memory was_opening session).session
+lost-as-far was_opening NotOpen = (refl, refl)
+lost-as-far true (Open session) = (refl, refl)
+lost-as-far false (Open session) = (refl, refl)
 
 pub is-short : (start session : Session) (reads : List LineRead) (read : LineRead) (turn : Turn) (text : List ℕ) → session ≡ (turns_of start reads).session → turn_of_read session read ≡ turn
     → read.is_unlogged ≡ false → IsAsFar session turn.session → text ≡ turn.text → IsShort start reads read text
@@ -163,12 +164,12 @@ is-short start session reads read turn text session_is turn_is logged far text_i
 }
 
 -- a line whose short answer is handed over. The run is the old one but for its session, whose call is counted
-pub one-short : {O : Type 0} (handed : Handing O) (has_log : Type 0) (before after : O) (old mid new : Run) (is_lost : Bool) (turn : Turn) (text : List ℕ)
-    → ((bytes : List ℕ) → HasBytes old.line bytes → turn_of_read old.session (record { is_lost = is_lost; is_unlogged = false; line = bytes }) ≡ turn) → IsAsFar old.session turn.session → text ≡ turn.text
+pub one-short : {O : Type 0} (handed : Handing O) (has_log : Type 0) (before after : O) (old mid new : Run) (is_lost as_opening : Bool) (turn : Turn) (text : List ℕ)
+    → ((bytes : List ℕ) → HasBytes old.line bytes → turn_of_read old.session (record { is_lost = is_lost; as_opening = as_opening; is_unlogged = false; line = bytes }) ≡ turn) → IsAsFar old.session turn.session → text ≡ turn.text
     → mid.out.items ≡ old.out.items → mid.workspace.lines ≡ old.workspace.lines → new.session ≡ turn.session → new.out.items ≡ [] → new.workspace.lines ≡ no_lines mid.workspace.lines
     → HandsOverShort handed has_log before after mid text → AnswersOne handed has_log before after old new
-one-short handed has_log before after old mid new is_lost turn text told far text_is out_is lines_are session_is none cleared over first start reads bytes has p start_is =
-    let read : LineRead = record { is_lost = is_lost; is_unlogged = false; line = bytes } in
+one-short handed has_log before after old mid new is_lost as_opening turn text told far text_is out_is lines_are session_is none cleared over first start reads bytes has p start_is =
+    let read : LineRead = record { is_lost = is_lost; as_opening = as_opening; is_unlogged = false; line = bytes } in
     let stands = stands-same handed has_log first before start reads old.out.items mid.out.items old.workspace.lines mid.workspace.lines p out_is lines_are in
     let short = is-short start old.session reads read turn text start_is (told bytes has) refl far text_is in (
       read,
@@ -177,11 +178,11 @@ one-short handed has_log before after old mid new is_lost turn text told far tex
       session-push start old.session new.session reads read start_is (session_is ∙ ap (λ (t : Turn). t.session) (sym (told bytes has))),
     )
 
-pub stops-short : {O : Type 0} (handed stopped : Handing O) (has_log : Type 0) (before after : O) (old mid : Run) (is_lost : Bool) (turn : Turn) (text : List ℕ)
-    → ((bytes : List ℕ) → HasBytes old.line bytes → turn_of_read old.session (record { is_lost = is_lost; is_unlogged = false; line = bytes }) ≡ turn) → IsAsFar old.session turn.session → text ≡ turn.text
+pub stops-short : {O : Type 0} (handed stopped : Handing O) (has_log : Type 0) (before after : O) (old mid : Run) (is_lost as_opening : Bool) (turn : Turn) (text : List ℕ)
+    → ((bytes : List ℕ) → HasBytes old.line bytes → turn_of_read old.session (record { is_lost = is_lost; as_opening = as_opening; is_unlogged = false; line = bytes }) ≡ turn) → IsAsFar old.session turn.session → text ≡ turn.text
     → mid.out.items ≡ old.out.items → mid.workspace.lines ≡ old.workspace.lines → StopsInShort handed stopped has_log before after mid text → StopsAt handed stopped has_log before after old
-stops-short handed stopped has_log before after old mid is_lost turn text told far text_is out_is lines_are stops first start reads bytes has p start_is =
-    let read : LineRead = record { is_lost = is_lost; is_unlogged = false; line = bytes } in
+stops-short handed stopped has_log before after old mid is_lost as_opening turn text told far text_is out_is lines_are stops first start reads bytes has p start_is =
+    let read : LineRead = record { is_lost = is_lost; as_opening = as_opening; is_unlogged = false; line = bytes } in
     let stands = stands-same handed has_log first before start reads old.out.items mid.out.items old.workspace.lines mid.workspace.lines p out_is lines_are in
     let short = is-short start old.session reads read turn text start_is (told bytes has) refl far text_is in
     (read, refl, λ more. stops first start reads read more stands short)
@@ -216,13 +217,14 @@ stops-first handed stopped has_log before after old mid out lines stops first st
 
 -- ---- a line that asks to forget
 
-forget-turn : (session : Session) (bytes : List ℕ) (f : ForgetRequest) (a : AsksToForget session bytes f) → turn_of_read session (kept_line bytes) ≡ turn_of_forget (counted a.opened) f
+pub forget-turn : (session : Session) (bytes : List ℕ) (f : ForgetRequest) (a : AsksToForget session bytes f) → turn_of_read session (kept_line bytes) ≡ turn_of_forget (counted a.opened) f
 forget-turn session bytes f a =
     ap (λ s. turn_of_read s (kept_line bytes)) a.session_is ∙ read-kept (Open a.opened) bytes ∙ value-turn a.opened bytes f a.told a.asks
   where
     value-turn : (s : OpenSession) (line : List ℕ) (g : ForgetRequest) → is_passed_over line ≡ false → IsForgetRequest (request_in s (value_of_line line)) g
         → turn_with_memory (Open s) line ≡ turn_of_forget (counted s) g
-    value-turn s line g told asks = rw told (ap (turn_by_request (counted s)) asks.1)
+    value-turn s line g told asks =
+        rw told (turn-request s (value_of_line line) (asked-request s (value_of_line line) _ asks.1)) ∙ ap (turn_by_request (counted s)) asks.1
 
 -- it is refused, or nothing is left to forget
 pub one-stays : {O : Type 0} (handed : Handing O) (has_log : Type 0) (outlet : O) (old new : Run) (f : ForgetRequest) → ((bytes : List ℕ) → HasBytes old.line bytes → AsksToForget old.session bytes f)
@@ -257,7 +259,9 @@ is-ready handed has_log first outlet after start reads bytes old mid run f ready
   asks = ap asks_to_forget a.asks.1;
   short = a.short;
   told = a.told;
-  turn = ap (turn_by_request (counted a.opened)) a.asks.1 ∙ turns.0;
+  turn =
+      turn-request a.opened (value_of_line bytes) (asked-request a.opened (value_of_line bytes) _ a.asks.1)
+      ∙ ap (turn_by_request (counted a.opened)) a.asks.1 ∙ turns.0;
   anew = turns.1;
   is_handed = given;
   out = out;
@@ -336,9 +340,9 @@ forgets-one handed has_log first before after start over line old new ready read
 
 -- the answer without memory to a line by which a session would forget something
 pub short-lost : {O : Type 0} (handed : Handing O) (has_log : Type 0) (first outlet : O) (start : Session) (over : List LineRead) (line : List ℕ) (run : Run) (ready : ReadyToForget) (text : List ℕ)
-    → IsReady handed has_log first outlet start over line run ready → text ≡ short_text (shorts.CallOutOfMemory (calls_of run.session)) → IsShort start over (lost_line line) text
+    → IsReady handed has_log first outlet start over line run ready → text ≡ short_text (shorts.CallOutOfMemory (calls_of run.session)) → IsShort start over (lost_line losts.Request line) text
 short-lost handed has_log first outlet start over line run ready text p text_is =
-    is-short start (Open p.session) over (lost_line line) (turn_without_memory (Open p.session)) text (sym p.before) (read-lost (Open p.session) line p.told p.short) refl (refl, refl)
+    is-short start (Open p.session) over (lost_line losts.Request line) (turn_without_memory false (Open p.session)) text (sym p.before) (read-lost losts.Request (Open p.session) line p.told p.short tt) refl (refl, refl)
     (text_is ∙ ap (λ s. short_text (shorts.CallOutOfMemory (calls_of s))) p.counted_is)
 
 -- nothing is kept behind what is handed over
@@ -381,8 +385,8 @@ pub forgets-lost : {O : Type 0} (handed : Handing O) (has_log : Type 0) (first b
 forgets-lost handed has_log first before between after start over line old new ready text p given text_is over_short session out lines =
     let short = short-lost handed has_log first before start over line old ready text p text_is in
     let stands = stands-ready handed has_log first between start over old.out.items old.workspace.lines given p.out p.lines in
-    forgets-one handed has_log first before after start over line old new ready (lost_line line) p refl (over_short first start over (lost_line line) stands short)
-    (session ∙ p.counted_is ∙ ap (λ (t : Turn). t.session) (sym (read-lost (Open p.session) line p.told p.short)) ∙ ap (λ s. (turn_of_read s (lost_line line)).session) (sym p.before))
+    forgets-one handed has_log first before after start over line old new ready (lost_line losts.Request line) p refl (over_short first start over (lost_line losts.Request line) stands short)
+    (session ∙ p.counted_is ∙ ap (λ (t : Turn). t.session) (sym (read-lost losts.Request (Open p.session) line p.told p.short tt)) ∙ ap (λ s. (turn_of_read s (lost_line losts.Request line)).session) (sym p.before))
     out (λ log. lines ∙ ap no_lines (p.lines log))
 
 pub stops-lost : {O : Type 0} (handed stopped : Handing O) (has_log : Type 0) (first before between after : O) (start : Session) (over : List LineRead) (line : List ℕ) (old : Run) (ready : ReadyToForget) (text : List ℕ)
@@ -391,7 +395,7 @@ pub stops-lost : {O : Type 0} (handed stopped : Handing O) (has_log : Type 0) (f
 stops-lost handed stopped has_log first before between after start over line old ready text p given text_is stops =
     let short = short-lost handed has_log first before start over line old ready text p text_is in
     let stands = stands-ready handed has_log first between start over old.out.items old.workspace.lines given p.out p.lines in
-    (lost_line line, refl, λ more. stops first start over (lost_line line) more stands short)
+    (lost_line losts.Request line, refl, λ more. stops first start over (lost_line losts.Request line) more stands short)
 
 -- ---- whole lines, and the bytes of the next one
 

@@ -1,5 +1,5 @@
 -- Lines that are answered together.
-use Rattle.std.proofs.Common.{◌≡◌, ℕ, ◌+◌, ◌-◌, ◌<◌, ◌≤◌, false, List, [], ◌∷◌, ◌++◌, length, take, drop, map, append-nil, append_assoc, length-append, length-take, length-drop, Option, Result, Ok, Err, refl, sym, ap, ◌∙◌, subst, arith}
+use Rattle.std.proofs.Common.{◌≡◌, ℕ, ◌+◌, ◌-◌, ◌<◌, ◌≤◌, Bool, true, false, if◌then◌else◌, List, [], ◌∷◌, ◌++◌, length, take, drop, map, append-nil, append_assoc, length-append, length-take, length-drop, Option, Result, Ok, Err, refl, sym, ap, ◌∙◌, subst, arith}
 use Rattle.std.proofs.Math.Seq.{take-add, take-nil, take-append_seam}
 use Rattle.std.proofs.lemmas.Bool.{and_from}
 use Rattle.std.proofs.lemmas.List.{map-append, take_rest, take-take}
@@ -9,8 +9,14 @@ use Rattle.tt_grammar.specs.declared.fault.DocFault.{DocFault}
 use Rattle.tt_records.specs.declared.record.Record.{Record}
 use Rattle.tt_requests.specs.declared.request.Request.{Request}
 use Rattle.tt_requests.specs.LineValue.{value_of_line}
+use Rattle.tt_requests.specs.Opening.{opening_of}
+use Rattle.serde_json.specs.Data.{Data}
 use Rattle.tt_grammar.specs.declared.version.Version.{Version}
-use Rattle.tt_grammar.specs.SessionVersion.{grammar_of}
+use Rattle.tt_requests.specs.Requests.{request_of}
+use Rattle.tt_requests.specs.declared.session_line.SessionLine.TheVariants as lines
+use Rattle.tt_requests.specs.SessionLine.{is_opening, session_line_of}
+use Rattle.tt_db.specs.Database.{Database}
+use Rattle.tt_numbers.specs.Numbers.{Numbering}
 use Rattle.tt_session.specs.declared.session.Session.{Session}
 use Rattle.tt_session.specs.declared.session.Session.TheVariants.{Open}
 use Rattle.tt_session.specs.Answering.{LineRead, turn_of_read, turns_of}
@@ -21,12 +27,13 @@ use Rattle.tt_session.specs.ForgetRequests.{AnswersPlain}
 use Rattle.tt_session.specs.Commands.{reads_records, asks_for_records, is_forget, asks_to_forget}
 use Rattle.tt_session.specs.Lines.{joined, has_no_feed}
 use Rattle.tt_session.specs.Logged.{logged_by, logged_of, ArePlain, with_lines}
-use Rattle.tt_session.specs.Run.{Turn, turn_by_request, turn_with_memory}
+use Rattle.tt_session.specs.Run.{Turn, turn_by_reopening, turn_by_request, turn_with_memory}
 use Rattle.tt_session.specs.Session.{OpenSession, counted, with_earlier_records, without_records, request_in}
 use Rattle.tt_session.specs.Together.{kept_line, AnswersFront, BeginsWith, BeginsPassedOver, BeginsWithLine, AnswersWith, Grows}
 use Rattle.tt_session.proofs.AnsweringLemmas.{turns_of-append, joined-append, read-kept}
 use Rattle.tt_session.proofs.EarlierLemmas.{earlier-all, turn-earlier}
-use Rattle.tt_session.proofs.LoggedLemmas.{IsAsFar, with-nil, with-append, logged_of-append, same-logged, plain-far, plain-other, plain-append}
+use Rattle.tt_session.proofs.TurnLemmas.{turn-opening, turn-request, reopening-next}
+use Rattle.tt_session.proofs.LoggedLemmas.{IsAsFar, with-nil, with-append, logged_of-append, none-logged, same-logged, plain-far, plain-other, plain-append}
 
 -- ---- lines that are answered
 
@@ -100,8 +107,8 @@ front-nothing count old new before after kept left p =
 begins-some : (bytes : List ℕ) (count : ℕ) (line : List ℕ) → BeginsWith bytes count line → 0 < count
 begins-some bytes count line begins = omega (arith, ap length begins.front, length-take count bytes, length-append line (10 ∷ []))
 
-pub line-fits : (version : Version) (tables : Tables) (bytes : List ℕ) (count : ℕ) (asked : Result Request DocFault) → BeginsWithLine version tables bytes count asked → (0 < count) × (count ≤ length bytes)
-line-fits version tables bytes count asked is = (begins-some bytes count is.line is.begins, is.begins.within)
+pub line-fits : (tables : Tables) (bytes : List ℕ) (count : ℕ) (asked : Result Request DocFault) → BeginsWithLine tables bytes count asked → (0 < count) × (count ≤ length bytes)
+line-fits tables bytes count asked is = (begins-some bytes count is.line is.begins, is.begins.within)
 
 -- the line that so many first bytes are, without its line feed
 abbrev pub line_in : List ℕ → ℕ → List ℕ
@@ -132,11 +139,11 @@ front-passed bytes count session out kept passed =
 
 -- a line is answered
 pub front-one : (bytes : List ℕ) (count : ℕ) (asked : Result Request DocFault) (old new : OpenSession) (text before after : List ℕ) (kept left : Option (List (List ℕ)))
-    → asks_to_forget asked ≡ false → BeginsWithLine (grammar_of old.version) old.database.catalog bytes count asked → turn_by_request (counted old) asked ≡ record { text = text; session = Open new } → after ≡ before ++ text → new.calls ≡ old.calls + 1
+    → asks_to_forget asked ≡ false → BeginsWithLine old.database.catalog bytes count asked → turn_by_request (counted old) asked ≡ record { text = text; session = Open new } → after ≡ before ++ text → new.calls ≡ old.calls + 1
     → left ≡ with_lines kept (logged_by (Open old) (Open new) (line_in bytes count)) → AnswersFront bytes count (Open old) (Open new) before after kept left
 front-one bytes count asked old new text before after kept left other is turn out calls logged =
     let line = is.line in
-    let passed : turn_with_memory (Open old) line ≡ turn_by_request (counted old) (request_in old (value_of_line line)) = rw is.told refl in
+    let passed : turn_with_memory (Open old) line ≡ turn_by_request (counted old) (request_in old (value_of_line line)) = rw is.told (turn-request old (value_of_line line) is.no_opening) in
     let asks : request_in old (value_of_line line) ≡ asked = sym is.is in
     let one : turn_of_read (Open old) (kept_line line) ≡ record { text = text; session = Open new } =
     read-kept (Open old) line ∙ passed ∙ ap (turn_by_request (counted old)) asks ∙ turn in
@@ -172,9 +179,9 @@ not-forget (Ok request) other = by request.command other
     by (commands.Read select at generation page) is = refl
     by (commands.Preview select page) is = refl
     by (commands.Begin edits) is = refl
-    by (commands.Step most) is = refl
-    by commands.Finish is = refl
-    by commands.Abort is = refl
+    by (commands.Step most told) is = refl
+    by (commands.Finish told) is = refl
+    by (commands.Abort told) is = refl
     by commands.Status is = refl
     by (commands.Slots from to worker row) is = refl
     by commands.Changes is = refl
@@ -183,7 +190,7 @@ not-forget (Ok request) other = by request.command other
 
 -- a line is answered with earlier records
 pub front-earlier : (earlier : List Record) (bytes : List ℕ) (count : ℕ) (asked : Result Request DocFault) (old new : OpenSession) (before after : List ℕ) (kept left : Option (List (List ℕ)))
-    → asks_for_records asked ≡ false → BeginsWithLine (grammar_of old.version) old.database.catalog bytes count asked
+    → asks_for_records asked ≡ false → BeginsWithLine old.database.catalog bytes count asked
     → Open new ≡ (turn_by_request (counted old) asked).session → after ≡ before ++ (turn_by_request (counted old) asked).text → new.calls ≡ old.calls + 1
     → left ≡ with_lines kept (logged_by (Open old) (Open new) (line_in bytes count))
     → AnswersFront bytes count (Open (with_earlier_records earlier old)) (Open (with_earlier_records earlier new)) before after kept left
@@ -207,7 +214,7 @@ with-one asked line behind old new before after kept left session out calls logg
 
 -- a line that is answered, and those behind it
 pub front-with : (bytes : List ℕ) (len count all : ℕ) (asked : Result Request DocFault) (old new : OpenSession) (before after : List ℕ) (kept left : Option (List (List ℕ)))
-    → asks_to_forget asked ≡ false → BeginsWithLine (grammar_of old.version) old.database.catalog bytes len asked → AnswersWith asked (line_in bytes len) (take (length bytes - len) (drop len bytes)) count old new before after kept left → len + count ≡ all
+    → asks_to_forget asked ≡ false → BeginsWithLine old.database.catalog bytes len asked → AnswersWith asked (line_in bytes len) (take (length bytes - len) (drop len bytes)) count old new before after kept left → len + count ≡ all
     → AnswersFront bytes all (Open old) (Open new) before after kept left
 front-with bytes len count all asked old new before after kept left other is p e =
     let mid = with_lines kept (logged_by (Open old) (Open p.mid) (line_in bytes len)) in
@@ -236,15 +243,41 @@ line-logged asked line count old new before after kept left p =
 
 -- a line that is answered alone, and doesn't ask to forget
 pub line-plain : (asked : Result Request DocFault) (line : List ℕ) (count : ℕ) (old new : OpenSession) (before after : List ℕ) (kept left : Option (List (List ℕ)))
-    → is_passed_over line ≡ false → asked ≡ request_in old (value_of_line line) → asks_to_forget asked ≡ false → AnswersWith asked line [] count old new before after kept left
+    → is_passed_over line ≡ false → is_opening (value_of_line line) ≡ false → asked ≡ request_in old (value_of_line line) → asks_to_forget asked ≡ false → AnswersWith asked line [] count old new before after kept left
     → AnswersPlain (Open old) (Open new) line before after kept left
-line-plain asked line count old new before after kept left told asks other p =
-    let turn : turn_with_memory (Open old) line ≡ turn_by_request (counted old) asked = rw told (ap (turn_by_request (counted old)) (sym asks)) in
+line-plain asked line count old new before after kept left told no_opening asks other p =
+    let turn : turn_with_memory (Open old) line ≡ turn_by_request (counted old) asked =
+    rw told (turn-request old (value_of_line line) no_opening) ∙ ap (turn_by_request (counted old)) (sym asks) in
     record {
       text = line-text asked line count old new before after kept left p ∙ ap (λ (t : Turn). before ++ t.text) (sym turn);
       session = line-session asked line count old new before after kept left p ∙ ap (λ (t : Turn). t.session) (sym turn);
       lines = line-logged asked line count old new before after kept left p;
       plain = plain-other (Open old) (kept_line line) refl (ap asks_to_forget (sym asks) ∙ other);
+    }
+
+-- a line that was read as an opening is one
+pub opening-read : (version : Version) (tables : Tables) (value : Result Data DocFault) → session_line_of version tables value ≡ lines.Opening → is_opening value ≡ true
+opening-read version tables value = go (is_opening value)
+  where
+    go : (b : Bool) → (if b then lines.Opening else lines.Request (request_of version tables value)) ≡ lines.Opening → b ≡ true
+    go true is = refl
+    go false is = absurd (cc)
+
+-- a line that is an opening
+pub opening-plain : (line : List ℕ) (old new : OpenSession) (before after : List ℕ) (kept : Option (List (List ℕ))) → is_passed_over line ≡ false → is_opening (value_of_line line) ≡ true
+    → after ≡ before ++ (turn_by_reopening old (opening_of (value_of_line line))).text → Open new ≡ (turn_by_reopening old (opening_of (value_of_line line))).session
+    → AnswersPlain (Open old) (Open new) line before after kept kept
+opening-plain line old new before after kept told is text session =
+    let asked = opening_of (value_of_line line) in
+    let turn : turn_with_memory (Open old) line ≡ turn_by_reopening old asked = rw told (turn-opening old (value_of_line line) is) in
+    let n = reopening-next old asked in
+    let far : IsAsFar (Open old) (turn_by_reopening old asked).session =
+    subst (IsAsFar (Open old)) (sym n.is) (ap (λ (db : Database). length db.history + 1) n.database, ap (λ (told : Numbering). told.horizon) n.numbering) in
+    record {
+      text = text ∙ ap (λ (t : Turn). before ++ t.text) (sym turn);
+      session = session ∙ ap (λ (t : Turn). t.session) (sym turn);
+      lines = sym (ap (with_lines kept) (none-logged (Open old) (Open new) line (subst (IsAsFar (Open old)) (sym session) far)) ∙ with-nil kept);
+      plain = plain-far (Open old) (kept_line line) refl (subst (λ (t : Turn). IsAsFar (Open old) t.session) (sym (read-kept (Open old) line ∙ turn)) far);
     }
 
 -- ---- a session that goes ahead
@@ -295,7 +328,7 @@ with-ahead asked line behind count old fork first ahead new before empty mid tex
 
 -- and one more line is answered
 pub with-next : (asked next : Result Request DocFault) (line : List ℕ) (behind : List ℕ) (count len all : ℕ) (old mid new : OpenSession) (before kept after : List ℕ) (x y z : Option (List (List ℕ)))
-    → AnswersWith asked line behind count old mid before kept x y → asks_to_forget next ≡ false → BeginsWithLine (grammar_of mid.version) mid.database.catalog (drop count behind) len next
+    → AnswersWith asked line behind count old mid before kept x y → asks_to_forget next ≡ false → BeginsWithLine mid.database.catalog (drop count behind) len next
     → Open new ≡ (turn_by_request (counted mid) next).session → after ≡ kept ++ (turn_by_request (counted mid) next).text → new.calls ≡ mid.calls + 1
     → z ≡ with_lines y (logged_by (Open mid) (Open new) (line_in (drop count behind) len)) → count + len ≡ all → AnswersWith asked line behind all old new before after x z
 with-next asked next line behind count len all old mid new before kept after x y z p other begins session out calls logged e = record {

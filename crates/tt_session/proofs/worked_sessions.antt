@@ -1,6 +1,7 @@
 mod Asking
 mod Transcript
 mod Forgetting
+mod Openings
 mod Faults
 mod Repairs
 mod Whole

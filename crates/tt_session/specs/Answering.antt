@@ -2,6 +2,7 @@
 use Rattle.std.specs.Prelude.{◌≡◌, ℕ, ◌+◌, ◌&&◌, not, Bool, false, List, [], ◌∷◌, ◌++◌, map, if◌then◌else◌}
 use Rattle.tt_requests.specs.Lines.{is_too_long, is_passed_over}
 use Rattle.tt_requests.specs.LineValue.{value_of_line}
+use Rattle.tt_requests.specs.SessionLine.{is_opening}
 use Rattle.tt_answers.specs.declared.answer.Refusal.TheVariants as refusals
 use Rattle.tt_answers.specs.declared.answer.Answer.TheVariants as answers
 use Rattle.tt_session.specs.declared.session.Session.{Session}
@@ -10,9 +11,10 @@ use Rattle.tt_session.specs.Session.{counted}
 use Rattle.tt_session.specs.Changing.{changes_database, line_asks_to_forget}
 use Rattle.tt_session.specs.Run.{Turn, turn_of_answer, turn_by_value, turn_without_memory}
 
--- a line that was read, whether there was no memory for it, and whether the log couldn't be made anew for it
+-- a line that was read, whether there was no memory for it, whether it had been read as an opening by then, and whether the log couldn't be made anew for it
 pub record LineRead : Type 0 where
   pub is_lost : Bool
+  pub as_opening : Bool
   pub is_unlogged : Bool
   pub line : List ℕ
 
@@ -29,7 +31,7 @@ turn_without_log session = record { text = []; session = session }
 abbrev pub turn_of_read : Session → LineRead → Turn
 turn_of_read session read =
     if is_passed_over read.line then record { text = []; session = session } else (
-    if not (is_too_long read.line) && read.is_lost then turn_without_memory session else (
+    if not (is_too_long read.line) && read.is_lost then turn_without_memory (read.as_opening && is_opening (value_of_line read.line)) session else (
     if read.is_unlogged && forgets_by session read.line then turn_without_log session else
     turn_by_value session (value_of_line read.line)))
 

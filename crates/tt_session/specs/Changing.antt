@@ -9,13 +9,11 @@ use Rattle.tt_session.specs.Commands.{asks_to_forget}
 -- how many entries a session has made, its opening among them
 abbrev pub entries_of : Session → ℕ
 entries_of sessions.NotOpen = 0
-entries_of (sessions.Restored session) = length session.database.history + 1
 entries_of (sessions.Open session) = length session.database.history + 1
 
 -- the horizon of a session
 abbrev pub horizon_of : Session → ℕ
 horizon_of sessions.NotOpen = 0
-horizon_of (sessions.Restored session) = session.numbering.horizon
 horizon_of (sessions.Open session) = session.numbering.horizon
 
 -- whether what leads from one session to another changes the database: the history has another length, or the horizon is another

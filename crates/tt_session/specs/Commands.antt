@@ -4,7 +4,7 @@ use Rattle.tt_values.specs.declared.row_id.RowId.{RowId}
 use Rattle.tt_values.specs.declared.action.Action.{Action}
 use Rattle.tt_values.specs.Action.{replies_of}
 use Rattle.tt_db.specs.declared.event.Event.TheVariants as events
-use Rattle.tt_db.specs.Database.{now_in, current_of_db}
+use Rattle.tt_db.specs.Database.{now_in, current_of_db, repair_worker_of}
 use Rattle.tt_records.specs.declared.record.What.TheVariants as whats
 use Rattle.tt_grammar.specs.declared.fault.DocFault.{DocFault}
 use Rattle.tt_requests.specs.declared.request.Command.{Command}
@@ -19,7 +19,7 @@ use Rattle.tt_answers.specs.declared.answer.Answer.{Answer}
 use Rattle.tt_answers.specs.declared.answer.Answer.TheVariants as answers
 use Rattle.tt_session.specs.Answers.{Answered}
 use Rattle.tt_session.specs.Room.{refusal_in_session}
-use Rattle.tt_session.specs.Repairing.{with_event, status_of, unless_refused, step, finish, abort}
+use Rattle.tt_session.specs.Repairing.{with_event, status_of, unless_refused, other_worker, unless_of_another, step, finish, abort}
 use Rattle.tt_session.specs.Reading.{preview}
 use Rattle.tt_session.specs.ToldRequests.{read_as_told, begin_as_told, first_slot, last_slot}
 use Rattle.tt_session.specs.Forgetting.{forget}
@@ -58,18 +58,18 @@ slots_between session from to worker row =
 abbrev pub slots : OpenSession → ToldTime → ToldTime → Option ℕ → Option RowId → Result Answered Refusal
 slots session from to worker row = slots_between session (first_slot session.numbering from) (last_slot session.numbering to) worker row
 
--- the version, the tables, and how much is kept
+-- the tables, and how much is kept
 abbrev pub declared_tables : OpenSession → Result Answered Refusal
 declared_tables session =
-    unchanged session (answers.Declared session.version session.database.limits.keep session.most_records)
+    unchanged session (answers.Declared session.database.limits.keep session.most_records)
 
 -- whether a command leaves the database as it is
 abbrev pub is_read_only : Command → Bool
 is_read_only (commands.Write action) = false
 is_read_only (commands.Begin edits) = false
-is_read_only (commands.Step most) = false
-is_read_only commands.Finish = false
-is_read_only commands.Abort = false
+is_read_only (commands.Step most told) = false
+is_read_only (commands.Finish told) = false
+is_read_only (commands.Abort told) = false
 is_read_only (commands.Forget time) = false
 is_read_only command = true
 
@@ -100,15 +100,22 @@ abbrev pub asks_to_forget : Result Request DocFault → Bool
 asks_to_forget (Ok request) = is_forget request.command
 asks_to_forget (Err fault) = false
 
+-- the worker for whose repair a command is, if it tells one
+abbrev pub repair_worker_told : Command → Option ℕ
+repair_worker_told (commands.Step most told) = told
+repair_worker_told (commands.Finish told) = told
+repair_worker_told (commands.Abort told) = told
+repair_worker_told command = None
+
 -- a command of a worker is carried out
 abbrev pub carried_out : OpenSession → ℕ → Command → Result Answered Refusal
 carried_out session worker (commands.Write action) = write session worker action
 carried_out session worker (commands.Read select at generation page) = read_as_told session worker select generation at page
 carried_out session worker (commands.Preview select page) = preview session select page
 carried_out session worker (commands.Begin edits) = begin_as_told session worker edits
-carried_out session worker (commands.Step most) = step session worker most
-carried_out session worker commands.Finish = finish session worker
-carried_out session worker commands.Abort = abort session worker
+carried_out session worker (commands.Step most told) = step session worker most
+carried_out session worker (commands.Finish told) = finish session worker
+carried_out session worker (commands.Abort told) = abort session worker
 carried_out session worker commands.Status = status session
 carried_out session worker (commands.Slots from to by row) = slots session from to by row
 carried_out session worker commands.Changes = changes session
@@ -129,4 +136,6 @@ unless_moved (Some now) outcome = Err (refusals.Moved now)
 -- what becomes of a request: it is carried out, unless it is refused
 abbrev pub outcome_of_request : OpenSession → Request → Result Answered Refusal
 outcome_of_request session request =
-    unless_moved (moved_to session.numbering (now_in session.database) request.expected) (carried_out session request.worker request.command)
+    unless_moved (moved_to session.numbering (now_in session.database) request.expected) (
+    unless_of_another (other_worker (repair_worker_told request.command) (repair_worker_of session.database)) (
+    carried_out session request.worker request.command))

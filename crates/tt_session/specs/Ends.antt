@@ -7,24 +7,24 @@ use Rattle.tt_session.specs.declared.run.SessionFault.{SessionFault}
 use Rattle.tt_session.specs.declared.run.SessionFault.TheVariants as faults
 use Rattle.tt_session.specs.declared.session.Session.{Session}
 use Rattle.tt_session.specs.declared.run.Run.{Run}
-use Rattle.tt_session.specs.Run.{session_text}
+use Rattle.tt_session.specs.Run.{Losses, session_text}
 use Rattle.tt_session.specs.Answering.{LineRead, lines_read}
 use Rattle.tt_session.specs.Running.{Handing, Rests}
 
 -- what a session prints in answer to the lines of these bytes was written, and nothing else, where there was no memory for some of the lines
 pub record AnswersLines (bytes : List ℕ) (old new : Option (List ℕ)) : Type 0 where
-  pub without_memory : List ℕ
-  pub written : Appends old new (session_text (lines_of bytes) without_memory)
+  pub losses : Losses
+  pub written : Appends old new (session_text (lines_of bytes) losses)
 
 -- a prefix of that was written, and nothing else
 pub record AnswersPrefix (bytes : List ℕ) (old new : Option (List ℕ)) : Type 0 where
-  pub without_memory : List ℕ
-  pub written : AppendsPrefix old new (session_text (lines_of bytes) without_memory)
+  pub losses : Losses
+  pub written : AppendsPrefix old new (session_text (lines_of bytes) losses)
 
 -- the lines were answered that end in a line feed
 pub record AnswersWholeLines (bytes : List ℕ) (old new : Option (List ℕ)) : Type 0 where
-  pub without_memory : List ℕ
-  pub written : Appends old new (session_text (whole_lines_of bytes) without_memory)
+  pub losses : Losses
+  pub written : Appends old new (session_text (whole_lines_of bytes) losses)
 
 -- all that the reader had was read, and its lines were answered
 pub record AnswersAll (unread left old new : Option (List ℕ)) : Type 0 where

@@ -11,7 +11,7 @@ use Rattle.tt_session.specs.declared.session.Session.TheVariants as sessions
 use Rattle.tt_session.specs.Session.{OpenSession}
 use Rattle.tt_session.specs.Room.{has_no_room_to_end}
 use Rattle.tt_session.specs.Repairing.{with_event, with_all_steps}
-use Rattle.tt_session.specs.Run.{turn_by_request, session_after}
+use Rattle.tt_session.specs.Run.{Losses, turn_by_request, session_after}
 use Rattle.tt_session.specs.Sound.{IsSound}
 
 -- an open session: its tables are a catalog, its limits fit, its history is legal, there is room for the end of a repair that is under way, what is told is within its bounds, and no more records are kept than may be
@@ -21,7 +21,6 @@ IsOpenSession session = IsSound session.database session.numbering session.recor
 -- the same of a session, of which nothing holds while it is not open
 abbrev pub IsSession : Session → Type 0
 IsSession sessions.NotOpen = Unit {0}
-IsSession (sessions.Restored session) = IsOpenSession session
 IsSession (sessions.Open session) = IsOpenSession session
 
 -- whatever an open session is asked, and whatever the fault of a line, it is one afterwards
@@ -30,7 +29,7 @@ OpenSessionsStaySound = (session : OpenSession) (asked : Result Request DocFault
 
 -- each session is one, after any lines and for any lines without memory
 abbrev pub SessionsStaySound : Type 0
-SessionsStaySound = (lines : List (List ℕ)) (without_memory : List ℕ) → IsSession (session_after lines without_memory)
+SessionsStaySound = (lines : List (List ℕ)) (losses : Losses) → IsSession (session_after lines losses)
 
 -- the database after all steps of the repair and the switch
 abbrev pub finished : Database → ℕ → Database

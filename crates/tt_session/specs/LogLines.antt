@@ -32,7 +32,7 @@ lines_of_slots tables size history = lines_of_entries true tables (take size his
 -- the lines of a log for a database whose history is actions alone, of a session with these terms
 abbrev pub lines_of_database : Database → Numbering → Terms → List (List ℕ)
 lines_of_database db numbering terms =
-    log_opening_line terms.version db.catalog db.limits.keep terms.most_records numbering ∷ lines_of_slots db.catalog numbering.ground_slots db.history
+    log_opening_line db.catalog db.limits.keep terms.most_records numbering ∷ lines_of_slots db.catalog numbering.ground_slots db.history
 
 -- the lines of a log that is made anew for a session
 abbrev pub lines_of_log : Session → List (List ℕ)

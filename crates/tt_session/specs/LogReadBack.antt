@@ -6,7 +6,6 @@ use Rattle.tt_values.specs.Tables.{Tables, IsCatalog}
 use Rattle.tt_values.specs.Check.{action_fault}
 use Rattle.serde_json.specs.Data.{Data}
 use Rattle.tt_grammar.specs.declared.fault.DocFault.{DocFault}
-use Rattle.tt_grammar.specs.declared.session_version.SessionVersion.{SessionVersion}
 use Rattle.tt_grammar.specs.Version.{newest_version}
 use Rattle.tt_grammar.specs.ReadBack.{IsStorable, values_of_write}
 use Rattle.tt_requests.specs.declared.request.Command.TheVariants as commands
@@ -31,11 +30,11 @@ pub record OpensLog (line : List ℕ) (log : LogOpening) : Type 0 where
   pub no_opening : IsErr (opening_of (value_of_line line))
   pub taken_up : IsTakenUp line
 
--- the first line of a log is read as the version, the tables, how much is kept, and the ground that it was printed from
+-- the first line of a log is read as the tables, how much is kept, and the ground that it was printed from
 abbrev pub PrintedLogOpens : Type 0
-PrintedLogOpens = (version : SessionVersion) (tables : Tables) (keep records : ℕ) (numbering : Numbering) → IsCatalog tables → keep ≤ max_keep → records ≤ max_records → IsNumbering numbering
+PrintedLogOpens = (tables : Tables) (keep records : ℕ) (numbering : Numbering) → IsCatalog tables → keep ≤ max_keep → records ≤ max_records → IsNumbering numbering
     → numbering.ground_slots ≤ max_ground_slots
-    → OpensLog (log_opening_line version tables keep records numbering) (record { opening = record { version = version; catalog = tables; keep = keep; records = records }; numbering = numbering })
+    → OpensLog (log_opening_line tables keep records numbering) (record { opening = record { catalog = tables; keep = keep; records = records }; numbering = numbering })
 
 -- an action of the ground that can be carried out is read as the same
 abbrev pub PrintedGroundIsRead : Type 0

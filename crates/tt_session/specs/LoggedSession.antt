@@ -2,7 +2,7 @@
 use Rattle.std.specs.Prelude.{◌≡◌, ◌⊎◌, ℕ, ◌<◌, ◌≤◌, List, Option}
 use Rattle.std.specs.Io.KnownBytes.{Keeps}
 use Rattle.tt_log.specs.Device.{LeavesOnly, Only}
-use Rattle.tt_log.specs.Lines.{logged}
+use Rattle.tt_log.specs.Lines.{logged, IsJoined}
 use Rattle.tt_log.specs.Log.{IsSettled, KeepsOnceSynced}
 use Rattle.tt_log.specs.declared.log.Log.{Log}
 use Rattle.tt_session.specs.declared.session.Session.{Session}
@@ -13,7 +13,7 @@ use Rattle.tt_session.specs.Restoring.{Restores, IsNoLine}
 use Rattle.tt_session.specs.OnLog.{Telling, HandedOnLog, StoppedInLog, StoppedInOutput}
 use Rattle.tt_session.specs.Ends.{FailsReading, FailsHanding}
 
--- A session was read back from a file: a crash on the way leaves what it might have left before or, once the file was synced, its lines. Nothing was handed over.
+-- A session was read back from a file, and its lines are on the disk: a crash on the way leaves lines that it might have left before, or these. Nothing was handed over.
 pub record Begins {D : Type 0} (of : Telling D) (may_leave : D → List ℕ → Type 0) (before begun : D) (start : Session) : Type 0 where
   pub restores : Restores (logged (of.seen before)) start
   pub any_moment : LeavesOnly of.moment of.left_since before begun (KeepsOnceSynced (may_leave before) (logged (of.seen before)) (of.shown before))
@@ -21,6 +21,11 @@ pub record Begins {D : Type 0} (of : Telling D) (may_leave : D → List ℕ → 
   pub lines_are : logged (of.seen begun) ≡ logged (of.seen before)
   pub shown_is : of.shown begun ≡ of.shown before
   pub failures : of.failures before ≤ of.failures begun
+
+-- a file is lines and nothing else, all of it on the disk: so the next session goes on with it
+pub record IsEnded {D : Type 0} (seen : D → List ℕ) (may_leave : D → List ℕ → Type 0) (device : D) : Type 0 where
+  pub lines : IsJoined (seen device)
+  pub durable : Only (seen device) (may_leave device)
 
 -- A session was read back, and has gone on: the answers to these lines were handed over, and before each of them its log was the one after the line that it answers.
 pub record GoesOnLog {D : Type 0} (of : Telling D) (may_leave : D → List ℕ → Type 0) (before after : D) (reads : List LineRead) : Type 0 where
@@ -43,7 +48,7 @@ pub record StopsInOutput {D : Type 0} (of : Telling D) (may_leave : D → List �
   pub begins : Begins of may_leave before begun start
   pub stops : StoppedInOutput of begun after start reads
 
--- The session didn't begin: a crash leaves the lines of the file, and nothing was handed over.
+-- The session didn't begin: a crash leaves lines that it might have left before, or those of the file. Nothing was handed over.
 pub record StaysOnLog {D : Type 0} (of : Telling D) (may_leave : D → List ℕ → Type 0) (before after : D) : Type 0 where
   pub any_moment : LeavesOnly of.moment of.left_since before after (KeepsOnceSynced (may_leave before) (logged (of.seen before)) (of.shown before))
   pub shown_is : of.shown after ≡ of.shown before

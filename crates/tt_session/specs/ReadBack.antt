@@ -14,7 +14,6 @@ use Rattle.tt_requests.specs.Requests.{usual_worker, request_of}
 use Rattle.tt_grammar.specs.JsonText.{array_text, number_member, object_text}
 use Rattle.tt_grammar.specs.WriteText.{write_text, action_members}
 use Rattle.tt_answers.specs.AnswerText.{declared_members}
-use Rattle.tt_grammar.specs.declared.session_version.SessionVersion.{SessionVersion}
 use Rattle.tt_grammar.specs.Version.{newest_version}
 use Rattle.tt_grammar.specs.ReadBack.{IsStorable, values_of_write}
 
@@ -26,7 +25,7 @@ replacing_text slot text = object_text (number_member (codes "replace") slot ∷
 abbrev pub replacing_line : ℕ → List ℕ → List ℕ
 replacing_line slot text = object_text ((codes "begin", array_text (replacing_text slot text ∷ [])) ∷ [])
 
--- a text, put under `by`, replaces the action of any slot by this action, in a session of the newest version
+-- a text, put under `by`, replaces the action of any slot by this action
 abbrev pub Replaces : Tables → List ℕ → Action → Type 0
 Replaces tables text action = (slot : ℕ) → slot < 2 ^ 64 →
     request_of newest_version tables (value_of_line (replacing_line slot text)) ≡ Ok (record { worker = usual_worker; expected = None; command = commands.Begin (record { edits = Replace slot action ∷ [] }) })
@@ -41,10 +40,10 @@ PrintedActionsReplace = (tables : Tables) (action : Action) → IsCatalog tables
     Replaces tables (object_text (action_members tables action)) action
 
 -- a line with the members that a question about the tables is answered by
-abbrev pub opening_line : SessionVersion → Tables → ℕ → ℕ → List ℕ
-opening_line version tables keep records = object_text (declared_members version tables keep records)
+abbrev pub opening_line : Tables → ℕ → ℕ → List ℕ
+opening_line tables keep records = object_text (declared_members tables keep records)
 
--- the members that tell the version, the tables and how much is kept, as they are printed, open a session with the same
+-- the members that tell the tables and how much is kept, as they are printed, open a session with the same
 abbrev pub PrintedTablesOpen : Type 0
-PrintedTablesOpen = (version : SessionVersion) (tables : Tables) (keep records : ℕ) → IsCatalog tables → keep ≤ max_keep → records ≤ max_records →
-    opening_of (value_of_line (opening_line version tables keep records)) ≡ Ok (record { version = version; catalog = tables; keep = keep; records = records })
+PrintedTablesOpen = (tables : Tables) (keep records : ℕ) → IsCatalog tables → keep ≤ max_keep → records ≤ max_records →
+    opening_of (value_of_line (opening_line tables keep records)) ≡ Ok (record { catalog = tables; keep = keep; records = records })

@@ -1,5 +1,5 @@
--- How a session begins that was read back from a log: by an opening that asks for what the log has.
-use Rattle.std.specs.Prelude.{ℕ, ◌==◌, ◌&&◌, Bool, true, false, not, List}
+-- How an opening is taken in a session that is open: it is to ask for what the session has.
+use Rattle.std.specs.Prelude.{ℕ, ◌==◌, ◌&&◌, Bool, true, false, not, List, if◌then◌else◌}
 use Rattle.std.specs.Str.{bytes_eq}
 use Rattle.tt_values.specs.declared.table.Column.{Column}
 use Rattle.tt_values.specs.declared.table.TableDef.{TableDef}
@@ -31,6 +31,6 @@ asks_for opening db = are_same_by is_same_table opening.catalog db.catalog && (o
 abbrev pub with_most_records : OpenSession → ℕ → OpenSession
 with_most_records session most = record session { records = last_items most session.records; most_records = most }
 
--- the session as an opening opens it again: with its version, and with no more records than it asks for
+-- the session with an opening that asks for what it has. The first one that is accepted since the session was read back says how many records are kept, too
 abbrev pub reopened_by : OpenSession → Opening → OpenSession
-reopened_by session opening = record (with_most_records session opening.records) { version = opening.version }
+reopened_by session opening = if session.has_opening then session else record (with_most_records session opening.records) { has_opening = true }

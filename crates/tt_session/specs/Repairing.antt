@@ -1,5 +1,5 @@
 -- How a repair goes on in a session: its beginning, its steps, and its two ends.
-use Rattle.std.specs.Prelude.{ℕ, ◌+◌, min, List, ◌++◌, replicate, Option, None, Some, Result, Ok, Err}
+use Rattle.std.specs.Prelude.{ℕ, ◌+◌, ◌==◌, min, List, ◌++◌, replicate, Option, None, Some, Result, Ok, Err, if◌then◌else◌}
 use Rattle.tt_repair_laws.specs.declared.edit.Edit.{Edit}
 use Rattle.tt_generations.specs.declared.progress.Progress.{Progress}
 use Rattle.tt_generations.specs.TwoGenerations.{done_of, reexecuted_of}
@@ -8,10 +8,11 @@ use Rattle.tt_db.specs.declared.event.Event.TheVariants as events
 use Rattle.tt_db.specs.declared.event.Entry.{Entry}
 use Rattle.tt_db.specs.declared.errors.DbError.{DbError}
 use Rattle.tt_db.specs.State.{now_of, oldest_of, slots_left, unless_repairing}
-use Rattle.tt_db.specs.Database.{Database, state_of, with_entry, repair_of}
+use Rattle.tt_db.specs.Database.{Database, state_of, with_entry, repair_of, repair_worker_of}
 use Rattle.tt_session.specs.Session.{OpenSession, state_in, with_database}
 use Rattle.tt_answers.specs.declared.answer.Refusal.{Refusal}
 use Rattle.tt_answers.specs.declared.answer.Refusal.TheVariants as refusals
+use Rattle.tt_answers.specs.declared.answer.RepairStatus.{RepairStatus}
 use Rattle.tt_answers.specs.declared.answer.Status.{Status}
 use Rattle.tt_answers.specs.declared.answer.Answer.TheVariants as answers
 use Rattle.tt_session.specs.Answers.{Answered}
@@ -35,11 +36,33 @@ progress_now db =
     let S = state_of db in
     record { done = done_of S.phase; left = slots_left S; rerun = reexecuted_of db.catalog S.phase S.slots }
 
+-- how a repair under way stands, by how far it is and the worker that began it
+abbrev pub repair_status : Option Progress → Option ℕ → Option RepairStatus
+repair_status (Some progress) (Some worker) = Some (record { progress = progress; worker = worker })
+repair_status progress worker = None
+
 -- how a database stands
 abbrev pub status_of : Database → Status
 status_of db =
     let S = state_of db in
-    record { time = now_of S; generation = S.generation; oldest = oldest_of S.closed S.generation; entries = S.events; repair = repair_of db }
+    record {
+      time = now_of S;
+      generation = S.generation;
+      oldest = oldest_of S.closed S.generation;
+      entries = S.events;
+      repair = repair_status (repair_of db) (repair_worker_of db);
+    }
+
+-- the worker that began the repair under way, where a request is for the repair of another
+abbrev pub other_worker : Option ℕ → Option ℕ → Option ℕ
+other_worker None beginner = None
+other_worker (Some told) None = None
+other_worker (Some told) (Some beginner) = if told == beginner then None else Some beginner
+
+-- a request is answered, unless it is for the repair of another worker than this one
+abbrev pub unless_of_another : Option ℕ → Result Answered Refusal → Result Answered Refusal
+unless_of_another None outcome = outcome
+unless_of_another (Some worker) outcome = Err (refusals.RepairOfAnother worker)
 
 -- what is answered, unless the database refuses
 abbrev pub unless_refused : Option DbError → Answered → Result Answered Refusal

@@ -1,4 +1,4 @@
--- How a session is read back from the lines of a log: the ground is laid, if there is one, and each line behind it is answered, as of the newest version, and changes the database.
+-- How a session is read back from the lines of a log: the ground is laid, if there is one, and each line behind it is answered and changes the database.
 use Rattle.std.specs.Prelude.{◌≡◌, ℕ, ◌+◌, ◌<◌, ◌&&◌, Bool, true, false, is_none, List, [], ◌∷◌, ◌++◌, length, Option, None, Some, option_and_then, Result, Ok, Err, IsErr, if◌then◌else◌}
 use Rattle.std.specs.List.{list_all}
 use Rattle.tt_values.specs.declared.action.Action.{Action}
@@ -8,7 +8,6 @@ use Rattle.tt_db.specs.Database.{Database, now_in, current_of_db}
 use Rattle.tt_horizon.specs.Forgetting.{ground_worker}
 use Rattle.tt_horizon.specs.Grounds.{inserts_alone, is_inserted}
 use Rattle.tt_grammar.specs.declared.fault.DocFault.{DocFault}
-use Rattle.tt_grammar.specs.SessionVersion.{newest_of_sessions}
 use Rattle.tt_requests.specs.declared.log_opening.LogOpening.{LogOpening}
 use Rattle.tt_requests.specs.LineValue.{value_of_line}
 use Rattle.tt_requests.specs.LogOpening.{log_opening_of}
@@ -62,19 +61,13 @@ pub record LaysGround (lines : List (List ℕ)) (session : OpenSession) (left : 
 -- what the lines of a log begin with: a ground, or nothing
 abbrev pub BeginsLog : List (List ℕ) → Session → ℕ → Type 0
 BeginsLog lines sessions.NotOpen left = (lines ≡ []) × (left ≡ 0)
-BeginsLog lines (sessions.Restored session) left = ⊥
 BeginsLog lines (sessions.Open session) left = LaysGround lines session left
 
 -- ---- the lines of a log
 
--- a session whose requests are read as of the newest version
-abbrev pub as_newest : Session → Session
-as_newest (sessions.Open session) = sessions.Open (record session { version = newest_of_sessions })
-as_newest session = session
-
--- the session after a line of its log, which is read as of the newest version, whatever the version of the session
+-- the session after a line of its log
 abbrev pub repeated : Session → List ℕ → Session
-repeated session line = (turn_of_read (as_newest session) (kept_line line)).session
+repeated session line = (turn_of_read session (kept_line line)).session
 
 abbrev pub repeated_all : Session → List (List ℕ) → Session
 repeated_all session [] = session
@@ -96,9 +89,9 @@ pub record ReadsLog (lines : List (List ℕ)) (session : Session) (left : ℕ) :
   pub all_change : AllChange base others
   pub session_is : session ≡ repeated_all base others
 
--- a session that was read back is to be opened again
+-- a session that was read back has accepted no opening since
 abbrev pub restored : Session → Session
-restored (sessions.Open session) = sessions.Restored session
+restored (sessions.Open session) = sessions.Open (record session { has_opening = false })
 restored session = session
 
 -- lines are those of a log, and this is the session that they make
@@ -144,7 +137,6 @@ pub record IsAlike (one other : OpenSession) : Type 0 where
 -- a session from the lines of a log alone is like one that goes on
 abbrev pub IsLike : Session → Session → Type 0
 IsLike read sessions.NotOpen = read ≡ sessions.NotOpen
-IsLike read (sessions.Restored session) = (s : OpenSession) × (read ≡ sessions.Open s) × IsAlike s session
 IsLike read (sessions.Open session) = (s : OpenSession) × (read ≡ sessions.Open s) × IsAlike s session
 
 -- lines are a log of a session: they are read back, and make one with the same database that tells its numbers alike

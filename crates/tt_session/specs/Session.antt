@@ -1,5 +1,5 @@
 -- The state of a session: before it is opened, and while it is open.
-use Rattle.std.specs.Prelude.{ℕ, ◌+◌, List, [], ◌∷◌, ◌++◌, Option, None, Some, Result}
+use Rattle.std.specs.Prelude.{ℕ, ◌+◌, Bool, true, List, [], ◌∷◌, ◌++◌, Option, None, Some, Result}
 use Rattle.serde_json.specs.Data.{Data}
 use Rattle.tt_db.specs.Limits.{usual_limits}
 use Rattle.tt_db.specs.State.{State, last_items}
@@ -7,22 +7,22 @@ use Rattle.tt_db.specs.Database.{Database, state_of}
 use Rattle.tt_records.specs.declared.record.Record.{Record}
 use Rattle.tt_records.specs.declared.record.What.{What}
 use Rattle.tt_grammar.specs.declared.fault.DocFault.{DocFault}
-use Rattle.tt_grammar.specs.declared.session_version.SessionVersion.{SessionVersion}
-use Rattle.tt_grammar.specs.SessionVersion.{grammar_of}
+use Rattle.tt_grammar.specs.Version.{newest_version}
 use Rattle.tt_requests.specs.declared.opening.Opening.{Opening}
 use Rattle.tt_requests.specs.declared.request.Request.{Request}
 use Rattle.tt_requests.specs.Requests.{request_of}
 use Rattle.tt_numbers.specs.Numbers.{Numbering, nothing_forgotten}
 use Rattle.tt_session.specs.declared.terms.Terms.{Terms}
 
--- an open session: its version, its database, how its numbers are told, the records of the last calls, how many records are kept at most, and how many calls there were
+-- an open session: its database, how its numbers are told, the records of the last calls, how many records are kept at most, how many calls there were, and
+-- whether an opening was accepted since it was made or read back
 pub record OpenSession : Type 0 where
-  pub version : SessionVersion
   pub database : Database
   pub numbering : Numbering
   pub records : List Record
   pub most_records : ℕ
   pub calls : ℕ
+  pub has_opening : Bool
 
 -- a database that has forgotten what lies before a time, how many of its slots are the ground, and how its numbers are told. The time is by the numbers of the database that hadn't
 pub record Forgetting : Type 0 where
@@ -41,15 +41,15 @@ empty_database opening = record { catalog = opening.catalog; limits = record usu
 
 -- the session that an opening asks for, before its first call
 abbrev pub opened : Opening → OpenSession
-opened opening = record { version = opening.version; database = empty_database opening; numbering = nothing_forgotten; records = []; most_records = opening.records; calls = 0 }
+opened opening = record { database = empty_database opening; numbering = nothing_forgotten; records = []; most_records = opening.records; calls = 0; has_opening = true }
 
--- what an opening may ask for anew of a session
+-- what the opening of a session has asked for, beside its database
 abbrev pub terms_of : OpenSession → Terms
-terms_of session = record { version = session.version; most_records = session.most_records }
+terms_of session = record { most_records = session.most_records }
 
--- the request that a JSON value asks of a session, as of its version, or its first fault
+-- the request that a JSON value asks of a session, as of the newest version, or its first fault
 abbrev pub request_in : OpenSession → Result Data DocFault → Result Request DocFault
-request_in session value = request_of (grammar_of session.version) session.database.catalog value
+request_in session value = request_of newest_version session.database.catalog value
 
 -- one more call
 abbrev pub counted : OpenSession → OpenSession

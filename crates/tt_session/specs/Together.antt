@@ -1,15 +1,18 @@
 -- Lines that have come together, and are answered together, with memory for each of them.
-use Rattle.std.specs.Prelude.{◌≡◌, ℕ, ◌+◌, ◌≤◌, true, false, List, [], ◌∷◌, ◌++◌, length, map, take, Option, Result}
+use Rattle.std.specs.Prelude.{◌≡◌, ℕ, ◌+◌, ◌≤◌, Bool, true, false, List, [], ◌∷◌, ◌++◌, length, map, take, Option, Result}
 use Rattle.std.specs.List.{list_all}
 use Rattle.tt_values.specs.Tables.{Tables}
 use Rattle.tt_grammar.specs.declared.fault.DocFault.{DocFault}
-use Rattle.tt_grammar.specs.declared.version.Version.{Version}
+use Rattle.tt_grammar.specs.Version.{newest_version}
 use Rattle.tt_requests.specs.declared.request.Request.{Request}
 use Rattle.tt_requests.specs.Lines.{is_passed_over}
 use Rattle.tt_requests.specs.LineValue.{value_of_line}
 use Rattle.tt_requests.specs.Requests.{request_of}
+use Rattle.tt_requests.specs.SessionLine.{is_opening}
 use Rattle.tt_session.specs.declared.first_line.FirstLine.{FirstLine}
 use Rattle.tt_session.specs.declared.first_line.FirstLine.TheVariants as firsts
+use Rattle.tt_session.specs.declared.lost_line.LostLine.{LostLine}
+use Rattle.tt_session.specs.declared.lost_line.LostLine.TheVariants as losts
 use Rattle.tt_session.specs.declared.session.Session.{Session}
 use Rattle.tt_session.specs.declared.session.Session.TheVariants as sessions
 use Rattle.tt_session.specs.Answering.{LineRead, turns_of}
@@ -20,15 +23,25 @@ use Rattle.tt_session.specs.Session.{OpenSession, counted}
 
 -- a line for which there is memory, and for which the log could be made anew, if it was to be
 abbrev pub kept_line : List ℕ → LineRead
-kept_line line = record { is_lost = false; is_unlogged = false; line = line }
+kept_line line = record { is_lost = false; as_opening = false; is_unlogged = false; line = line }
+
+-- whether a line was lost as an opening
+abbrev pub is_opening_lost : LostLine → Bool
+is_opening_lost losts.Opening = true
+is_opening_lost losts.Request = false
+
+-- a line is lost in this way: as an opening only if it is one
+abbrev pub IsLostAs : LostLine → List ℕ → Type 0
+IsLostAs losts.Opening line = is_opening (value_of_line line) ≡ true
+IsLostAs losts.Request line = Unit {0}
 
 -- a line for which there is no memory
-abbrev pub lost_line : List ℕ → LineRead
-lost_line line = record { is_lost = true; is_unlogged = false; line = line }
+abbrev pub lost_line : LostLine → List ℕ → LineRead
+lost_line lost line = record { is_lost = true; as_opening = is_opening_lost lost; is_unlogged = false; line = line }
 
 -- a line for which the log couldn't be made anew
 abbrev pub unlogged_line : List ℕ → LineRead
-unlogged_line line = record { is_lost = false; is_unlogged = true; line = line }
+unlogged_line line = record { is_lost = false; as_opening = false; is_unlogged = true; line = line }
 
 -- the first of some bytes are whole lines, and these are answered, each with memory and none by making the log anew, and those that change the database are to be logged
 pub record AnswersFront (bytes : List ℕ) (count : ℕ) (old new : Session) (before after : List ℕ) (kept left : Option (List (List ℕ))) : Type 0 where
@@ -55,18 +68,20 @@ pub record BeginsPassedOver (bytes : List ℕ) (count : ℕ) : Type 0 where
   pub begins : BeginsWith bytes count line
   pub told : is_passed_over line ≡ true
 
--- the first of some bytes are a whole line, which asks this, as of a version, of a database with these tables, or has this fault
-pub record BeginsWithLine (version : Version) (tables : Tables) (bytes : List ℕ) (count : ℕ) (asked : Result Request DocFault) : Type 0 where
+-- the first of some bytes are a whole line, which is no opening and asks this of a database with these tables, or has this fault
+pub record BeginsWithLine (tables : Tables) (bytes : List ℕ) (count : ℕ) (asked : Result Request DocFault) : Type 0 where
   pub line : List ℕ
   pub begins : BeginsWith bytes count line
   pub told : is_passed_over line ≡ false
-  pub is : asked ≡ request_of version tables (value_of_line line)
+  pub no_opening : is_opening (value_of_line line) ≡ false
+  pub is : asked ≡ request_of newest_version tables (value_of_line line)
 
--- this is the first line of some bytes, where they have a whole one
-abbrev pub IsFirstLine : Version → Tables → List ℕ → FirstLine → Type 0
-IsFirstLine version tables bytes firsts.NotWhole = Unit {0}
-IsFirstLine version tables bytes (firsts.PassedOver len) = BeginsPassedOver bytes len
-IsFirstLine version tables bytes (firsts.Read line) = BeginsWithLine version tables bytes line.len line.asked
+-- this is the first line of some bytes, where they have a whole one that is no opening
+abbrev pub IsFirstLine : Tables → List ℕ → FirstLine → Type 0
+IsFirstLine tables bytes firsts.NotWhole = Unit {0}
+IsFirstLine tables bytes firsts.Opening = Unit {0}
+IsFirstLine tables bytes (firsts.PassedOver len) = BeginsPassedOver bytes len
+IsFirstLine tables bytes (firsts.Read line) = BeginsWithLine tables bytes line.len line.asked
 
 -- what this line asks is answered, and then the lines that the first of the bytes behind it are
 pub record AnswersWith (asked : Result Request DocFault) (line behind : List ℕ) (count : ℕ) (old new : OpenSession) (before after : List ℕ) (kept left : Option (List (List ℕ))) : Type 0 where

@@ -2,7 +2,7 @@
 ghost use Rattle.std.specs.Prelude.{◌≡◌, ◌≢◌, true, false, IfErr, MatchOption};
 ghost use Rattle.tt_session.specs.Answers.{Becomes};
 ghost use Rattle.tt_session.specs.Session.{with_database};
-ghost use Rattle.tt_session.specs.Commands.{status, declared_tables, carried_out, is_read_only, reads_records, asks_read_only, asks_for_records, is_forget, asks_to_forget, moved_to, outcome_of_request};
+ghost use Rattle.tt_session.specs.Commands.{status, declared_tables, carried_out, is_read_only, reads_records, asks_read_only, asks_for_records, is_forget, asks_to_forget, repair_worker_told, moved_to, outcome_of_request};
 ghost use Rattle.tt_session.specs.ForgetRequests.{IsForgetRequest};
 
 use crate::change_entries::{changes, next_changes};
@@ -10,7 +10,7 @@ use crate::failure::Failure;
 use crate::forgetting::forget;
 use crate::open_session::OpenSession;
 use crate::reading::preview;
-use crate::repairing::{abort, finish, status_of, step};
+use crate::repairing::{abort, finish, other_worker, status_of, step};
 use crate::response::Response;
 use crate::told_requests::{begin_as_told, read_as_told, slots};
 use crate::writing::write;
@@ -27,12 +27,11 @@ fn status(session: &OpenSession) -> Result<Response, Failure>
     Ok(Response::unrecorded(Answer::Standing(status)))
 }
 
-/// The version, the tables, and how much is kept.
+/// The tables, and how much is kept.
 fn declared_tables(session: &OpenSession) -> Result<Response, Failure>
     ensures { Becomes session.now result (declared_tables session.now) }
 {
     Ok(Response::unrecorded(Answer::Declared {
-        version: session.terms().version,
         keep: session.db().limits().keep,
         records: session.terms().most_records,
     }))
@@ -45,9 +44,9 @@ fn is_read_only(command: &Command) -> bool
     match command {
         Command::Write(_) => false,
         Command::Begin(_) => false,
-        Command::Step(_) => false,
-        Command::Finish => false,
-        Command::Abort => false,
+        Command::Step { .. } => false,
+        Command::Finish { .. } => false,
+        Command::Abort { .. } => false,
         Command::Forget(_) => false,
         Command::Read { .. } => true,
         Command::Preview { .. } => true,
@@ -135,8 +134,20 @@ pub(crate) fn forget_request(asked: &Result<Request, DocFault>) -> Option<Forget
     }
 }
 
-/// Carries out a command of a worker. Without memory the session is as before if the command is
-/// read-only; else nothing is promised of its database.
+/// The worker for whose repair a command is, if it tells one.
+fn repair_worker_told(command: &Command) -> Option<u32>
+    ensures { result ≡ repair_worker_told command.now }
+{
+    match command {
+        Command::Step { of, .. } => *of,
+        Command::Finish { of } => *of,
+        Command::Abort { of } => *of,
+        _ => None,
+    }
+}
+
+/// Carries out a command of a worker, whoever began the repair. Without memory the session is as
+/// before if the command is read-only; else nothing is promised of its database.
 fn carried_out(
     session: &mut OpenSession,
     worker: u32,
@@ -157,9 +168,9 @@ fn carried_out(
         } => read_as_told(session, worker, select, generation, at, page),
         Command::Preview { select, page } => preview(session, &select, page),
         Command::Begin(edits) => begin_as_told(session, worker, &edits),
-        Command::Step(most) => step(session, worker, most),
-        Command::Finish => finish(session, worker),
-        Command::Abort => abort(session, worker),
+        Command::Step { most, .. } => step(session, worker, most),
+        Command::Finish { .. } => finish(session, worker),
+        Command::Abort { .. } => abort(session, worker),
         Command::Status => status(session),
         Command::Slots {
             from,
@@ -184,8 +195,9 @@ pub(crate) fn moved_to(numbering: Numbering, now: u64, expected: Option<ToldTime
     }
 }
 
-/// Carries out a request, unless it expects another time. Without memory the session is as before
-/// if the request is read-only; else nothing is promised of its database.
+/// Carries out a request, unless it expects another time, or is for the repair of another worker.
+/// Without memory the session is as before if the request is read-only; else nothing is promised of
+/// its database.
 pub(crate) fn outcome_of_request(
     session: &mut OpenSession,
     request: Request,
@@ -195,8 +207,11 @@ pub(crate) fn outcome_of_request(
     ensures rest { session.new ≡ with_database session.old session.new.database }
     ensures reads { is_read_only request.command ≡ true → session.new ≡ session.old }
 {
-    match moved_to(session.numbering(), session.db().now(), request.expected) {
-        Some(now) => Err(Failure::Refused(Refusal::Moved { now })),
+    if let Some(now) = moved_to(session.numbering(), session.db().now(), request.expected) {
+        return Err(Failure::Refused(Refusal::Moved { now }));
+    }
+    match other_worker(session.db(), repair_worker_told(&request.command)) {
+        Some(worker) => Err(Failure::Refused(Refusal::RepairOfAnother { worker })),
         None => carried_out(session, request.worker, request.command),
     }
 }

@@ -1,8 +1,8 @@
-//! The first line of some bytes, and what it asks for.
+//! The first line of some bytes, and what it is.
 ghost use Rattle.std.specs.Prelude.{◌≡◌, true, IfOk, MatchOption};
 ghost use Rattle.tt_requests.specs.LineValue.{value_of_line};
-ghost use Rattle.tt_grammar.specs.SessionVersion.{grammar_of};
-ghost use Rattle.tt_session.specs.Session.{request_in};
+ghost use Rattle.tt_grammar.specs.Version.{newest_version};
+ghost use Rattle.tt_requests.specs.SessionLine.{session_line_of};
 ghost use Rattle.tt_session.specs.Lines.{has_no_feed, HasFirstFeed};
 ghost use Rattle.tt_session.specs.Together.{IsFirstLine};
 
@@ -10,10 +10,11 @@ use crate::open_session::OpenSession;
 use memchr::memchr;
 use std::alloc::AllocError;
 use tt_grammar::DocFault;
+use tt_grammar::decoding::Version;
 use tt_json::Scratch;
-use tt_requests::{Request, is_passed_over};
+use tt_requests::{Request, SessionLine, is_passed_over};
 
-/// A line that is read: what it asks for, or its first fault.
+/// A line that is a request: what it asks for, or its first fault.
 #[derive(Drop)]
 pub(crate) struct RequestLine {
     pub(crate) asked: Result<Request, DocFault>,
@@ -28,7 +29,9 @@ pub(crate) enum FirstLine {
     NotWhole,
     /// It gets no answer. With its line feed it has this many bytes.
     PassedOver(usize),
-    /// It is to be answered.
+    /// It is an opening.
+    Opening,
+    /// It is a request.
     Read(RequestLine),
 }
 
@@ -39,8 +42,7 @@ impl FirstLine {
         bytes: &[u8],
         scratch: &mut Scratch,
     ) -> Result<FirstLine, AllocError>
-        ensures { IfOk result (IsFirstLine (grammar_of session.now.version)
-            session.now.database.catalog bytes.now) }
+        ensures { IfOk result (IsFirstLine session.now.database.catalog bytes.now) }
     {
         let Some(end) = first_feed(bytes) else {
             return Ok(FirstLine::NotWhole);
@@ -49,28 +51,28 @@ impl FirstLine {
         if is_passed_over(line) {
             return Ok(FirstLine::PassedOver(end + 1));
         }
-        let asked = read_request(session, line, scratch)?;
-        Ok(FirstLine::Read(RequestLine {
-            asked,
-            len: end + 1,
-        }))
+        match read_line(session, line, scratch)? {
+            SessionLine::Opening => Ok(FirstLine::Opening),
+            SessionLine::Request(asked) => Ok(FirstLine::Read(RequestLine {
+                asked,
+                len: end + 1,
+            })),
+        }
     }
 }
 
-/// What a line asks of a session, or its first fault.
-pub(crate) fn read_request(
+/// What a line is to a session: an opening, or what it asks for, or its first fault.
+pub(crate) fn read_line(
     session: &OpenSession,
     line: &[u8],
     scratch: &mut Scratch,
-) -> Result<Result<Request, DocFault>, AllocError>
-    ensures { IfOk result (λ asked. asked ≡ request_in session.now (value_of_line line.now)) }
+) -> Result<SessionLine, AllocError>
+    ensures { IfOk result (λ told. told
+        ≡ session_line_of newest_version session.now.database.catalog (value_of_line line.now)) }
 {
-    let version = session.terms().version.grammar();
+    let version = Version::newest();
     let catalog = session.db().catalog();
-    match Request::from_line_with(session.alloc(), version, catalog, line, scratch) {
-        Err(DocFault::Memory) => Err(AllocError),
-        asked => Ok(asked),
-    }
+    SessionLine::from_line_with(session.alloc(), version, catalog, line, scratch)
 }
 
 /// Where the first line feed is.

@@ -11,6 +11,7 @@ mod line;
 mod log_outlet;
 mod log_renewal;
 mod logged_session;
+mod lost_line;
 mod open_session;
 mod outlet;
 mod pages;
@@ -33,6 +34,7 @@ mod workspace;
 mod writing;
 
 pub use logged_session::{LoggedFault, run_logged_session};
+pub use lost_line::LostLine;
 pub use open_session::OpenSession;
 pub use run::{SessionEnd, SessionFault, run_session, run_session_to_end};
 pub use session::Session;

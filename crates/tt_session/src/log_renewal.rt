@@ -134,7 +134,6 @@ fn write_new<D: Device>(
     let mut text = Vec::new(alloc);
     push_log_opening(
         &mut text,
-        terms.version,
         db.catalog(),
         limits.keep,
         terms.most_records,

@@ -1,10 +1,11 @@
 //! A session whose lines are logged.
 ghost use Rattle.std.specs.Prelude.{◌≡◌, ◌⊎◌, ◌+◌, ◌-◌, ◌^◌, ◌<◌, ◌≤◌, length, IfOk, IfErr};
-ghost use Rattle.tt_log.specs.Log.{IsSettled};
+ghost use Rattle.tt_log.specs.Log.{IsAsLeft, IsSettled};
 ghost use Rattle.tt_session.specs.Run.{calls_of};
 ghost use Rattle.tt_session.specs.Ends.{HandsOverAll, Fails};
 ghost use Rattle.tt_session.specs.OnLog.{telling, HandedOnLog, StoppedOnLog};
 ghost use Rattle.tt_session.specs.LoggedSession.{GoesOnLog, BeginsOnLog, FailsAtStart, FailsOnLog};
+ghost use Rattle.tt_session.specs.LoggedSession.{IsEnded};
 ghost use Rattle.tt_session.specs.LoggedFaults.{fault_at_start, fault_of};
 
 use crate::log_outlet::LogOutlet;
@@ -32,21 +33,26 @@ pub enum LoggedFault {
     /// of the log's ground are still to come: the file is no log, or one of a session with other
     /// limits. The file is as it was.
     LogLine(u64),
-    /// The log can't be written, or would be longer than 2^60 bytes; or it was made anew, and its
-    /// new name can't be synced. The lines that weren't answered may be logged or not; the next
-    /// session on the log tells.
+    /// The log can't be written, or would be longer than 2^60 bytes; or it was made anew, and
+    /// nobody knows whether the new file has its name on the disk. The lines that weren't answered
+    /// may be logged or not; the next session on the log tells.
     LogWrite,
 }
 
 /// A session on a log: reads back what the log has, and then answers the lines of a reader, one
 /// after another, until its end. Before an answer is handed over, what the line changes is on the
 /// disk; so after a crash at any moment the next session on the log has all that was answered.
-/// Where the log has lines, the first line of the reader opens the session again.
+/// Where the log has lines, the session is open from the start.
 ///
 /// A line that opens the session or changes its database is written behind those that the log has.
 /// One that forgets makes the log anew: the lines of what the database then has take the place of
 /// those before, and a crash on the way leaves the one log or the other, whole. Where the new one
 /// can't be made, the request is refused, and the log goes on as it was.
+///
+/// A file that is its lines and nothing else was ended well, and is gone on with. Any other file is
+/// as a process has left it that was killed, or whose disk failed: nobody knows how much of it is
+/// on the disk, so the same lines are written to a new file, which takes its place before anything
+/// is answered. At the end of the reader the file is cut to its lines.
 ///
 /// Returns the device, which isn't to be used again after a fault of the log.
 pub fn run_logged_session<R: Read, D: Device>(
@@ -54,10 +60,12 @@ pub fn run_logged_session<R: Read, D: Device>(
     reader: &mut R,
     device: D,
 ) -> Result<(SessionEnd, D), (LoggedFault, D)>
+    requires left { D.tells device → IsAsLeft (D.seen device) (D.once_synced device) }
     ensures ok { IfOk result (λ end. D.tells device
         → HandsOverAll (R.remaining reader.old) (R.remaining reader.new) (GoesOnLog
         (telling D.tells D.seen D.shown D.moment D.left_since D.failures)
         D.may_leave device end.1)) }
+    ensures ended { IfOk result (λ end. D.tells device → IsEnded D.seen D.may_leave end.1) }
     ensures err { IfErr result (λ e. D.tells device
         → FailsOnLog e.0 (R.remaining reader.old) (R.remaining reader.new)
         (telling D.tells D.seen D.shown D.moment D.left_since D.failures)
@@ -71,9 +79,13 @@ pub fn run_logged_session<R: Read, D: Device>(
         Ok(begun) => begun,
         Err(fault) => return Err(fault),
     };
-    match serve_on_log(alloc, session, reader, log, zeros.as_mut_slice()) {
-        Ok((session, log)) => Ok((SessionEnd::of(session), log.into_device())),
-        Err((fault, error, log)) => Err((fault_of(fault, error), log.into_device())),
+    let (session, log) = match serve_on_log(alloc, session, reader, log, zeros.as_mut_slice()) {
+        Ok(served) => served,
+        Err((fault, error, log)) => return Err((fault_of(fault, error), log.into_device())),
+    };
+    match log.close() {
+        Ok(device) => Ok((SessionEnd::of(session), device)),
+        Err((_, device)) => Err((LoggedFault::LogWrite, device)),
     }
 }
 
@@ -85,6 +97,7 @@ fn begin<D: Device>(
 ) -> Result<(Session, Log<D>), (LoggedFault, D)>
     requires some { 0 < length buffer.old }
     requires few { length buffer.old ≤ 65536 }
+    requires left { D.tells device → IsAsLeft (D.seen device) (D.once_synced device) }
     ensures ok { IfOk result (λ begun. D.tells device → BeginsOnLog
         (telling D.tells D.seen D.shown D.moment D.left_since D.failures)
         D.may_leave device begun.0 begun.1) }
@@ -163,6 +176,8 @@ fn serve_on_log<R: Read, D: Device>(
         → HandsOverAll (R.remaining reader.old) (R.remaining reader.new)
         (HandedOnLog (telling D.tells D.seen D.shown D.moment D.left_since D.failures)
         log.device end.1.device session)) }
+    ensures settled { IfOk result (λ end. D.tells end.1.device
+        → IsSettled D.seen D.may_leave end.1) }
     ensures err { IfErr result (λ e. D.tells log.device
         → Fails e.0 (R.remaining reader.old) (R.remaining reader.new)
         (HandedOnLog (telling D.tells D.seen D.shown D.moment D.left_since D.failures)

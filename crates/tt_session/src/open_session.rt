@@ -1,10 +1,10 @@
 //! A session that is open.
-ghost use Rattle.std.specs.Prelude.{◌≡◌, ◌+◌, ◌<◌, ◌≤◌, ◌-◌, ◌^◌, OnOk, OnErr, IfOk};
+ghost use Rattle.std.specs.Prelude.{◌≡◌, ◌+◌, ◌<◌, ◌≤◌, ◌-◌, ◌^◌, true, false, OnOk, OnErr, IfOk};
 ghost use Rattle.tt_requests.specs.Opening.{max_keep, max_records};
 ghost use Rattle.tt_session.specs.Session.{counted, opened, terms_of, with_latest_if, with_earlier_records, without_records};
 ghost use Rattle.tt_session.specs.Changes.{forgotten_by, with_change};
 ghost use Rattle.tt_session.specs.Invariants.{IsOpenSession};
-ghost use Rattle.tt_session.specs.Reopening.{with_most_records};
+ghost use Rattle.tt_session.specs.Reopening.{reopened_by, with_most_records};
 ghost use Rattle.tt_session.specs.Restoring.{opened_on};
 
 mod advancing;
@@ -22,17 +22,14 @@ use std::alloc::{AllocError, Global};
 use std::marker::Model;
 pub(crate) use together::Extent;
 use tt_db::{Db, Limits};
-use tt_grammar::SessionVersion;
 use tt_numbers::Numbering;
 use tt_records::Record;
 use tt_requests::{LogOpening, Opening};
 
-/// A session that is open: its version, its database, how its numbers are told, and the records of
-/// its last calls.
+/// A session that is open: its database, how its numbers are told, and the records of its last
+/// calls.
 pub struct OpenSession {
     alloc: Global,
-    /// As of which its requests are read.
-    version: SessionVersion,
     db: Db,
     numbering: Numbering,
     records: Records,
@@ -40,6 +37,8 @@ pub struct OpenSession {
     most_records: u32,
     /// How many calls there were.
     calls: u64,
+    /// Whether an opening was accepted since the session was made or read back.
+    has_opening: bool,
 }
 
 impl Model for OpenSession {
@@ -49,12 +48,12 @@ impl Model for OpenSession {
     ghost Value = { OpenSession };
 
     ghost view = { λ s. record {
-      version = s.version;
       database = s.db;
       numbering = s.numbering;
       records = s.records;
       most_records = s.most_records;
       calls = s.calls;
+      has_opening = s.has_opening;
     } };
 
     ghost invariant = { λ s. IsSound s.db s.numbering s.records s.most_records };
@@ -65,12 +64,12 @@ impl Drop for OpenSession {
     fn drop(self) {
         let OpenSession {
             alloc: _,
-            version: _,
             db: _,
             numbering: _,
             records: _,
             most_records: _,
             calls: _,
+            has_opening: _,
         } = self;
     }
 }
@@ -83,7 +82,6 @@ impl OpenSession {
         ensures { result ≡ opened opening }
     {
         let Opening {
-            version,
             catalog,
             keep,
             records,
@@ -97,12 +95,12 @@ impl OpenSession {
         let _ = (db.catalog().len(), db.events());
         OpenSession {
             alloc,
-            version,
             db,
             numbering: Numbering::new(),
             records: Records::new(alloc),
             most_records: records,
             calls: 0,
+            has_opening: true,
         }
     }
 
@@ -146,8 +144,27 @@ impl OpenSession {
         &self.records
     }
 
+    /// Takes an opening that asks for what the session has. The first one since the session was
+    /// read back says how many records are kept.
+    pub(crate) fn take_opening(&mut self, opening: &Opening)
+        requires { opening.now.records ≤ max_records }
+        ensures { self.new ≡ reopened_by self.old opening.now }
+    {
+        if !self.has_opening {
+            self.keep_at_most(opening.records);
+            self.has_opening = true;
+        }
+    }
+
+    /// No opening was accepted since the session was read back.
+    pub(crate) fn await_opening(&mut self)
+        ensures { self.new ≡ record self.old { has_opening = false } }
+    {
+        self.has_opening = false;
+    }
+
     /// Keeps no more records than this from now on.
-    pub(crate) fn keep_at_most(&mut self, most: u32)
+    fn keep_at_most(&mut self, most: u32)
         requires { most ≤ max_records }
         ensures { self.new ≡ with_most_records self.old most }
     {
@@ -155,22 +172,14 @@ impl OpenSession {
         self.most_records = most;
     }
 
-    /// What the opening of the session has asked for.
+    /// What the opening of the session has asked for, beside its database.
     pub(crate) fn terms(&self) -> Terms
         ensures terms { result ≡ terms_of self.now }
         ensures few { result.most_records ≤ max_records }
     {
         Terms {
-            version: self.version,
             most_records: self.most_records,
         }
-    }
-
-    /// Its requests are read as of this version from now on.
-    pub(crate) fn read_as_of(&mut self, version: SessionVersion)
-        ensures { self.new ≡ record self.old { version = version } }
-    {
-        self.version = version;
     }
 
     /// How many calls there were.
@@ -240,12 +249,12 @@ impl OpenSession {
         let db = self.db.share()?;
         Ok(OpenSession {
             alloc: self.alloc,
-            version: self.version,
             db,
             numbering: self.numbering,
             records: Records::new(self.alloc),
             most_records: self.most_records,
             calls: self.calls,
+            has_opening: self.has_opening,
         })
     }
 
@@ -258,20 +267,20 @@ impl OpenSession {
     {
         let OpenSession {
             alloc: _,
-            version,
             db,
             numbering,
             records,
             most_records,
             calls,
+            has_opening,
         } = ahead;
         self.records.append(records)?;
         self.records.keep_last(most_records as usize);
-        self.version = version;
         self.db = db;
         self.numbering = numbering;
         self.most_records = most_records;
         self.calls = calls;
+        self.has_opening = has_opening;
         Ok(())
     }
 }

@@ -1,16 +1,16 @@
 //! How a repair goes on: its beginning, its steps, and its two ends.
 ghost use Rattle.std.specs.Prelude.{◌≡◌, ◌≢◌, false, true, None, IfOk, IfErr, OnOk};
 ghost use Rattle.tt_generations.specs.TwoGenerations.{is_repairing};
-ghost use Rattle.tt_db.specs.Database.{state_of};
+ghost use Rattle.tt_db.specs.Database.{state_of, repair_of, repair_worker_of};
 ghost use Rattle.tt_session.specs.Answers.{Becomes};
 ghost use Rattle.tt_session.specs.Session.{with_database};
-ghost use Rattle.tt_session.specs.Repairing.{progress_now, status_of, begin, step, finish, abort};
+ghost use Rattle.tt_session.specs.Repairing.{progress_now, repair_status, status_of, other_worker, begin, step, finish, abort};
 
 use crate::failure::Failure;
 use crate::open_session::OpenSession;
 use crate::response::Response;
 use crate::session_change::SessionChange;
-use tt_answers::{Answer, Status};
+use tt_answers::{Answer, RepairStatus, Status};
 use tt_db::{Db, DbError, Edit, Event, Outcome, Progress};
 use tt_values::Items;
 
@@ -38,6 +38,28 @@ pub(crate) fn repair_under_way(db: &Db) -> Result<Progress, DbError>
     db.repair().ok_or(DbError::NotRepairing)
 }
 
+/// The worker that began the repair under way, where a request is for the repair of another.
+pub(crate) fn other_worker(db: &Db, told: Option<u32>) -> Option<u32>
+    ensures { result ≡ other_worker told (repair_worker_of db.now) }
+{
+    let told = told?;
+    let beginner = db.repair_worker()?;
+    if told == beginner {
+        None
+    } else {
+        Some(beginner)
+    }
+}
+
+/// How the repair stands, if one is under way.
+fn repair_status(db: &Db) -> Option<RepairStatus>
+    ensures { result ≡ repair_status (repair_of db.now) (repair_worker_of db.now) }
+{
+    let progress = db.repair()?;
+    let worker = db.repair_worker()?;
+    Some(RepairStatus { progress, worker })
+}
+
 /// How a database stands.
 pub(crate) fn status_of(db: &Db) -> Status
     ensures { result ≡ status_of db.now }
@@ -47,7 +69,7 @@ pub(crate) fn status_of(db: &Db) -> Status
         generation: db.generation(),
         oldest: db.oldest(),
         entries: db.events(),
-        repair: db.repair(),
+        repair: repair_status(db),
     }
 }
 

@@ -1,5 +1,5 @@
 //! A session that is read back from its log.
-ghost use Rattle.std.specs.Prelude.{◌≡◌, ◌+◌, ◌-◌, ◌<◌, ◌≤◌, ◌^◌, ◌++◌, ◌∷◌, [], ℕ, List, Some, None, false, length, if◌then◌else◌, IfOk, IfErr, OnOk};
+ghost use Rattle.std.specs.Prelude.{◌≡◌, ◌+◌, ◌-◌, ◌<◌, ◌≤◌, ◌^◌, ◌++◌, ◌∷◌, [], ℕ, List, Some, None, true, false, length, if◌then◌else◌, IfOk, IfErr, OnOk};
 ghost use Rattle.tt_log.specs.Lines.{text, logged};
 ghost use Rattle.tt_log.specs.Reading.{unread, IsReading};
 ghost use Rattle.tt_requests.specs.Lines.{is_passed_over};
@@ -9,16 +9,16 @@ ghost use Rattle.tt_session.specs.Restoring.{laid_by, repeated, restored, Restor
 ghost use Rattle.tt_session.specs.RestoringRun.{IsRestoring, FailsIn, IsNextOrNot, OpensBy};
 ghost use Rattle.tt_session.specs.declared.session.Session.TheVariants.{Open};
 
-use crate::first_line::{first_feed, read_request};
+use crate::first_line::{first_feed, read_line};
 use crate::line::Line;
 use crate::open_session::OpenSession;
 use crate::run::MAX_TOTAL;
 use crate::session::{Session, open_or_stay};
 use std::alloc::{AllocError, Global};
-use tt_grammar::{DocFault, SessionVersion};
+use tt_grammar::DocFault;
 use tt_json::Scratch;
 use tt_log::{Device, UnreadLog};
-use tt_requests::{LogOpening, ground_action_from_line, is_passed_over};
+use tt_requests::{LogOpening, SessionLine, ground_action_from_line, is_passed_over};
 
 /// Why a log isn't read back.
 #[derive(Clone, Copy, Debug, PartialEq, Eq)]
@@ -49,10 +49,10 @@ pub(crate) fn restore<D: Device>(
 ) -> Result<Session, RestoreFault>
     requires some { 0 < length buffer.old }
     requires few { length buffer.old ≤ 65536 }
-    requires reading { D.tells log.old.device → IsReading D.seen D.may_leave log.old }
+    requires reading { D.tells log.old.device → IsReading D.seen log.old }
     requires unread { D.tells log.old.device
         → unread D.seen log.old ≡ text (D.seen log.old.device) }
-    ensures reading { D.tells log.old.device → IsReading D.seen D.may_leave log.new }
+    ensures reading { D.tells log.old.device → IsReading D.seen log.new }
     ensures device { log.new.device ≡ log.old.device }
     ensures whole { D.tells log.old.device → OnOk result (unread D.seen log.new ≡ []) }
     ensures restores { IfOk result (λ session. D.tells log.old.device
@@ -111,7 +111,7 @@ impl Restoring {
         }
     }
 
-    /// The session that was read back, to be opened again, once all lines are read.
+    /// The session that was read back, once all lines are read.
     fn finish(self) -> Result<Session, RestoreFault>
         requires { self.count < 2 ^ 64 - 1 }
         ensures session { IfOk result (λ session. session ≡ restored (begun self.session)) }
@@ -132,7 +132,10 @@ impl Restoring {
             return Err(RestoreFault::Line(count + 1));
         }
         match session {
-            Some(session) => Ok(Session::Restored(session)),
+            Some(mut session) => {
+                session.await_opening();
+                Ok(Session::Open(session))
+            }
             None => Ok(Session::NotOpen),
         }
     }
@@ -260,9 +263,8 @@ fn lay_line(
     }
 }
 
-/// Answers a line, which isn't passed over, in place, as of the newest version. Returns whether it
-/// changes the database.
-/// Where memory runs out, nothing is promised of the session.
+/// Answers a line, which isn't passed over, in place, if it is a request. Returns whether it changes
+/// the database. Where it doesn't, or memory runs out, nothing is promised of the session.
 fn repeat(
     session: &mut OpenSession,
     line: &[u8],
@@ -271,14 +273,16 @@ fn repeat(
 ) -> Result<bool, AllocError>
     requires calls { session.old.calls < 2 ^ 64 - 1 }
     requires told { is_passed_over line.now ≡ false }
-    ensures session { OnOk result (Open session.new
-        ≡ repeated (Open session.old) line.now) }
-    ensures made { IfOk result (λ made.
-        made ≡ changes_database (Open session.old) (Open session.new)) }
-    ensures calls { OnOk result (session.new.calls ≡ session.old.calls + 1) }
+    ensures session { IfOk result (λ made. made ≡ true
+        → Open session.new ≡ repeated (Open session.old) line.now) }
+    ensures made { IfOk result (λ made. made
+        ≡ changes_database (Open session.old) (repeated (Open session.old) line.now)) }
+    ensures calls { OnOk result (session.new.calls ≤ session.old.calls + 1) }
 {
-    session.read_as_of(SessionVersion::newest());
-    let asked = read_request(session, line, scratch)?;
+    let asked = match read_line(session, line, scratch)? {
+        SessionLine::Request(asked) => asked,
+        SessionLine::Opening => return Ok(false),
+    };
     let extent = session.extent();
     session.answer_in_place(text, asked)?;
     Ok(!session.is_as_at(extent))

@@ -11,12 +11,13 @@ ghost use Rattle.tt_session.specs.ForgetRequests.{AsksToForget};
 ghost use Rattle.tt_session.specs.Anew.{ForgetsOne, StopsForgetting};
 ghost use Rattle.tt_session.specs.PendingLines.{no_lines};
 ghost use Rattle.tt_session.specs.Running.{Rests, Takes, StopsIn, AnswersInMemory, AnswersOne, StopsAt, HandsOver, StopsBetween, StandsOn, HandsOverShort, StopsInShort, Halts};
-ghost use Rattle.tt_session.specs.Together.{AnswersFront};
+ghost use Rattle.tt_session.specs.Together.{IsLostAs, AnswersFront};
 ghost use Rattle.tt_session.specs.Ends.{AnswersAll, EndsEarly, HandsOverAll, Fails, Ends, StopsLast};
 
 use crate::commands::ForgetRequest;
 use crate::first_line::first_feed;
 use crate::line::Line;
+use crate::lost_line::LostLine;
 use crate::open_session::{Extent, ReadyToForget};
 use crate::outlet::{Forgotten, Outlet, Renewal};
 use crate::session::Session;
@@ -157,6 +158,7 @@ impl Run {
             → Rests O.handed O.has_log first outlet.old start [] self.old
             → HandsOverAll (R.remaining reader.old) (R.remaining reader.new)
             (O.handed first outlet.new start)) }
+        ensures ready { OnOk result (O.is_ready outlet.new) }
         ensures fault { IfErr result (λ e. (first : O) (start : Session)
             → Rests O.handed O.has_log first outlet.old start [] self.old
             → Fails e (R.remaining reader.old) (R.remaining reader.new)
@@ -434,17 +436,22 @@ impl Run {
         match self.answer_with_memory() {
             Ok(None) => Ok(()),
             Ok(Some(request)) => self.answer_to_forget(outlet, request),
-            Err(AllocError) => self.answer_without_memory(outlet),
+            Err(lost) => self.answer_without_memory(outlet, lost),
         }
     }
 
     /// Answers the line as one for which there is no memory, once all answers that are kept are
     /// handed over.
-    fn answer_without_memory<O: Outlet>(&mut self, outlet: &mut O) -> Result<(), SessionFault>
+    fn answer_without_memory<O: Outlet>(
+        &mut self,
+        outlet: &mut O,
+        lost: LostLine,
+    ) -> Result<(), SessionFault>
         requires calls { calls_of self.old.session < 2 ^ 64 - 1 }
         requires ready { O.is_ready outlet.old }
         requires some { (bytes : List ℕ) → HasBytes self.old.line bytes
-            → (is_too_long bytes ≡ false) × (is_passed_over bytes ≡ false) }
+            → (is_too_long bytes ≡ false) × (is_passed_over bytes ≡ false)
+            × IsLostAs lost bytes }
         ensures ready { OnOk result (O.is_ready outlet.new) }
         ensures ok { OnOk result
             (AnswersOne O.handed O.has_log outlet.old outlet.new self.old self.new) }
@@ -454,7 +461,7 @@ impl Run {
         ensures calls { calls_of self.new.session ≤ calls_of self.old.session + 1 }
     {
         self.workspace.release(self.alloc);
-        let answer = self.session.answer_without_memory();
+        let answer = self.session.answer_without_memory(lost);
         self.hand_over_short(outlet, &answer)
     }
 
@@ -483,7 +490,7 @@ impl Run {
                 self.hand_over(outlet)?;
                 self.make_log_anew(outlet, ready)
             }
-            Err(AllocError) => self.answer_without_memory(outlet),
+            Err(AllocError) => self.answer_without_memory(outlet, LostLine::Request),
         }
     }
 
@@ -527,12 +534,14 @@ impl Run {
 
     /// Answers the line, where there is memory for it. A request to forget is returned, and nothing
     /// is done for it.
-    fn answer_with_memory(&mut self) -> Result<Option<ForgetRequest>, AllocError>
+    fn answer_with_memory(&mut self) -> Result<Option<ForgetRequest>, LostLine>
         requires { calls_of self.old.session < 2 ^ 64 - 1 }
         ensures answered { IfOk result (AnswersInMemory self.old self.new) }
         ensures calls { calls_of self.new.session ≤ calls_of self.old.session + 1 }
         ensures returned { IfOk result (λ asked. IfSome asked (λ _.
             self.new.session ≡ self.old.session)) }
+        ensures lost { IfErr result (λ lost. (bytes : List ℕ) → HasBytes self.old.line bytes
+            → is_too_long bytes ≡ false → IsLostAs lost bytes) }
         ensures line { self.new.line ≡ self.old.line }
         ensures text_stays { OnErr result (self.new.out.items ≡ self.old.out.items) }
         ensures session_stays { OnErr result (self.new.session ≡ self.old.session) }
@@ -544,7 +553,7 @@ impl Run {
                 self.session
                     .answer_line(self.alloc, &mut self.out, line, &mut self.workspace)
             }
-            None => Err(AllocError),
+            None => Err(LostLine::Request),
         }
     }
 
@@ -594,6 +603,7 @@ impl Run {
         requires calls { calls_of self.old.session < 2 ^ 64 - 1 }
         requires ready { O.is_ready outlet.old }
         ensures ok { OnOk result (Ends O.handed O.has_log outlet.old outlet.new self.old) }
+        ensures ready { OnOk result (O.is_ready outlet.new) }
         ensures err { OnErr result
             (StopsLast O.handed O.stopped O.has_log outlet.old outlet.new self.old) }
         ensures fault { IfErr result (λ e. e ≡ SessionFault.Write) }

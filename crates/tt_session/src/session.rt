@@ -1,10 +1,11 @@
-//! A session, from its opening on.
-ghost use Rattle.std.specs.Prelude.{◌≡◌, ◌+◌, ◌<◌, ◌≤◌, ◌-◌, ◌^◌, ◌++◌, length, OnOk, OnErr, IfOk, IfSome};
+//! A session: not open yet, or open.
+ghost use Rattle.std.specs.Prelude.{◌≡◌, ◌+◌, ◌<◌, ◌≤◌, ◌-◌, ◌^◌, ◌++◌, length, OnOk, OnErr, IfOk, IfErr, IfSome};
 ghost use Rattle.tt_requests.specs.LineValue.{value_of_line};
 ghost use Rattle.tt_requests.specs.Opening.{max_records, opening_of};
 ghost use Rattle.tt_answers.specs.AnswerText.{opening_text};
 
 use crate::commands::ForgetRequest;
+use crate::lost_line::LostLine;
 use crate::open_session::{Extent, OpenSession, ReadyToForget};
 use crate::pending_lines::PendingLines;
 use crate::repairing::status_of;
@@ -13,9 +14,8 @@ use crate::short_answer::ShortAnswer;
 use crate::terms::Terms;
 use crate::workspace::{Workspace, append};
 use std::alloc::{AllocError, Global};
-use std::mem;
 use tt_answers::{Answer, push_opening};
-use tt_grammar::{DocFault, SessionVersion};
+use tt_grammar::DocFault;
 use tt_numbers::Numbering;
 use tt_requests::{Opening, is_passed_over};
 
@@ -24,8 +24,6 @@ use tt_requests::{Opening, is_passed_over};
 pub enum Session {
     /// No line has opened it yet.
     NotOpen,
-    /// It holds a database that was read back from a log. A line opens it that asks for that.
-    Restored(OpenSession),
     /// It holds a database.
     Open(OpenSession),
 }
@@ -33,11 +31,11 @@ pub enum Session {
 impl Session {
     ghost use Rattle.tt_session.specs.Run.{turn_with_memory, turn_without_memory, turn_of_long_line, calls_of};
     ghost use Rattle.tt_session.specs.ShortAnswers.{short_text};
-    ghost use Rattle.tt_session.specs.Together.{AnswersFront};
+    ghost use Rattle.tt_session.specs.Together.{IsLostAs, is_opening_lost, AnswersFront};
     ghost use Rattle.tt_session.specs.ForgetRequests.{AnswersLine, turn_of_forget, Prepares};
     ghost use Rattle.tt_session.specs.Changes.{forgotten_by};
     ghost use Rattle.tt_session.specs.Session.{OpenSession, terms_of, counted};
-    ghost use Rattle.tt_session.specs.declared.session.Session.TheVariants.{Restored, Open};
+    ghost use Rattle.tt_session.specs.declared.session.Session.TheVariants.{Open};
 
     /// How many calls there were.
     pub(crate) fn calls(&self) -> u64
@@ -45,31 +43,31 @@ impl Session {
     {
         match self {
             Session::NotOpen => 0,
-            Session::Restored(session) | Session::Open(session) => session.calls(),
+            Session::Open(session) => session.calls(),
         }
     }
 
     /// Answers a line: pushes the text of its answer, which is empty where the line is passed over,
     /// and becomes the session after it. Where memory runs out, the session and the text are as
-    /// before; [`answer_without_memory`](Session::answer_without_memory) answers the line then.
-    pub fn answer(
-        &mut self,
-        alloc: Global,
-        out: &mut Vec<u8>,
-        line: &[u8],
-    ) -> Result<(), AllocError>
+    /// before, and it is returned what was lost, which
+    /// [`answer_without_memory`](Session::answer_without_memory) answers.
+    pub fn answer(&mut self, alloc: Global, out: &mut Vec<u8>, line: &[u8]) -> Result<(), LostLine>
         requires { calls_of self.old < 2 ^ 64 - 1 }
         ensures text { OnOk result (out.new.items
             ≡ out.old.items ++ (turn_with_memory self.old line.now).text) }
         ensures session { OnOk result
             (self.new ≡ (turn_with_memory self.old line.now).session) }
         ensures calls { calls_of self.new ≤ calls_of self.old + 1 }
+        ensures lost { IfErr result (λ lost. IsLostAs lost line.now) }
         ensures text_stays { OnErr result (out.new.items ≡ out.old.items) }
         ensures session_stays { OnErr result (self.new ≡ self.old) }
     {
         let mut workspace = Workspace::new(alloc, false);
         match self.answer_line(alloc, out, line, &mut workspace)? {
-            Some(request) => self.forget_at_once(out, request),
+            Some(request) => {
+                self.forget_at_once(out, request)?;
+                Ok(())
+            }
             None => Ok(()),
         }
     }
@@ -83,13 +81,14 @@ impl Session {
         out: &mut Vec<u8>,
         line: &[u8],
         workspace: &mut Workspace,
-    ) -> Result<Option<ForgetRequest>, AllocError>
+    ) -> Result<Option<ForgetRequest>, LostLine>
         requires { calls_of self.old < 2 ^ 64 - 1 }
         ensures answered { IfOk result (AnswersLine self.old self.new line.now
             out.old.items out.new.items workspace.old.lines workspace.new.lines) }
         ensures calls { calls_of self.new ≤ calls_of self.old + 1 }
         ensures returned { IfOk result (λ asked. IfSome asked (λ _.
             self.new ≡ self.old)) }
+        ensures lost { IfErr result (λ lost. IsLostAs lost line.now) }
         ensures text_stays { OnErr result (out.new.items ≡ out.old.items) }
         ensures session_stays { OnErr result (self.new ≡ self.old) }
         ensures lines_stay { OnErr result (workspace.new.lines ≡ workspace.old.lines) }
@@ -101,12 +100,6 @@ impl Session {
             Session::Open(session) => session.answer_line(out, line, workspace),
             Session::NotOpen => {
                 *self = open(alloc, out, line, &mut workspace.lines)?;
-                Ok(None)
-            }
-            Session::Restored(session) => {
-                if session.reopen(out, line)? {
-                    self.go_on();
-                }
                 Ok(None)
             }
         }
@@ -130,7 +123,7 @@ impl Session {
     {
         match self {
             Session::Open(session) => session.forget_at_once(out, request),
-            Session::NotOpen | Session::Restored(_) => Ok(()),
+            Session::NotOpen => Ok(()),
         }
     }
 
@@ -153,7 +146,7 @@ impl Session {
     {
         match self {
             Session::Open(session) => session.prepare_to_forget(out, request),
-            Session::NotOpen | Session::Restored(_) => Ok(None),
+            Session::NotOpen => Ok(None),
         }
     }
 
@@ -175,23 +168,9 @@ impl Session {
         ensures few { result.most_records ≤ max_records }
     {
         match self {
-            Session::NotOpen => Terms {
-                version: SessionVersion::newest(),
-                most_records: 0,
-            },
-            Session::Restored(session) | Session::Open(session) => session.terms(),
+            Session::NotOpen => Terms { most_records: 0 },
+            Session::Open(session) => session.terms(),
         }
-    }
-
-    /// Opens a session that was read back.
-    fn go_on(&mut self)
-        ensures { (session : OpenSession)
-            → self.old ≡ Restored session → self.new ≡ Open session }
-    {
-        *self = match mem::replace(self, Session::NotOpen) {
-            Session::Restored(session) => Session::Open(session),
-            session => session,
-        };
     }
 
     /// Answers the lines that some bytes begin with, together, where the session is open: pushes
@@ -208,22 +187,27 @@ impl Session {
             out.old.items out.new.items workspace.old.lines workspace.new.lines }
     {
         match self {
-            Session::NotOpen | Session::Restored(_) => Extent::of(0),
+            Session::NotOpen => Extent::of(0),
             Session::Open(session) => session.answer_lines(out, bytes, workspace),
         }
     }
 
-    /// Counts a line for which there is no memory as a call, where the session is open, and returns
-    /// its answer. Takes no memory.
-    pub fn answer_without_memory(&mut self) -> ShortAnswer
+    /// Returns the answer to a line for which there is no memory. It is counted as a call, where
+    /// the session is open, unless it was lost as an opening. Takes no memory.
+    pub fn answer_without_memory(&mut self, lost: LostLine) -> ShortAnswer
         requires { calls_of self.old < 2 ^ 64 - 1 }
-        ensures text { short_text result ≡ (turn_without_memory self.old).text }
-        ensures session { self.new ≡ (turn_without_memory self.old).session }
+        ensures text { short_text result
+            ≡ (turn_without_memory (is_opening_lost lost) self.old).text }
+        ensures session { self.new
+            ≡ (turn_without_memory (is_opening_lost lost) self.old).session }
         ensures calls { calls_of self.new ≤ calls_of self.old + 1 }
     {
         match self {
-            Session::NotOpen | Session::Restored(_) => ShortAnswer::OpeningOutOfMemory,
-            Session::Open(session) => ShortAnswer::CallOutOfMemory(session.count_call()),
+            Session::NotOpen => ShortAnswer::OpeningOutOfMemory,
+            Session::Open(session) => match lost {
+                LostLine::Opening => ShortAnswer::OpeningOutOfMemory,
+                LostLine::Request => ShortAnswer::CallOutOfMemory(session.count_call()),
+            },
         }
     }
 
@@ -236,7 +220,7 @@ impl Session {
         ensures calls { calls_of self.new ≤ calls_of self.old + 1 }
     {
         match self {
-            Session::NotOpen | Session::Restored(_) => ShortAnswer::OpeningTooLong,
+            Session::NotOpen => ShortAnswer::OpeningTooLong,
             Session::Open(session) => ShortAnswer::CallTooLong(session.count_call()),
         }
     }

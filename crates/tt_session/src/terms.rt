@@ -1,10 +1,6 @@
-use tt_grammar::SessionVersion;
-
-/// What an opening may ask for anew of a session that was read back from a log.
+/// What the opening of a session has asked for, beside its database.
 #[derive(Clone, Copy, Debug)]
 pub(crate) struct Terms {
-    /// The version of the session.
-    pub(crate) version: SessionVersion,
     /// How many records are kept at most.
     pub(crate) most_records: u32,
 }

@@ -28,9 +28,9 @@ standing : call_text accounts behind 9 (answers.Standing (record {
   generation = 1;
   oldest = 0;
   entries = 9;
-  repair = Some (record { done = 2; left = 2; rerun = 1 });
+  repair = Some (record { progress = record { done = 2; left = 2; rerun = 1 }; worker = 1 });
 }))
-    ≡ (codes "{\"call\":9,\"time\":6,\"generation\":3,\"oldest\":2,\"entries\":9,\"repair\":{\"done\":4,\"left\":2,\"rerun\":1},"
+    ≡ (codes "{\"call\":9,\"time\":6,\"generation\":3,\"oldest\":2,\"entries\":9,\"repair\":{\"done\":4,\"left\":2,\"rerun\":1,\"worker\":1},"
     ++ codes "\"horizon\":3}\n")
 unfolding digits
 standing = refl

@@ -5,13 +5,12 @@ use Rattle.tt_values.specs.declared.value.Value.TheVariants as values
 use Rattle.tt_values.specs.declared.statement.Change.TheVariants as changes
 use Rattle.tt_values.specs.declared.statement.Write.TheVariants as writes
 use Rattle.tt_values.specs.Action.{action_of, whole_of}
-use Rattle.tt_grammar.specs.declared.session_version.SessionVersion.TheVariants.{Three}
 use Rattle.tt_values.specs.declared.comparison.Comparison.TheVariants.{Is}
 use Rattle.tt_grammar.proofs.worked_texts.Accounts.{accounts, account}
 use Rattle.tt_answers.specs.LogText.{log_opening_line, ground_line, slot_line}
 
-opening : log_opening_line Three accounts 4 100000 (record { horizon = 7; ground_slots = 2; generations = 1 })
-    ≡ (codes "{\"version\":3,\"tables\":[{\"name\":\"acct\",\"columns\":[{\"name\":\"id\",\"kind\":\"int\",\"partition\":false},{\"name\":\"owner\","
+opening : log_opening_line accounts 4 100000 (record { horizon = 7; ground_slots = 2; generations = 1 })
+    ≡ (codes "{\"version\":4,\"tables\":[{\"name\":\"acct\",\"columns\":[{\"name\":\"id\",\"kind\":\"int\",\"partition\":false},{\"name\":\"owner\","
     ++ codes "\"kind\":\"text\",\"partition\":true},{\"name\":\"bal\",\"kind\":\"int\",\"partition\":false}]}],\"keep\":4,\"records\":100000,"
     ++ codes "\"ground\":{\"time\":7,\"generation\":1,\"slots\":2}}")
 unfolding digits

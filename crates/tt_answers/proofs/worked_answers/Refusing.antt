@@ -25,6 +25,11 @@ not_repairing : call_text accounts nothing_forgotten 15 (answers.Refused (refusa
 unfolding digits
 not_repairing = refl
 
+repair_of_another : call_text accounts nothing_forgotten 16 (answers.Refused (refusals.RepairOfAnother 2))
+    ≡ codes "{\"call\":16,\"refused\":\"repair of another\",\"worker\":2}\n"
+unfolding digits
+repair_of_another = refl
+
 -- a preview is refused by the same words
 no_preview : call_text accounts nothing_forgotten 15 (answers.Refused (refusals.Read read_errors.NotRepairing))
     ≡ codes "{\"call\":15,\"refused\":\"not repairing\"}\n"

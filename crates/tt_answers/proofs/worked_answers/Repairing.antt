@@ -54,8 +54,8 @@ standing : call_text accounts nothing_forgotten 9 (answers.Standing (record {
   generation = 1;
   oldest = 0;
   entries = 7;
-  repair = Some (record { done = 1; left = 2; rerun = 1 });
+  repair = Some (record { progress = record { done = 1; left = 2; rerun = 1 }; worker = 7 });
 }))
-    ≡ codes "{\"call\":9,\"time\":3,\"generation\":1,\"oldest\":0,\"entries\":7,\"repair\":{\"done\":1,\"left\":2,\"rerun\":1}}\n"
+    ≡ codes "{\"call\":9,\"time\":3,\"generation\":1,\"oldest\":0,\"entries\":7,\"repair\":{\"done\":1,\"left\":2,\"rerun\":1,\"worker\":7}}\n"
 unfolding digits
 standing = refl

@@ -7,7 +7,6 @@ use Rattle.tt_values.specs.declared.statement.Change.TheVariants as changes
 use Rattle.tt_values.specs.declared.statement.Write.TheVariants as writes
 use Rattle.tt_values.specs.declared.reply.Reply.TheVariants as replies
 use Rattle.tt_values.specs.Action.{action_of, whole_of}
-use Rattle.tt_grammar.specs.declared.session_version.SessionVersion.TheVariants.{Two}
 use Rattle.tt_values.specs.declared.comparison.Comparison.TheVariants.{Is, AtLeast}
 use Rattle.tt_grammar.proofs.worked_texts.Accounts.{accounts, account}
 use Rattle.tt_answers.specs.declared.answer.Answer.TheVariants as answers
@@ -95,8 +94,8 @@ asked_whole : call_text accounts nothing_forgotten 27 (answers.Slots 4 (
 unfolding digits
 asked_whole = refl
 
-tables : call_text accounts nothing_forgotten 21 (answers.Declared Two 4 100000)
-    ≡ (codes "{\"call\":21,\"version\":2,\"tables\":[{\"name\":\"acct\",\"columns\":[{\"name\":\"id\",\"kind\":\"int\",\"partition\":false},{\"name\":\"owner\","
+tables : call_text accounts nothing_forgotten 21 (answers.Declared 4 100000)
+    ≡ (codes "{\"call\":21,\"version\":4,\"tables\":[{\"name\":\"acct\",\"columns\":[{\"name\":\"id\",\"kind\":\"int\",\"partition\":false},{\"name\":\"owner\","
     ++ codes "\"kind\":\"text\",\"partition\":true},{\"name\":\"bal\",\"kind\":\"int\",\"partition\":false}]}],\"keep\":4,\"records\":100000}\n")
 unfolding digits
 tables = refl

@@ -1,12 +1,12 @@
 -- Command lines, computed: what the words of some ask for, and the fault of others.
-use Rattle.std.proofs.Common.{◌≡◌, ℕ, List, [], ◌∷◌, Bool, false, codes, refl, sym, ap, Some}
+use Rattle.std.proofs.Common.{◌≡◌, ℕ, List, [], ◌∷◌, Bool, false, true, codes, refl, sym, ap, Some}
 use Rattle.std.specs.Borrow.{Bor}
-use Rattle.clap.specs.Words.{Text, fault_of}
+use Rattle.clap.specs.Words.{Text}
 use Rattle.clap.specs.declared.error.kind.ErrorKind.TheVariants.{MissingRequiredArgument, ValueValidation, UnknownArgument}
 use Rattle.clap.proofs.OnLiterals.{clap_on_literals}
 use Rattle.tt_workload.specs.declared.options.Options.{Options}
 use Rattle.tt_cli.specs.declared.command_line.Cli.TheVariants as commands
-use Rattle.tt_cli.specs.CommandLine.{command_line, IsCommandOf, IsBatchOf, IsRoundsOf, IsClosedOf}
+use Rattle.tt_cli.specs.CommandLine.{fault_of_words, IsCommandOf, IsBatchOf, IsRoundsOf, IsClosedOf}
 
 -- the words of a command line, behind the program's name
 abbrev line : List Text → List Text
@@ -16,8 +16,8 @@ line words = codes "timetravel" ∷ words
 abbrev run_alone : List Text
 run_alone = line (codes "run" ∷ [])
 
-run_is_taken : fault_of command_line run_alone ≡ []
-unfolding clap_on_literals
+run_is_taken : fault_of_words run_alone ≡ []
+unfolding fault_of_words clap_on_literals
 run_is_taken = refl
 
 run_is_run : (options : Options) → IsCommandOf run_alone (commands.Run options)
@@ -40,8 +40,8 @@ closed_of_run given is = is
 abbrev replay_alone : List Text
 replay_alone = line (codes "replay" ∷ [])
 
-replay_is_taken : fault_of command_line replay_alone ≡ []
-unfolding clap_on_literals
+replay_is_taken : fault_of_words replay_alone ≡ []
+unfolding fault_of_words clap_on_literals
 replay_is_taken = refl
 
 replay_is_replay : (options : Options) → IsCommandOf replay_alone (commands.Replay options)
@@ -57,16 +57,16 @@ unfolding IsRoundsOf clap_on_literals
 rounds_of_replay n is = is
 
 -- a number out of its range, and an option of the other command
-no_batch_is_refused : fault_of command_line (line (codes "replay" ∷ codes "--batch" ∷ codes "0" ∷ [])) ≡ ValueValidation ∷ []
-unfolding clap_on_literals
+no_batch_is_refused : fault_of_words (line (codes "replay" ∷ codes "--batch" ∷ codes "0" ∷ [])) ≡ ValueValidation ∷ []
+unfolding fault_of_words clap_on_literals
 no_batch_is_refused = refl
 
-many_rounds_are_refused : fault_of command_line (line (codes "run" ∷ codes "--rounds" ∷ codes "1001" ∷ [])) ≡ ValueValidation ∷ []
-unfolding clap_on_literals
+many_rounds_are_refused : fault_of_words (line (codes "run" ∷ codes "--rounds" ∷ codes "1001" ∷ [])) ≡ ValueValidation ∷ []
+unfolding fault_of_words clap_on_literals
 many_rounds_are_refused = refl
 
-rounds_of_replay_are_refused : fault_of command_line (line (codes "replay" ∷ codes "--rounds" ∷ codes "8" ∷ [])) ≡ UnknownArgument ∷ []
-unfolding clap_on_literals
+rounds_of_replay_are_refused : fault_of_words (line (codes "replay" ∷ codes "--rounds" ∷ codes "8" ∷ [])) ≡ UnknownArgument ∷ []
+unfolding fault_of_words clap_on_literals
 rounds_of_replay_are_refused = refl
 
 -- a session in memory, and one on a log
@@ -74,23 +74,37 @@ session_is_session : IsCommandOf (line (codes "session" ∷ [])) commands.Sessio
 unfolding IsCommandOf clap_on_literals
 session_is_session = (refl, refl)
 
-logged_session_is_logged : (path : Bor Text) → path.now ≡ codes "bank.log" → IsCommandOf (line (codes "session" ∷ codes "--log=bank.log" ∷ [])) (commands.LoggedSession path)
+logged_session_is_logged : (path : Bor Text) → path.now ≡ codes "bank.log" → IsCommandOf (line (codes "session" ∷ codes "--log=bank.log" ∷ [])) (commands.LoggedSession path false)
 unfolding IsCommandOf clap_on_literals
-logged_session_is_logged path is = (refl, ap Some (sym is))
+logged_session_is_logged path is = (refl, ap Some (sym is), refl)
 
 logged_session_is_no_other : IsCommandOf (line (codes "session" ∷ codes "--log" ∷ codes "bank.log" ∷ [])) commands.Session → ⊥
 unfolding IsCommandOf clap_on_literals
 logged_session_is_no_other is = let bad = is.1 in absurd (cc)
+
+-- a session on a log that must be there, which takes both options in either order
+existing_session_must_exist : (path : Bor Text) → path.now ≡ codes "bank.log"
+    → IsCommandOf (line (codes "session" ∷ codes "--existing" ∷ codes "--log" ∷ codes "bank.log" ∷ [])) (commands.LoggedSession path true)
+unfolding IsCommandOf clap_on_literals
+existing_session_must_exist path is = (refl, ap Some (sym is), refl)
+
+existing_session_is_taken : fault_of_words (line (codes "session" ∷ codes "--log" ∷ codes "bank.log" ∷ codes "--existing" ∷ [])) ≡ []
+unfolding fault_of_words clap_on_literals
+existing_session_is_taken = refl
+
+existing_without_log_is_refused : fault_of_words (line (codes "session" ∷ codes "--existing" ∷ [])) ≡ MissingRequiredArgument ∷ []
+unfolding fault_of_words clap_on_literals
+existing_without_log_is_refused = refl
 
 -- a look at a log, which takes a file, and no more than one
 log_is_log : (path : Bor Text) → path.now ≡ codes "bank.log" → IsCommandOf (line (codes "log" ∷ codes "bank.log" ∷ [])) (commands.Log path)
 unfolding IsCommandOf clap_on_literals
 log_is_log path is = (refl, ap Some (sym is))
 
-no_file_is_refused : fault_of command_line (line (codes "log" ∷ [])) ≡ MissingRequiredArgument ∷ []
-unfolding clap_on_literals
+no_file_is_refused : fault_of_words (line (codes "log" ∷ [])) ≡ MissingRequiredArgument ∷ []
+unfolding fault_of_words clap_on_literals
 no_file_is_refused = refl
 
-two_files_are_refused : fault_of command_line (line (codes "log" ∷ codes "a" ∷ codes "b" ∷ [])) ≡ UnknownArgument ∷ []
-unfolding clap_on_literals
+two_files_are_refused : fault_of_words (line (codes "log" ∷ codes "a" ∷ codes "b" ∷ [])) ≡ UnknownArgument ∷ []
+unfolding fault_of_words clap_on_literals
 two_files_are_refused = refl

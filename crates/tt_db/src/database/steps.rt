@@ -17,7 +17,8 @@ impl Db {
     ///
     /// Without memory nothing is left of the database but its catalog and its limits.
     pub fn advance_steps(&mut self, worker: u32, most: u64) -> Result<StepsMade, AllocError>
-        ensures state { IfOk result (λ made. self.new ≡ with_steps_by worker self.old made.count) }
+        ensures state { IfOk result (λ made.
+            self.new ≡ with_steps_by worker self.old made.count) }
         ensures count { IfOk result (λ made. made.count ≡ steps_made worker self.old most) }
         ensures last { IfOk result (λ made.
             made.last ≡ last_outcome worker self.old made.count) }

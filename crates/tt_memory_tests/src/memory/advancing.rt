@@ -1,11 +1,11 @@
 //! Events that are applied in place, where one growth is refused.
 use super::database::{delete_bob, entry, write, written};
 use super::looks::{Looks, looks_as_before};
-use super::marks::{Tally, mark};
 use super::{account_columns, accounts, add_to_all, delete, insert, items, same};
 use std::alloc::{AllocError, Global};
 use std::process::Abort;
 use tt_db::{Db, DbError, Edit, Event, Limits, Outcome};
+use tt_shared_tests::{Tally, mark};
 use tt_values::{Reply, Write};
 
 /// How many events there are after the first repair.

@@ -1,10 +1,10 @@
 //! Each event of a repair, and each read, where one growth is refused.
 use super::looks::{Looks, looks_as_before};
-use super::marks::{Tally, mark};
 use super::{add_to_all, delete, everything, insert, items, new_db, same};
 use std::alloc::{AllocError, Global};
 use std::process::Abort;
 use tt_db::{Db, DbError, Edit, Entry, Event, Outcome, ReadError};
+use tt_shared_tests::{Tally, mark};
 use tt_values::{Action, Items, Reply, Write};
 
 pub(super) fn entry(event: Event) -> Entry {

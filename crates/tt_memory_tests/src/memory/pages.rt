@@ -1,9 +1,9 @@
 //! Maps and lists, where one growth is refused.
-use super::marks::{Tally, mark, quiet};
 use super::same;
 use std::alloc::{AllocError, Global};
 use std::process::Abort;
 use tt_pages::{Modify, PagedLog, PagedMap};
+use tt_shared_tests::{Tally, mark, quiet};
 
 /// The number of entries, which fill several pages.
 const MANY: u64 = 70;

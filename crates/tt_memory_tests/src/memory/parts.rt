@@ -2,11 +2,11 @@
 ghost use Rattle.std.specs.Prelude.{◌≡◌, ◌<◌, length};
 ghost use Rattle.tt_values.specs.Check.{HasKey};
 
-use super::marks::{Tally, mark, quiet};
 use super::{account_columns, accounts, items, owned_by, row, same};
 use std::alloc::{AllocError, Global};
 use std::process::Abort;
 use tt_parts::{Dirty, Partition, Reads, parts_of, reads_of};
+use tt_shared_tests::{Tally, mark, quiet};
 use tt_values::{Items, TableDef, Value, Write};
 
 /// A set without members, for accounts.

@@ -1,10 +1,10 @@
 //! Calls of a database that take no memory: what it tells of itself, and what it refuses.
 use super::database::{delete_bob, entry, five_slots, repairing, write};
-use super::marks::{Tally, quiet};
 use super::{accounts, everything, insert, items, same};
 use std::alloc::{AllocError, Global};
 use std::process::Abort;
 use tt_db::{Db, DbError, Edit, Event, Limits, Progress, ReadError};
+use tt_shared_tests::{Tally, quiet};
 use tt_values::{CheckError, RowId, Select, Write};
 
 /// A database tells why it would refuse an event, and refuses it, without memory, beside it and in

@@ -1,10 +1,10 @@
 //! Pages of the rows of a database, where one growth is refused.
 use super::advancing::before;
-use super::marks::{Tally, mark};
 use super::{everything, owned_by, row, same};
 use std::alloc::Global;
 use std::process::Abort;
 use tt_db::{Db, FirstRows, ReadError};
+use tt_shared_tests::{Tally, mark};
 use tt_values::{Items, Select};
 
 /// An account: its id, its owner and its balance.

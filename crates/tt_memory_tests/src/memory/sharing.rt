@@ -1,10 +1,10 @@
 //! How many growths one more row of a large table meets.
 use super::looks::{Looks, looks_as_before};
-use super::marks::{Tally, mark};
 use super::{insert, items, new_db, same};
 use std::alloc::Global;
 use std::process::Abort;
 use tt_db::{Db, DbError, Entry, Event};
+use tt_shared_tests::{Tally, mark};
 use tt_values::{Action, Write};
 
 /// The number of rows.

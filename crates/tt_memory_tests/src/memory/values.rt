@@ -1,8 +1,8 @@
 //! Values, statements and the catalog, where one growth is refused, and calls of them without any.
-use super::marks::{Tally, mark, quiet};
 use super::{account_columns, add_to_all, delete, everything, insert, items, owned_by, row, same};
 use std::alloc::{AllocError, Global};
 use std::process::Abort;
+use tt_shared_tests::{Tally, mark, quiet};
 use tt_values::{
     Action, Catalog, CatalogError, Change, CheckError, Column, Comparison, Equal, Items, Kind, Row,
     Same, Select, Shared, TableDef, Text, Value, Write, are_same, changed, check, check_action,

@@ -1,8 +1,8 @@
 //! Tables of versions, where one growth is refused.
-use super::marks::{Tally, mark, quiet};
 use super::{owned_by, row, same};
 use std::alloc::{AllocError, Global};
 use std::process::Abort;
+use tt_shared_tests::{Tally, mark, quiet};
 use tt_values::{Comparison, Equal, Few, Row, Value};
 use tt_versions::{Side, Table};
 

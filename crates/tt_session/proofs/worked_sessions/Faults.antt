@@ -23,7 +23,7 @@ use Rattle.tt_requests.specs.Reads.{page, read, preview}
 use Rattle.tt_requests.specs.Questions as questions
 use Rattle.tt_requests.specs.Requests.{one_write, begin, step, bare, only_true, members_of_request}
 use Rattle.tt_session.specs.Run.{session_text}
-use Rattle.tt_session.proofs.worked_sessions.Asking.{opened, printed, answers}
+use Rattle.tt_session.proofs.worked_sessions.Asking.{no_losses, opened, printed, answers}
 
 -- requests with a fault, and then one without
 abbrev lines_faults : List (List ℕ)
@@ -72,10 +72,10 @@ answers_faults =
     ∷ codes "{\"call\":16,\"fault\":{\"path\":\"$.slots\",\"cause\":\"out of range\"}}"
     ∷ codes "{\"call\":17,\"fault\":{\"path\":\"$.row[0]\",\"cause\":\"no such table\"}}"
     ∷ codes "{\"call\":18,\"fault\":{\"path\":\"$.changes\",\"cause\":\"out of range\"}}"
-    ∷ codes "{\"call\":19,\"fault\":{\"path\":\"$.tables\",\"cause\":\"wrong type\"}}"
-    ∷ codes "{\"call\":20,\"fault\":{\"path\":\"$.most\",\"cause\":\"out of range\"}}"
-    ∷ codes "{\"call\":21,\"fault\":{\"path\":\"$\",\"cause\":\"unknown member \\\"at\\\"\"}}"
-    ∷ codes "{\"call\":22,\"time\":0,\"generation\":0,\"oldest\":0,\"entries\":0,\"repair\":null}"
+    ∷ codes "{\"refused\":\"another opening\"}"
+    ∷ codes "{\"call\":19,\"fault\":{\"path\":\"$.most\",\"cause\":\"out of range\"}}"
+    ∷ codes "{\"call\":20,\"fault\":{\"path\":\"$\",\"cause\":\"unknown member \\\"at\\\"\"}}"
+    ∷ codes "{\"call\":21,\"time\":0,\"generation\":0,\"oldest\":0,\"entries\":0,\"repair\":null}"
     ∷ []
 
 faults : printed lines_faults ≡ answers (opened ∷ answers_faults)
@@ -107,7 +107,7 @@ answers_unopened =
     ∷ codes "{\"call\":1,\"time\":0,\"generation\":0,\"oldest\":0,\"entries\":0,\"repair\":null}"
     ∷ []
 
-unopened : session_text lines_unopened [] ≡ answers (answers_unopened)
+unopened : session_text lines_unopened no_losses ≡ answers (answers_unopened)
 unfolding is_utf8 chars encode_utf8 lex content short_escape punctuate word after_number json.value json.items json.members scan_numeral number_of value_of_json value_of_line declaration members_of_opening bare only_true members_of_request row_writes digits
 unopened = refl
 
@@ -127,6 +127,6 @@ answers_without_memory =
     ∷ codes "{\"call\":2,\"refused\":\"not repairing\"}"
     ∷ []
 
-without_memory : session_text lines_without_memory (2 ∷ 3 ∷ []) ≡ answers (answers_without_memory)
+without_memory : session_text lines_without_memory (record { lines = 2 ∷ 3 ∷ []; openings = [] }) ≡ answers (answers_without_memory)
 unfolding is_utf8 chars encode_utf8 lex content short_escape punctuate word after_number json.value json.items json.members scan_numeral number_of value_of_json value_of_line declaration members_of_opening step bare only_true members_of_request row_writes digits
 without_memory = refl

@@ -22,9 +22,9 @@ use Rattle.tt_requests.specs.Opening.{declaration, members_of_opening}
 use Rattle.tt_requests.specs.Edits.{cancel, replace, edit}
 use Rattle.tt_requests.specs.Reads.{page, read, preview}
 use Rattle.tt_requests.specs.Questions as questions
-use Rattle.tt_requests.specs.Requests.{one_write, several_writes, begin, step, bare, only_true, members_of_request}
+use Rattle.tt_requests.specs.Requests.{one_write, several_writes, begin, step, end_of_repair, finish, abort, bare, only_true, members_of_request}
 use Rattle.tt_session.specs.Run.{session_text}
-use Rattle.tt_session.proofs.worked_sessions.Asking.{answers}
+use Rattle.tt_session.proofs.worked_sessions.Asking.{no_losses, opened, printed, answers}
 
 -- two records are kept; the action of a slot is replaced, and its reply stays the same, but not the rows of a select
 abbrev lines_replaced_action : List (List ℕ)
@@ -85,6 +85,43 @@ answers_replaced_action =
     ∷ codes "{\"call\":22,\"time\":2,\"rows\":[[2,\"bob\",5]],\"more\":false}"
     ∷ []
 
-replaced_action : session_text lines_replaced_action [] ≡ answers (answers_replaced_action)
-unfolding is_utf8 chars encode_utf8 lex content short_escape punctuate word after_number json.value json.items json.members scan_numeral number_of value_of_json value_of_line declaration members_of_opening column table_after condition statements.insert statements.delete actions.action actions.item_of_action actions.write replacement cancel replace edit page read preview questions.slots questions.span questions.row_named questions.changes questions.changes_asked one_write several_writes begin step bare only_true members_of_request row_writes dirty_after reexecuted_count digits
+replaced_action : session_text lines_replaced_action no_losses ≡ answers (answers_replaced_action)
+unfolding is_utf8 chars encode_utf8 lex content short_escape punctuate word after_number json.value json.items json.members scan_numeral number_of value_of_json value_of_line declaration members_of_opening column table_after condition statements.insert statements.delete actions.action actions.item_of_action actions.write replacement cancel replace edit page read preview questions.slots questions.span questions.row_named questions.changes questions.changes_asked one_write several_writes begin step end_of_repair finish only_true members_of_request row_writes dirty_after reexecuted_count digits
 replaced_action = refl
+
+-- what is for the repair of another worker than worker 2, who began it, is refused, and whoever asks for its end: worker 1 may end it
+abbrev lines_of_workers : List (List ℕ)
+lines_of_workers =
+    codes "{\"insert\":\"acct\",\"row\":[1,\"ann\",10]}"
+    ∷ codes "{\"finish\":true,\"of\":2}"
+    ∷ codes "{\"worker\":2,\"begin\":[{\"cancel\":1}]}"
+    ∷ codes "{\"worker\":7,\"finish\":true,\"of\":7}"
+    ∷ codes "{\"step\":1,\"of\":7}"
+    ∷ codes "{\"status\":true}"
+    ∷ codes "{\"step\":1,\"of\":2}"
+    ∷ codes "{\"abort\":true,\"of\":1}"
+    ∷ codes "{\"abort\":true,\"of\":0}"
+    ∷ codes "{\"finish\":true,\"of\":2}"
+    ∷ codes "{\"abort\":true,\"of\":2}"
+    ∷ []
+
+abbrev answers_of_workers : List (List ℕ)
+answers_of_workers =
+    opened
+    ∷ codes "{\"call\":1,\"slot\":1,\"replies\":[\"inserted\"]}"
+    ∷ codes "{\"call\":2,\"refused\":\"not repairing\"}"
+    ∷ codes "{\"call\":3,\"done\":0,\"left\":1,\"rerun\":0}"
+    ∷ codes "{\"call\":4,\"refused\":\"repair of another\",\"worker\":2}"
+    ∷ codes "{\"call\":5,\"refused\":\"repair of another\",\"worker\":2}"
+    ∷ (codes "{\"call\":6,\"time\":1,\"generation\":0,\"oldest\":0,\"entries\":2,\"repair\":"
+    ++ codes "{\"done\":0,\"left\":1,\"rerun\":0,\"worker\":2}}")
+    ∷ codes "{\"call\":7,\"done\":1,\"left\":0,\"rerun\":1}"
+    ∷ codes "{\"call\":8,\"refused\":\"repair of another\",\"worker\":2}"
+    ∷ codes "{\"call\":9,\"fault\":{\"path\":\"$.of\",\"cause\":\"out of range\"}}"
+    ∷ codes "{\"call\":10,\"generation\":1,\"slots\":1,\"rerun\":1}"
+    ∷ codes "{\"call\":11,\"refused\":\"not repairing\"}"
+    ∷ []
+
+repair_of_workers : printed lines_of_workers ≡ answers answers_of_workers
+unfolding is_utf8 chars encode_utf8 lex content short_escape punctuate word after_number json.value json.items json.members scan_numeral number_of value_of_json value_of_line declaration members_of_opening column table_after statements.insert cancel edit one_write begin step end_of_repair finish abort bare only_true members_of_request row_writes dirty_after reexecuted_count digits
+repair_of_workers = refl

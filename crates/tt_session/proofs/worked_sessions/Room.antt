@@ -1,5 +1,5 @@
 -- Room for the end of a repair, computed: where the history can hold no more entries than the limit.
-use Rattle.std.specs.Prelude.{◌≡◌, ℕ, List, [], ◌∷◌, codes, refl}
+use Rattle.std.specs.Prelude.{◌≡◌, ℕ, true, List, [], ◌∷◌, codes, refl}
 use Rattle.std.specs.Char.{encode_utf8}
 use Rattle.std.specs.Str.{is_utf8, chars}
 use Rattle.std.specs.Float.Numeral.{scan_numeral}
@@ -18,28 +18,27 @@ use Rattle.tt_grammar.specs.Statements as statements
 use Rattle.tt_grammar.specs.TextValue.{value_of_json}
 use Rattle.tt_requests.specs.LineValue.{value_of_line}
 use Rattle.tt_requests.specs.Edits.{cancel, edit}
-use Rattle.tt_requests.specs.Requests.{one_write, begin, bare, only_true, members_of_request}
-use Rattle.tt_grammar.specs.declared.session_version.SessionVersion.TheVariants.{Three}
+use Rattle.tt_requests.specs.Requests.{one_write, begin, end_of_repair, finish, abort, only_true, members_of_request}
 use Rattle.tt_session.specs.declared.session.Session.{Session}
 use Rattle.tt_session.specs.declared.session.Session.TheVariants as sessions
 use Rattle.tt_numbers.specs.Numbers.{nothing_forgotten}
 use Rattle.tt_session.specs.Run.{turn_of_lines}
-use Rattle.tt_session.proofs.worked_sessions.Asking.{answers}
+use Rattle.tt_session.proofs.worked_sessions.Asking.{no_losses, answers}
 
 -- an open session whose history may have this many entries
 abbrev limited : ℕ → Session
 limited entries = sessions.Open (record {
-  version = Three;
   database = record { catalog = tables; limits = record usual_limits { events = entries }; history = [] };
   numbering = nothing_forgotten;
   records = [];
   most_records = 0;
   calls = 0;
+  has_opening = true;
 })
 
 -- what it prints for lines
 abbrev printed_within : ℕ → List (List ℕ) → List ℕ
-printed_within entries lines = (turn_of_lines [] 1 (limited entries) lines).text
+printed_within entries lines = (turn_of_lines no_losses 1 (limited entries) lines).text
 
 -- two slots, the beginning of a repair, two steps and the switch are six entries
 abbrev lines_six_entries : List (List ℕ)
@@ -61,7 +60,7 @@ answers_six_entries =
     ∷ []
 
 six_entries : printed_within 6 lines_six_entries ≡ answers (answers_six_entries)
-unfolding is_utf8 chars encode_utf8 lex content short_escape punctuate word after_number json.value json.items json.members scan_numeral number_of value_of_json value_of_line change statements.insert statements.update cancel edit one_write begin bare only_true members_of_request row_writes dirty_after reexecuted_count digits
+unfolding is_utf8 chars encode_utf8 lex content short_escape punctuate word after_number json.value json.items json.members scan_numeral number_of value_of_json value_of_line change statements.insert statements.update cancel edit one_write begin end_of_repair finish only_true members_of_request row_writes dirty_after reexecuted_count digits
 six_entries = refl
 
 -- in the same room the repair can be given up
@@ -82,7 +81,7 @@ answers_given_up =
     ∷ []
 
 given_up : printed_within 6 lines_given_up ≡ answers (answers_given_up)
-unfolding is_utf8 chars encode_utf8 lex content short_escape punctuate word after_number json.value json.items json.members scan_numeral number_of value_of_json value_of_line change statements.insert statements.update cancel edit one_write begin bare only_true members_of_request row_writes dirty_after reexecuted_count digits
+unfolding is_utf8 chars encode_utf8 lex content short_escape punctuate word after_number json.value json.items json.members scan_numeral number_of value_of_json value_of_line change statements.insert statements.update cancel edit one_write begin end_of_repair abort only_true members_of_request row_writes dirty_after reexecuted_count digits
 given_up = refl
 
 -- one entry less
@@ -103,7 +102,7 @@ answers_five_entries =
     ∷ []
 
 five_entries : printed_within 5 lines_five_entries ≡ answers (answers_five_entries)
-unfolding is_utf8 chars encode_utf8 lex content short_escape punctuate word after_number json.value json.items json.members scan_numeral number_of value_of_json value_of_line change statements.insert statements.update cancel edit one_write begin bare only_true members_of_request row_writes dirty_after reexecuted_count digits
+unfolding is_utf8 chars encode_utf8 lex content short_escape punctuate word after_number json.value json.items json.members scan_numeral number_of value_of_json value_of_line change statements.insert statements.update cancel edit one_write begin end_of_repair finish only_true members_of_request row_writes dirty_after reexecuted_count digits
 five_entries = refl
 
 -- a write makes two entries more: its own, and its step
@@ -126,7 +125,7 @@ answers_eight_entries =
     ∷ []
 
 eight_entries : printed_within 8 lines_eight_entries ≡ answers (answers_eight_entries)
-unfolding is_utf8 chars encode_utf8 lex content short_escape punctuate word after_number json.value json.items json.members scan_numeral number_of value_of_json value_of_line change statements.insert statements.update cancel edit one_write begin bare only_true members_of_request row_writes dirty_after reexecuted_count digits
+unfolding is_utf8 chars encode_utf8 lex content short_escape punctuate word after_number json.value json.items json.members scan_numeral number_of value_of_json value_of_line change statements.insert statements.update cancel edit one_write begin end_of_repair finish only_true members_of_request row_writes dirty_after reexecuted_count digits
 eight_entries = refl
 
 -- one entry less
@@ -149,5 +148,5 @@ answers_seven_entries =
     ∷ []
 
 seven_entries : printed_within 7 lines_seven_entries ≡ answers (answers_seven_entries)
-unfolding is_utf8 chars encode_utf8 lex content short_escape punctuate word after_number json.value json.items json.members scan_numeral number_of value_of_json value_of_line change statements.insert statements.update cancel edit one_write begin bare only_true members_of_request row_writes dirty_after reexecuted_count digits
+unfolding is_utf8 chars encode_utf8 lex content short_escape punctuate word after_number json.value json.items json.members scan_numeral number_of value_of_json value_of_line change statements.insert statements.update cancel edit one_write begin end_of_repair finish only_true members_of_request row_writes dirty_after reexecuted_count digits
 seven_entries = refl

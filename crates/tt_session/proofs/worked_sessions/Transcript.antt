@@ -22,7 +22,7 @@ use Rattle.tt_requests.specs.Opening.{declaration, members_of_opening}
 use Rattle.tt_requests.specs.Edits.{cancel, edit}
 use Rattle.tt_requests.specs.Reads.{page, read, preview}
 use Rattle.tt_requests.specs.Questions as questions
-use Rattle.tt_requests.specs.Requests.{one_write, several_writes, begin, step, bare, only_true, members_of_request}
+use Rattle.tt_requests.specs.Requests.{one_write, several_writes, begin, step, end_of_repair, finish, abort, bare, only_true, members_of_request}
 use Rattle.tt_session.proofs.worked_sessions.Asking.{opened, printed, answers}
 
 -- an insert, a bad update, a repair that cancels it while the session goes on, and what it changed
@@ -80,7 +80,7 @@ answers_transcript =
     ∷ (codes "{\"call\":19,\"time\":4,\"slots\":[{\"slot\":2,\"worker\":2,\"do\":null,\"replies\":null,\"asked\":[{\"update\":\"acct\",\"change\":[[\"set\","
     ++ codes "\"bal\",0]],\"where\":[]}]}]}")
     ∷ codes "{\"call\":20,\"time\":4,\"rows\":[[1,\"ann\",11]],\"more\":false}"
-    ∷ (codes "{\"call\":21,\"version\":2,\"tables\":[{\"name\":\"acct\",\"columns\":[{\"name\":\"id\",\"kind\":\"int\",\"partition\":false},{\"name\":\"owner\","
+    ∷ (codes "{\"call\":21,\"version\":4,\"tables\":[{\"name\":\"acct\",\"columns\":[{\"name\":\"id\",\"kind\":\"int\",\"partition\":false},{\"name\":\"owner\","
     ++ codes "\"kind\":\"text\",\"partition\":true},{\"name\":\"bal\",\"kind\":\"int\",\"partition\":false}]}],\"keep\":4,\"records\":100000}")
     ∷ codes "{\"call\":22,\"time\":4,\"generation\":1,\"oldest\":0,\"entries\":9,\"repair\":null}"
     ∷ codes "{\"call\":23,\"fault\":{\"path\":\"$\",\"cause\":\"unknown member \\\"x\\\\n\\\"\"}}"
@@ -89,5 +89,5 @@ answers_transcript =
     ∷ []
 
 transcript : printed lines_transcript ≡ answers (opened ∷ answers_transcript)
-unfolding is_utf8 chars encode_utf8 lex content short_escape punctuate word after_number json.value json.items json.members scan_numeral number_of value_of_json value_of_line declaration members_of_opening column table_after change condition statements.insert statements.update actions.action cancel edit page read preview questions.slots questions.span questions.row_named questions.changes questions.changes_asked one_write several_writes begin step bare only_true members_of_request row_writes dirty_after reexecuted_count digits
+unfolding is_utf8 chars encode_utf8 lex content short_escape punctuate word after_number json.value json.items json.members scan_numeral number_of value_of_json value_of_line declaration members_of_opening column table_after change condition statements.insert statements.update actions.action cancel edit page read preview questions.slots questions.span questions.row_named questions.changes questions.changes_asked one_write several_writes begin step end_of_repair finish abort bare only_true members_of_request row_writes dirty_after reexecuted_count digits
 transcript = refl

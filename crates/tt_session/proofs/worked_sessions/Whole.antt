@@ -1,4 +1,4 @@
--- A session of version 3 with whole actions, computed.
+-- A session with whole actions, computed.
 use Rattle.std.specs.Prelude.{◌≡◌, ℕ, List, [], ◌∷◌, ◌++◌, codes, refl}
 use Rattle.std.specs.Char.{encode_utf8}
 use Rattle.std.specs.Str.{is_utf8, chars}
@@ -23,9 +23,9 @@ use Rattle.tt_requests.specs.Opening.{declaration, members_of_opening}
 use Rattle.tt_requests.specs.Edits.{replace, edit}
 use Rattle.tt_requests.specs.Reads.{page, read}
 use Rattle.tt_requests.specs.Questions as questions
-use Rattle.tt_requests.specs.Requests.{one_write, several_writes, begin, bare, only_true, members_of_request}
+use Rattle.tt_requests.specs.Requests.{one_write, several_writes, begin, end_of_repair, finish, only_true, members_of_request}
 use Rattle.tt_session.specs.Run.{session_text}
-use Rattle.tt_session.proofs.worked_sessions.Asking.{opened, answers}
+use Rattle.tt_session.proofs.worked_sessions.Asking.{no_losses, opened, answers}
 
 -- a whole action whose first write matches no row writes nothing, until another one is replaced
 abbrev lines_whole : List (List ℕ)
@@ -63,6 +63,6 @@ answers_whole =
     ++ (codes "[[\"add\",\"bal\",-6]],\"where\":[[\"id\",1],[\"bal\",\">=\",6]]},{\"insert\":\"acct\",\"row\":[3,6]}],\"asked_whole\":true}]}"))
     ∷ []
 
-whole : session_text lines_whole [] ≡ answers (opened ∷ answers_whole)
-unfolding is_utf8 chars encode_utf8 lex content short_escape punctuate word after_number json.value json.items json.members scan_numeral number_of value_of_json value_of_line declaration members_of_opening column table_after change condition statements.insert statements.update actions.action actions.item_of_action actions.write replacement replace edit page read questions.slots questions.span questions.row_named one_write several_writes begin bare only_true members_of_request row_writes dirty_after reexecuted_count digits
+whole : session_text lines_whole no_losses ≡ answers (opened ∷ answers_whole)
+unfolding is_utf8 chars encode_utf8 lex content short_escape punctuate word after_number json.value json.items json.members scan_numeral number_of value_of_json value_of_line declaration members_of_opening column table_after change condition statements.insert statements.update actions.action actions.item_of_action actions.write replacement replace edit page read questions.slots questions.span questions.row_named one_write several_writes begin end_of_repair finish only_true members_of_request row_writes dirty_after reexecuted_count digits
 whole = refl

@@ -1,11 +1,11 @@
-//! How a session that was read back from a log is opened again.
-ghost use Rattle.std.specs.Prelude.{◌≡◌, ◌≤◌, ◌++◌, Ok, if◌then◌else◌, IfOk, OnOk, OnErr};
+//! How a session that is open answers an opening.
+ghost use Rattle.std.specs.Prelude.{◌≡◌, ◌≤◌, ◌++◌, Ok, OnOk, OnErr};
 ghost use Rattle.std.specs.List.{list_all, zip};
 ghost use Rattle.tt_values.specs.Same.{are_same_by};
 ghost use Rattle.tt_values.specs.Tables.{is_int};
 ghost use Rattle.tt_requests.specs.LineValue.{value_of_line};
 ghost use Rattle.tt_requests.specs.Opening.{opening_of, max_records};
-ghost use Rattle.tt_session.specs.declared.session.Session.TheVariants.{Open, Restored};
+ghost use Rattle.tt_session.specs.declared.session.Session.TheVariants.{Open};
 ghost use Rattle.tt_session.specs.Reopening.{is_same_column, is_same_table, asks_for};
 ghost use Rattle.tt_session.specs.Run.{turn_by_reopening};
 
@@ -20,52 +20,46 @@ use tt_requests::Opening;
 use tt_values::{Catalog, Column, Kind, TableDef};
 
 impl OpenSession {
-    /// Answers a line that is to open the session again. Returns whether it does. Where memory runs
-    /// out, the session and the text are as before.
-    pub(crate) fn reopen(&mut self, out: &mut Vec<u8>, line: &[u8]) -> Result<bool, AllocError>
+    /// Answers a line that is an opening: adds the text of the answer, which is none of a call.
+    /// Where memory runs out, the session and the text are as before.
+    pub(crate) fn reopen(&mut self, out: &mut Vec<u8>, line: &[u8]) -> Result<(), AllocError>
         ensures text { OnOk result (out.new.items ≡ out.old.items
             ++ (turn_by_reopening self.old (opening_of (value_of_line line.now))).text) }
-        ensures session { IfOk result (λ is_open.
-            (if is_open then Open self.new else Restored self.new)
+        ensures session { OnOk result (Open self.new
             ≡ (turn_by_reopening self.old (opening_of (value_of_line line.now))).session) }
         ensures calls { self.new.calls ≡ self.old.calls }
-        ensures database { self.new.database ≡ self.old.database }
         ensures text_stays { OnErr result (out.new.items ≡ out.old.items) }
         ensures session_stays { OnErr result (self.new ≡ self.old) }
     {
         match Opening::from_line(self.alloc, line) {
-            Ok(opening) => self.take_opening(out, &opening),
+            Ok(opening) => self.answer_opening(out, &opening),
             Err(DocFault::Memory) => Err(AllocError),
             Err(fault) => {
-                push_opening_answer(self.alloc, out, self.numbering, &Answer::Faulty(fault))?;
-                Ok(false)
+                push_opening_answer(self.alloc, out, self.numbering, &Answer::Faulty(fault))
             }
         }
     }
 
-    /// Opens the session again, if the opening asks for what it has. Returns whether it does.
-    fn take_opening(&mut self, out: &mut Vec<u8>, opening: &Opening) -> Result<bool, AllocError>
+    /// Answers an opening: how the session stands, if the opening asks for what it has; else the
+    /// opening is refused.
+    fn answer_opening(&mut self, out: &mut Vec<u8>, opening: &Opening) -> Result<(), AllocError>
         requires { opening.now.records ≤ max_records }
         ensures text { OnOk result (out.new.items
             ≡ out.old.items ++ (turn_by_reopening self.old (Ok opening.now)).text) }
-        ensures session { IfOk result (λ is_open.
-            (if is_open then Open self.new else Restored self.new)
-            ≡ (turn_by_reopening self.old (Ok opening.now)).session) }
+        ensures session { OnOk result
+            (Open self.new ≡ (turn_by_reopening self.old (Ok opening.now)).session) }
         ensures calls { self.new.calls ≡ self.old.calls }
-        ensures database { self.new.database ≡ self.old.database }
         ensures text_stays { OnErr result (out.new.items ≡ out.old.items) }
         ensures session_stays { OnErr result (self.new ≡ self.old) }
     {
         if !asks_for(opening, &self.db) {
             let refusal = Answer::Refused(Refusal::AnotherOpening);
-            push_opening_answer(self.alloc, out, self.numbering, &refusal)?;
-            return Ok(false);
+            return push_opening_answer(self.alloc, out, self.numbering, &refusal);
         }
         let status = status_of(&self.db);
         push_opening_answer(self.alloc, out, self.numbering, &Answer::Standing(status))?;
-        self.keep_at_most(opening.records);
-        self.read_as_of(opening.version);
-        Ok(true)
+        self.take_opening(opening);
+        Ok(())
     }
 }
 

@@ -2,24 +2,26 @@
 //!
 //! The first of several lines forks the session. The fork goes ahead, changed in place, and the
 //! session catches up with it behind the last line, or before a line that asks for the records of
-//! earlier calls, which a fork hasn't. A request to forget is left for later. Where memory runs
-//! out, the fork is dropped, and the session is as it was before that first line.
-ghost use Rattle.std.specs.Prelude.{◌≡◌, ◌+◌, ◌-◌, ◌≤◌, ◌<◌, ◌^◌, ◌++◌, true, false, length, drop, List, IfOk, IfSome, OnOk, OnErr};
+//! earlier calls, which a fork hasn't. A request to forget and an opening are left for later. Where
+//! memory runs out, the fork is dropped, and the session is as it was before that first line.
+ghost use Rattle.std.specs.Prelude.{◌≡◌, ◌+◌, ◌-◌, ◌≤◌, ◌<◌, ◌^◌, ◌++◌, true, false, length, drop, List, IfOk, IfErr, IfSome, OnOk, OnErr};
 ghost use Rattle.tt_session.specs.declared.session.Session.TheVariants.{Open};
-ghost use Rattle.tt_grammar.specs.SessionVersion.{grammar_of};
-ghost use Rattle.tt_session.specs.Session.{with_earlier_records};
+ghost use Rattle.tt_requests.specs.LineValue.{value_of_line};
+ghost use Rattle.tt_requests.specs.SessionLine.{is_opening};
+ghost use Rattle.tt_session.specs.Session.{request_in, with_earlier_records};
 ghost use Rattle.tt_requests.specs.Lines.{is_passed_over};
 ghost use Rattle.tt_session.specs.Commands.{asks_for_records, asks_to_forget};
 ghost use Rattle.tt_session.specs.ForgetRequests.{AnswersLine};
-ghost use Rattle.tt_session.specs.Together.{AnswersFront, AnswersWith, BeginsWithLine, Grows};
+ghost use Rattle.tt_session.specs.Together.{IsLostAs, AnswersFront, AnswersWith, BeginsWithLine, Grows};
 
 use super::OpenSession;
 use crate::commands::{ForgetRequest, asks_for_records, asks_to_forget, forget_request};
-use crate::first_line::{FirstLine, RequestLine, read_request};
+use crate::first_line::{FirstLine, RequestLine, read_line};
+use crate::lost_line::LostLine;
 use crate::workspace::{Workspace, append, is_much};
 use std::alloc::AllocError;
 use tt_grammar::DocFault;
-use tt_requests::Request;
+use tt_requests::{Request, SessionLine};
 
 /// How far the lines that some bytes begin with were answered together.
 #[derive(Clone, Copy)]
@@ -90,7 +92,7 @@ impl OpenSession {
         ensures lines_stay { OnErr result (workspace.new.lines ≡ workspace.old.lines) }
     {
         match FirstLine::of(self, bytes, &mut workspace.scratch)? {
-            FirstLine::NotWhole => Ok(0),
+            FirstLine::NotWhole | FirstLine::Opening => Ok(0),
             FirstLine::PassedOver(len) => Ok(len),
             FirstLine::Read(RequestLine { asked, len }) => {
                 if asks_to_forget(&asked) {
@@ -103,18 +105,54 @@ impl OpenSession {
         }
     }
 
-    /// Answers a line, as a call: adds the text of the answer, goes on as the call leaves the
-    /// session, and keeps the line if it is to be logged. A request to forget is returned, and
-    /// nothing is done for it. Where memory runs out, the session, the text and the lines to log
-    /// are as before.
+    /// Answers a line, as an opening or as a call: adds the text of the answer, goes on as that
+    /// leaves the session, and keeps the line if it is to be logged. A request to forget is
+    /// returned, and nothing is done for it. Where memory runs out, the session, the text and the
+    /// lines to log are as before.
     pub(crate) fn answer_line(
         &mut self,
         out: &mut Vec<u8>,
         line: &[u8],
         workspace: &mut Workspace,
+    ) -> Result<Option<ForgetRequest>, LostLine>
+        requires calls { self.old.calls < 2 ^ 64 - 1 }
+        requires told { is_passed_over line.now ≡ false }
+        ensures answered { IfOk result (AnswersLine (Open self.old) (Open self.new) line.now
+            out.old.items out.new.items workspace.old.lines workspace.new.lines) }
+        ensures calls { OnOk result (self.new.calls ≤ self.old.calls + 1) }
+        ensures returned { IfOk result (λ asked. IfSome asked (λ _.
+            Open self.new ≡ Open self.old)) }
+        ensures lost { IfErr result (λ lost. IsLostAs lost line.now) }
+        ensures text_stays { OnErr result (out.new.items ≡ out.old.items) }
+        ensures session_stays { OnErr result (self.new ≡ self.old) }
+        ensures lines_stay { OnErr result (workspace.new.lines ≡ workspace.old.lines) }
+    {
+        match read_line(self, line, &mut workspace.scratch)? {
+            SessionLine::Opening => match self.reopen(out, line) {
+                Ok(()) => Ok(None),
+                Err(AllocError) => Err(LostLine::Opening),
+            },
+            SessionLine::Request(asked) => {
+                let request = self.answer_request(out, asked, line, workspace)?;
+                Ok(request)
+            }
+        }
+    }
+
+    /// Answers what a line asks, or its fault, as a call, and keeps the line if it is to be logged.
+    /// A request to forget is returned, and nothing is done for it. Where memory runs out, the
+    /// session, the text and the lines to log are as before.
+    fn answer_request(
+        &mut self,
+        out: &mut Vec<u8>,
+        asked: Result<Request, DocFault>,
+        line: &[u8],
+        workspace: &mut Workspace,
     ) -> Result<Option<ForgetRequest>, AllocError>
         requires calls { self.old.calls < 2 ^ 64 - 1 }
         requires told { is_passed_over line.now ≡ false }
+        requires no_opening { is_opening (value_of_line line.now) ≡ false }
+        requires asks { asked ≡ request_in self.old (value_of_line line.now) }
         ensures answered { IfOk result (AnswersLine (Open self.old) (Open self.new) line.now
             out.old.items out.new.items workspace.old.lines workspace.new.lines) }
         ensures calls { OnOk result (self.new.calls ≤ self.old.calls + 1) }
@@ -124,7 +162,6 @@ impl OpenSession {
         ensures session_stays { OnErr result (self.new ≡ self.old) }
         ensures lines_stay { OnErr result (workspace.new.lines ≡ workspace.old.lines) }
     {
-        let asked = read_request(self, line, &mut workspace.scratch)?;
         match forget_request(&asked) {
             Some(request) => Ok(Some(request)),
             None => {
@@ -227,8 +264,7 @@ impl OpenSession {
             workspace.old.text.items workspace.new.text.items
             workspace.old.lines workspace.new.lines) }
         ensures next { IfOk result (λ r. IfSome r.1 (λ next. BeginsWithLine
-            (grammar_of self.new.version) self.new.database.catalog
-            (drop r.0 bytes.now) next.len next.asked)) }
+            self.new.database.catalog (drop r.0 bytes.now) next.len next.asked)) }
         ensures records { IfOk result (λ r. IfSome r.1 (λ next.
             asks_for_records next.asked ≡ true)) }
         ensures lines_grow { OnErr result (Grows workspace.old.lines workspace.new.lines) }
@@ -237,7 +273,7 @@ impl OpenSession {
         while !is_much(kept.saturating_add(workspace.text.len()), &workspace.lines) {
             let rest = &bytes[taken..];
             match FirstLine::of(self, rest, &mut workspace.scratch)? {
-                FirstLine::NotWhole => return Ok((taken, None)),
+                FirstLine::NotWhole | FirstLine::Opening => return Ok((taken, None)),
                 FirstLine::PassedOver(len) => taken += len,
                 FirstLine::Read(line) => {
                     if asks_for_records(&line.asked) {

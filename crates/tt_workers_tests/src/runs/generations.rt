@@ -1,12 +1,11 @@
 //! The slots of a history carried out from nothing, one after another, both as they were written
 //! and as edited, and the slots that the repair has to re-execute.
-use super::dirty::Dirty;
 use super::history::History;
-use super::model::{Effect, Rows};
 use std::alloc::Global;
 use std::process::Abort;
 use tt_db::Edit;
 use tt_repair::{After, Changed, What};
+use tt_shared_tests::{Dirty, Effect, Rows};
 use tt_values::{Action, Catalog, Items, Reply, Select};
 
 /// Both generations after as many slots.
@@ -14,10 +13,10 @@ use tt_values::{Action, Catalog, Items, Reply, Select};
 pub(super) struct Generations {
     /// The rows of the slots as they were written, and the replies of the last of them.
     old: Rows,
-    old_replies: Vec<Reply>,
+    old_replies: Items<Reply>,
     /// The rows of the slots as edited, and the replies of the last of them, unless it is cancelled.
     new: Rows,
-    new_replies: Option<Vec<Reply>>,
+    new_replies: Option<Items<Reply>>,
     dirty: Dirty,
     /// How many slots were re-executed.
     pub(super) rerun: u64,
@@ -34,10 +33,10 @@ fn edited<'a>(action: &'a Action, edit: Option<&'a Edit>) -> Option<&'a Action> 
 
 impl Generations {
     /// Both generations before the first slot.
-    pub(super) fn new(alloc: Global) -> Generations {
+    pub(super) fn new(rt: &impl Abort, alloc: Global) -> Generations {
         Generations {
             old: Rows::new(alloc),
-            old_replies: Vec::new(alloc),
+            old_replies: Items::of(alloc, []).expect(rt, "memory"),
             new: Rows::new(alloc),
             new_replies: None,
             dirty: Dirty::new(alloc),
@@ -57,24 +56,25 @@ impl Generations {
         let position = slot.saturating_sub(1) as usize;
         let action = *history.actions.get(position).expect(rt, "an action");
         let edit = history.edit(slot);
-        let old = self.old.carry_out(rt, alloc, action);
+        let old = self.old.carry_out(alloc, action).expect(rt, "memory");
         let is_repaired = slot <= history.switch.slots;
         let is_due = is_repaired
             && (edit.is_some() || self.dirty.affects(catalog, action.writes.as_slice(), &old));
         let action = edited(action, edit);
         let before = if is_due {
-            self.new.copy(rt, alloc)
+            self.new.copy(alloc).expect(rt, "memory")
         } else {
             Rows::new(alloc)
         };
         let new = match action {
-            Some(action) => self.new.carry_out(rt, alloc, action),
-            None => Effect::new(alloc),
+            Some(action) => self.new.carry_out(alloc, action),
+            None => Effect::none(alloc),
         };
+        let new = new.expect(rt, "memory");
         if is_due {
             self.rerun = self.rerun.saturating_add(1);
-            self.dirty
-                .add(rt, catalog, (&old, &new), (&before, &self.new));
+            let added = self.dirty.add(catalog, (&old, &new), (&before, &self.new));
+            added.expect(rt, "memory");
         }
         self.old_replies = replies_of(old);
         self.new_replies = match action {
@@ -169,7 +169,7 @@ impl Generations {
     }
 }
 
-fn replies_of(effect: Effect) -> Vec<Reply> {
+fn replies_of(effect: Effect) -> Items<Reply> {
     let Effect {
         replies,
         touched: _,

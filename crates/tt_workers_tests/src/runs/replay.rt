@@ -207,7 +207,7 @@ impl<'a> Judged<'a> {
         document: &Document,
         rerun: &[bool],
     ) -> Generations {
-        let mut generations = Generations::new(alloc);
+        let mut generations = Generations::new(rt, alloc);
         self.are_right(rt, &generations, 0);
         for before in 0..self.history.slots() {
             let slot = before.saturating_add(1);

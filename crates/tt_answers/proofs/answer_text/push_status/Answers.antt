@@ -7,7 +7,7 @@ use Rattle.tt_numbers.specs.declared.told.ToldTime.{ToldTime}
 use Rattle.tt_numbers.specs.declared.told.ToldGeneration.{ToldGeneration}
 use Rattle.tt_numbers.specs.Numbers.{told_time, told_generation}
 use Rattle.tt_grammar.specs.JsonText.{further_item, member_text, text_or_null}
-use Rattle.tt_answers.specs.AnswerText.{progress_text, horizon_members}
+use Rattle.tt_answers.specs.AnswerText.{repair_text, horizon_members}
 use Rattle.tt_answers.proofs.PieceLemmas.{status-pieces}
 use Rattle.tt_answers.proofs.answer_text.push_status.Goals as goal
 
@@ -21,7 +21,7 @@ returns c =
     (codes ",\"generation\":") (decimal (told_generation numbering status.generation).number)
     (codes ",\"oldest\":") (decimal (told_generation numbering status.oldest).number)
     (codes ",\"entries\":") (decimal status.entries)
-    (codes ",\"repair\":") (text_or_null (option_map (progress_text numbering) status.repair))
+    (codes ",\"repair\":") (text_or_null (option_map (repair_text numbering) status.repair))
     (flat_map further_item (map member_text (horizon_members numbering)))
     (c.in_ok-push_told_time.ensures ∙ ap (λ (t : ToldTime). c.args.out.now.items ++ (codes "\"time\":" ++ decimal t.number)) c.told_time.ensures)
     (c.in_ok-push_told_generation.ensures

@@ -3,7 +3,7 @@ use Rattle.std.proofs.Common.{◌++◌, ap, ◌∙◌, codes}
 use Rattle.std.specs.Fmt.{decimal}
 use Rattle.tt_numbers.specs.declared.told.ToldTime.{ToldTime}
 use Rattle.tt_numbers.specs.declared.told.ToldGeneration.{ToldGeneration}
-use Rattle.tt_grammar.specs.SessionVersion.{number_of_version}
+use Rattle.tt_grammar.specs.Version.{newest_session_version}
 use Rattle.tt_grammar.specs.WriteText.{tables_text}
 use Rattle.tt_answers.proofs.PieceLemmas.{log-pieces}
 use Rattle.tt_answers.proofs.log_text.push_log_opening.Goals as goal
@@ -13,7 +13,7 @@ returns c =
     let numbering = c.args.numbering in
     log-pieces c.args.out.now.items c.push.new.self.items c.push_declared.new.out.items c.push_told_time.new.out.items c.push_told_generation.new.out.items
     c.push_labelled.new.out.items c.extend_from_slice.new.self.items
-    (codes "{") (codes "\"version\":") (decimal (number_of_version c.args.version)) (codes ",\"tables\":") (tables_text c.args.catalog.now) (codes ",\"keep\":") (decimal c.args.keep)
+    (codes "{") (codes "\"version\":") (decimal newest_session_version) (codes ",\"tables\":") (tables_text c.args.catalog.now) (codes ",\"keep\":") (decimal c.args.keep)
     (codes ",\"records\":") (decimal c.args.records)
     (codes ",\"ground\":{\"time\":") (decimal numbering.horizon) (codes ",\"generation\":") (decimal numbering.generations) (codes ",\"slots\":") (decimal numbering.ground_slots)
     (codes "}")

@@ -46,9 +46,9 @@ returns-clause-ok g c =
     let f = c.forgetting.inside in
     let terms = c.args.terms in
     let forgetting : Forgetting = record { db = f.db; time = f.time; ground_slots = f.ground_slots; numbering = f.numbering } in
-    let line_is : c.deref.result.now ≡ log_opening_line terms.version f.db.catalog f.db.limits.keep terms.most_records f.numbering =
+    let line_is : c.deref.result.now ≡ log_opening_line f.db.catalog f.db.limits.keep terms.most_records f.numbering =
     c.deref.ensures.value ∙ c.in_ok-push_log_opening.ensures
-    ∙ (λ i. c.new-text.ensures.items i ++ log_opening_line terms.version (c.catalog.ensures i) (c.limits-limits.ensures.value i).keep terms.most_records f.numbering) in
+    ∙ (λ i. c.new-text.ensures.items i ++ log_opening_line (c.catalog.ensures i) (c.limits-limits.ensures.value i).keep terms.most_records f.numbering) in
     let all = lines-of forgetting terms c.ground_slots-ground_slots.result c.events-slots.result c.deref.result.now line_is c.ground_slots-ground_slots.ensures c.events-slots.ensures.count in
     on_ok c.write_pending.result
     (λ wrote told.

@@ -9,5 +9,5 @@ returns c = λ i. record {
   generation = c.generation.ensures i;
   oldest = c.oldest.ensures i;
   entries = (c.events.ensures.count ∙ sym (events-after c.args.db.now.limits c.args.db.now.history)) i;
-  repair = c.repair.ensures i;
+  repair = c.repair_status.ensures i;
 }

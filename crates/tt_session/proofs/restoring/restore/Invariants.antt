@@ -14,7 +14,7 @@ invariant-loop-total g l = record {
   calls : calls_of (begun l.restoring.session) ≤ l.total;
   count : l.restoring.count ≤ l.total;
   device : l.log.device ≡ l.initial.log.device;
-  reading : g.D.Device.tells l.initial.log.device → IsReading g.D.Device.seen g.D.Device.may_leave l.log;
+  reading : g.D.Device.tells l.initial.log.device → IsReading g.D.Device.seen l.log;
   so_far : RestoresSoFar (g.D.Device.tells l.initial.log.device) (unread g.D.Device.seen l.log) (text (g.D.Device.seen l.initial.log.device)) l.restoring;
 }
 

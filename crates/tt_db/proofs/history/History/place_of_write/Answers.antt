@@ -8,12 +8,12 @@ use Rattle.tt_db.proofs.history.History.place_of_write.Goals.{then-number-eq0-vi
 
 pub overflow_sub-writes : goal.overflow_sub-writes
 overflow_sub-writes c =
-    let few = few_others c.self.inside.write_counts c.self.inside.entries c.self.invariant in
+    let few = few_others c.self.inside.write_counts c.self.inside.entries c.self.invariant.0 in
     omega (arith, few, c.len.ensures, c.len-2.ensures)
 
 pub returns-then-number-eq0 : goal.returns-then-number-eq0
 returns-then-number-eq0 c =
-    let counts = ap length (c.self.invariant ∙ ap (writes_before_others 0) c.self.view_is) in
+    let counts = ap length (c.self.invariant.0 ∙ ap (writes_before_others 0) c.self.view_is) in
     let entries = ap length c.self.view_is in
     elim c.then-number-eq0.branch [
       | then-number-eq0-via-then-number-eq0 w ↦ ap (nth_item (write_places 1 c.args.self.now)) (sym w.if-number-eq0.true)
@@ -23,7 +23,7 @@ returns-then-number-eq0 c =
 
 pub returns : goal.returns
 returns c =
-    let counts = ap length (c.self.invariant ∙ ap (writes_before_others 0) c.self.view_is) in
+    let counts = ap length (c.self.invariant.0 ∙ ap (writes_before_others 0) c.self.view_is) in
     let entries = ap length c.self.view_is in
     let first : 1 ≤ c.args.number = omega (arith, c.if-number-eq0.false) in
     place-of c.args.self.now c.args.number c.others_before.result first

@@ -2,11 +2,12 @@
 use Rattle.std.proofs.Common.{◌≡◌, ◌+◌, ◌++◌, ◌≤◌, List, ℕ, length, ◌∙◌, ap, sym, subst, arith, eqb-true}
 use Rattle.std.proofs.lemmas.List.{append-nil}
 use Rattle.tt_log.specs.Lines.{logged, joined}
-use Rattle.tt_log.specs.Device.{Only}
 use Rattle.tt_log.specs.Log.{IsAtRest}
 use Rattle.tt_log.proofs.PendingLemmas.{logged-lines, IsJoined-joined, no_lines}
 use Rattle.tt_log.proofs.WriteLemmas.{at_rest-written, logged-written, length-written, end-written}
 use Rattle.tt_log.proofs.StepLemmas.{written, written_synced}
+use Rattle.tt_log.specs.Crash.{IsWritten}
+use Rattle.tt_log.proofs.SyncLemmas.{all_synced, only_synced}
 use Rattle.tt_log.proofs.log.Log.append.Goals as goal
 
 pub returns-in_err-write_at-clause-any_moment : goal.returns-in_err-write_at-clause-any_moment
@@ -75,7 +76,9 @@ returns-clause-settled g c = λ told.
       at_rest = subst IsAtRest (sym seen) (at_rest-written file bytes at_end s.at_rest s.end is);
       end = c.in_ok-end.ensures.end ∙ end-written file bytes at_end s.at_rest s.end is ∙ ap (λ (f : List ℕ). length (joined (logged f))) (sym seen);
       len = s.len ∙ sym (length-written file bytes at_end s.at_rest s.end is fits) ∙ ap length (sym seen);
-      durable = subst (λ f. Only f (g.D.Device.may_leave c.sync.new.self)) (sym (c.in_ok-sync.ensures.seen told_2)) (c.in_ok-sync.ensures.durable told_2);
+      durable = all_synced (IsWritten at_end bytes) file (g.D.Device.seen c.sync.new.self) (g.D.Device.once_synced mid) (g.D.Device.once_synced c.write_at.new.self) (g.D.Device.may_leave c.sync.new.self)
+          (only_synced file (g.D.Device.may_leave mid) (g.D.Device.once_synced mid) s.durable (g.met.D.Device.synced_is_left mid told_1))
+          (c.in_ok-write_at.ensures.synced told_1) (c.in_ok-sync.ensures.durable told_2) (λ f is. is ∙ sym seen);
     }
 
 pub write_at-requires-clause-within : goal.write_at-requires-clause-within

@@ -1,7 +1,6 @@
 -- One piece more is read.
-use Rattle.std.proofs.Common.{◌≡◌, ◌+◌, ◌≤◌, ◌++◌, List, ℕ, length, take, drop, sym, ◌∙◌, ap, subst, arith, length-take-le}
+use Rattle.std.proofs.Common.{◌≡◌, ◌+◌, ◌≤◌, ◌++◌, List, ℕ, length, take, drop, sym, ◌∙◌, ap, arith, length-take-le}
 use Rattle.std.proofs.lemmas.List.{take-append-le}
-use Rattle.tt_log.specs.Device.{Only}
 use Rattle.tt_log.specs.Lines.{text, joined, whole_lines_of}
 use Rattle.tt_log.proofs.ReadingLemmas.{text-le, given_left, read_more, end_more, none_left}
 use Rattle.tt_log.proofs.unread_log.UnreadLog.read.Goals as goal
@@ -43,7 +42,6 @@ returns-clause-reading g c = λ told.
     let is_piece = c.in_ok-read_at.ensures told ∙ ap (λ (k : ℕ). take k (drop at seen)) all in
     let unread_is : text (drop after.at (g.D.Device.seen after.device)) ≡ text (drop (at + taken) seen) = (λ j. text (drop (more.at j) (g.D.Device.seen (more.device j)))) in
     record {
-      durable = subst (λ d. Only (g.D.Device.seen d) (g.D.Device.may_leave d)) (sym more.device) r.durable;
       len = more.len ∙ r.len ∙ ap (λ d. length (g.D.Device.seen d)) (sym more.device);
       read = ap (λ d. text (g.D.Device.seen d)) more.device
           ∙ read_more seen piece at count taken within is_piece more.taken r.read

@@ -1,7 +1,6 @@
 -- There is no whole line, or the first one is passed over, or it is answered with those behind it.
 use Rattle.std.proofs.Common.{◌+◌, refl, sym, subst, ◌∙◌}
 use Rattle.tt_session.specs.declared.session.Session.TheVariants.{Open}
-use Rattle.tt_grammar.specs.SessionVersion.{grammar_of}
 use Rattle.tt_session.specs.Together.{IsFirstLine}
 use Rattle.tt_session.proofs.TogetherLemmas.{front-nil, front-passed, front-with}
 use Rattle.tt_session.proofs.open_session.OpenSession.answer_first.Goals as goal
@@ -16,12 +15,12 @@ returns-then-asks_to_forget-clause-answered c = front-nil c.args.bytes.now (Open
 pub returns-in-PassedOver-clause-answered : goal.returns-in-PassedOver-clause-answered
 returns-in-PassedOver-clause-answered c =
     front-passed c.args.bytes.now c.in-PassedOver.len (Open c.args.self.now) c.args.out.now.items c.args.workspace.now.lines
-    (subst (IsFirstLine (grammar_of c.args.self.now.version) c.args.self.now.database.catalog c.args.bytes.now) c.in-PassedOver.is c.in_ok-of.ensures)
+    (subst (IsFirstLine c.args.self.now.database.catalog c.args.bytes.now) c.in-PassedOver.is c.in_ok-of.ensures)
 
 pub returns-in_ok-more-in-Read-clause-answered : goal.returns-in_ok-more-in-Read-clause-answered
 returns-in_ok-more-in-Read-clause-answered c =
     let line = c.in-Read.field-0 in
     front-with c.args.bytes.now line.len c.in_ok-more-in-Read.more (line.len + c.in_ok-more-in-Read.more) line.asked c.args.self.now c.answer_and_further.new.self c.args.out.now.items c.answer_and_further.new.out.items
     c.args.workspace.now.lines c.answer_and_further.new.workspace.lines
-    (sym c.asks_to_forget.ensures ∙ c.if-asks_to_forget.false) (subst (IsFirstLine (grammar_of c.args.self.now.version) c.args.self.now.database.catalog c.args.bytes.now) c.in-Read.is c.in_ok-of.ensures)
+    (sym c.asks_to_forget.ensures ∙ c.if-asks_to_forget.false) (subst (IsFirstLine c.args.self.now.database.catalog c.args.bytes.now) c.in-Read.is c.in_ok-of.ensures)
     c.in_ok-more-in-Read.ensures.answered refl

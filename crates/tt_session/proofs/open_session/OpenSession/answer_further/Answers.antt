@@ -3,7 +3,6 @@ use Rattle.std.proofs.Common.{◌≡◌, ◌+◌, ◌-◌, false, List, [], leng
 use Rattle.tt_records.specs.declared.record.Record.{Record}
 use Rattle.tt_session.specs.declared.session.Session.TheVariants.{Open}
 use Rattle.tt_session.specs.Commands.{asks_for_records}
-use Rattle.tt_grammar.specs.SessionVersion.{grammar_of}
 use Rattle.tt_session.specs.Session.{with_earlier_records}
 use Rattle.tt_session.specs.Together.{AnswersFront, IsFirstLine}
 use Rattle.tt_session.proofs.ResultLemmas.{on_err}
@@ -22,7 +21,7 @@ loop-rest-preserved-in-PassedOver c =
     let l = c.loop-rest in
     let bytes = c.args.bytes.now in
     let rest = take (length bytes - l.taken) (drop l.taken bytes) in
-    let passed = subst (IsFirstLine (grammar_of l.self.version) l.self.database.catalog rest) c.in-PassedOver.is c.in_ok-of.ensures in
+    let passed = subst (IsFirstLine l.self.database.catalog rest) c.in-PassedOver.is c.in_ok-of.ensures in
     let text = l.workspace.text.items in
     let all : (earlier : List Record) → AnswersFront bytes (l.taken + c.in-PassedOver.len) (Open (with_earlier_records earlier c.args.self.now)) (Open (with_earlier_records earlier l.self)) c.args.workspace.now.text.items text c.args.workspace.now.lines l.workspace.lines =
     λ earlier.
@@ -36,7 +35,7 @@ log_in_place-requires c =
     let l = c.loop-rest in
     let bytes = c.args.bytes.now in
     let rest = take (length bytes - l.taken) (drop l.taken bytes) in
-    let fits = line-fits (grammar_of l.self.version) l.self.database.catalog rest c.in-Read.line.len c.in-Read.line.asked (subst (IsFirstLine (grammar_of l.self.version) l.self.database.catalog rest) c.in-Read.is c.in_ok-of.ensures) in
+    let fits = line-fits l.self.database.catalog rest c.in-Read.line.len c.in-Read.line.asked (subst (IsFirstLine l.self.database.catalog rest) c.in-Read.is c.in_ok-of.ensures) in
     omega (arith, l.invariant.calls, l.invariant.within, fits.0, fits.1, length-take (length bytes - l.taken) (drop l.taken bytes), length-drop l.taken bytes, c.requires)
 
 pub loop-rest-preserved : goal.loop-rest-preserved
@@ -47,7 +46,7 @@ loop-rest-preserved c =
     let line = c.in-Read.line in
     let new = c.log_in_place.new in
     let done = c.in_ok-log_in_place-in-Read.ensures in
-    let is = subst (IsFirstLine (grammar_of l.self.version) l.self.database.catalog rest) c.in-Read.is c.in_ok-of.ensures in
+    let is = subst (IsFirstLine l.self.database.catalog rest) c.in-Read.is c.in_ok-of.ensures in
     let other : asks_for_records line.asked ≡ false = sym c.asks_for_records.ensures ∙ c.if-asks_for_records.false in
     let all : (earlier : List Record) → AnswersFront bytes (l.taken + line.len) (Open (with_earlier_records earlier c.args.self.now)) (Open (with_earlier_records earlier new.self)) c.args.workspace.now.text.items new.workspace.text.items c.args.workspace.now.lines new.workspace.lines =
     λ earlier.

@@ -2,7 +2,6 @@
 use Rattle.std.proofs.Common.{◌≡◌, ◌+◌, ◌-◌, ◌≤◌, [], length, take, drop, length-drop, IfSome, refl, sym, ap, ◌∙◌, subst, arith}
 use Rattle.tt_session.specs.declared.session.Session.TheVariants.{Open}
 use Rattle.tt_session.specs.Logged.{logged_by, with_lines}
-use Rattle.tt_grammar.specs.SessionVersion.{grammar_of}
 use Rattle.tt_session.specs.Session.{OpenSession}
 use Rattle.tt_session.specs.Together.{BeginsWithLine}
 use Rattle.tt_session.proofs.ResultLemmas.{on_err}
@@ -38,9 +37,9 @@ log_alone-requires c =
     let taken = c.in_ok-taken.taken in
     let ahead = c.answer_further.new.self in
     let next = c.in-Some.next in
-    let begins : BeginsWithLine (grammar_of ahead.version) ahead.database.catalog (drop taken behind) next.len next.asked =
-    subst (λ o. IfSome o (λ n. BeginsWithLine (grammar_of ahead.version) ahead.database.catalog (drop taken behind) n.len n.asked)) c.in-Some.is c.in_ok-taken.ensures.next in
-    let fits = line-fits (grammar_of ahead.version) ahead.database.catalog (drop taken behind) next.len next.asked begins in
+    let begins : BeginsWithLine ahead.database.catalog (drop taken behind) next.len next.asked =
+    subst (λ o. IfSome o (λ n. BeginsWithLine ahead.database.catalog (drop taken behind) n.len n.asked)) c.in-Some.is c.in_ok-taken.ensures.next in
+    let fits = line-fits ahead.database.catalog (drop taken behind) next.len next.asked begins in
     let front = c.in_ok-taken.ensures.answered c.args.self.now.records in
     omega (
       arith,
@@ -62,8 +61,8 @@ returns-in-Ok-clause-answered c =
     let taken = c.in_ok-taken.taken in
     let ahead = c.answer_further.new.self in
     let next = c.in-Some.next in
-    let begins : BeginsWithLine (grammar_of ahead.version) ahead.database.catalog (drop taken behind) next.len next.asked =
-    subst (λ o. IfSome o (λ n. BeginsWithLine (grammar_of ahead.version) ahead.database.catalog (drop taken behind) n.len n.asked)) c.in-Some.is c.in_ok-taken.ensures.next in
+    let begins : BeginsWithLine ahead.database.catalog (drop taken behind) next.len next.asked =
+    subst (λ o. IfSome o (λ n. BeginsWithLine ahead.database.catalog (drop taken behind) n.len n.asked)) c.in-Some.is c.in_ok-taken.ensures.next in
     let few : length old.records ≤ old.most_records = subst (λ (s : OpenSession). length s.records ≤ s.most_records) c.self.view_is c.self.invariant.few_records in
     let first = c.in_ok-log_in_place.ensures in
     let caught =
@@ -75,7 +74,7 @@ returns-in-Ok-clause-answered c =
     let cut : take ((taken + next.len) - 1 - taken) (drop taken behind) ≡ take (next.len - 1) (drop taken behind) = ap (λ n. take n (drop taken behind)) (omega arith) in
     with-next c.args.asked next.asked c.args.line.now behind taken next.len (taken + next.len) old c.commit.new.self c.log_alone.new.self
     c.args.out.now.items c.commit.new.out.items c.log_alone.new.out.items c.args.workspace.now.lines c.answer_further.new.workspace.lines c.log_alone.new.workspace.lines caught (sym c.asks_to_forget.ensures ∙ c.if-asks_to_forget.false)
-    (subst (λ (s : OpenSession). BeginsWithLine (grammar_of s.version) s.database.catalog (drop taken behind) next.len next.asked) (sym c.in_ok-commit.ensures.session) begins)
+    (subst (λ (s : OpenSession). BeginsWithLine s.database.catalog (drop taken behind) next.len next.asked) (sym c.in_ok-commit.ensures.session) begins)
     done.session done.text done.calls (done.lines ∙ ap (λ l. with_lines c.answer_further.new.workspace.lines (logged_by (Open c.commit.new.self) (Open c.log_alone.new.self) l)) cut) refl
 
 pub returns-in_err-taken-clause-lines_grow : goal.returns-in_err-taken-clause-lines_grow

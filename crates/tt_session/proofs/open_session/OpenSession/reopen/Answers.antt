@@ -3,5 +3,5 @@ use Rattle.tt_requests.specs.LineValue.{value_of_line}
 use Rattle.tt_session.proofs.OpeningLemmas.{is_opening}
 use Rattle.tt_session.proofs.open_session.OpenSession.reopen.Goals as goal
 
-pub take_opening-requires : goal.take_opening-requires
-take_opening-requires c = (is_opening (value_of_line c.args.line.now) c.in-Ok.opening c.in-Ok.ensures).records
+pub answer_opening-requires : goal.answer_opening-requires
+answer_opening-requires c = (is_opening (value_of_line c.args.line.now) c.in-Ok.opening c.in-Ok.ensures).records

@@ -18,7 +18,7 @@ returns-then-is_too_long-clause-ok g c =
     let short = c.hand_over_short.ensures in
     let made = c.answer_too_long-answer in
     and_results c.hand_over_short.result short.ok short.out short.lines (λ over out lines.
-    one-short _ _ _ _ old (record old { session = made.new.self }) c.hand_over_short.new.self false (turn_of_long_line old.session) _
+    one-short _ _ _ _ old (record old { session = made.new.self }) c.hand_over_short.new.self false false (turn_of_long_line old.session) _
     (λ bytes has. read-long old.session bytes (sym (c.is_too_long.ensures bytes has) ∙ c.if-is_too_long.true)) (long-as-far old.session) made.ensures.text
     refl refl (short.session ∙ made.ensures.session) out lines over)
 
@@ -28,7 +28,7 @@ returns-then-is_too_long-clause-err g c =
     let made = c.answer_too_long-answer in
     let O = g.O.Outlet in
     err_of c.hand_over_short.result (λ stops.
-    stops-short O.handed O.stopped O.has_log c.args.outlet.now c.hand_over_short.new.outlet old (record old { session = made.new.self }) false (turn_of_long_line old.session) _
+    stops-short O.handed O.stopped O.has_log c.args.outlet.now c.hand_over_short.new.outlet old (record old { session = made.new.self }) false false (turn_of_long_line old.session) _
     (λ bytes has. read-long old.session bytes (sym (c.is_too_long.ensures bytes has) ∙ c.if-is_too_long.true)) (long-as-far old.session) made.ensures.text
     refl refl stops) c.hand_over_short.ensures.err
 
@@ -89,7 +89,8 @@ returns-in-Ok-Some-clause-calls g c =
 pub answer_without_memory-requires-clause-some : goal.answer_without_memory-requires-clause-some
 answer_without_memory-requires-clause-some g c = λ bytes has.
     let line = subst (λ l. HasBytes l bytes) c.in-Err.ensures.line has in
-    (sym (c.is_too_long.ensures bytes line) ∙ c.if-is_too_long.false, sym (c.is_passed_over.ensures bytes line) ∙ c.if-is_passed_over.false)
+    let short = sym (c.is_too_long.ensures bytes line) ∙ c.if-is_too_long.false in
+    (short, sym (c.is_passed_over.ensures bytes line) ∙ c.if-is_passed_over.false, c.in-Err.ensures.lost bytes line short)
 
 pub returns-in-Err-clause-ok : goal.returns-in-Err-clause-ok
 returns-in-Err-clause-ok g c =

@@ -50,7 +50,7 @@ returns-in_ok-hand_over-in-Ok-Some-clause-err g c =
     c.in-Ok-Some.ensures.session refl over.ok over.session over.out over.lines first start reads bytes has p session_is)) c.make_log_anew.ensures.err
 
 pub answer_without_memory-requires-clause-some : goal.answer_without_memory-requires-clause-some
-answer_without_memory-requires-clause-some g c = λ bytes has. let a = c.requires.asks bytes has in (a.short, a.told)
+answer_without_memory-requires-clause-some g c = λ bytes has. let a = c.requires.asks bytes has in (a.short, a.told, tt)
 
 pub returns-in-Err-clause-ok : goal.returns-in-Err-clause-ok
 returns-in-Err-clause-ok g c =

@@ -1,0 +1,103 @@
+"""Lines and their answers."""
+
+from __future__ import annotations
+
+import json
+import os
+import re
+import stat
+import threading
+from pathlib import Path
+
+from tests.support.served import ALL, BOUND, EMPTY, OPENING, STATUS, ServingCase, insert
+from timetravel.lines import LONGEST
+
+
+class Lines(ServingCase):
+
+    def test_each_connection_gets_its_own_answers(self) -> None:
+        server = self.serving()
+        first, second = server.client(), server.client()
+        self.assertEqual((first.opened, second.opened), (EMPTY, EMPTY))
+        ours = json.dumps(insert(1)).encode() + b"\n"
+        theirs = json.dumps({"select": "acct", "where": [["id", 77]]}).encode() + b"\n"
+        for at in range(max(len(ours), len(theirs))):
+            first.socket.sendall(ours[at:at + 1])
+            second.socket.sendall(theirs[at:at + 1])
+        self.assertEqual(first.answer()["replies"], ["inserted"])
+        self.assertEqual(second.answer()["rows"], [])
+        first.send(*(insert(key) for key in range(2, 1002)))
+        second.send(*[STATUS] * 1000)
+        self.assertEqual([first.answer()["replies"] for _ in range(1000)], [["inserted"]] * 1000)
+        self.assertEqual(len([second.answer()["time"] for _ in range(1000)]), 1000)
+
+    def test_a_mode_for_the_owner_alone(self) -> None:
+        server = self.serving()
+        self.assertEqual(stat.S_IMODE(os.stat(server.path).st_mode), 0o600)
+        self.assertEqual(server.stop(), 0)
+        self.assertFalse(os.path.exists(server.path))
+        self.assertEqual(server.said(), "")
+
+    def test_blank_lines_have_no_answers(self) -> None:
+        server = self.serving()
+        client = server.client(None)
+        client.send(b"", b" \t\r", OPENING, b"", b" ", STATUS, b"\r", b"\t", {"tables": True}, b"\v", b"")
+        self.assertEqual(client.answer(), EMPTY)
+        self.assertEqual(client.answer()["time"], 0)
+        self.assertEqual(client.answer()["keep"], 4)
+        self.assertEqual(client.answer()["fault"], {"path": "$", "cause": "not JSON"})
+        client.send(b"  ")
+        self.assertEqual(server.client().ask(STATUS)["call"], 4)    # openings aren't counted
+        self.assertEqual(client.ask(STATUS)["call"], 5)
+
+    def test_the_last_line_needs_no_line_feed(self) -> None:
+        server = self.serving()
+        client = server.client(None)
+        client.socket.sendall(json.dumps(OPENING).encode() + b'\n{"status":true}\n{"tables":true}')
+        client.end()
+        answers = [json.loads(line) for line in client.rest()]
+        self.assertEqual(len(answers), 3)
+        self.assertEqual(answers[2]["keep"], 4)
+        opener = server.client(None)
+        opener.socket.sendall(b'{"join":true}')
+        opener.end()
+        self.assertEqual([json.loads(line) for line in opener.rest()], [EMPTY])
+
+    def test_a_connection_without_lines(self) -> None:
+        server = self.serving()
+        client = server.client(None)
+        client.end()
+        self.assertEqual(client.rest(), [])
+        self.assertEqual(server.client().opened, EMPTY)
+
+    def test_the_longest_line_and_one_byte_more(self) -> None:
+        server = self.serving()
+        client, other = server.client(), server.client()
+        too_long = f"longer than {LONGEST} bytes"
+        for extra, cause in ((0, None), (1, too_long), (100 << 20, too_long)):
+            head = b'{"status":true'
+            line = head + b" " * (LONGEST + extra - len(head) - 1) + b"}"
+            sender = threading.Thread(target=client.send, args=(line,))
+            sender.start()
+            self.assertIn("time", other.ask(STATUS))    # it waits for none of it
+            answer = client.answer()
+            sender.join(BOUND)
+            self.assertEqual(answer.get("fault", {}).get("cause"), cause)
+        client.send(b" " * (LONGEST + 1))    # also a blank one
+        self.assertEqual(client.answer()["fault"]["cause"], too_long)
+        peak = Path(f"/proc/{server.process.pid}/status").read_text()
+        kibibytes = int(re.search(r"VmHWM:\s+(\d+)", peak)[1])    # type: ignore[index]
+        self.assertLess(kibibytes, 110 << 10)
+
+    def test_an_answer_of_many_mebibytes(self) -> None:
+        server = self.serving()
+        client = server.client()
+        number = 5000
+        sender = threading.Thread(target=client.send, args=[insert(key, "y" * 1000) for key in range(number)])
+        sender.start()
+        for _ in range(number):
+            self.assertEqual(client.answer()["replies"], ["inserted"])
+        sender.join(BOUND)
+        client.send(*[ALL] * 5)
+        for _ in range(5):
+            self.assertEqual(len(client.answer()["rows"]), number)
