@@ -15,26 +15,14 @@ import sys
 from pathlib import Path
 
 ROOT = Path(__file__).resolve().parent.parent
+sys.path.insert(0, str(ROOT / 'tools'))
+
+from minutes import NOT_MEASURED, PROOFS  # noqa: E402
+
 DRAWING = 'docs/parts.svg'
 BEGIN = '<!-- docs/crates.py writes this table -->'
 END = '<!-- end of the table -->'
 NOT_LIBRARIES = ('_tests', '_example', '_bench')
-NOT_MEASURED = 3.0  # minutes that are taken for a crate that wasn't measured
-
-# Minutes of one core: the proof of a crate, and of its tests with their run.
-MINUTES: dict[str, tuple[float, float]] = {
-    'tt_streams': (0.8, 0), 'tt_log': (3.2, 0), 'tt_pages': (7.4, 0), 'tt_values': (6.3, 0),
-    'tt_versions': (5.3, 0), 'tt_parts': (3.2, 0), 'tt_repair_laws': (0.7, 0),
-    'tt_generations': (8.3, 0), 'tt_db': (4.8, 0), 'tt_records': (1.7, 0), 'tt_store': (7.5, 0),
-    'tt_json': (2.2, 0), 'tt_grammar': (6.9, 0), 'tt_document': (2.5, 0), 'tt_repair': (1.3, 0),
-    'tt_workload': (5.0, 0), 'tt_answers': (2.5, 0), 'tt_requests': (2.5, 0),
-    'tt_session': (12.0, 0), 'tt_workers': (8.6, 0), 'tt_cli': (6.1, 0),
-    'tt_base_tests': (0.1, 7.8), 'tt_db_tests': (0.1, 9.8), 'tt_memory_tests': (0.1, 6.9),
-    'tt_store_tests': (0.1, 15.1), 'tt_repair_tests': (0.1, 6.3), 'tt_workload_tests': (0.2, 6.1),
-    'tt_session_tests': (0.1, 5.5), 'tt_log_tests': (0.1, 3.5), 'tt_workers_tests': (0.1, 8.2),
-    'tt_program_memory_tests': (0.1, 13.5), 'tt_service_example': (6.5, 0), 'tt_db_bench': (1.8, 0),
-    'tt_store_bench': (5.3, 0),
-}
 
 
 def text_of(path: str) -> str:
@@ -90,7 +78,7 @@ def table_of_crates(uses: dict[str, list[str]]) -> str:
 
 def minutes_of(crate: str) -> float:
     """The minutes of one core for the proof of a crate and for its tests."""
-    return sum(MINUTES.get(crate, (NOT_MEASURED, 0)))
+    return sum(PROOFS.get(crate, (NOT_MEASURED, 0)))
 
 
 def table_of_minutes(uses: dict[str, list[str]]) -> str:
@@ -98,7 +86,7 @@ def table_of_minutes(uses: dict[str, list[str]]) -> str:
     rows = ['| Crate | Proof | Its tests | Wrong bodies | Crates above it | A change |',
             '|---|---|---|---|---|---|']
     for crate in uses:
-        proof, tests = MINUTES.get(crate, ('', 0))
+        proof, tests = PROOFS.get(crate, ('', 0))
         edits = len(list((ROOT / 'crates' / crate).glob('must-fail/*.edit'))) or ''
         above = [other for other in uses if crate in reached(other, uses)]
         cost = sum(minutes_of(name) for name in [crate, *above])

@@ -1,6 +1,7 @@
 """What ./test and ./build do, in a small repository with a stand-in for the kit that proves nothing;
 and how the answers of an unproved build are read."""
 import os
+import re
 import signal
 import subprocess
 import sys
@@ -10,7 +11,7 @@ from pathlib import Path
 from tests.support import unproved
 from tests.support.cases import Answer, Case
 from tests.support.fixtures import ROOT, left_out
-from tests.support.kit import CRATES, PROGRAM, Kit
+from tests.support.kit import CRATES, EDIT, PROGRAM, Kit
 
 INTERRUPTS = {signal.SIGHUP: 129, signal.SIGINT: 130, signal.SIGTERM: 143}
 ALL = ' '.join(CRATES)
@@ -71,13 +72,25 @@ class WrongBodies(unittest.TestCase):
         return subprocess.run([root / 'tools/wrong_bodies.py', *words], capture_output=True, text=True,
                               check=True).stdout
 
-    def test_each_crate_is_in_one_group(self) -> None:
-        groups = [line.split(': ')[2].split() for line in self.tool().splitlines()]
-        crates = {path.parents[1].name for path in ROOT.glob('crates/*/must-fail/*.edit')}
-        self.assertEqual(sorted(crate for group in groups for crate in group), sorted(crates))
+    def test_each_is_in_one_group(self) -> None:
+        groups = self.tool().splitlines()
+        found: list[str] = []
         for number, group in enumerate(groups):
             commit = f'{len(groups) * 10 ** 40 + number:040x}'
-            self.assertEqual(self.tool(commit), f'{number + 1} {len(groups)} {" ".join(group)}\n')
+            first, *edits = self.tool(commit).splitlines()
+            self.assertEqual(first, f'group {number + 1} of {len(groups)}: {group.split(": ")[2]}')
+            crates = {edit.split('/')[1] for edit in edits}
+            self.assertEqual(sorted(crates), sorted(re.findall(r'tt_\w+', group)))
+            found += edits
+        self.assertEqual(sorted(found), sorted(str(path.relative_to(ROOT))
+                                               for path in ROOT.glob('crates/*/must-fail/*.edit')))
+
+    def test_a_crate_of_many_is_in_several_groups(self) -> None:
+        kit = Kit(self)
+        for number in range(30):
+            kit.write(f'repository/crates/low/must-fail/wrong_{number}.edit', EDIT)
+        self.assertEqual(self.tool(root=kit.root).splitlines(), [
+            '1: 14 minutes: low (16 of 31)', '2: 17 minutes: low (15 of 31), beside'])
 
     def test_one_that_does_not_fit_is_told(self) -> None:
         kit = Kit(self)
@@ -120,11 +133,11 @@ class Gate(unittest.TestCase):
         if not commit:
             left_out('git')
         (self.kit.root / 'tools/wrong_bodies.py').write_text(
-            (ROOT / 'tools/wrong_bodies.py').read_text().replace('MOST = 30', 'MOST = 4'))
+            (ROOT / 'tools/wrong_bodies.py').read_text().replace('MOST = 20.0', 'MOST = 4.0'))
         ran = self.kit.run('test')
         self.ends(ran, 0, '5 passed, 0 failed')
         number = int(commit, 16) % 2
-        self.assertIn(f'test: tries the wrong bodies of group {number + 1} of 2, which commit {commit[:12]} picks: '
+        self.assertIn(f'test: tries the wrong bodies that commit {commit[:12]} picks: group {number + 1} of 2: '
                       f'{["low", "beside"][number]}\n', ran.stdout)
         self.assertEqual(self.kit.asked(), [f'ci of {ALL} with 1 wrong bodies'])
         self.assertEqual(len(list(self.kit.root.glob('crates/*/must-fail/*'))), 2)

@@ -23,10 +23,10 @@ commit_of_checkout() (
   [ "$(asks --show-toplevel)" -ef . ] && asks --verify HEAD
 )
 
-# Leaves the wrong bodies of one group of crates in the copy. The hash of the commit picks the group,
-# also where files have changed since.
+# Leaves the wrong bodies of one group in the copy. The hash of the commit picks the group, also
+# where files have changed since.
 leave_out_groups() {
-  local commit picked crate folder
+  local commit picked edit
   if $tries_all; then
     wrong_bodies='of all crates'
     return
@@ -35,15 +35,9 @@ leave_out_groups() {
     return
   fi
   picked=$("$copy/tools/wrong_bodies.py" "$commit") || return 1
-  read -ra picked <<<"$picked"
-  wrong_bodies="of group ${picked[0]-0} of ${picked[1]-0}, which commit ${commit:0:12} picks:"
-  wrong_bodies+=" ${picked[*]:2}"
-  for folder in "$copy"/crates/*/must-fail; do
-    crate=$(basename "$(dirname "$folder")")
-    case " ${picked[*]:2} " in
-      *" $crate "*) ;;
-      *) rm -rf "$folder" ;;
-    esac
+  wrong_bodies="that commit ${commit:0:12} picks: ${picked%%$'\n'*}"
+  for edit in "$copy"/crates/*/must-fail/*.edit; do
+    grep -qxF "${edit#"$copy/"}" <<<"$picked" || rm -f "$edit" || return 1
   done
 }
 

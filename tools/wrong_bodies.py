@@ -2,9 +2,9 @@
 """The wrong bodies, crates/*/must-fail/*.edit: which of them a run of ./test tries, and whether
 each can be tried.
 
-  tools/wrong_bodies.py             the crates that have any, in groups of about the same minutes
-  tools/wrong_bodies.py COMMIT      the group that the hash of this commit picks: its number, how
-                                    many groups there are, and its crates
+  tools/wrong_bodies.py             the groups, of about the same minutes, by their crates
+  tools/wrong_bodies.py COMMIT      the group that the hash of this commit picks, and then the files
+                                    of its wrong bodies, one a line
   tools/wrong_bodies.py --check     names those whose lines don't stand in their files once, with
                                     status 1 where there are any
 """
@@ -13,53 +13,65 @@ import sys
 from pathlib import Path
 from typing import Iterable, Optional
 
-ROOT = Path(__file__).resolve().parents[1]
-MOST = 30  # minutes of one core that a group takes, unless one crate alone takes more
+from minutes import NOT_MEASURED, PROOFS, WRONG_BODY, WRONG_BODY_NOT_MEASURED
 
-# What was measured: minutes of one core for all wrong bodies of a crate, and how many these were.
-MEASURED = {
-    'tt_pages': (10.9, 10), 'tt_values': (7.1, 11), 'tt_versions': (15.6, 18),
-    'tt_parts': (7.2, 11), 'tt_repair_laws': (2.8, 3), 'tt_generations': (18.9, 19),
-    'tt_db': (17.9, 19), 'tt_store': (28.0, 18), 'tt_document': (11.2, 7), 'tt_repair': (5.7, 6),
-    'tt_workload': (17.8, 12), 'tt_workers': (14.4, 7), 'tt_cli': (7.2, 5),
-}
+ROOT = Path(__file__).resolve().parents[1]
+MOST = 20.0  # minutes of one core that a group takes, unless one wrong body alone takes more
+
+Share = list[Path]  # wrong bodies of one crate
 
 
 def wrong_bodies(crate: str) -> list[Path]:
     return sorted(ROOT.glob(f'crates/{crate}/must-fail/*.edit'))
 
 
-def minutes(crate: str) -> float:
-    """About how long a crate's wrong bodies take. For a crate that wasn't measured half a minute
-    each, and three for the proof of the crate that comes before them."""
-    count = len(wrong_bodies(crate))
-    if crate in MEASURED:
-        in_all, measured = MEASURED[crate]
-        return in_all * count / measured
-    return 3 + count / 2
+def crate_of(edit: Path) -> str:
+    return edit.parents[1].name
 
 
-def minutes_of(group: Iterable[str]) -> float:
+def minutes(share: Share) -> float:
+    """About how long these take, with the proof of their crate that comes before them."""
+    crate = crate_of(share[0])
+    proof, _ = PROOFS.get(crate, (NOT_MEASURED, 0))
+    return proof + len(share) * WRONG_BODY.get(crate, WRONG_BODY_NOT_MEASURED)
+
+
+def shares(edits: Share) -> Iterable[Share]:
+    """A crate's wrong bodies, in as few parts as there can be without a longer one than MOST."""
+    for count in range(1, len(edits) + 1):
+        found = [edits[part::count] for part in range(count)]
+        if max(map(minutes, found)) <= MOST or count == len(edits):
+            return found
+    return []
+
+
+def minutes_of(group: Iterable[Share]) -> float:
     return sum(map(minutes, group))
 
 
-def groups_of(crates: list[str], count: int) -> list[list[str]]:
-    """So many groups: each crate, the longest first, goes to the group that is the shortest."""
-    groups: list[list[str]] = [[] for _ in range(count)]
-    for crate in sorted(crates, key=minutes, reverse=True):
-        min(groups, key=minutes_of).append(crate)
-    return groups
-
-
-def groups() -> list[list[str]]:
-    """As few groups as there can be without a longer one than MOST."""
-    listed = re.findall(r'^[a-z]\w*', (ROOT / 'crates.txt').read_text(), re.MULTILINE)
-    crates = [crate for crate in listed if wrong_bodies(crate)]
-    for count in range(1, len(crates)):
-        found = groups_of(crates, count)
-        if all(len(group) == 1 or minutes_of(group) <= MOST for group in found):
+def groups() -> list[list[Share]]:
+    """Each share, the longest first, goes to the group that is the shortest, of as few groups as
+    there can be without a longer one than MOST."""
+    crates = re.findall(r'^[a-z]\w*', (ROOT / 'crates.txt').read_text(), re.MULTILINE)
+    all_shares = [share for crate in crates for share in shares(wrong_bodies(crate))]
+    all_shares.sort(key=minutes, reverse=True)
+    for count in range(1, len(all_shares) + 1):
+        found: list[list[Share]] = [[] for _ in range(count)]
+        for share in all_shares:
+            min(found, key=minutes_of).append(share)
+        if all(minutes_of(group) <= MOST for group in found):
             return found
-    return [[crate] for crate in crates]
+    return [[share] for share in all_shares]
+
+
+def names(group: list[Share]) -> str:
+    """The crates of a group, each with the number of its wrong bodies where these aren't all."""
+    told = []
+    for share in group:
+        crate = crate_of(share[0])
+        in_all = len(wrong_bodies(crate))
+        told.append(crate if len(share) == in_all else f'{crate} ({len(share)} of {in_all})')
+    return ', '.join(told)
 
 
 def cause(edit: Path) -> Optional[str]:
@@ -101,10 +113,13 @@ def main() -> int:
     found = groups()
     if not words:
         for number, group in enumerate(found, 1):
-            print(f'{number}: {minutes_of(group):.0f} minutes: {" ".join(group)}')
+            print(f'{number}: {minutes_of(group):.0f} minutes: {names(group)}')
     elif found:
         picked = int(words[0], 16) % len(found)
-        print(picked + 1, len(found), *found[picked])
+        print(f'group {picked + 1} of {len(found)}: {names(found[picked])}')
+        for share in found[picked]:
+            for edit in share:
+                print(edit.relative_to(ROOT))
     return 0
 
 

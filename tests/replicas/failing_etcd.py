@@ -40,7 +40,7 @@ class FailingEtcd(WithEtcd):
         self.cluster.members[0].pause()
         began = time.monotonic()
         self.assertEqual(client.ask_all(insert(2), insert(3)), [LOST] * 2)
-        self.assertLess(time.monotonic() - began, 2.0)
+        self.assertLess(time.monotonic() - began, 5.0)
         self.assertEqual(client.ask({"read": "replica"}), {"reads": "replica"})
         self.assertEqual(client.ask(ALL)["rows"], [[1, 10]])
         self.cluster.members[0].go_on()
@@ -103,13 +103,17 @@ class FailingEtcd(WithEtcd):
         cluster = Cluster(self.folder, 1, ["--quota-backend-bytes", "4194304"], name="full")
         self.addCleanup(cluster.kill)
         cluster.wait()
-        replica = self.replica(urls=cluster.urls, bound=1.0)
+        replica = self.replica(urls=cluster.urls, bound=2.0)
         client = self.client(replica)
         line = json.dumps({"delete": "acct", "where": []}).encode() + b" " * 900_000
         answers = [client.ask(line) for _ in range(8)]
         self.assertEqual(answers[-1], LOST)
         self.assertEqual(client.ask({"read": "replica"}), {"reads": "replica"})
-        self.assertEqual(client.ask({"status": True})["time"], sum("slot" in answer for answer in answers))
+        # A slow etcd takes some that were given up.
+        taken = sum(line.startswith(b'{"delete"') for line in cluster.lines())
+        self.assertGreaterEqual(taken, sum("slot" in answer for answer in answers))
+        self.assertLess(taken, 8)
+        until(lambda: client.ask({"status": True})["time"] == taken, "the session has what etcd took")
         until(lambda: "database space exceeded" in replica.complaints(), "a complaint")
 
     def test_etcd_that_is_not_there_at_the_start(self) -> None:
