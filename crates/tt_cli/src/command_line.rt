@@ -77,8 +77,8 @@ the answers that would be others now. There are also requests of the kinds delet
 tables and forget, which makes room again: see docs/SESSION.md.
 The database ends with the input. With --log FILE it is kept in FILE, which is made where there is
 none: a request that changes it is on the disk before it is answered, so the next session on FILE
-has all that was answered, after a crash, too. Its first line is an opening again, with the same
-tables and `keep`, and is answered with what is there. With --existing, too, nothing is made: where
+has all that was answered, after a crash, too. It is open from its start, and an opening with the
+same tables and `keep` is answered with what is there. With --existing, too, nothing is made: where
 FILE isn't there, or has no line, the session ends with status 1."#;
 
 const ABOUT_LOG: &str =
