@@ -1,5 +1,6 @@
 //! What the commands on a log do: a session, and a look at what is logged.
 ghost use Rattle.std.specs.Prelude.{◌≡◌, ◌≢◌, ◌⊎◌, ◌++◌, [], IfErr, IsErrOf, OnOk};
+ghost use Rattle.tt_log.specs.Device.{ShowsFirst};
 ghost use Rattle.tt_log.specs.Lines.{logged, joined};
 ghost use Rattle.tt_log.specs.Log.{IsAsLeft};
 ghost use Rattle.tt_session.specs.OnLog.{telling};
@@ -151,6 +152,11 @@ pub fn print_lines<D: Device + TellsReason>(
     ensures seen { D.tells device.old → D.seen device.new ≡ D.seen device.old }
     ensures shown { D.tells device.old → result ≡ Ending.Done → D.shown device.new
         ≡ D.shown device.old ++ joined (logged (D.seen device.old)) }
+
+    // At another ending the first bytes of the lines may be handed over, and nothing else.
+    ensures first { D.tells device.old → ShowsFirst (D.shown device.old) (D.shown device.new)
+        (joined (logged (D.seen device.old))) }
+
     ensures kind { IsEndingOfLook result }
 {
     let mut buffer = [0; PIECE_BYTES];

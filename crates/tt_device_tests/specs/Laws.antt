@@ -1,6 +1,7 @@
 -- What all events keep to.
 use Rattle.std.proofs.Common.{inl, ◌≡◌, refl, ℕ, ◌≤◌, List, [], ◌∷◌, ◌++◌, length, sym, subst, arith}
 use Rattle.std.proofs.lemmas.List.{take_all}
+use Rattle.std.proofs.Math.Logic.{∥∥₁_map}
 use Rattle.tt_log.specs.Device.{Left, NothingNew, Now}
 use Rattle.tt_device_tests.specs.declared.event.Event.{Event}
 use Rattle.tt_device_tests.specs.declared.event.Event.TheVariants.{Placed, NameSynced, Written, Grown, Cut, Synced, SyncFailed, Shown}
@@ -29,6 +30,10 @@ once_is_named events = less-after nothing events (λ c none. none)
 
 pub synced_is_left_of : (events : List Event) → NothingNew (may_leave_of events) (outcomes events).once_synced
 synced_is_left_of events c left = inl (once_is_named events c left)
+
+-- what is read is there once it is synced, so a crash may leave it
+pub seen_is_left_of : (events : List Event) (file : List ℕ) → ∥ (outcomes events).once_synced file ∥₁ → ∥ may_leave_of events file ∥₁
+seen_is_left_of events file left = ∥∥₁_map left (λ once. inl (once_is_named events file once))
 
 -- the moment behind all events
 pub now_counts : (events : List Event) (t : ℕ) (c : Left) → t ≤ length events → Now (may_leave_of events) (outcomes events).shown c → LeftSince events t c

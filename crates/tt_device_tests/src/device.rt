@@ -3,7 +3,7 @@ ghost use Rattle.std.specs.Prelude.{◌≡◌, ◌≤◌, ◌-◌, ◌++◌, tru
 ghost use Rattle.tt_log.specs.Device.{CountsFailure};
 ghost use Rattle.tt_device_tests.specs.Outcomes.{outcomes, may_leave_of, LeftSince};
 ghost use Rattle.tt_device_tests.specs.Device.{leaves_new};
-ghost use Rattle.tt_device_tests.specs.Laws.{now_counts, now_only, synced_is_left_of};
+ghost use Rattle.tt_device_tests.specs.Laws.{now_counts, now_only, seen_is_left_of, synced_is_left_of};
 
 use crate::event::{Bytes, Event};
 use crate::failures::Failures;
@@ -39,6 +39,8 @@ impl<'a, R: Wait> Device for MemoryDevice<'a, R> {
     ghost counts_now = { λ d. now_counts d.events.items };
 
     ghost synced_is_left = { λ d told. synced_is_left_of d.events.items };
+
+    ghost seen_is_left = { λ d told. seen_is_left_of d.events.items d.file.items d.seen_left };
 
     ghost only_now = { λ d. now_only d.events.items };
 

@@ -8,5 +8,6 @@ mod ShowLemmas
 mod StepLemmas
 pub mod SyncLemmas
 mod TornLemmas
+mod UncleanLemmas
 mod WriteLemmas
 mod ZeroLemmas

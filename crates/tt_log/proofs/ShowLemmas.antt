@@ -1,12 +1,13 @@
 -- What is told of a log that is looked at.
 use Rattle.std.proofs.Common.{◌≡◌, ◌≢◌, inl, inr, ℕ, zero, suc, ◌+◌, ◌<◌, ◌≤◌, Bool, true, false, not, List, [], ◌∷◌, ◌++◌, length, take, drop, refl, sym, ◌∙◌, ap, subst, arith, append_assoc, length-append}
-use Rattle.std.proofs.lemmas.List.{append-nil, length-replicate, take-append-le, take_all}
-use Rattle.std.proofs.lemmas.Bool.{cases_eq}
+use Rattle.std.proofs.lemmas.List.{append-nil, length-replicate, length-take, take-append-le, take_all}
+use Rattle.std.proofs.lemmas.Bool.{cases_eq, cases_lt}
 use Rattle.tt_log.specs.Crash.{written_over}
+use Rattle.tt_log.specs.Device.{ShowsFirst}
 use Rattle.tt_log.specs.Lines.{text, with_byte_if, whole_lines_of, logged, joined, zeros}
 use Rattle.tt_log.specs.Log.{IsAtRest}
 use Rattle.tt_log.proofs.LineLemmas.{whole_lines_of-feed, whole_lines_of-other, whole_lines_of-joined, AreLines-logged}
-use Rattle.tt_log.proofs.ReadingLemmas.{take-add, end_is}
+use Rattle.tt_log.proofs.ReadingLemmas.{take-add, take-take, end_is}
 use Rattle.tt_log.proofs.RestLemmas.{parts, zeroed, at_rest-zeroed}
 
 length-with_byte : (b : ℕ) (lines : List (List ℕ)) → length (with_byte_if b lines) ≡ length lines
@@ -43,6 +44,21 @@ shown_piece seen piece shown before after at count is was new =
     ∙ ap (λ (l : List ℕ). (before ++ take at seen) ++ l) is
     ∙ append_assoc before (take at seen) (take count (drop at seen))
     ∙ ap (λ (l : List ℕ). before ++ l) (sym (take-add at count seen))
+
+-- what was handed over before, and the first bytes of one piece more, are the first bytes of all
+pub first_of_piece : (seen piece shown before after : List ℕ) (at count end : ℕ) → piece ≡ take count (drop at seen) → at + count ≤ end → shown ≡ before ++ take at seen
+    → ShowsFirst shown after piece → ShowsFirst before after (take end seen)
+first_of_piece seen piece shown before after at count end is within was new = elim (cases_lt new.0 count) [
+  | inl few ↦ upto new.0 (omega (arith, few)) (ap (take new.0) is ∙ take-take new.0 count (drop at seen) (omega (arith, few)))
+  | inr all ↦ upto count (omega arith) (ap (take new.0) is ∙ take_all new.0 (take count (drop at seen)) (omega (arith, all, length-take count (drop at seen))))
+]
+  where
+    upto : (n : ℕ) → n ≤ count → take new.0 piece ≡ take n (drop at seen) → ShowsFirst before after (take end seen)
+    upto n few first = (
+      at + n,
+      shown_piece seen (take new.0 piece) shown before after at n first was new.1
+          ∙ ap (λ (l : List ℕ). before ++ l) (sym (take-take (at + n) end seen (omega (arith, within, few)))),
+    )
 
 -- the first bytes of a file, up to the end of its last line
 pub first_are : (file : List ℕ) (end : ℕ) → end ≡ length (joined (logged file)) → take end file ≡ joined (logged file)

@@ -10,6 +10,18 @@ pub record IsAtRest (file : List ℕ) : Type 0 where
   pub room : ℕ
   pub is : file ≡ joined (logged file) ++ zeros room
 
+-- a file that isn't lines alone, so that the next start doesn't take it for one that was ended well
+abbrev pub IsUnclean : List ℕ → Type 0
+IsUnclean file = IsJoined file → ⊥
+
+-- no file that a crash may leave is one of lines alone
+abbrev pub AllUnclean : (List ℕ → Type 0) → Type 0
+AllUnclean may_leave = (c : List ℕ) → may_leave c → IsUnclean c
+
+-- a crash left a file that isn't lines alone
+abbrev pub LeavesUnclean : Left → Type 0
+LeavesUnclean left = IsUnclean left.file
+
 -- the file is lines and then bytes 0, all of it on the disk, and the log knows where they end
 pub record IsSettled {D : Type 0} (seen : D → List ℕ) (may_leave : D → List ℕ → Type 0) (log : Log D) : Type 0 where
   pub at_rest : IsAtRest (seen log.device)

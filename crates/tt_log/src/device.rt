@@ -296,6 +296,11 @@ pub trait Device {
     ghost synced_is_left: { (device : Self) → tells device
         → NothingNew (may_leave device) (once_synced device) };
 
+    /// What is read is one of the files that a crash may leave. So is what a process leaves that is
+    /// killed.
+    ghost seen_is_left: { (device : Self) → tells device
+        → ∥ may_leave device (seen device) ∥₁ };
+
     /// Since this moment there is no other.
     ghost only_now: { (device : Self) (c : Left) → left_since device (moment device) c
         → Now (may_leave device) (shown device) c };

@@ -165,6 +165,8 @@ impl<'a, F: Files<File = File> + Eprint, W: Write> Device for FileDevice<'a, F, 
 
     ghost synced_is_left = { λ d told. absurd told };
 
+    ghost seen_is_left = { λ d told. absurd told };
+
     ghost only_now = { λ d left was. absurd was };
 
     fn length(&self) -> Result<u64, DeviceError> {

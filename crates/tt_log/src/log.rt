@@ -25,7 +25,7 @@ pub struct Log<D> {
 }
 
 impl<D: Device> Log<D> {
-    ghost use Rattle.tt_log.specs.Log.{IsSettled, IsMaking, length_with_room, Keeps, KeepsFirst, KeepsAnswered, KeepsEither};
+    ghost use Rattle.tt_log.specs.Log.{IsSettled, IsMaking, length_with_room, Keeps, KeepsFirst, KeepsAnswered, KeepsEither, LeavesUnclean};
 
     /// A log whose lines end here in a file of this length, with bytes 0 behind them.
     pub(crate) fn new(device: D, end: u64, len: u64) -> Log<D>
@@ -113,6 +113,10 @@ impl<D: Device> Log<D> {
             self.old.device self.new.device
             (KeepsFirst (logged (D.seen self.old.device)) lines.now (D.shown self.old.device)) }
 
+        // A crash at any moment of the call, or a kill, leaves a file that doesn't look ended.
+        ensures unclean { D.tells self.old.device → LeavesOnly D.moment D.left_since
+            self.old.device self.new.device LeavesUnclean }
+
         // It doesn't give up by itself.
         ensures failures { D.tells self.old.device
             → D.failures self.old.device ≤ D.failures self.new.device }
@@ -154,6 +158,10 @@ impl<D: Device> Log<D> {
             self.old.device self.new.device
             (KeepsAnswered (logged (D.seen self.old.device)) lines.now
             (D.shown self.old.device) answers.now) }
+
+        // A crash at any moment of the call, or a kill, leaves a file that doesn't look ended.
+        ensures unclean { D.tells self.old.device → LeavesOnly D.moment D.left_since
+            self.old.device self.new.device LeavesUnclean }
 
         ensures first { D.tells self.old.device → ShowsFirst
             (D.shown self.old.device) (D.shown self.new.device) answers.now }
@@ -277,6 +285,10 @@ impl<D: Device> Log<D> {
             self.old.device self.new.device (KeepsEither (logged (D.seen self.old.device))
             (logged (D.new_file self.old.device)) (D.shown self.old.device)) }
 
+        // Neither does it, or a kill, leave a file that looks ended.
+        ensures unclean { D.tells self.old.device → LeavesOnly D.moment D.left_since
+            self.old.device self.new.device LeavesUnclean }
+
         // Where the old log is kept, a crash leaves its lines.
         ensures kept_settled { D.tells self.old.device → IsErrOf result RenewError.Kept
             → IsSettled D.seen D.may_leave self.new }
@@ -337,6 +349,8 @@ impl<D: Device> Log<D> {
         ensures any_moment { D.tells self.old.device → LeavesOnly D.moment D.left_since
             self.old.device self.new.device
             (Keeps (logged (D.seen self.old.device)) (D.shown self.old.device)) }
+        ensures unclean { D.tells self.old.device → LeavesOnly D.moment D.left_since
+            self.old.device self.new.device LeavesUnclean }
         ensures failures { D.tells self.old.device
             → D.failures self.old.device ≤ D.failures self.new.device }
         ensures write { D.tells self.old.device → IsErrOf result LogError.Write

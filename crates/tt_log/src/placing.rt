@@ -2,7 +2,7 @@
 ghost use Rattle.std.specs.Prelude.{◌≡◌, ◌↔◌, ◌^◌, ◌<◌, ◌≤◌, length, IfOk, OnOk, OnErr, IsErrOf};
 ghost use Rattle.tt_log.specs.Device.{Left, Only, Now, LeavesOnly, StaysOnDisk};
 ghost use Rattle.tt_log.specs.Lines.{logged, IsJoined};
-ghost use Rattle.tt_log.specs.Log.{IsAtRest, KeepsOnceSynced, length_with_room};
+ghost use Rattle.tt_log.specs.Log.{AllUnclean, IsAtRest, KeepsOnceSynced, LeavesUnclean, length_with_room};
 
 use crate::{Device, RenameError, RenewError};
 
@@ -32,6 +32,10 @@ pub(crate) fn put_in_place<D: Device>(device: &mut D, end: u64) -> Result<u64, R
         device.old device.new (KeepsOnceSynced (D.may_leave device.old)
         (logged (D.new_file device.old)) (D.shown device.old)) }
 
+    // Where it wouldn't have left a file that looks ended before, it leaves none.
+    ensures unclean { D.tells device.old → AllUnclean (D.may_leave device.old)
+        → LeavesOnly D.moment D.left_since device.old device.new LeavesUnclean }
+
     ensures kept { D.tells device.old → IsErrOf result RenewError.Kept
         → StaysOnDisk D.seen D.shown D.may_leave D.moment D.left_since D.failures
         device.old device.new }
@@ -53,7 +57,7 @@ pub(crate) fn put_in_place<D: Device>(device: &mut D, end: u64) -> Result<u64, R
 
 /// Makes the new file longer by bytes 0, syncs it, and gives it the name of the file.
 fn name_new<D: Device>(device: &mut D, len: u64) -> Result<(), RenameError>
-    requires len { D.tells device.old → length (D.new_file device.old) ≤ len }
+    requires len { D.tells device.old → length (D.new_file device.old) < len }
     requires lines { D.tells device.old → IsJoined (D.new_file device.old) }
     ensures tells { D.tells device.old ↔ D.tells device.new }
     ensures len { D.tells device.old → OnOk result (length (D.seen device.new) ≡ len) }
@@ -70,6 +74,8 @@ fn name_new<D: Device>(device: &mut D, len: u64) -> Result<(), RenameError>
     ensures any_moment { D.tells device.old → LeavesOnly D.moment D.left_since
         device.old device.new (KeepsOnceSynced (D.may_leave device.old)
         (logged (D.new_file device.old)) (D.shown device.old)) }
+    ensures unclean { D.tells device.old → AllUnclean (D.may_leave device.old)
+        → LeavesOnly D.moment D.left_since device.old device.new LeavesUnclean }
     ensures kept { D.tells device.old → IsErrOf result RenameError.Kept
         → StaysOnDisk D.seen D.shown D.may_leave D.moment D.left_since D.failures
         device.old device.new }

@@ -1,6 +1,6 @@
 //! Looking at a log, without writing to it.
 ghost use Rattle.std.specs.Prelude.{◌≡◌, ◌≢◌, ◌⊎◌, ◌↔◌, ◌+◌, ◌^◌, ◌<◌, ◌≤◌, ◌++◌, [], length, take, false, IfOk, IfErr, IsTrue, OnOk, IsErrOf};
-ghost use Rattle.tt_log.specs.Device.{NothingNew};
+ghost use Rattle.tt_log.specs.Device.{NothingNew, ShowsFirst};
 ghost use Rattle.tt_log.specs.Lines.{logged, joined, whole_lines_of};
 ghost use Rattle.tt_log.specs.Show.{IsSummaryOf};
 
@@ -22,7 +22,7 @@ pub struct LogSummary {
 
 /// Hands over the lines of a log to the output of its device, a line feed behind each, and leaves
 /// its file as it is. The buffer is used on the way. It is `Read` if the file can't be read, and
-/// `HandOver` if the output fails; some lines may be handed over then.
+/// `HandOver` if the output fails; the first bytes of the lines may be handed over then.
 pub fn show_log<D: Device>(device: &mut D, buffer: &mut [u8]) -> Result<LogSummary, LogError>
     requires some { 0 < length buffer.old }
     ensures tells { D.tells device.old ↔ D.tells device.new }
@@ -31,6 +31,11 @@ pub fn show_log<D: Device>(device: &mut D, buffer: &mut [u8]) -> Result<LogSumma
         → NothingNew (D.may_leave device.old) (D.may_leave device.new) }
     ensures shown { D.tells device.old → OnOk result (D.shown device.new
         ≡ D.shown device.old ++ joined (logged (D.seen device.old))) }
+
+    // After an error the first bytes of the lines may be handed over, and nothing else.
+    ensures first { D.tells device.old → ShowsFirst (D.shown device.old) (D.shown device.new)
+        (joined (logged (D.seen device.old))) }
+
     ensures summary { D.tells device.old → IfOk result (IsSummaryOf (D.seen device.old)) }
     ensures err { IfErr result (λ e. (e ≡ LogError.Read) ⊎ (e ≡ LogError.HandOver)) }
     ensures hand_over { D.tells device.old → IsErrOf result LogError.HandOver
@@ -132,6 +137,8 @@ fn show_first<D: Device>(device: &mut D, end: u64, buffer: &mut [u8]) -> Result<
         → NothingNew (D.may_leave device.old) (D.may_leave device.new) }
     ensures shown { D.tells device.old → OnOk result (D.shown device.new
         ≡ D.shown device.old ++ take end (D.seen device.old)) }
+    ensures first { D.tells device.old → ShowsFirst (D.shown device.old) (D.shown device.new)
+        (take end (D.seen device.old)) }
     ensures lines { D.tells device.old → IfOk result (λ n.
         n ≡ length (whole_lines_of (take end (D.seen device.old)))) }
     ensures err { IfErr result (λ e. (e ≡ LogError.Read) ⊎ (e ≡ LogError.HandOver)) }

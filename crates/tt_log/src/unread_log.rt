@@ -1,5 +1,5 @@
 //! A log whose lines are still to be read.
-ghost use Rattle.std.specs.Prelude.{◌≡◌, ◌⊎◌, ◌↔◌, ◌+◌, ◌<◌, ◌≤◌, ◌^◌, ◌++◌, [], true, false, length, take, IfOk, IfErr};
+ghost use Rattle.std.specs.Prelude.{◌≡◌, ◌⊎◌, ◌↔◌, ◌+◌, ◌<◌, ◌≤◌, ◌^◌, ◌++◌, [], true, false, length, take, IfOk, IfErr, OnErr};
 ghost use Rattle.tt_log.specs.Lines.{text, logged, joined, whole_lines_of, end_behind};
 ghost use Rattle.tt_log.specs.Device.{LeavesOnly};
 
@@ -77,6 +77,7 @@ impl<D: Device> UnreadLog<D> {
             take n buffer.new ++ unread D.seen self.new ≡ unread D.seen self.old) }
         ensures end { D.tells self.old.device → IfOk result (λ n. n ≡ 0
             → 0 < length buffer.new → unread D.seen self.new ≡ []) }
+        ensures stays { OnErr result (self.new ≡ self.old) }
     {
         let count = self.next_count(buffer.len());
         if count == 0 {

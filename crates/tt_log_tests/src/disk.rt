@@ -196,6 +196,8 @@ impl Device for Disk {
 
     ghost synced_is_left = { λ d told. absurd told };
 
+    ghost seen_is_left = { λ d told. absurd told };
+
     ghost only_now = { λ d left was. absurd was };
 
     fn length(&self) -> Result<u64, DeviceError> {

@@ -1,9 +1,10 @@
 -- The new file is filled up, synced, and named.
-use Rattle.std.proofs.Common.{⊎_elim, inl, inr, refl, ◌∙◌}
+use Rattle.std.proofs.Common.{◌<◌, ◌-◌, length, ⊎_elim, inl, inr, refl, ◌∙◌, arith}
 use Rattle.tt_log.specs.Device.{NothingNew}
 use Rattle.tt_log.specs.Lines.{logged}
 use Rattle.tt_log.proofs.RenewalLemmas.{at_rest-filled, logged-filled, named_left}
 use Rattle.tt_log.proofs.SyncLemmas.{once_yet, once_on, earlier}
+use Rattle.tt_log.proofs.UncleanLemmas.{name_unclean}
 use Rattle.tt_log.proofs.placing.name_new.Goals as goal
 
 pub returns-clause-at_rest : goal.returns-clause-at_rest
@@ -79,3 +80,28 @@ returns-clause-any_moment g c = λ told.
     (earlier (V.may_leave old) (V.may_leave grown) lines (V.shown old) (c.grow_new.ensures.crash told)))
     (c.sync_new.ensures.time told_1) (c.grow_new.ensures.shown told) (earlier (V.may_leave old) (V.may_leave synced) lines (V.shown old) less))
     (c.rename_new.ensures.time told_2) (c.sync_new.ensures.shown told_1 ∙ c.grow_new.ensures.shown told) (returns-clause-crash g c told)
+
+-- what a crash leaves doesn't look ended
+pub returns-in_err-rename_new-clause-unclean : goal.returns-in_err-rename_new-clause-unclean
+returns-in_err-rename_new-clause-unclean g c = λ told all.
+    let V = g.D.Device in
+    let told_1 = c.grow_new.ensures.tells.0 told in
+    let told_2 = c.sync_new.ensures.tells.0 told_1 in
+    let old = c.args.device.now in
+    let synced = c.sync_new.new.self in
+    let some : 0 < c.args.len - length (V.new_file old) = omega (arith, c.requires.len told) in
+    name_unclean V.shown V.may_leave V.moment V.left_since g.met.D.Device.only_now old c.grow_new.new.self synced (V.new_file old) (V.new_file c.grow_new.new.self) _ some (c.in_ok-grow_new.ensures.grown told) all
+    (c.grow_new.ensures.crash told) (c.grow_new.ensures.time told) (c.sync_new.ensures.crash told_1) (c.sync_new.ensures.time told_1)
+    c.rename_new.new.self (V.may_leave_new synced) (c.in_ok-sync_new.ensures.durable told_1) (c.rename_new.ensures.either told_2) (c.rename_new.ensures.time told_2)
+
+pub returns-clause-unclean : goal.returns-clause-unclean
+returns-clause-unclean g c = λ told all.
+    let V = g.D.Device in
+    let told_1 = c.grow_new.ensures.tells.0 told in
+    let told_2 = c.sync_new.ensures.tells.0 told_1 in
+    let old = c.args.device.now in
+    let synced = c.sync_new.new.self in
+    let some : 0 < c.args.len - length (V.new_file old) = omega (arith, c.requires.len told) in
+    name_unclean V.shown V.may_leave V.moment V.left_since g.met.D.Device.only_now old c.grow_new.new.self synced (V.new_file old) (V.new_file c.grow_new.new.self) _ some (c.in_ok-grow_new.ensures.grown told) all
+    (c.grow_new.ensures.crash told) (c.grow_new.ensures.time told) (c.sync_new.ensures.crash told_1) (c.sync_new.ensures.time told_1)
+    c.rename_new.new.self (V.may_leave_new synced) (c.in_ok-sync_new.ensures.durable told_1) (c.rename_new.ensures.either told_2) (c.rename_new.ensures.time told_2)

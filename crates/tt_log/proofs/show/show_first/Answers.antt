@@ -1,6 +1,6 @@
 -- One piece more is handed over.
 use Rattle.std.proofs.Common.{◌≡◌, ◌+◌, ◌≤◌, ℕ, length, take, drop, ◌∙◌, ap, arith, length-append, length-drop, length-take-le}
-use Rattle.tt_log.proofs.ShowLemmas.{count_piece, shown_piece}
+use Rattle.tt_log.proofs.ShowLemmas.{count_piece, first_of_piece, shown_piece}
 use Rattle.tt_log.proofs.show.show_first.Goals as goal
 
 pub loop-at-preserved : goal.loop-at-preserved
@@ -31,3 +31,20 @@ loop-at-preserved g c =
       lines = λ told. ap (λ (k : ℕ). c.loop-at.lines + k) c.line_count.ensures.lines ∙ count_piece file piece at n c.loop-at.lines (is_piece told) (inv.lines told);
       failures = λ told. omega (arith, inv.failures told, (over.failed (inv.tells.0 told)).later);
     }
+
+-- where the output fails
+pub returns-in_default-hand_over-clause-first : goal.returns-in_default-hand_over-clause-first
+returns-in_default-hand_over-clause-first g c = λ told.
+    let inv = c.loop-at.invariant in
+    let first = c.args.device.now in
+    let file = g.D.Device.seen first in
+    let at = c.loop-at.at in
+    let n = c.piece_len-count.result in
+    let buffer = c.loop-at.buffer in
+    let taken : length (take n buffer) ≡ n = length-take-le n buffer (omega (arith, c.piece_len-count.ensures)) in
+    let is_piece : c.read_at.new.buffer ≡ take n (drop at file) =
+    c.in-Ok.ensures (inv.tells.0 told)
+    ∙ ap (λ (k : ℕ). take k (drop at (g.D.Device.seen c.loop-at.device))) taken
+    ∙ ap (λ l. take n (drop at l)) (inv.seen told) in
+    first_of_piece file c.read_at.new.buffer (g.D.Device.shown c.loop-at.device) (g.D.Device.shown first) (g.D.Device.shown c.hand_over.new.self) at n c.args.end
+    is_piece (omega (arith, inv.within, c.piece_len-count.ensures)) (inv.shown told) (c.hand_over.ensures.first (inv.tells.0 told))

@@ -1,5 +1,5 @@
 -- Lines are written behind those that are there, and then synced.
-use Rattle.std.proofs.Common.{◌≡◌, ◌+◌, ◌++◌, ◌≤◌, List, ℕ, length, ◌∙◌, ap, sym, subst, arith, eqb-true}
+use Rattle.std.proofs.Common.{◌≡◌, ◌+◌, ◌++◌, ◌≤◌, ◌<◌, List, ℕ, length, ◌∙◌, ap, sym, subst, arith, eqb-true}
 use Rattle.std.proofs.lemmas.List.{append-nil}
 use Rattle.tt_log.specs.Lines.{logged, joined}
 use Rattle.tt_log.specs.Log.{IsAtRest}
@@ -8,6 +8,7 @@ use Rattle.tt_log.proofs.WriteLemmas.{at_rest-written, logged-written, length-wr
 use Rattle.tt_log.proofs.StepLemmas.{written, written_synced}
 use Rattle.tt_log.specs.Crash.{IsWritten}
 use Rattle.tt_log.proofs.SyncLemmas.{all_synced, only_synced}
+use Rattle.tt_log.proofs.UncleanLemmas.{write_unclean, write_sync_unclean}
 use Rattle.tt_log.proofs.log.Log.append.Goals as goal
 
 pub returns-in_err-write_at-clause-any_moment : goal.returns-in_err-write_at-clause-any_moment
@@ -96,3 +97,44 @@ pub returns-then-is_empty-clause-logged : goal.returns-then-is_empty-clause-logg
 returns-then-is_empty-clause-logged g c = λ told.
     let none = no_lines c.args.lines.now (sym (ap length c.as_bytes-bytes.ensures.bytes) ∙ eqb-true _ _ (sym c.if-is_empty.ensures)) in
     sym (append-nil (logged (g.D.Device.seen c.args.self.now.device))) ∙ ap (λ (ls : List (List ℕ)). logged (g.D.Device.seen c.args.self.now.device) ++ ls) (sym none)
+
+-- what a crash leaves doesn't look ended
+pub returns-in_err-write_at-clause-unclean : goal.returns-in_err-write_at-clause-unclean
+returns-in_err-write_at-clause-unclean g c = λ told.
+    let told_1 = c.make_room.ensures.tells.0 told in
+    let V = g.D.Device in
+    let old = c.args.self.now.device in
+    let mid = c.make_room.new.self in
+    let s = c.in_ok-end.ensures.settled told in
+    let bytes = c.as_bytes-bytes.result.now in
+    let is = IsJoined-joined bytes c.args.lines.now c.as_bytes-bytes.ensures.lines c.as_bytes-bytes.ensures.bytes in
+    let room : mid.end + length bytes < length (V.seen mid.device) = omega (arith, c.in_ok-end.ensures.within, s.len) in
+    write_unclean V.shown V.may_leave V.moment V.left_since g.met.D.Device.only_now old mid.device c.write_at.new.self (V.seen mid.device) bytes mid.end s.at_rest s.end is room s.durable (c.make_room.ensures.unclean told) (c.write_at.ensures.crash told_1) (c.write_at.ensures.time told_1)
+
+pub returns-in_err-sync-clause-unclean : goal.returns-in_err-sync-clause-unclean
+returns-in_err-sync-clause-unclean g c = λ told.
+    let told_1 = c.make_room.ensures.tells.0 told in
+    let told_2 = c.write_at.ensures.tells.0 told_1 in
+    let V = g.D.Device in
+    let old = c.args.self.now.device in
+    let mid = c.make_room.new.self in
+    let s = c.in_ok-end.ensures.settled told in
+    let bytes = c.as_bytes-bytes.result.now in
+    let is = IsJoined-joined bytes c.args.lines.now c.as_bytes-bytes.ensures.lines c.as_bytes-bytes.ensures.bytes in
+    let room : mid.end + length bytes < length (V.seen mid.device) = omega (arith, c.in_ok-end.ensures.within, s.len) in
+    write_sync_unclean V.shown V.may_leave V.moment V.left_since g.met.D.Device.only_now old mid.device c.write_at.new.self (V.seen mid.device) bytes mid.end s.at_rest s.end is room s.durable (c.make_room.ensures.unclean told) (c.write_at.ensures.crash told_1) (c.write_at.ensures.time told_1)
+    c.sync.new.self (c.sync.ensures.crash told_2) (c.sync.ensures.time told_2)
+
+pub returns-clause-unclean : goal.returns-clause-unclean
+returns-clause-unclean g c = λ told.
+    let told_1 = c.make_room.ensures.tells.0 told in
+    let told_2 = c.write_at.ensures.tells.0 told_1 in
+    let V = g.D.Device in
+    let old = c.args.self.now.device in
+    let mid = c.make_room.new.self in
+    let s = c.in_ok-end.ensures.settled told in
+    let bytes = c.as_bytes-bytes.result.now in
+    let is = IsJoined-joined bytes c.args.lines.now c.as_bytes-bytes.ensures.lines c.as_bytes-bytes.ensures.bytes in
+    let room : mid.end + length bytes < length (V.seen mid.device) = omega (arith, c.in_ok-end.ensures.within, s.len) in
+    write_sync_unclean V.shown V.may_leave V.moment V.left_since g.met.D.Device.only_now old mid.device c.write_at.new.self (V.seen mid.device) bytes mid.end s.at_rest s.end is room s.durable (c.make_room.ensures.unclean told) (c.write_at.ensures.crash told_1) (c.write_at.ensures.time told_1)
+    c.sync.new.self (c.sync.ensures.crash told_2) (c.sync.ensures.time told_2)

@@ -1,8 +1,9 @@
-use Rattle.std.proofs.Common.{◌++◌, ℕ, List, inl, inr, length, take, sym, ◌∙◌, ap, subst}
+use Rattle.std.proofs.Common.{◌++◌, ◌<◌, ℕ, List, inl, inr, length, take, sym, ◌∙◌, ap, subst, arith}
 use Rattle.tt_log.specs.Lines.{logged, joined}
 use Rattle.tt_log.specs.Device.{NowShowing}
-use Rattle.tt_log.specs.Log.{IsAtRest, KeepsFirst, KeepsAnswered}
+use Rattle.tt_log.specs.Log.{IsAtRest, IsUnclean, KeepsFirst, KeepsAnswered, LeavesUnclean}
 use Rattle.tt_log.proofs.MomentLemmas.{weaker, goes_on}
+use Rattle.tt_log.proofs.UncleanLemmas.{longer-unclean}
 use Rattle.tt_log.proofs.log.Log.hand_over.Goals as goal
 
 pub returns-clause-settled : goal.returns-clause-settled
@@ -52,3 +53,26 @@ returns-in_default-clause-any_moment g c = λ told.
       ap logged (s.durable left.file (c.hand_over.ensures.crash told_1 left.file now.0)) ∙ c.in_ok-append.ensures.logged told,
       (now.1.0, now.1.1 ∙ ap (λ (sh : List ℕ). sh ++ take now.1.0 answers) (c.append.ensures.shown told)),
     ))
+
+-- what a crash leaves doesn't look ended
+pub returns-clause-unclean : goal.returns-clause-unclean
+returns-clause-unclean g c = λ told.
+    let V = g.D.Device in
+    let told_1 = c.append.ensures.tells.0 told in
+    let mid = c.append.new.self in
+    let new = c.hand_over.new.self in
+    let s = c.in_ok-append.ensures.settled told in
+    let room : length (joined (logged (V.seen mid.device))) < length (V.seen mid.device) = omega (arith, mid.within, s.end, s.len) in
+    goes_on V.moment V.left_since c.args.self.now.device mid.device new LeavesUnclean (NowShowing (V.may_leave new) (V.shown mid.device) c.args.answers.now) (c.append.ensures.unclean told) (c.hand_over.ensures.time told_1)
+    (λ left now. subst IsUnclean (sym (s.durable left.file (c.hand_over.ensures.crash told_1 left.file now.0))) (longer-unclean (V.seen mid.device) room))
+
+pub returns-in_default-clause-unclean : goal.returns-in_default-clause-unclean
+returns-in_default-clause-unclean g c = λ told.
+    let V = g.D.Device in
+    let told_1 = c.append.ensures.tells.0 told in
+    let mid = c.append.new.self in
+    let new = c.hand_over.new.self in
+    let s = c.in_ok-append.ensures.settled told in
+    let room : length (joined (logged (V.seen mid.device))) < length (V.seen mid.device) = omega (arith, mid.within, s.end, s.len) in
+    goes_on V.moment V.left_since c.args.self.now.device mid.device new LeavesUnclean (NowShowing (V.may_leave new) (V.shown mid.device) c.args.answers.now) (c.append.ensures.unclean told) (c.hand_over.ensures.time told_1)
+    (λ left now. subst IsUnclean (sym (s.durable left.file (c.hand_over.ensures.crash told_1 left.file now.0))) (longer-unclean (V.seen mid.device) room))

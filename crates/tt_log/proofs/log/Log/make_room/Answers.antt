@@ -1,10 +1,11 @@
-use Rattle.std.proofs.Common.{length, ◌∙◌, ap, sym, subst}
+use Rattle.std.proofs.Common.{◌<◌, length, ◌∙◌, ap, sym, subst, arith}
 use Rattle.tt_log.specs.Log.{IsAtRest}
 use Rattle.tt_log.specs.Lines.{logged, joined}
 use Rattle.tt_log.proofs.WriteLemmas.{at_rest-grown, logged-longer, longer}
 use Rattle.tt_log.proofs.SyncLemmas.{all_synced, only_synced}
 use Rattle.tt_log.specs.Crash.{IsLonger}
 use Rattle.tt_log.proofs.StepLemmas.{grown, grown_synced}
+use Rattle.tt_log.proofs.UncleanLemmas.{grow_unclean, grow_sync_unclean}
 use Rattle.tt_log.proofs.log.Log.make_room.Goals as goal
 
 pub returns-in_err-grow-clause-any_moment : goal.returns-in_err-grow-clause-any_moment
@@ -43,3 +44,30 @@ returns-clause-settled g c = λ told.
           (only_synced (g.D.Device.seen d) (g.D.Device.may_leave d) (g.D.Device.once_synced d) s.durable (g.met.D.Device.synced_is_left d told))
           (c.in_ok-grow.ensures.synced told) (c.in_ok-sync.ensures.durable told_1) (λ f is. is ∙ sym grown_is ∙ sym same);
     }
+
+-- what a crash leaves doesn't look ended
+pub returns-in_err-grow-clause-unclean : goal.returns-in_err-grow-clause-unclean
+returns-in_err-grow-clause-unclean g c = λ told.
+    let V = g.D.Device in
+    let s = c.requires told in
+    let d = c.args.self.now.device in
+    let more : length (joined (logged (V.seen d))) < length (V.seen d) = omega (arith, c.args.self.now.within, s.end, s.len) in
+    grow_unclean V.shown V.may_leave V.moment V.left_since g.met.D.Device.only_now d c.grow.new.self (V.seen d) _ more s.durable (c.grow.ensures.crash told) (c.grow.ensures.time told)
+
+pub returns-in_err-sync-clause-unclean : goal.returns-in_err-sync-clause-unclean
+returns-in_err-sync-clause-unclean g c = λ told.
+    let V = g.D.Device in
+    let told_1 = c.grow.ensures.tells.0 told in
+    let s = c.requires told in
+    let d = c.args.self.now.device in
+    let more : length (joined (logged (V.seen d))) < length (V.seen d) = omega (arith, c.args.self.now.within, s.end, s.len) in
+    grow_sync_unclean V.shown V.may_leave V.moment V.left_since g.met.D.Device.only_now d c.grow.new.self c.sync.new.self (V.seen d) _ more s.durable (c.grow.ensures.crash told) (c.grow.ensures.time told) (c.sync.ensures.crash told_1) (c.sync.ensures.time told_1)
+
+pub returns-clause-unclean : goal.returns-clause-unclean
+returns-clause-unclean g c = λ told.
+    let V = g.D.Device in
+    let told_1 = c.grow.ensures.tells.0 told in
+    let s = c.requires told in
+    let d = c.args.self.now.device in
+    let more : length (joined (logged (V.seen d))) < length (V.seen d) = omega (arith, c.args.self.now.within, s.end, s.len) in
+    grow_sync_unclean V.shown V.may_leave V.moment V.left_since g.met.D.Device.only_now d c.grow.new.self c.sync.new.self (V.seen d) _ more s.durable (c.grow.ensures.crash told) (c.grow.ensures.time told) (c.sync.ensures.crash told_1) (c.sync.ensures.time told_1)
