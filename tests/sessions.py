@@ -42,7 +42,7 @@ def sessions() -> Iterator[Case]:
     parts = [pair for pair in zip(blocks, blocks[1:]) if pair[0].kind == 'json']
     yield held(''.join(lines.text for lines, _ in parts), ''.join(answers.text for _, answers in parts),
                'docs/SESSION.md')
-    yield held(shown_by_help('{"version":3,"tables"'), text_of('tests/help.answers'), 'tests/help.answers')
+    yield held(shown_by_help('{"version":4,"tables"'), text_of('tests/help.answers'), 'tests/help.answers')
 
 
 def opening(version: int) -> str:

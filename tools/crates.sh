@@ -50,6 +50,14 @@ crates_by_chain() {
     }' - crates.txt | sort -rn | sed 's/.* //'
 }
 
+# How many tasks of the gate run side by side: one on each processor, with 5 GB of memory. `rt ci`
+# reckons with two or three times what the largest crates take, so these would wait for all others.
+tasks_for_memory() {
+  awk -v processors="$(nproc)" '
+    /^MemTotal:/ { found = $2 / 5000000 }
+    END { print int(found < processors ? found : processors) }' /proc/meminfo
+}
+
 # How many crates are proved side by side: two processors and 7 GB of memory for each.
 lanes_for_crates() {
   awk -v processors="$(nproc)" '

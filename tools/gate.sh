@@ -76,9 +76,11 @@ take_built() {
 
 # Proves the copy, with the wrong bodies that are left in it. What was printed is in $work/log.
 prove() {
-  local status
+  local status tasks
   copy_repository && leave_out_groups || return 1
   echo "test: tries the wrong bodies $wrong_bodies"
+  tasks=$(tasks_for_memory)
+  [ "$tasks" -lt 1 ] || export RT_JOBS=$tasks
   exec 3< <(cd "$copy" && TMPDIR=$work/temporary exec rt ci 2>&1 </dev/null)
   child=$!
   tell_progress <&3
