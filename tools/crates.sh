@@ -51,7 +51,7 @@ crates_by_chain() {
 }
 
 # How many tasks of the gate run side by side: one on each processor, with 5 GB of memory. `rt ci`
-# reckons with two or three times what the largest crates take, so these would wait for all others.
+# reckons with far more for the largest crates, so these would wait for all others.
 tasks_for_memory() {
   awk -v processors="$(nproc)" '
     /^MemTotal:/ { found = $2 / 5000000 }
