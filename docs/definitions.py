@@ -157,7 +157,7 @@ PARTS = [
         ('tt_requests', 'NewestVersion', 'RequestsReadTheSame', 'The same of the requests of a session'),
         ('tt_requests', 'SessionLine', 'is_opening session_line_of RequestsAreNoOpenings',
          'A line of an open session is an opening if it has a version, and else a request'),
-        ('tt_session', 'Restoring', 'repeated repeated_all',
+        ('tt_durable', 'Restoring', 'repeated repeated_all',
          'How the lines of a log are carried out again'),
     ]),
 ]

@@ -311,21 +311,21 @@ SESSIONS = Chapter('Sessions and logs', [
                 'a line that was read, and whether it was refused for want of memory or of a new log; its turn; that'
                 ' of several lines, one after another')]),
     Row('ends', [
-        Meaning('tt_session', 'src/run.rt', 'SessionEnd SessionFault',
+        Meaning('tt_lines', 'src/run.rt', 'SessionEnd SessionFault',
                 'what a session leaves in memory; why it ends early'),
-        Meaning('tt_session', 'Ends', 'EndsEarly', 'a failed reader leaves the answers to the whole lines that were'
+        Meaning('tt_lines', 'Ends', 'EndsEarly', 'a failed reader leaves the answers to the whole lines that were'
                 ' read, a failed writer a prefix of the answers, and want of memory at the start nothing read and'
                 ' nothing written'),
-        Meaning('tt_session', 'Ends', 'HandsOverAll', 'all that the reader had was read, and its lines were handled'
+        Meaning('tt_lines', 'Ends', 'HandsOverAll', 'all that the reader had was read, and its lines were handled'
                 ' so'),
-        Meaning('tt_session', 'src/logged_session.rt', 'LoggedFault', 'why a session with a log ends early'),
-        Meaning('tt_session', 'LoggedSession', 'FailsOnLog', 'it has gone on for its first lines, and a crash leaves'
+        Meaning('tt_durable', 'src/logged_session.rt', 'LoggedFault', 'why a session with a log ends early'),
+        Meaning('tt_durable', 'LoggedSession', 'FailsOnLog', 'it has gone on for its first lines, and a crash leaves'
                 ' the log after the first of these; or it hasn\'t begun, nothing was read, and a crash leaves lines'
                 ' that it might have left before, or those of the file'),
-        Meaning('tt_session', 'LoggedSession', 'IsEnded', 'the file is lines and nothing else, all on the disk')]),
+        Meaning('tt_durable', 'LoggedSession', 'IsEnded', 'the file is lines and nothing else, all on the disk')]),
     Row('devices', [
         Meaning('tt_log', 'src/device.rt', 'Device', 'a file, and an output to which answers are handed over'),
-        Meaning('tt_session', 'OnLog', 'Telling telling', 'what it tells of itself: the bytes of the file, what was'
+        Meaning('tt_durable', 'OnLog', 'Telling telling', 'what it tells of itself: the bytes of the file, what was'
                 ' handed over, the moment, what a crash since a moment may have left, and how often a call has'
                 ' failed'),
         Meaning('tt_log', 'Device', 'Left LeavesOnly', 'the file and the output that a crash leaves; a crash at any'
@@ -337,34 +337,34 @@ SESSIONS = Chapter('Sessions and logs', [
         Meaning('tt_session', 'Logged', 'logged_by makes_log_anew', 'the line, if it changes the database; whether'
                 ' the session forgets by it what lies before a time'),
         Meaning('tt_session', 'LogLines', 'lines_of_log', 'the lines of a log that is made anew'),
-        Meaning('tt_session', 'Restoring', 'NewLogsAreRead', 'each log that is made anew on the way is one of the'
+        Meaning('tt_durable', 'Restoring', 'NewLogsAreRead', 'each log that is made anew on the way is one of the'
                 ' session then'),
-        Meaning('tt_session', 'Restoring', 'Restores IsLogOf', 'the lines of a log make this session; they make one'
+        Meaning('tt_durable', 'Restoring', 'Restores IsLogOf', 'the lines of a log make this session; they make one'
                 ' with the same database, which tells its numbers alike'),
         Meaning('tt_session', 'Answering', 'unlogged_count', 'how many lines were refused since no new log could be'
                 ' made'),
-        Meaning('tt_session', 'LoggedSession', 'GoesOnLog', 'a session was read back from the lines of the file,'
+        Meaning('tt_durable', 'LoggedSession', 'GoesOnLog', 'a session was read back from the lines of the file,'
                 ' which are then on the disk, and `HandedOnLog` holds from there on')]),
 ], [
     Shown('The lines of a session are answered one after another, each by the session that those before it left.', [
         Place('tt_session', 'Run', 'turn_of_lines session_text'),
-        Place('tt_session', 'Ends', 'AnswersLines AnswersAll')]),
+        Place('tt_lines', 'Ends', 'AnswersLines AnswersAll')]),
     Promise('`run_session`: the bytes of the reader are its lines, and what is written is their answers.'
             ' `R.remaining` and `W.contents` are what the reader has left and the writer holds, where their own'
             ' contracts tell it.',
-            'tt_session', 'src/run.rt', 'run_session'),
+            'tt_lines', 'src/run.rt', 'run_session'),
     Shown('The log after lines: one that changes the database stands behind those before it, and one by which the'
           ' session forgets has a new log made. A crash leaves the log after the first lines that were read, and all'
           ' that had been handed over answers lines among these. By the law `LogsAreReadBack` the next start reads'
           ' this log back as the session after these lines. Last, what it takes for granted of the file that the'
           ' process before has left.', [
         Place('tt_session', 'Logged', 'log_next log_after'),
-        Place('tt_session', 'OnLog', 'LeavesAnswered HandedOnLog'),
-        Place('tt_session', 'Restoring', 'LogsAreReadBack'),
+        Place('tt_durable', 'OnLog', 'LeavesAnswered HandedOnLog'),
+        Place('tt_durable', 'Restoring', 'LogsAreReadBack'),
         Place('tt_log', 'Log', 'IsAsLeft')]),
     Promise('`run_logged_session`: the same on a device that tells what a crash leaves. A real disk tells nothing;'
             ' that it keeps what was synced is trusted.',
-            'tt_session', 'src/logged_session.rt', 'run_logged_session'),
+            'tt_durable', 'src/logged_session.rt', 'run_logged_session'),
 ])
 
 CHAPTERS = [WRITES, TABLE, REPAIRS, THREADS, SESSIONS]

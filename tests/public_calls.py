@@ -57,7 +57,9 @@ PROMISED = {
     'tt_repair': 'repair',
     'tt_document': 'Document::from_value',
     'tt_workload': 'Options::fits read_document write_text run_alone text_of text_of_change',
-    'tt_session': 'Session::answer run_session run_logged_session ShortAnswer::write_to',
+    'tt_session': 'Session::answer ShortAnswer::write_to',
+    'tt_lines': 'run_session',
+    'tt_durable': 'run_logged_session',
     'tt_workers': 'run_workers text_of_report',
     'tt_cli': 'status_of command_of',
 }

@@ -8,8 +8,8 @@ use Rattle.tt_workload.specs.declared.run_fault.RunFault.{RunFault}
 use Rattle.tt_workload.specs.declared.run_fault.RunFault.TheVariants as faults
 use Rattle.tt_cli.specs.declared.ending.Ending.{Ending}
 use Rattle.tt_cli.specs.declared.ending.Ending.TheVariants as endings
-use Rattle.tt_session.specs.declared.logged_session.LoggedFault.{LoggedFault}
-use Rattle.tt_session.specs.declared.logged_session.LoggedFault.TheVariants as logged
+use Rattle.tt_durable.specs.declared.logged_session.LoggedFault.{LoggedFault}
+use Rattle.tt_durable.specs.declared.logged_session.LoggedFault.TheVariants as logged
 use Rattle.tt_cli.specs.declared.log_fault.LogFault.{LogFault}
 use Rattle.tt_cli.specs.declared.log_fault.LogFault.TheVariants as log_faults
 use Rattle.tt_cli.specs.Status.{status_of, has_text, status_of_log, has_number}

@@ -1,9 +1,9 @@
 -- How the commands on a log end. Of a real file nothing is told, so then nothing is said of what was read and written.
 use Rattle.std.specs.Prelude.{◌≡◌, ℕ, List, Option, ⊤}
-use Rattle.tt_session.specs.Ends.{HandsOverAll}
-use Rattle.tt_session.specs.LoggedSession.{GoesOnLog, FailsOnLog, IsEnded}
-use Rattle.tt_session.specs.OnLog.{Telling}
-use Rattle.tt_session.specs.declared.logged_session.LoggedFault.{LoggedFault}
+use Rattle.tt_lines.specs.Ends.{HandsOverAll}
+use Rattle.tt_durable.specs.LoggedSession.{GoesOnLog, FailsOnLog, IsEnded}
+use Rattle.tt_durable.specs.OnLog.{Telling}
+use Rattle.tt_durable.specs.declared.logged_session.LoggedFault.{LoggedFault}
 use Rattle.tt_workload.specs.declared.run_fault.RunFault.TheVariants as faults
 use Rattle.tt_cli.specs.declared.ending.Ending.{Ending}
 use Rattle.tt_cli.specs.declared.ending.Ending.TheVariants as endings

@@ -2,9 +2,9 @@
 use Rattle.std.specs.Prelude.{◌≡◌, ℕ, Bool, List, Option, IfSome}
 use Rattle.std.specs.Io.KnownBytes.{Appends, Keeps}
 use Rattle.tt_document.specs.declared.document.Document.{Document}
-use Rattle.tt_session.specs.declared.run.SessionFault.{SessionFault}
-use Rattle.tt_session.specs.declared.run.SessionFault.TheVariants as session_faults
-use Rattle.tt_session.specs.Ends as session
+use Rattle.tt_lines.specs.declared.run.SessionFault.{SessionFault}
+use Rattle.tt_lines.specs.declared.run.SessionFault.TheVariants as session_faults
+use Rattle.tt_lines.specs.Ends as session
 use Rattle.tt_workload.specs.declared.run_fault.RunFault.{RunFault}
 use Rattle.tt_workload.specs.declared.run_fault.RunFault.TheVariants as faults
 use Rattle.tt_workload.specs.Ends.{ReadsDocument, EndsReading, IsReadingFault}

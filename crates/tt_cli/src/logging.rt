@@ -3,7 +3,7 @@ ghost use Rattle.std.specs.Prelude.{◌≡◌, ◌≢◌, ◌⊎◌, ◌++◌, [
 ghost use Rattle.tt_log.specs.Device.{ShowsFirst};
 ghost use Rattle.tt_log.specs.Lines.{logged, joined};
 ghost use Rattle.tt_log.specs.Log.{IsAsLeft};
-ghost use Rattle.tt_session.specs.OnLog.{telling};
+ghost use Rattle.tt_durable.specs.OnLog.{telling};
 ghost use Rattle.tt_cli.specs.Ending.{IsEndingOfLogged};
 ghost use Rattle.tt_cli.specs.Logging.{IsEndingOfSession, IsEndingOfLook, EndsOnLog};
 
@@ -15,8 +15,8 @@ use crate::running::leak;
 use std::fs::{File, Files};
 use std::io;
 use std::io::{Read, Write};
+use tt_durable::{LoggedFault, run_logged_session};
 use tt_log::{Device, FileDevice, LogError, has_lines, show_log};
-use tt_session::{LoggedFault, run_logged_session};
 use tt_workload::RunFault;
 
 /// As many bytes of a log are read at once to be printed.

@@ -3,7 +3,7 @@
 ghost use Rattle.std.specs.Prelude.{◌≡◌, ◌≢◌, IfOk, IfErr, IfSome, OnOk};
 ghost use Rattle.std.specs.Io.KnownBytes.{Keeps};
 ghost use Rattle.tt_document.specs.Document.{IsValidDocument};
-ghost use Rattle.tt_session.specs.Ends.{AnswersAll};
+ghost use Rattle.tt_lines.specs.Ends.{AnswersAll};
 ghost use Rattle.tt_workload.specs.Ends.{max_bytes_read, ConsumesAtMost};
 ghost use Rattle.tt_workload.specs.Options.{AreWithin};
 ghost use Rattle.tt_workload.specs.Run.{WritesReport, EndsEarly, IsFaultOfRun};
@@ -15,7 +15,7 @@ use std::alloc::Global;
 use std::io::{Read, Write};
 use std::sync::Wait;
 use std::thread::Threads;
-use tt_session::{SessionFault, run_session_to_end};
+use tt_lines::{SessionFault, run_session_to_end};
 use tt_store::NoGate;
 use tt_workers::{run_workers, text_of_report};
 use tt_workload::{Document, Options, RunFault, read_document, run_to_end, write_text};

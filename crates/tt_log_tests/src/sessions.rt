@@ -4,7 +4,8 @@ use crate::random::Random;
 use crate::same::same;
 use std::alloc::Global;
 use std::process::Abort;
-use tt_session::{LoggedFault, run_logged_session, run_session};
+use tt_durable::{LoggedFault, run_logged_session};
+use tt_lines::run_session;
 
 const OPENING: &str =
     r#"{"version":2,"tables":[{"name":"acct","columns":[{"name":"id","kind":"int"},{"name":"owner","kind":"text","partition":true}]}]}

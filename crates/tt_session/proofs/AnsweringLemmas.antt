@@ -6,11 +6,18 @@ use Rattle.tt_requests.specs.Lines.{is_too_long, is_passed_over, lines_of, whole
 use Rattle.tt_session.specs.declared.lost_line.LostLine.{LostLine}
 use Rattle.tt_session.specs.declared.lost_line.LostLine.TheVariants as losts
 use Rattle.tt_session.specs.declared.session.Session.{Session}
-use Rattle.tt_session.specs.Lines.{has_no_feed, joined}
+use Rattle.tt_session.specs.Feeds.{has_no_feed, joined}
 use Rattle.tt_session.specs.Run.{Turn, turn_with_memory, turn_without_memory, turn_of_long_line}
 use Rattle.tt_session.specs.Answering.{LineRead, forgets_by, turn_without_log, turn_of_read, turns_of}
 use Rattle.tt_session.specs.Together.{kept_line, is_opening_lost, IsLostAs, lost_line, unlogged_line}
-use Rattle.tt_session.proofs.TurnLemmas.{turn-long}
+use Rattle.tt_requests.specs.LineValue.{value_of_line}
+use Rattle.tt_session.specs.declared.session.Session.TheVariants.{Open}
+use Rattle.tt_commands.specs.declared.commands.ForgetRequest.{ForgetRequest}
+use Rattle.tt_commands.specs.ForgetRequests.{IsForgetRequest}
+use Rattle.tt_commands.specs.Session.{OpenSession, counted, request_in}
+use Rattle.tt_session.specs.ForgetTurns.{AsksToForget, turn_of_forget}
+use Rattle.tt_session.specs.Run.{turn_by_request}
+use Rattle.tt_session.proofs.TurnLemmas.{turn-long, turn-request, asked-request}
 
 -- ---- lines that are answered one after another
 
@@ -100,3 +107,14 @@ read-lost losts.Request session bytes told short is = rw (told, short) refl
 -- a line for which the log couldn't be made anew
 pub read-unlogged : (session : Session) (bytes : List ℕ) → is_passed_over bytes ≡ false → forgets_by session bytes ≡ true → turn_of_read session (unlogged_line bytes) ≡ turn_without_log session
 read-unlogged session bytes told forgets = rw (told, and_right (not (is_too_long bytes)) false refl, forgets) refl
+
+-- ---- a line that asks to forget
+
+pub forget-turn : (session : Session) (bytes : List ℕ) (f : ForgetRequest) (a : AsksToForget session bytes f) → turn_of_read session (kept_line bytes) ≡ turn_of_forget (counted a.opened) f
+forget-turn session bytes f a =
+    ap (λ s. turn_of_read s (kept_line bytes)) a.session_is ∙ read-kept (Open a.opened) bytes ∙ value-turn a.opened bytes f a.told a.asks
+  where
+    value-turn : (s : OpenSession) (line : List ℕ) (g : ForgetRequest) → is_passed_over line ≡ false → IsForgetRequest (request_in s (value_of_line line)) g
+        → turn_with_memory (Open s) line ≡ turn_of_forget (counted s) g
+    value-turn s line g told asks =
+        rw told (turn-request s (value_of_line line) (asked-request s (value_of_line line) _ asks.1)) ∙ ap (turn_by_request (counted s)) asks.1

@@ -24,16 +24,16 @@ use Rattle.tt_answers.specs.declared.answer.Answer.TheVariants as answers
 use Rattle.tt_answers.specs.declared.answer.Refusal.{Refusal}
 use Rattle.tt_session.specs.declared.session.Session.{Session}
 use Rattle.tt_session.specs.declared.session.Session.TheVariants.{NotOpen, Open}
-use Rattle.tt_session.specs.Answers.{Answered}
-use Rattle.tt_session.specs.Commands.{asks_for_records, reads_records, repair_worker_told, carried_out, moved_to, unless_moved, write, written}
-use Rattle.tt_session.specs.ToldRequests.{forgotten_in, asks_for_forgotten, read_at, read_in, read_as_told, missing_if_idle, unless_missing, own_edit}
-use Rattle.tt_session.specs.Pages.{page_of_reply}
-use Rattle.tt_session.specs.Reading.{read, asks_for_all, latest_if, previewed_by, selected_by}
-use Rattle.tt_session.specs.Repairing.{unless_refused, other_worker, unless_of_another, with_event}
-use Rattle.tt_session.specs.Room.{refusal_in_session}
+use Rattle.tt_commands.specs.Answers.{Answered}
+use Rattle.tt_commands.specs.Commands.{asks_for_records, reads_records, repair_worker_told, carried_out, moved_to, unless_moved, write, written}
+use Rattle.tt_commands.specs.ToldRequests.{forgotten_in, asks_for_forgotten, read_at, read_in, read_as_told, missing_if_idle, unless_missing, own_edit}
+use Rattle.tt_commands.specs.Pages.{page_of_reply}
+use Rattle.tt_commands.specs.Reading.{read, asks_for_all, latest_if, previewed_by, selected_by}
+use Rattle.tt_commands.specs.Repairing.{unless_refused, other_worker, unless_of_another, with_event}
+use Rattle.tt_commands.specs.Room.{refusal_in_session}
 use Rattle.tt_session.specs.Run.{Turn, turn_by_outcome, turn_by_request}
-use Rattle.tt_session.specs.Session.{OpenSession, state_in, counted, with_latest_if, with_earlier_records, without_records}
-use Rattle.tt_session.proofs.RecordLemmas.{last_items-front, last_items-back}
+use Rattle.tt_commands.specs.Session.{OpenSession, state_in, counted, with_latest_if, with_earlier_records, without_records}
+use Rattle.tt_commands.proofs.RecordLemmas.{last_items-front, last_items-back}
 
 -- as many of the last records as are kept
 pub last_items-few : {X : Type 0} (n : ℕ) (items : List X) → length items ≤ n → last_items n items ≡ items

@@ -8,18 +8,32 @@ use Rattle.tt_requests.specs.LineValue.{value_of_line}
 use Rattle.tt_requests.specs.Opening.{max_records, opening_of}
 use Rattle.tt_requests.specs.SessionLine.{is_opening}
 use Rattle.tt_answers.specs.declared.answer.Answer.TheVariants as answers
+use Rattle.tt_answers.specs.declared.answer.Refusal.{Refusal}
 use Rattle.tt_answers.specs.declared.answer.Refusal.TheVariants as refusals
+use Rattle.tt_commands.specs.Answers.{Answered}
+use Rattle.tt_commands.specs.Commands.{outcome_of_request}
 use Rattle.tt_answers.specs.AnswerText.{opening_text}
 use Rattle.tt_session.specs.declared.session.Session.{Session}
 use Rattle.tt_session.specs.declared.session.Session.TheVariants as sessions
-use Rattle.tt_session.specs.Session.{OpenSession, opened, counted, request_in}
-use Rattle.tt_session.specs.Repairing.{status_of}
-use Rattle.tt_session.specs.Reopening.{asks_for, with_most_records, reopened_by}
-use Rattle.tt_session.specs.Run.{Turn, turn_by_opening, turn_by_reopening, turn_by_request, turn_by_value, turn_without_memory, Losses, lacks_memory, is_lost_opening, turn_of_line, turn_of_lines}
-use Rattle.tt_session.specs.Invariants.{IsOpenSession, IsSession, SessionsStaySound}
+use Rattle.tt_commands.specs.Session.{OpenSession, opened, counted, request_in}
+use Rattle.tt_commands.specs.Repairing.{status_of}
+use Rattle.tt_session.specs.Reopening.{asks_for}
+use Rattle.tt_commands.specs.Session.{with_most_records, reopened_by}
+use Rattle.tt_session.specs.Run.{Turn, turn_by_opening, turn_by_outcome, turn_by_reopening, turn_by_request, turn_by_value, turn_without_memory, Losses, lacks_memory, is_lost_opening, turn_of_line, turn_of_lines}
+use Rattle.tt_commands.specs.Invariants.{IsOpenSession}
+use Rattle.tt_session.specs.Invariants.{IsSession, OpenSessionsStaySound, SessionsStaySound}
 use Rattle.tt_session.proofs.OpeningLemmas.{IsOpening}
 use Rattle.tt_session.proofs.OpeningLemmas as openings
-use Rattle.tt_session.proofs.GoingOnLemmas.{few_last, open_sessions_stay_sound}
+use Rattle.tt_commands.proofs.GoingOnLemmas.{few_last, requests_keep_sessions_sound}
+
+-- an open session is one, whatever it is asked
+pub open_sessions_stay_sound : OpenSessionsStaySound
+open_sessions_stay_sound session (Err fault) sound = sound
+open_sessions_stay_sound session (Ok request) sound = by (outcome_of_request session request) (λ b is. requests_keep_sessions_sound session request b sound is)
+  where
+    by : (outcome : Result Answered Refusal) → ((b : Answered) → outcome ≡ Ok b → IsOpenSession b.session) → IsSession (turn_by_outcome session outcome).session
+    by (Ok b) on = on b refl
+    by (Err refusal) on = sound
 
 opened-sound : (opening : Opening) → IsOpening opening → IsOpenSession (opened opening)
 opened-sound opening is = record {

@@ -23,12 +23,12 @@ use Rattle.tt_session.specs.Answering.{LineRead, turn_of_read, turns_of}
 use Rattle.tt_requests.specs.declared.request.Command.{Command}
 use Rattle.tt_requests.specs.declared.request.Command.TheVariants as commands
 use Rattle.tt_requests.specs.Lines.{is_passed_over}
-use Rattle.tt_session.specs.ForgetRequests.{AnswersPlain}
-use Rattle.tt_session.specs.Commands.{reads_records, asks_for_records, is_forget, asks_to_forget}
-use Rattle.tt_session.specs.Lines.{joined, has_no_feed}
+use Rattle.tt_session.specs.ForgetTurns.{AnswersPlain}
+use Rattle.tt_commands.specs.Commands.{is_read_only, asks_read_only, reads_records, asks_for_records, is_forget, asks_to_forget}
+use Rattle.tt_session.specs.Feeds.{joined, has_no_feed}
 use Rattle.tt_session.specs.Logged.{logged_by, logged_of, ArePlain, with_lines}
 use Rattle.tt_session.specs.Run.{Turn, turn_by_reopening, turn_by_request, turn_with_memory}
-use Rattle.tt_session.specs.Session.{OpenSession, counted, with_earlier_records, without_records, request_in}
+use Rattle.tt_commands.specs.Session.{OpenSession, counted, with_earlier_records, without_records, request_in}
 use Rattle.tt_session.specs.Together.{kept_line, AnswersFront, BeginsWith, BeginsPassedOver, BeginsWithLine, AnswersWith, Grows}
 use Rattle.tt_session.proofs.AnsweringLemmas.{turns_of-append, joined-append, read-kept}
 use Rattle.tt_session.proofs.EarlierLemmas.{earlier-all, turn-earlier}
@@ -187,6 +187,53 @@ not-forget (Ok request) other = by request.command other
     by commands.Changes is = refl
     by commands.NextChanges is = refl
     by commands.Tables is = refl
+
+-- a line that asks for records, but not to forget, only reads
+pub records-read : (asked : Result Request DocFault) → asks_for_records asked ≡ true → asks_to_forget asked ≡ false → asks_read_only asked ≡ true
+records-read (Err fault) records other = refl
+records-read (Ok request) records other = by request.command records other
+  where
+    by : (command : Command) → reads_records command ≡ true → is_forget command ≡ false → is_read_only command ≡ true
+    by (commands.Forget time) is other = cc
+    by (commands.Write action) is other = cc
+    by (commands.Read select at generation page) is other = refl
+    by (commands.Preview select page) is other = refl
+    by (commands.Begin edits) is other = cc
+    by (commands.Step most told) is other = cc
+    by (commands.Finish told) is other = cc
+    by (commands.Abort told) is other = cc
+    by commands.Status is other = refl
+    by (commands.Slots from to worker row) is other = refl
+    by commands.Changes is other = refl
+    by commands.NextChanges is other = refl
+    by commands.Tables is other = refl
+
+-- a line that may change the database asks for no records, but to forget
+pub writes-alone : (asked : Result Request DocFault) → asks_read_only asked ≡ false → asks_to_forget asked ≡ false → asks_for_records asked ≡ false
+writes-alone (Err fault) writes other = refl
+writes-alone (Ok request) writes other = by request.command writes other
+  where
+    by : (command : Command) → is_read_only command ≡ false → is_forget command ≡ false → reads_records command ≡ false
+    by (commands.Forget time) is other = cc
+    by (commands.Write action) is other = refl
+    by (commands.Read select at generation page) is other = refl
+    by (commands.Preview select page) is other = refl
+    by (commands.Begin edits) is other = refl
+    by (commands.Step most told) is other = refl
+    by (commands.Finish told) is other = refl
+    by (commands.Abort told) is other = refl
+    by commands.Status is other = refl
+    by (commands.Slots from to worker row) is other = refl
+    by commands.Changes is other = cc
+    by commands.NextChanges is other = cc
+    by commands.Tables is other = refl
+
+-- a line that leaves the database as it is isn't logged
+pub read-logged : (old new : OpenSession) (line : List ℕ) (kept : Option (List (List ℕ))) → new.database ≡ old.database → new.numbering ≡ old.numbering
+    → kept ≡ with_lines kept (logged_by (Open old) (Open new) line)
+read-logged old new line kept database numbering =
+    let far : IsAsFar (Open old) (Open new) = (ap (λ (db : Database). length db.history + 1) database, ap (λ (n : Numbering). n.horizon) numbering) in
+    sym (ap (with_lines kept) (none-logged (Open old) (Open new) line far) ∙ with-nil kept)
 
 -- a line is answered with earlier records
 pub front-earlier : (earlier : List Record) (bytes : List ℕ) (count : ℕ) (asked : Result Request DocFault) (old new : OpenSession) (before after : List ℕ) (kept left : Option (List (List ℕ)))

@@ -1,10 +1,8 @@
 -- The turn of a line that is too long, of one that is an opening in an open session, and of one that is a call.
 use Rattle.std.proofs.Common.{◌≡◌, ℕ, Bool, true, false, cond, List, Result, Ok, Err, refl, ap}
 use Rattle.serde_json.specs.Data.{Data}
-use Rattle.tt_db.specs.Database.{Database}
 use Rattle.tt_grammar.specs.declared.fault.DocFault.{DocFault}
 use Rattle.tt_grammar.specs.Version.{newest_version}
-use Rattle.tt_numbers.specs.Numbers.{Numbering}
 use Rattle.tt_requests.specs.declared.opening.Opening.{Opening}
 use Rattle.tt_requests.specs.declared.request.Request.{Request}
 use Rattle.tt_requests.specs.Lines.{is_too_long}
@@ -18,10 +16,11 @@ use Rattle.tt_answers.specs.declared.answer.Refusal.TheVariants as refusals
 use Rattle.tt_answers.specs.AnswerText.{opening_text}
 use Rattle.tt_session.specs.declared.session.Session.{Session}
 use Rattle.tt_session.specs.declared.session.Session.TheVariants as sessions
-use Rattle.tt_session.specs.Repairing.{status_of}
-use Rattle.tt_session.specs.Reopening.{asks_for, with_most_records, reopened_by}
+use Rattle.tt_commands.specs.Repairing.{status_of}
+use Rattle.tt_session.specs.Reopening.{asks_for}
+use Rattle.tt_commands.specs.Session.{with_most_records, reopened_by}
 use Rattle.tt_session.specs.Run.{Turn, turn_by_reopening, turn_by_request, turn_by_value, turn_of_long_line}
-use Rattle.tt_session.specs.Session.{OpenSession, counted, request_in}
+use Rattle.tt_commands.specs.Session.{OpenSession, counted, request_in}
 
 pub turn-long : (session : Session) (line : List ℕ) → is_too_long line ≡ true → turn_by_value session (value_of_line line) ≡ turn_of_long_line session
 turn-long sessions.NotOpen line long = ap (turn_by_value sessions.NotOpen) (value_of_line-long line long)

@@ -7,7 +7,7 @@ use Rattle.tt_answers.specs.declared.answer.Refusal.TheVariants as refusals
 use Rattle.tt_answers.specs.declared.answer.Answer.TheVariants as answers
 use Rattle.tt_session.specs.declared.session.Session.{Session}
 use Rattle.tt_session.specs.declared.session.Session.TheVariants as sessions
-use Rattle.tt_session.specs.Session.{counted}
+use Rattle.tt_commands.specs.Session.{counted}
 use Rattle.tt_session.specs.Changing.{changes_database, line_asks_to_forget}
 use Rattle.tt_session.specs.Run.{Turn, turn_of_answer, turn_by_value, turn_without_memory}
 

@@ -1,10 +1,10 @@
 -- What changes the database of a session, and which lines make it forget.
 use Rattle.std.specs.Prelude.{ℕ, ◌+◌, ◌==◌, ◌&&◌, Bool, false, not, List, length}
 use Rattle.tt_requests.specs.LineValue.{value_of_line}
-use Rattle.tt_session.specs.Session.{request_in}
+use Rattle.tt_commands.specs.Session.{request_in}
 use Rattle.tt_session.specs.declared.session.Session.{Session}
 use Rattle.tt_session.specs.declared.session.Session.TheVariants as sessions
-use Rattle.tt_session.specs.Commands.{asks_to_forget}
+use Rattle.tt_commands.specs.Commands.{asks_to_forget}
 
 -- how many entries a session has made, its opening among them
 abbrev pub entries_of : Session → ℕ

@@ -1,7 +1,7 @@
 -- How far a session is: how many entries its history has, and its horizon.
 use Rattle.std.specs.Prelude.{◌==◌, ◌&&◌, Bool, length}
-use Rattle.tt_session.specs.declared.open_session.logging.SessionExtent.{SessionExtent}
-use Rattle.tt_session.specs.Session.{OpenSession}
+use Rattle.tt_session.specs.declared.logging.SessionExtent.{SessionExtent}
+use Rattle.tt_commands.specs.Session.{OpenSession}
 
 abbrev pub extent_of : OpenSession → SessionExtent
 extent_of session = record { events = length session.database.history; horizon = session.numbering.horizon }

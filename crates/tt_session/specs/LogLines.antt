@@ -9,9 +9,9 @@ use Rattle.tt_numbers.specs.Numbers.{Numbering}
 use Rattle.tt_answers.specs.LogText.{log_opening_line, ground_line, slot_line}
 use Rattle.tt_session.specs.declared.session.Session.{Session}
 use Rattle.tt_session.specs.declared.session.Session.TheVariants as sessions
-use Rattle.tt_session.specs.declared.terms.Terms.{Terms}
-use Rattle.tt_session.specs.Session.{terms_of}
-use Rattle.tt_session.specs.SlotEntries.{action_of}
+use Rattle.tt_commands.specs.declared.terms.Terms.{Terms}
+use Rattle.tt_commands.specs.Session.{terms_of}
+use Rattle.tt_commands.specs.SlotEntries.{action_of}
 
 -- the action of an entry, which has no writes where the entry is no action
 abbrev pub action_in : Entry → Action

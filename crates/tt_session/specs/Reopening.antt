@@ -1,14 +1,12 @@
 -- How an opening is taken in a session that is open: it is to ask for what the session has.
-use Rattle.std.specs.Prelude.{ℕ, ◌==◌, ◌&&◌, Bool, true, false, not, List, if◌then◌else◌}
+use Rattle.std.specs.Prelude.{ℕ, ◌==◌, ◌&&◌, Bool, true, false, not, List}
 use Rattle.std.specs.Str.{bytes_eq}
 use Rattle.tt_values.specs.declared.table.Column.{Column}
 use Rattle.tt_values.specs.declared.table.TableDef.{TableDef}
 use Rattle.tt_values.specs.Tables.{is_int}
 use Rattle.tt_values.specs.Same.{are_same_by}
-use Rattle.tt_db.specs.State.{last_items}
 use Rattle.tt_db.specs.Database.{Database}
 use Rattle.tt_requests.specs.declared.opening.Opening.{Opening}
-use Rattle.tt_session.specs.Session.{OpenSession}
 
 -- whether both hold, or neither does
 abbrev pub are_both : Bool → Bool → Bool
@@ -26,11 +24,3 @@ is_same_table t u = bytes_eq t.0 u.0 && are_same_by is_same_column t.1.columns u
 -- whether an opening asks for a database: for the same tables in the same order, and for as many closed generations
 abbrev pub asks_for : Opening → Database → Bool
 asks_for opening db = are_same_by is_same_table opening.catalog db.catalog && (opening.keep == db.limits.keep)
-
--- the session with no more records than this
-abbrev pub with_most_records : OpenSession → ℕ → OpenSession
-with_most_records session most = record session { records = last_items most session.records; most_records = most }
-
--- the session with an opening that asks for what it has. The first one that is accepted since the session was read back says how many records are kept, too
-abbrev pub reopened_by : OpenSession → Opening → OpenSession
-reopened_by session opening = if session.has_opening then session else record (with_most_records session opening.records) { has_opening = true }

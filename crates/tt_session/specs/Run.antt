@@ -11,16 +11,17 @@ use Rattle.tt_requests.specs.Opening.{opening_of}
 use Rattle.tt_requests.specs.SessionLine.{is_opening}
 use Rattle.tt_session.specs.declared.session.Session.{Session}
 use Rattle.tt_session.specs.declared.session.Session.TheVariants as sessions
-use Rattle.tt_session.specs.Session.{OpenSession, opened, request_in, counted}
+use Rattle.tt_commands.specs.Session.{OpenSession, opened, request_in, counted}
 use Rattle.tt_numbers.specs.Numbers.{nothing_forgotten}
 use Rattle.tt_answers.specs.declared.answer.Refusal.{Refusal}
 use Rattle.tt_answers.specs.declared.answer.Refusal.TheVariants as refusals
 use Rattle.tt_answers.specs.declared.answer.Answer.{Answer}
 use Rattle.tt_answers.specs.declared.answer.Answer.TheVariants as answers
-use Rattle.tt_session.specs.Answers.{Answered}
-use Rattle.tt_session.specs.Repairing.{status_of}
-use Rattle.tt_session.specs.Commands.{outcome_of_request}
-use Rattle.tt_session.specs.Reopening.{asks_for, reopened_by}
+use Rattle.tt_commands.specs.Answers.{Answered}
+use Rattle.tt_commands.specs.Repairing.{status_of}
+use Rattle.tt_commands.specs.Commands.{outcome_of_request}
+use Rattle.tt_session.specs.Reopening.{asks_for}
+use Rattle.tt_commands.specs.Session.{reopened_by}
 use Rattle.tt_answers.specs.RefusalText.{too_long}
 use Rattle.tt_answers.specs.AnswerText.{opening_text, call_text}
 

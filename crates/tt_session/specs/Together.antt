@@ -16,10 +16,10 @@ use Rattle.tt_session.specs.declared.lost_line.LostLine.TheVariants as losts
 use Rattle.tt_session.specs.declared.session.Session.{Session}
 use Rattle.tt_session.specs.declared.session.Session.TheVariants as sessions
 use Rattle.tt_session.specs.Answering.{LineRead, turns_of}
-use Rattle.tt_session.specs.Lines.{has_no_feed, joined}
+use Rattle.tt_session.specs.Feeds.{has_no_feed, joined}
 use Rattle.tt_session.specs.Logged.{logged_by, logged_of, ArePlain, with_lines}
 use Rattle.tt_session.specs.Run.{turn_by_request, calls_of}
-use Rattle.tt_session.specs.Session.{OpenSession, counted}
+use Rattle.tt_commands.specs.Session.{OpenSession, counted}
 
 -- a line for which there is memory, and for which the log could be made anew, if it was to be
 abbrev pub kept_line : List ℕ → LineRead

@@ -3,12 +3,12 @@ ghost use Rattle.std.specs.Prelude.{◌≡◌, true, IfOk, MatchOption};
 ghost use Rattle.tt_requests.specs.LineValue.{value_of_line};
 ghost use Rattle.tt_grammar.specs.Version.{newest_version};
 ghost use Rattle.tt_requests.specs.SessionLine.{session_line_of};
-ghost use Rattle.tt_session.specs.Lines.{has_no_feed, HasFirstFeed};
+ghost use Rattle.tt_session.specs.Feeds.{has_no_feed, HasFirstFeed};
 ghost use Rattle.tt_session.specs.Together.{IsFirstLine};
 
-use crate::open_session::OpenSession;
 use memchr::memchr;
 use std::alloc::AllocError;
+use tt_commands::OpenSession;
 use tt_grammar::DocFault;
 use tt_grammar::decoding::Version;
 use tt_json::Scratch;
@@ -62,7 +62,7 @@ impl FirstLine {
 }
 
 /// What a line is to a session: an opening, or what it asks for, or its first fault.
-pub(crate) fn read_line(
+pub fn read_line(
     session: &OpenSession,
     line: &[u8],
     scratch: &mut Scratch,
@@ -76,7 +76,7 @@ pub(crate) fn read_line(
 }
 
 /// Where the first line feed is.
-pub(crate) fn first_feed(bytes: &[u8]) -> Option<usize>
+pub fn first_feed(bytes: &[u8]) -> Option<usize>
     ensures { MatchOption result (has_no_feed bytes.now ≡ true) (HasFirstFeed bytes.now) }
 {
     memchr(b'\n', bytes)

@@ -1,44 +1,27 @@
 //! A session: a database that is opened by a line, and answers each further line.
 #![tactic(auto)]
 
-mod change_entries;
-mod commands;
-mod failure;
+mod answering;
 mod first_line;
-mod forgetting;
 pub mod laws;
-mod line;
-mod log_outlet;
-mod log_renewal;
-mod logged_session;
+mod logging;
 mod lost_line;
-mod open_session;
-mod outlet;
-mod pages;
 mod pending_lines;
-mod reading;
-mod records;
-mod repairing;
-mod response;
-mod restoring;
-mod room;
-mod run;
+mod ready_to_forget;
+mod reopening;
 mod session;
-mod session_change;
 mod short_answer;
-mod slot_entries;
-mod storable;
-mod terms;
-mod told_requests;
+mod together;
 mod workspace;
-mod writing;
 
-pub use logged_session::{LoggedFault, run_logged_session};
+pub use answering::answer_in_place;
+pub use first_line::{first_feed, read_line};
+pub use logging::SessionExtent;
 pub use lost_line::LostLine;
-pub use open_session::OpenSession;
-pub use run::{SessionEnd, SessionFault, run_session, run_session_to_end};
-pub use session::Session;
+pub use pending_lines::PendingLines;
+pub use ready_to_forget::ReadyToForget;
+pub use session::{Session, open_or_stay};
 pub use short_answer::ShortAnswer;
-
-// An opening asks for no more closed generations than a database keeps.
-const _: () = prove!(tt_requests::MAX_KEEP == tt_db::MAX_KEEP);
+pub use together::Extent;
+pub use tt_commands::OpenSession;
+pub use workspace::{MANY_BYTES, Workspace, is_much};

@@ -9,7 +9,7 @@ use tt_log::Lines;
 
 /// Lines that are to be logged with the next answers, where there is a log.
 #[derive(Drop)]
-pub(crate) struct PendingLines {
+pub struct PendingLines {
     lines: Lines,
     has_log: bool,
 }
@@ -24,7 +24,7 @@ impl Model for PendingLines {
 
 impl PendingLines {
     /// No lines, where there is a log or there is none. Takes no memory.
-    pub(crate) fn new(alloc: Global, has_log: bool) -> PendingLines
+    pub fn new(alloc: Global, has_log: bool) -> PendingLines
         ensures { result ≡ (if has_log then Some [] else None) }
     {
         PendingLines {
@@ -34,7 +34,7 @@ impl PendingLines {
     }
 
     /// The lines; none where there is no log.
-    pub(crate) fn lines(&self) -> &Lines
+    pub fn lines(&self) -> &Lines
         ensures { (lines : List (List ℕ)) → self.now ≡ Some lines → result.now ≡ lines }
     {
         &self.lines
@@ -48,7 +48,7 @@ impl PendingLines {
     }
 
     /// How many bytes the lines have in a log.
-    pub(crate) fn byte_len(&self) -> usize
+    pub fn byte_len(&self) -> usize
         ensures { result ≡ bytes_of self.now }
     {
         if !self.has_log {
@@ -58,7 +58,7 @@ impl PendingLines {
     }
 
     /// Adds a line, where there is a log. Where it can't be kept, the lines are as before.
-    pub(crate) fn push(&mut self, line: &[u8]) -> Result<(), AllocError>
+    pub fn push(&mut self, line: &[u8]) -> Result<(), AllocError>
         ensures ok { OnOk result (self.new ≡ with_lines self.old (line.now ∷ [])) }
         ensures err { OnErr result (self.new ≡ self.old) }
     {
@@ -85,7 +85,7 @@ impl PendingLines {
     }
 
     /// Lets all lines go.
-    pub(crate) fn clear(&mut self)
+    pub fn clear(&mut self)
         ensures { self.new ≡ no_lines self.old }
     {
         self.lines.clear();

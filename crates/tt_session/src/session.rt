@@ -4,17 +4,15 @@ ghost use Rattle.tt_requests.specs.LineValue.{value_of_line};
 ghost use Rattle.tt_requests.specs.Opening.{max_records, opening_of};
 ghost use Rattle.tt_answers.specs.AnswerText.{opening_text};
 
-use crate::commands::ForgetRequest;
 use crate::lost_line::LostLine;
-use crate::open_session::{Extent, OpenSession, ReadyToForget};
 use crate::pending_lines::PendingLines;
-use crate::repairing::status_of;
-use crate::session_change::BoxedForgetting;
+use crate::ready_to_forget::{ReadyToForget, forget_at_once, prepare_to_forget};
 use crate::short_answer::ShortAnswer;
-use crate::terms::Terms;
+use crate::together::{self, Extent};
 use crate::workspace::{Workspace, append};
 use std::alloc::{AllocError, Global};
 use tt_answers::{Answer, push_opening};
+use tt_commands::{BoxedForgetting, ForgetRequest, OpenSession, Terms, status_of};
 use tt_grammar::DocFault;
 use tt_numbers::Numbering;
 use tt_requests::{Opening, is_passed_over};
@@ -32,13 +30,13 @@ impl Session {
     ghost use Rattle.tt_session.specs.Run.{turn_with_memory, turn_without_memory, turn_of_long_line, calls_of};
     ghost use Rattle.tt_session.specs.ShortAnswers.{short_text};
     ghost use Rattle.tt_session.specs.Together.{IsLostAs, is_opening_lost, AnswersFront};
-    ghost use Rattle.tt_session.specs.ForgetRequests.{AnswersLine, turn_of_forget, Prepares};
-    ghost use Rattle.tt_session.specs.Changes.{forgotten_by};
-    ghost use Rattle.tt_session.specs.Session.{OpenSession, terms_of, counted};
+    ghost use Rattle.tt_session.specs.ForgetTurns.{AnswersLine, turn_of_forget, Prepares};
+    ghost use Rattle.tt_commands.specs.Changes.{forgotten_by};
+    ghost use Rattle.tt_commands.specs.Session.{OpenSession, terms_of, counted};
     ghost use Rattle.tt_session.specs.declared.session.Session.TheVariants.{Open};
 
     /// How many calls there were.
-    pub(crate) fn calls(&self) -> u64
+    pub fn calls(&self) -> u64
         ensures { result ≡ calls_of self.now }
     {
         match self {
@@ -75,7 +73,7 @@ impl Session {
     /// As [`answer`](Session::answer), for a caller that keeps the workspace from line to line, and
     /// the line with it if it is to be logged. A request to forget is returned, and nothing is done
     /// for it.
-    pub(crate) fn answer_line(
+    pub fn answer_line(
         &mut self,
         alloc: Global,
         out: &mut Vec<u8>,
@@ -97,7 +95,7 @@ impl Session {
             return Ok(None);
         }
         match self {
-            Session::Open(session) => session.answer_line(out, line, workspace),
+            Session::Open(session) => together::answer_line(session, out, line, workspace),
             Session::NotOpen => {
                 *self = open(alloc, out, line, &mut workspace.lines)?;
                 Ok(None)
@@ -122,7 +120,7 @@ impl Session {
         ensures session_stays { OnErr result (self.new ≡ self.old) }
     {
         match self {
-            Session::Open(session) => session.forget_at_once(out, request),
+            Session::Open(session) => forget_at_once(session, out, request),
             Session::NotOpen => Ok(()),
         }
     }
@@ -130,7 +128,7 @@ impl Session {
     /// Answers a request to forget, as a call, if it is refused or nothing is left to forget; else
     /// it is returned how the session is to go on. Where memory runs out, the session and what the
     /// text is added to are as before.
-    pub(crate) fn prepare_to_forget(
+    pub fn prepare_to_forget(
         &mut self,
         out: &mut Vec<u8>,
         request: ForgetRequest,
@@ -145,13 +143,13 @@ impl Session {
         ensures text_stays { OnErr result (out.new.items ≡ out.old.items) }
     {
         match self {
-            Session::Open(session) => session.prepare_to_forget(out, request),
+            Session::Open(session) => prepare_to_forget(session, out, request),
             Session::NotOpen => Ok(None),
         }
     }
 
     /// Goes on behind a time, if the session is open.
-    pub(crate) fn go_on_behind(&mut self, forgetting: BoxedForgetting)
+    pub fn go_on_behind(&mut self, forgetting: BoxedForgetting)
         ensures session { (session : OpenSession) → self.old ≡ Open session
             → self.new ≡ Open (forgotten_by session forgetting) }
         ensures calls { calls_of self.new ≡ calls_of self.old }
@@ -162,7 +160,7 @@ impl Session {
     }
 
     /// What the opening of the session has asked for.
-    pub(crate) fn terms(&self) -> Terms
+    pub fn terms(&self) -> Terms
         ensures terms { (session : OpenSession) → self.now ≡ Open session
             → result ≡ terms_of session }
         ensures few { result.most_records ≤ max_records }
@@ -176,7 +174,7 @@ impl Session {
     /// Answers the lines that some bytes begin with, together, where the session is open: pushes
     /// their text, and becomes the session after them. What it doesn't take is to be answered line
     /// by line.
-    pub(crate) fn answer_lines(
+    pub fn answer_lines(
         &mut self,
         out: &mut Vec<u8>,
         bytes: &[u8],
@@ -188,7 +186,7 @@ impl Session {
     {
         match self {
             Session::NotOpen => Extent::of(0),
-            Session::Open(session) => session.answer_lines(out, bytes, workspace),
+            Session::Open(session) => together::answer_lines(session, out, bytes, workspace),
         }
     }
 
@@ -263,7 +261,7 @@ fn open(
 }
 
 /// Answers a line that is an opening. Returns the session that it opens, if it has no fault.
-pub(crate) fn open_or_stay(
+pub fn open_or_stay(
     alloc: Global,
     out: &mut Vec<u8>,
     line: &[u8],

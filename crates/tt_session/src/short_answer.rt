@@ -25,11 +25,11 @@ pub enum ShortAnswer {
 }
 
 /// As many bytes hold the line of each short answer.
-const MAX_BYTES: usize = 128;
+pub const MAX_BYTES: usize = 128;
 
 impl ShortAnswer {
     /// The line of the answer. Takes no memory.
-    pub(crate) fn text(&self) -> ArrayString<MAX_BYTES>
+    pub fn text(&self) -> ArrayString<MAX_BYTES>
         ensures { result.bytes ≡ short_text self.now }
     {
         match self {

@@ -1,5 +1,6 @@
 //! What answering lines needs.
 ghost use Rattle.std.specs.Prelude.{◌≡◌, ◌++◌, [], Some, None, if◌then◌else◌, OnOk, OnErr};
+ghost use Rattle.tt_session.specs.PendingLines.{is_much};
 
 use crate::pending_lines::PendingLines;
 use std::alloc::{AllocError, Global};
@@ -8,27 +9,29 @@ use tt_json::Scratch;
 
 /// As many bytes of answers, and of lines to log with them, are handed over before a further line
 /// is answered.
-pub(crate) const MANY_BYTES: usize = 1_048_576;
+pub const MANY_BYTES: usize = 1_048_576;
 
 /// Whether enough bytes of answers and of lines to log are kept to hand them over.
-pub(crate) fn is_much(answers: usize, lines: &PendingLines) -> bool {
+pub fn is_much(answers: usize, lines: &PendingLines) -> bool
+    ensures { result ≡ is_much answers lines.now }
+{
     answers.saturating_add(lines.byte_len()) >= MANY_BYTES
 }
 
 /// What answering lines needs, and keeps from line to line.
 #[derive(Drop)]
-pub(crate) struct Workspace {
+pub struct Workspace {
     /// Where lines are read.
-    pub(crate) scratch: Scratch,
+    pub scratch: Scratch,
     /// Where answers are made, before they are added to those that are to be handed over.
-    pub(crate) text: Vec<u8>,
+    pub text: Vec<u8>,
     /// Lines that are to be logged before the answers are handed over.
-    pub(crate) lines: PendingLines,
+    pub lines: PendingLines,
 }
 
 impl Workspace {
     /// A workspace that holds nothing yet, where there is a log or there is none.
-    pub(crate) fn new(alloc: Global, has_log: bool) -> Workspace
+    pub fn new(alloc: Global, has_log: bool) -> Workspace
         ensures { result.lines ≡ (if has_log then Some [] else None) }
     {
         Workspace {
@@ -39,7 +42,7 @@ impl Workspace {
     }
 
     /// Gives memory back. The lines that are to be logged stay.
-    pub(crate) fn release(&mut self, alloc: Global)
+    pub fn release(&mut self, alloc: Global)
         ensures { self.new.lines ≡ self.old.lines }
     {
         self.scratch = Scratch::new(alloc);

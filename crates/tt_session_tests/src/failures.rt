@@ -7,7 +7,7 @@ use crate::same::same;
 use std::alloc::Global;
 use std::io::ErrorKind;
 use std::process::Abort;
-use tt_session::{SessionFault, run_session};
+use tt_lines::{SessionFault, run_session};
 
 /// Errors that end a session, though some of them look like an end of the input or a pause.
 const KINDS: [ErrorKind; 4] = [

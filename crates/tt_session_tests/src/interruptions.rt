@@ -8,7 +8,7 @@ use crate::same::same;
 use std::alloc::Global;
 use std::io::ErrorKind;
 use std::process::Abort;
-use tt_session::{SessionFault, run_session};
+use tt_lines::{SessionFault, run_session};
 
 /// Two lines in three pieces: the second one begins with the piece in which the first one ends.
 const HALVES: [&str; 3] = [

@@ -6,7 +6,8 @@ use std::alloc::Global;
 use std::io;
 use std::io::Read;
 use std::process::Abort;
-use tt_session::{SessionFault, ShortAnswer, run_session};
+use tt_lines::{SessionFault, run_session};
+use tt_session::ShortAnswer;
 use tt_streams::StreamError;
 
 /// As many bytes as a session reads at once. A line has at most 256 times as many.

@@ -1,10 +1,9 @@
 -- A line that asks to forget is returned, and then carried out.
 use Rattle.std.proofs.Common.{◌≡◌, ◌++◌, sym, ap, ◌∙◌, subst}
 use Rattle.tt_session.specs.Run.{Turn, turn_with_memory}
-use Rattle.tt_session.specs.Session.{counted}
-use Rattle.tt_session.specs.ForgetRequests.{AnswersLine, turn_of_forget}
-use Rattle.tt_session.proofs.AnsweringLemmas.{read-kept}
-use Rattle.tt_session.proofs.RunningLemmas.{forget-turn}
+use Rattle.tt_commands.specs.Session.{counted}
+use Rattle.tt_session.specs.ForgetTurns.{AnswersLine, turn_of_forget}
+use Rattle.tt_session.proofs.AnsweringLemmas.{forget-turn, read-kept}
 use Rattle.tt_session.proofs.session.Session.answer.Goals as goal
 
 pub returns-in-Some-clause-text : goal.returns-in-Some-clause-text

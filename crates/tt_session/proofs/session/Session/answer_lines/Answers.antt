@@ -1,6 +1,6 @@
 -- Before the session is open, nothing is answered together.
 use Rattle.std.proofs.Common.{subst, sym, ap}
-use Rattle.tt_session.specs.declared.open_session.together.Extent.{Extent}
+use Rattle.tt_session.specs.declared.together.Extent.{Extent}
 use Rattle.tt_session.specs.Together.{AnswersFront}
 use Rattle.tt_session.proofs.TogetherLemmas.{front-nil}
 use Rattle.tt_session.proofs.session.Session.answer_lines.Goals as goal

@@ -1,7 +1,7 @@
 -- The session is the open one.
 use Rattle.std.proofs.Common.{IfOk, sym, ◌∙◌, subst}
-use Rattle.tt_session.specs.Session.{OpenSession, counted}
-use Rattle.tt_session.specs.ForgetRequests.{Prepares}
+use Rattle.tt_commands.specs.Session.{OpenSession, counted}
+use Rattle.tt_session.specs.ForgetTurns.{Prepares}
 use Rattle.tt_session.proofs.TogetherLemmas.{open-same}
 use Rattle.tt_session.proofs.session.Session.prepare_to_forget.Goals as goal
 

@@ -1,0 +1,11 @@
+pub mod ChangeLemmas
+pub mod ForgettingLemmas
+pub mod GoingOnLemmas
+pub mod RefusalLemmas
+pub mod LawLemmas
+pub mod PageLemmas
+pub mod RoomLemmas
+pub mod SlotLemmas
+pub mod StepLemmas
+pub mod ResultLemmas
+pub mod RecordLemmas

@@ -1,0 +1,141 @@
+-- What an open session answers to a request, and the session after it, or why the request is refused.
+use Rattle.std.specs.Prelude.{ℕ, ◌+◌, ◌==◌, Bool, true, false, Option, None, Some, Result, Ok, Err, if◌then◌else◌}
+use Rattle.tt_values.specs.declared.row_id.RowId.{RowId}
+use Rattle.tt_values.specs.declared.action.Action.{Action}
+use Rattle.tt_values.specs.Action.{replies_of}
+use Rattle.tt_db.specs.declared.event.Event.TheVariants as events
+use Rattle.tt_db.specs.Database.{now_in, current_of_db, repair_worker_of}
+use Rattle.tt_records.specs.declared.record.What.TheVariants as whats
+use Rattle.tt_grammar.specs.declared.fault.DocFault.{DocFault}
+use Rattle.tt_requests.specs.declared.request.Command.{Command}
+use Rattle.tt_requests.specs.declared.request.Command.TheVariants as commands
+use Rattle.tt_requests.specs.declared.request.Request.{Request}
+use Rattle.tt_numbers.specs.declared.told.ToldTime.{ToldTime}
+use Rattle.tt_numbers.specs.Numbers.{Numbering, told_time}
+use Rattle.tt_commands.specs.Session.{OpenSession, with_database, with_record}
+use Rattle.tt_answers.specs.declared.answer.Refusal.{Refusal}
+use Rattle.tt_answers.specs.declared.answer.Refusal.TheVariants as refusals
+use Rattle.tt_answers.specs.declared.answer.Answer.{Answer}
+use Rattle.tt_answers.specs.declared.answer.Answer.TheVariants as answers
+use Rattle.tt_commands.specs.Answers.{Answered}
+use Rattle.tt_commands.specs.Room.{refusal_in_session}
+use Rattle.tt_commands.specs.Repairing.{with_event, status_of, unless_refused, other_worker, unless_of_another, step, finish, abort}
+use Rattle.tt_commands.specs.Reading.{preview}
+use Rattle.tt_commands.specs.ToldRequests.{read_as_told, begin_as_told, first_slot, last_slot}
+use Rattle.tt_commands.specs.Forgetting.{forget}
+use Rattle.tt_commands.specs.SlotEntries.{slot_entries}
+use Rattle.tt_commands.specs.ChangeEntries.{changes, next_changes}
+
+-- an action takes the next slot: its replies are told, and recorded
+abbrev pub written : OpenSession → ℕ → Action → Answered
+written session worker action =
+    let db = session.database in
+    let slot = now_in db + 1 in
+    let replies = replies_of action (current_of_db db (now_in db)) in
+    record {
+      answer = answers.Written slot replies;
+      session = with_record (with_database session (with_event db worker (events.Write action))) worker (whats.Write slot replies);
+    }
+
+-- an action takes the next slot, unless it is refused
+abbrev pub write : OpenSession → ℕ → Action → Result Answered Refusal
+write session worker action = unless_refused (refusal_in_session session.database (events.Write action)) (written session worker action)
+
+-- the session stays as it is
+abbrev pub unchanged : OpenSession → Answer → Result Answered Refusal
+unchanged session answer = Ok (record { answer = answer; session = session })
+
+-- how the database stands
+abbrev pub status : OpenSession → Result Answered Refusal
+status session = unchanged session (answers.Standing (status_of session.database))
+
+-- what is told of the slots from one to another, by the numbers of the database, and the current time
+abbrev pub slots_between : OpenSession → ℕ → ℕ → Option ℕ → Option RowId → Result Answered Refusal
+slots_between session from to worker row =
+    unchanged session (answers.Slots (now_in session.database) (slot_entries session.database from to worker row))
+
+-- what is told of the slots from one to another behind the horizon
+abbrev pub slots : OpenSession → ToldTime → ToldTime → Option ℕ → Option RowId → Result Answered Refusal
+slots session from to worker row = slots_between session (first_slot session.numbering from) (last_slot session.numbering to) worker row
+
+-- the tables, and how much is kept
+abbrev pub declared_tables : OpenSession → Result Answered Refusal
+declared_tables session =
+    unchanged session (answers.Declared session.database.limits.keep session.most_records)
+
+-- whether a command leaves the database as it is
+abbrev pub is_read_only : Command → Bool
+is_read_only (commands.Write action) = false
+is_read_only (commands.Begin edits) = false
+is_read_only (commands.Step most told) = false
+is_read_only (commands.Finish told) = false
+is_read_only (commands.Abort told) = false
+is_read_only (commands.Forget time) = false
+is_read_only command = true
+
+-- whether a command asks for the records of earlier calls, as forgetting does, by which some of them go
+abbrev pub reads_records : Command → Bool
+reads_records commands.Changes = true
+reads_records commands.NextChanges = true
+reads_records (commands.Forget time) = true
+reads_records command = false
+
+-- whether what a line asks leaves the database as it is, as a fault does
+abbrev pub asks_read_only : Result Request DocFault → Bool
+asks_read_only (Ok request) = is_read_only request.command
+asks_read_only (Err fault) = true
+
+-- whether a line asks for the records of earlier calls
+abbrev pub asks_for_records : Result Request DocFault → Bool
+asks_for_records (Ok request) = reads_records request.command
+asks_for_records (Err fault) = false
+
+-- whether a command is to forget what lies before a time
+abbrev pub is_forget : Command → Bool
+is_forget (commands.Forget time) = true
+is_forget command = false
+
+-- whether what a line asks is to forget what lies before a time
+abbrev pub asks_to_forget : Result Request DocFault → Bool
+asks_to_forget (Ok request) = is_forget request.command
+asks_to_forget (Err fault) = false
+
+-- the worker for whose repair a command is, if it tells one
+abbrev pub repair_worker_told : Command → Option ℕ
+repair_worker_told (commands.Step most told) = told
+repair_worker_told (commands.Finish told) = told
+repair_worker_told (commands.Abort told) = told
+repair_worker_told command = None
+
+-- a command of a worker is carried out
+abbrev pub carried_out : OpenSession → ℕ → Command → Result Answered Refusal
+carried_out session worker (commands.Write action) = write session worker action
+carried_out session worker (commands.Read select at generation page) = read_as_told session worker select generation at page
+carried_out session worker (commands.Preview select page) = preview session select page
+carried_out session worker (commands.Begin edits) = begin_as_told session worker edits
+carried_out session worker (commands.Step most told) = step session worker most
+carried_out session worker (commands.Finish told) = finish session worker
+carried_out session worker (commands.Abort told) = abort session worker
+carried_out session worker commands.Status = status session
+carried_out session worker (commands.Slots from to by row) = slots session from to by row
+carried_out session worker commands.Changes = changes session
+carried_out session worker commands.NextChanges = next_changes session
+carried_out session worker commands.Tables = declared_tables session
+carried_out session worker (commands.Forget time) = forget session time
+
+-- the current time, if a request expects another one
+abbrev pub moved_to : Numbering → ℕ → Option ToldTime → Option ℕ
+moved_to numbering now None = None
+moved_to numbering now (Some expected) = if expected.number == (told_time numbering now).number then None else Some now
+
+-- a request is carried out, unless the time isn't the one that it expects
+abbrev pub unless_moved : Option ℕ → Result Answered Refusal → Result Answered Refusal
+unless_moved None outcome = outcome
+unless_moved (Some now) outcome = Err (refusals.Moved now)
+
+-- what becomes of a request: it is carried out, unless it is refused
+abbrev pub outcome_of_request : OpenSession → Request → Result Answered Refusal
+outcome_of_request session request =
+    unless_moved (moved_to session.numbering (now_in session.database) request.expected) (
+    unless_of_another (other_worker (repair_worker_told request.command) (repair_worker_of session.database)) (
+    carried_out session request.worker request.command))

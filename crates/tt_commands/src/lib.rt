@@ -1,0 +1,35 @@
+//! Requests of an open session: what each of them answers, and what becomes of the session with it.
+#![tactic(auto)]
+
+mod change_entries;
+mod commands;
+mod failure;
+mod forgetting;
+pub mod laws;
+mod open_session;
+mod pages;
+mod reading;
+mod records;
+mod repairing;
+mod response;
+mod room;
+mod session_change;
+mod slot_entries;
+mod terms;
+mod told_requests;
+mod writing;
+
+pub use commands::{
+    ForgetRequest, asks_for_records, asks_read_only, asks_to_forget, forget_request,
+    outcome_of_request,
+};
+pub use failure::Failure;
+pub use forgetting::outcome_of_forget;
+pub use open_session::OpenSession;
+pub use repairing::status_of;
+pub use response::Response;
+pub use session_change::{BoxedForgetting, Forgetting, SessionChange};
+pub use terms::Terms;
+
+// An opening asks for no more closed generations than a database keeps.
+const _: () = prove!(tt_requests::MAX_KEEP == tt_db::MAX_KEEP);

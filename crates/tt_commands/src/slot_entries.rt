@@ -1,0 +1,158 @@
+//! What is told of slots: who asked for what, and what became of it in the current generation.
+ghost use Rattle.std.specs.Prelude.{◌≡◌, IfOk};
+ghost use Rattle.std.specs.Option.{option_copied};
+ghost use Rattle.tt_commands.specs.Answers.{Becomes};
+ghost use Rattle.tt_commands.specs.Commands.{slots_between};
+ghost use Rattle.tt_commands.specs.SlotEntries.{action_of, if_replaced, entry_of_slot, is_asked_for, is_unchanged, changes_row, asked_entry, slot_entries};
+
+use crate::failure::Failure;
+use crate::open_session::OpenSession;
+use crate::response::Response;
+use std::alloc::{AllocError, Global};
+use tt_answers::{Answer, SlotEntry};
+use tt_db::{Db, Entry, Event};
+use tt_values::{Action, Items, Row, RowId, Same};
+
+/// An action that was asked for, where its slot has another one now, or none.
+fn if_replaced(asked: &Action, action: &Option<Action>) -> Result<Option<Action>, AllocError>
+    ensures { IfOk result (λ replaced. replaced ≡ if_replaced asked.now action.now) }
+{
+    match action {
+        Some(action) if asked.is_same(action) => Ok(None),
+        _ => Ok(Some(asked.copy()?)),
+    }
+}
+
+/// The action that an entry asks for, if it does.
+fn action_of(entry: &Entry) -> Option<&Action>
+    ensures { option_copied result ≡ action_of entry.now.event }
+{
+    match &entry.event {
+        Event::Write(action) => Some(action),
+        Event::Begin(_) => None,
+        Event::Step => None,
+        Event::Switch => None,
+        Event::Abort => None,
+    }
+}
+
+/// The slot of a number, if it is there.
+fn entry_of_slot(db: &Db, number: u64) -> Result<Option<SlotEntry>, AllocError>
+    ensures { IfOk result (λ entry. entry ≡ entry_of_slot db.now number) }
+{
+    let Some(slot) = db.slot(number) else {
+        return Ok(None);
+    };
+    let Some(place) = db.place_of(number) else {
+        return Ok(None);
+    };
+    let Some(entry) = db.entry(place) else {
+        return Ok(None);
+    };
+    let Some(action) = action_of(entry) else {
+        return Ok(None);
+    };
+    let asked = if_replaced(action, &slot.action)?;
+    let slot = slot.clone()?;
+    Ok(Some(SlotEntry {
+        number,
+        worker: entry.worker,
+        slot,
+        asked,
+    }))
+}
+
+/// Whether a worker is the one that is asked for, if one is.
+fn is_asked_for(wanted: Option<u32>, worker: u32) -> bool
+    ensures { result ≡ is_asked_for wanted worker }
+{
+    match wanted {
+        None => true,
+        Some(wanted) => wanted == worker,
+    }
+}
+
+/// Whether a row is as it was.
+fn is_unchanged(before: Option<&Row>, after: Option<&Row>) -> bool
+    ensures { result ≡ is_unchanged (option_copied before.entry) (option_copied after.entry) }
+{
+    match (before, after) {
+        (None, None) => true,
+        (Some(before), Some(after)) => before.is_same(after),
+        _ => false,
+    }
+}
+
+/// Whether a slot changed the row that is asked for, if one is.
+fn changes_row(db: &Db, row: Option<RowId>, number: u64) -> bool
+    ensures { result ≡ changes_row db.now row number }
+{
+    let Some(row) = row else {
+        return true;
+    };
+    let before = db.row_at(row, number.saturating_sub(1));
+    let after = db.row_at(row, number);
+    !is_unchanged(before, after)
+}
+
+/// What is told of the slot of a number, if it is there and asked for.
+fn asked_entry(
+    db: &Db,
+    worker: Option<u32>,
+    row: Option<RowId>,
+    number: u64,
+) -> Result<Option<SlotEntry>, AllocError>
+    ensures { IfOk result (λ entry. entry ≡ asked_entry db.now worker row number) }
+{
+    let Some(entry) = entry_of_slot(db, number)? else {
+        return Ok(None);
+    };
+    if is_asked_for(worker, entry.worker) && changes_row(db, row, entry.number) {
+        Ok(Some(entry))
+    } else {
+        Ok(None)
+    }
+}
+
+/// The slots from one number to another, of a worker and with changes of a row where these are
+/// asked for.
+fn slot_entries(
+    alloc: Global,
+    db: &Db,
+    from: u64,
+    to: u64,
+    worker: Option<u32>,
+    row: Option<RowId>,
+) -> Result<Items<SlotEntry>, AllocError>
+    ensures { IfOk result (λ list. list ≡ slot_entries db.now from to worker row) }
+{
+    let mut entries = Vec::new(alloc);
+    let last = to.min(db.now());
+    let Some(past) = last.checked_add(1) else {
+        // No database has 2^64 slots.
+        return Err(AllocError);
+    };
+    for number in from..past {
+        if let Some(entry) = asked_entry(db, worker, row, number)? {
+            entries.push(entry)?;
+        }
+    }
+    Items::new(alloc, entries)
+}
+
+/// What is told of the slots from one to another, by the numbers of the database, and the current
+/// time.
+pub(crate) fn slots_between(
+    session: &OpenSession,
+    from: u64,
+    to: u64,
+    worker: Option<u32>,
+    row: Option<RowId>,
+) -> Result<Response, Failure>
+    ensures { Becomes session.now result (slots_between session.now from to worker row) }
+{
+    let db = session.db();
+    let time = db.now();
+    let slots = slot_entries(session.alloc(), db, from, to, worker, row)?;
+    Ok(Response::unrecorded(Answer::Slots { time, slots }))
+}

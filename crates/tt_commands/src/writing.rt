@@ -1,0 +1,56 @@
+//! Actions.
+ghost use Rattle.std.specs.Prelude.{◌≡◌, ◌≢◌, Some, IfOk, IfErr};
+ghost use Rattle.tt_commands.specs.Answers.{Becomes};
+ghost use Rattle.tt_commands.specs.Session.{with_database};
+ghost use Rattle.tt_commands.specs.Commands.{write};
+
+use crate::failure::Failure;
+use crate::open_session::OpenSession;
+use crate::response::Response;
+use crate::session_change::SessionChange;
+use std::alloc::AllocError;
+use tt_answers::Answer;
+use tt_db::{Event, Outcome};
+use tt_records::{Record, What};
+use tt_values::{Action, Items, Reply};
+
+/// The answer to an action of a worker that took a slot, and its record.
+fn written(call: u64, worker: u32, slot: u64, replies: Items<Reply>) -> Result<Response, AllocError>
+    ensures { IfOk result (λ response. response ≡ record {
+      answer = Answer.Written slot replies;
+      change = SessionChange.Latest
+          (Some (record { call = call; worker = worker; what = What.Write slot replies }));
+    }) }
+{
+    let latest = Record {
+        call,
+        worker,
+        what: What::Write {
+            slot,
+            replies: replies.clone()?,
+        },
+    };
+    Ok(Response {
+        answer: Answer::Written { slot, replies },
+        change: SessionChange::Latest(Some(latest)),
+    })
+}
+
+/// An action takes the next slot: its replies are told, and recorded.
+pub(crate) fn write(
+    session: &mut OpenSession,
+    worker: u32,
+    action: Action,
+) -> Result<Response, Failure>
+    ensures becomes { Becomes session.new result (write session.old worker action) }
+    ensures stays { IfErr result (λ f. f ≢ Failure.Memory → session.new ≡ session.old) }
+    ensures rest { session.new ≡ with_database session.old session.new.database }
+{
+    match session.advance(worker, Event::Write(action))? {
+        Outcome::Written { slot, replies } => {
+            let response = written(session.calls(), worker, slot, replies)?;
+            Ok(response)
+        }
+        _ => unreachable!(),
+    }
+}

@@ -1,0 +1,9 @@
+pub mod LogReadLemmas
+pub mod LogRenewalLemmas
+pub mod RenewingLemmas
+pub mod AnewLemmas
+pub mod OnLogLemmas
+pub mod RestoringLemmas
+pub mod ReplayLemmas
+pub mod OneWayLemmas
+pub mod LoggedSessionLemmas

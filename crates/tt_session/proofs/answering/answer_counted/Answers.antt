@@ -1,0 +1,13 @@
+-- What only reads leaves the database, and how its numbers are told.
+use Rattle.std.proofs.Common.{ap, ◌∙◌}
+use Rattle.tt_session.specs.declared.session.Session.TheVariants.{Open}
+use Rattle.tt_session.proofs.BaseLemmas.{reads-stay, reads-tell}
+use Rattle.tt_session.proofs.answering.answer_counted.Goals as goal
+
+pub returns-in-Ok-clause-database : goal.returns-in-Ok-clause-database
+returns-in-Ok-clause-database c =
+    reads-stay c.args.session.now c.change.new.self c.args.asked (ap Open c.in-Ok.ensures.session ∙ c.in_ok-change.ensures.session) c.requires
+
+pub returns-in-Ok-clause-told : goal.returns-in-Ok-clause-told
+returns-in-Ok-clause-told c =
+    reads-tell c.args.session.now c.change.new.self c.args.asked (ap Open c.in-Ok.ensures.session ∙ c.in_ok-change.ensures.session) c.requires

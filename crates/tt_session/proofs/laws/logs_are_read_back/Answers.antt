@@ -1,5 +1,0 @@
-use Rattle.tt_session.proofs.ReplayLemmas.{logs_are_read_back}
-use Rattle.tt_session.proofs.laws.logs_are_read_back.Goals as goal
-
-pub returns : goal.returns
-returns c = logs_are_read_back

@@ -1,5 +1,0 @@
-use Rattle.tt_session.proofs.LogReadLemmas.{printed_log_opens}
-use Rattle.tt_session.proofs.laws.printed_log_opens.Goals as goal
-
-pub returns : goal.returns
-returns c = printed_log_opens

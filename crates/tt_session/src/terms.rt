@@ -1,6 +1,0 @@
-/// What the opening of a session has asked for, beside its database.
-#[derive(Clone, Copy, Debug)]
-pub(crate) struct Terms {
-    /// How many records are kept at most.
-    pub(crate) most_records: u32,
-}
