@@ -325,12 +325,13 @@ SESSIONS = Chapter('Sessions and logs', [
         Meaning('tt_durable', 'LoggedSession', 'IsEnded', 'the file is lines and nothing else, all on the disk')]),
     Row('devices', [
         Meaning('tt_log', 'src/device.rt', 'Device', 'a file, and an output to which answers are handed over'),
-        Meaning('tt_durable', 'OnLog', 'Telling telling', 'what it tells of itself: the bytes of the file, what was'
-                ' handed over, the moment, what a crash since a moment may have left, and how often a call has'
-                ' failed'),
+        Meaning('tt_durable', 'OnLog', 'Telling', 'what it tells of itself: the bytes of the file and of a new one, what was handed over, the moment,'
+                ' what a crash may leave, and how often it has failed'),
         Meaning('tt_log', 'Device', 'Left LeavesOnly', 'the file and the output that a crash leaves; a crash at any'
                 ' moment, from one device on up to another, leaves what has a property'),
-        Meaning('tt_log', 'Device', 'Only', 'a crash leaves this file and no other')]),
+        Meaning('tt_log', 'Device', 'Only', 'a crash leaves this file and no other'),
+        Meaning('tt_log', 'Device', 'RemovesNew', 'no new file is left that wasn\'t there, or the device has failed'
+                ' more often than this many times')]),
     Row('logs', [
         Meaning('tt_log', 'Lines', 'logged IsJoined', 'the lines of a file that end before its first byte 0; it has'
                 ' these lines and nothing else'),

@@ -46,7 +46,7 @@ PROMISED = {
     'tt_versions': 'Table::at Table::is_split Table::rows_at Table::written Table::split_back '
                    'Table::next_written Table::switched Table::aborted',
     'tt_parts': 'parts_of reads_of Dirty::with_row Dirty::has_row Dirty::clear_of',
-    'tt_db': 'Limits::usual Limits::fits Db::apply Db::select Db::select_at Db::preview '
+    'tt_db': 'Limits::usual Limits::fits Db::apply Db::begin Db::step Db::abort Db::select Db::select_at Db::preview '
              'Db::catalog Db::now Db::generation Db::events Db::entry Db::slot Db::repair '
              'Db::versions',
     'tt_store': 'Store::open Store::named Store::begin Store::abort Store::step Store::finish '

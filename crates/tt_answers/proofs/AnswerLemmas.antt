@@ -1,7 +1,7 @@
 -- The members of an answer.
 use Rattle.std.proofs.Common.{◌≡◌, ◌++◌, map, codes, refl}
 use Rattle.std.specs.List.{flat_map}
-use Rattle.tt_numbers.specs.Numbers.{Numbering}
+use Rattle.tt_requests.specs.Numbers.{Numbering}
 use Rattle.tt_values.specs.Tables.{Tables}
 use Rattle.tt_db.specs.declared.errors.DbError.TheVariants as errors
 use Rattle.tt_db.specs.declared.errors.ReadError.TheVariants as read_errors

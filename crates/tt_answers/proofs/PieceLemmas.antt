@@ -3,8 +3,8 @@ use Rattle.std.specs.Prelude.{if◌then◌else◌}
 use Rattle.std.proofs.Common.{◌≡◌, ℕ, ◌==◌, Bool, false, List, [], ◌∷◌, ◌++◌, map, ap, sym, ◌∙◌, append_assoc, append-nil, codes}
 use Rattle.std.specs.List.{flat_map}
 use Rattle.std.specs.Fmt.{decimal}
-use Rattle.tt_numbers.specs.declared.told.ToldTime.{ToldTime}
-use Rattle.tt_numbers.specs.Numbers.{Numbering}
+use Rattle.tt_requests.specs.declared.told.ToldTime.{ToldTime}
+use Rattle.tt_requests.specs.Numbers.{Numbering}
 use Rattle.tt_grammar.specs.JsonText.{Member, number_member, further_item, member_text}
 use Rattle.tt_answers.specs.AnswerText.{horizon_members}
 

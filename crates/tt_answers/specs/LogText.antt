@@ -1,6 +1,6 @@
 -- The lines of a log that is made anew, without their line feeds: its opening, and a line for each slot of the database.
 use Rattle.std.specs.Prelude.{ℕ, List, [], ◌∷◌, ◌++◌, codes}
-use Rattle.tt_numbers.specs.Numbers.{Numbering}
+use Rattle.tt_requests.specs.Numbers.{Numbering}
 use Rattle.tt_values.specs.declared.action.Action.{Action}
 use Rattle.tt_values.specs.Tables.{Tables}
 use Rattle.tt_grammar.specs.JsonText.{Member, number_member, object_text}

@@ -1,6 +1,6 @@
 -- The slots, times and generations of a database as they are printed: as a session tells them.
 use Rattle.std.specs.Prelude.{ℕ, List}
-use Rattle.tt_numbers.specs.Numbers.{Numbering, told_time, told_generation}
+use Rattle.tt_requests.specs.Numbers.{Numbering, told_time, told_generation}
 use Rattle.tt_grammar.specs.JsonText.{Member, number_member}
 
 -- a member whose value is a slot, or a time

@@ -3,8 +3,8 @@ ghost use Rattle.std.specs.Prelude.{◌≡◌};
 
 use tt_db::{DbError, Progress, ReadError, Slot};
 use tt_grammar::DocFault;
-use tt_numbers::ToldTime;
 use tt_records::{Changed, What};
+use tt_requests::ToldTime;
 use tt_values::{Action, Items, Reply, Row};
 
 /// Why a request is refused.

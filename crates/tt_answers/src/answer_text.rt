@@ -15,7 +15,7 @@ use crate::told_text::{push_told_generation, push_told_time};
 use std::alloc::{AllocError, Global};
 use tt_db::Progress;
 use tt_grammar::{NEWEST_SESSION_VERSION, push_flag, push_labelled, push_tables};
-use tt_numbers::{Numbering, ToldTime};
+use tt_requests::{Numbering, ToldTime};
 use tt_values::{Catalog, Reply};
 
 /// Pushes the line of an answer to an opening, its numbers told by the numbering. Where memory runs

@@ -7,7 +7,7 @@ use crate::answer_text::push_declared;
 use crate::told_text::{push_told_generation, push_told_time};
 use std::alloc::AllocError;
 use tt_grammar::{push_action, push_labelled};
-use tt_numbers::Numbering;
+use tt_requests::Numbering;
 use tt_values::{Action, Catalog};
 
 /// Pushes the first line of a log that is made anew: the newest version of sessions, the tables, how

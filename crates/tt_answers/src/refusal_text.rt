@@ -9,7 +9,7 @@ use crate::told_text::push_told_generation;
 use std::alloc::AllocError;
 use tt_db::{DbError, ReadError};
 use tt_grammar::{cause_of_check, push_decimal, push_named};
-use tt_numbers::{Numbering, ToldTime};
+use tt_requests::{Numbering, ToldTime};
 
 /// Pushes the members of a refusal.
 pub(crate) fn push_refusal(

@@ -9,8 +9,8 @@ use crate::reply_text::{push_replies, push_replies_or_null};
 use crate::told_text::push_told_time;
 use std::alloc::AllocError;
 use tt_grammar::{push_action_or_null, push_labelled, push_named_action};
-use tt_numbers::Numbering;
 use tt_records::After;
+use tt_requests::Numbering;
 use tt_values::{Action, Catalog};
 
 /// Pushes slots as an array.

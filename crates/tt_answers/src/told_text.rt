@@ -5,7 +5,7 @@ ghost use Rattle.std.specs.Fmt.{decimal};
 
 use std::alloc::AllocError;
 use tt_grammar::push_labelled;
-use tt_numbers::{ToldGeneration, ToldTime};
+use tt_requests::{ToldGeneration, ToldTime};
 
 /// Pushes a slot or a time, as it is told, behind its label.
 pub(crate) fn push_told_time(

@@ -12,22 +12,22 @@ use Rattle.tt_cli.specs.Ending.{IsEndingOfLogged}
 use Rattle.tt_cli.specs.Running.{IsFaultOfSession}
 
 -- a session on a log has failed, and ends so
-pub record FailsOn {D : Type 0} (unread left : Option (List ℕ)) (of : Telling D) (may_leave : D → List ℕ → Type 0) (before : D) (ending : Ending) : Type 0 where
+pub record FailsOn {D : Type 0} (unread left : Option (List ℕ)) (of : Telling D) (before : D) (ending : Ending) : Type 0 where
   pub fault : LoggedFault
   pub after : D
-  pub fails : FailsOnLog fault unread left of may_leave before after
+  pub fails : FailsOnLog fault unread left of before after
   pub ends : IsEndingOfLogged fault ending
 
 -- a session on a log has handed over all answers, and its log is ended
-pub record DoneOn {D : Type 0} (unread left : Option (List ℕ)) (of : Telling D) (may_leave : D → List ℕ → Type 0) (before : D) : Type 0 where
+pub record DoneOn {D : Type 0} (unread left : Option (List ℕ)) (of : Telling D) (before : D) : Type 0 where
   pub after : D
-  pub answers : HandsOverAll unread left (GoesOnLog of may_leave before after)
-  pub ended : IsEnded of.seen may_leave after
+  pub answers : HandsOverAll unread left (GoesOnLog of before after)
+  pub ended : IsEnded of.seen of.may_leave after
 
 -- a session on a log is done where all answers were handed over and the log is ended, and otherwise ends as its fault does
-abbrev pub EndsOnLog : {D : Type 0} → Option (List ℕ) → Option (List ℕ) → Telling D → (D → List ℕ → Type 0) → D → Ending → Type 0
-EndsOnLog unread left of may_leave before endings.Done = DoneOn unread left of may_leave before
-EndsOnLog unread left of may_leave before ending = FailsOn unread left of may_leave before ending
+abbrev pub EndsOnLog : {D : Type 0} → Option (List ℕ) → Option (List ℕ) → Telling D → D → Ending → Type 0
+EndsOnLog unread left of before endings.Done = DoneOn unread left of before
+EndsOnLog unread left of before ending = FailsOn unread left of before ending
 
 -- an ending of a session on a log
 abbrev pub IsEndingOfSession : Ending → Type 0

@@ -1,9 +1,8 @@
 //! What the commands on a log do: a session, and a look at what is logged.
-ghost use Rattle.std.specs.Prelude.{◌≡◌, ◌≢◌, ◌⊎◌, ◌++◌, [], IfErr, IsErrOf, OnOk};
+ghost use Rattle.std.specs.Prelude.{◌≡◌, ◌≢◌, ◌⊎◌, ◌<◌, ◌++◌, [], IfErr, IsErrOf, OnOk};
 ghost use Rattle.tt_log.specs.Device.{ShowsFirst};
 ghost use Rattle.tt_log.specs.Lines.{logged, joined};
 ghost use Rattle.tt_log.specs.Log.{IsAsLeft};
-ghost use Rattle.tt_durable.specs.OnLog.{telling};
 ghost use Rattle.tt_cli.specs.Ending.{IsEndingOfLogged};
 ghost use Rattle.tt_cli.specs.Logging.{IsEndingOfSession, IsEndingOfLook, EndsOnLog};
 
@@ -71,6 +70,8 @@ pub fn find_log<D: Device>(device: &D) -> Result<(), LogFault>
     ensures found { D.tells device.now → OnOk result (logged (D.seen device.now) ≢ []) }
     ensures missing { D.tells device.now → IsErrOf result LogFault.Missing
         → logged (D.seen device.now) ≡ [] }
+    ensures unreadable { D.tells device.now → IsErrOf result LogFault.Unreadable
+        → D.cannot_read device.now }
     ensures err { IfErr result (λ e. (e ≡ LogFault.Missing) ⊎ (e ≡ LogFault.Unreadable)) }
 {
     let mut buffer = [0; PIECE_BYTES];
@@ -91,8 +92,7 @@ pub fn answer_on_log<R: Read, D: Device + TellsReason + Drop>(
 ) -> Ending
     requires left { D.tells device → IsAsLeft (D.seen device) (D.once_synced device) }
     ensures told { D.tells device → EndsOnLog (R.remaining reader.old) (R.remaining reader.new)
-        (telling D.tells D.seen D.shown D.moment D.left_since D.failures)
-        D.may_leave device result }
+        D.Device device result }
     ensures kind { IsEndingOfSession result }
 {
     match run_logged_session(rt.alloc(), reader, device) {
@@ -156,6 +156,12 @@ pub fn print_lines<D: Device + TellsReason>(
     // At another ending the first bytes of the lines may be handed over, and nothing else.
     ensures first { D.tells device.old → ShowsFirst (D.shown device.old) (D.shown device.new)
         (joined (logged (D.seen device.old))) }
+
+    // Another ending comes only where the device can't read, or its output has failed.
+    ensures unreadable { D.tells device.old → result ≡ Ending.LogFault LogFault.Unreadable
+        → D.cannot_read device.new }
+    ensures undone { D.tells device.old → result ≢ Ending.Done
+        → D.cannot_read device.new ⊎ (D.failures device.old < D.failures device.new) }
 
     ensures kind { IsEndingOfLook result }
 {

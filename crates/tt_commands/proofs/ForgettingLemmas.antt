@@ -9,8 +9,8 @@ use Rattle.tt_db.specs.declared.errors.ReadError.TheVariants as read_errors
 use Rattle.tt_db.specs.Database.{Database, now_in}
 use Rattle.tt_horizon.specs.Laws.{Forgets}
 use Rattle.tt_horizon.proofs.LawProofs.{forgetting_is_sound}
-use Rattle.tt_numbers.specs.declared.told.ToldTime.{ToldTime}
-use Rattle.tt_numbers.specs.Numbers.{Numbering, number_limit, told_time, own_time, told_generation, is_forgotten_time}
+use Rattle.tt_requests.specs.declared.told.ToldTime.{ToldTime}
+use Rattle.tt_requests.specs.Numbers.{Numbering, number_limit, told_time, own_time, told_generation, is_forgotten_time}
 use Rattle.tt_records.specs.declared.record.Record.{Record}
 use Rattle.tt_answers.specs.declared.answer.Refusal.{Refusal}
 use Rattle.tt_answers.specs.declared.answer.Refusal.TheVariants as refusals

@@ -15,7 +15,6 @@ use Rattle.tt_db.specs.declared.limits.Limits.{Limits}
 use Rattle.tt_db.specs.declared.errors.DbError.TheVariants as errors
 use Rattle.tt_db.specs.Limits.{Fits}
 use Rattle.tt_db.specs.declared.errors.ReadError.{ReadError}
-use Rattle.tt_db.specs.declared.outcome.Outcome.{Outcome}
 use Rattle.tt_db.specs.State.{State, next_state, slots_left, refused_if, unless_repairing, last_items}
 use Rattle.tt_db.specs.Database.{Database, state_of, refusal_of, now_in, current_of_db, repair_worker_of, right_preview_of}
 use Rattle.tt_records.specs.declared.record.Record.{Record}
@@ -27,9 +26,9 @@ use Rattle.tt_requests.specs.declared.request.Command.TheVariants as commands
 use Rattle.tt_requests.specs.declared.request.Request.{Request}
 use Rattle.tt_requests.specs.declared.request.ToldEdits.{ToldEdits}
 use Rattle.tt_requests.specs.declared.request.Page.{Page}
-use Rattle.tt_numbers.specs.declared.told.ToldTime.{ToldTime}
-use Rattle.tt_numbers.specs.declared.told.ToldGeneration.{ToldGeneration}
-use Rattle.tt_numbers.specs.Numbers.{Numbering, own_time, own_generation}
+use Rattle.tt_requests.specs.declared.told.ToldTime.{ToldTime}
+use Rattle.tt_requests.specs.declared.told.ToldGeneration.{ToldGeneration}
+use Rattle.tt_requests.specs.Numbers.{Numbering, own_time, own_generation}
 use Rattle.tt_answers.specs.declared.answer.Answer.{Answer}
 use Rattle.tt_answers.specs.declared.answer.Answer.TheVariants as answers
 use Rattle.tt_answers.specs.declared.answer.Refusal.{Refusal}
@@ -152,7 +151,7 @@ sound-empty db next n records most sound catalog limits none =
     let is : next ≡ empty = λ i. record { catalog = catalog i; limits = limits i; history = none i } in
     sound-next db next n records most sound (subst IsNext (sym is) (record { legal = tt; room = refl })) catalog limits
 
-pub sound-advanced : (r : Result Outcome DbError) (db next : Database) (n : Numbering) (records : List Record) (most worker : ℕ) (event : Event) → IsSound db n records most
+pub sound-advanced : {X : Type 0} (r : Result X DbError) (db next : Database) (n : Numbering) (records : List Record) (most worker : ℕ) (event : Event) → IsSound db n records most
     → has_no_room_to_end db.limits (next_state db.limits (state_of db) event) ≡ false
     → OnOk r (next ≡ with_event db worker event) → OnOk r (refusal_of db event ≡ None)
     → IfErr r (λ e. e ≢ errors.Memory → next ≡ db) → IfErr r (λ e. e ≡ errors.Memory → next.history ≡ []) → next.catalog ≡ db.catalog → next.limits ≡ db.limits

@@ -24,9 +24,9 @@ use Rattle.tt_grammar.specs.Version.{newest_version}
 use Rattle.tt_requests.specs.declared.request.Command.{Command}
 use Rattle.tt_requests.specs.declared.request.Command.TheVariants as commands
 use Rattle.tt_requests.specs.declared.request.Page.{Page}
-use Rattle.tt_numbers.specs.declared.told.ToldTime.{ToldTime}
-use Rattle.tt_numbers.specs.declared.told.ToldGeneration.{ToldGeneration}
-use Rattle.tt_numbers.specs.Numbers.{Numbering, number_limit, own_time, own_generation}
+use Rattle.tt_requests.specs.declared.told.ToldTime.{ToldTime}
+use Rattle.tt_requests.specs.declared.told.ToldGeneration.{ToldGeneration}
+use Rattle.tt_requests.specs.Numbers.{Numbering, number_limit, own_time, own_generation}
 use Rattle.tt_requests.specs.Judged.{IsJudged}
 use Rattle.tt_requests.proofs.LawProofs.{requests_are_judged}
 use Rattle.tt_answers.specs.declared.answer.Refusal.{Refusal}

@@ -1,7 +1,7 @@
 -- What becomes of a session with an answer: a record of the call is kept, or it goes on with a database that has forgotten what lies before a time.
 use Rattle.std.specs.Prelude.{ℕ, nat_lt, List, Option, None, Some, if◌then◌else◌}
 use Rattle.std.specs.List.{filter_map}
-use Rattle.tt_horizon_laws.specs.Ground.{moved}
+use Rattle.tt_horizon.specs.Ground.{moved}
 use Rattle.tt_records.specs.declared.record.Record.{Record}
 use Rattle.tt_records.specs.declared.record.What.{What}
 use Rattle.tt_records.specs.declared.record.What.TheVariants as whats

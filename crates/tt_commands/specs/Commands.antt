@@ -10,8 +10,8 @@ use Rattle.tt_grammar.specs.declared.fault.DocFault.{DocFault}
 use Rattle.tt_requests.specs.declared.request.Command.{Command}
 use Rattle.tt_requests.specs.declared.request.Command.TheVariants as commands
 use Rattle.tt_requests.specs.declared.request.Request.{Request}
-use Rattle.tt_numbers.specs.declared.told.ToldTime.{ToldTime}
-use Rattle.tt_numbers.specs.Numbers.{Numbering, told_time}
+use Rattle.tt_requests.specs.declared.told.ToldTime.{ToldTime}
+use Rattle.tt_requests.specs.Numbers.{Numbering, told_time}
 use Rattle.tt_commands.specs.Session.{OpenSession, with_database, with_record}
 use Rattle.tt_answers.specs.declared.answer.Refusal.{Refusal}
 use Rattle.tt_answers.specs.declared.answer.Refusal.TheVariants as refusals
@@ -73,22 +73,10 @@ is_read_only (commands.Abort told) = false
 is_read_only (commands.Forget time) = false
 is_read_only command = true
 
--- whether a command asks for the records of earlier calls, as forgetting does, by which some of them go
-abbrev pub reads_records : Command → Bool
-reads_records commands.Changes = true
-reads_records commands.NextChanges = true
-reads_records (commands.Forget time) = true
-reads_records command = false
-
 -- whether what a line asks leaves the database as it is, as a fault does
 abbrev pub asks_read_only : Result Request DocFault → Bool
 asks_read_only (Ok request) = is_read_only request.command
 asks_read_only (Err fault) = true
-
--- whether a line asks for the records of earlier calls
-abbrev pub asks_for_records : Result Request DocFault → Bool
-asks_for_records (Ok request) = reads_records request.command
-asks_for_records (Err fault) = false
 
 -- whether a command is to forget what lies before a time
 abbrev pub is_forget : Command → Bool

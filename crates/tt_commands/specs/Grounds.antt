@@ -6,7 +6,7 @@ use Rattle.tt_values.specs.Action.{replies_of}
 use Rattle.tt_db.specs.declared.event.Event.TheVariants as events
 use Rattle.tt_db.specs.Database.{Database, now_in, current_of_db}
 use Rattle.tt_horizon.specs.Forgetting.{ground_worker}
-use Rattle.tt_horizon.specs.Grounds.{inserts_alone, is_inserted}
+use Rattle.tt_horizon.specs.GroundEntries.{inserts_alone, is_inserted}
 use Rattle.tt_grammar.specs.declared.fault.DocFault.{DocFault}
 use Rattle.tt_requests.specs.declared.log_opening.LogOpening.{LogOpening}
 use Rattle.tt_commands.specs.Session.{OpenSession, opened, with_database}

@@ -11,7 +11,7 @@ use Rattle.tt_grammar.specs.Version.{newest_version}
 use Rattle.tt_requests.specs.declared.opening.Opening.{Opening}
 use Rattle.tt_requests.specs.declared.request.Request.{Request}
 use Rattle.tt_requests.specs.Requests.{request_of}
-use Rattle.tt_numbers.specs.Numbers.{Numbering, nothing_forgotten}
+use Rattle.tt_requests.specs.Numbers.{Numbering, nothing_forgotten}
 use Rattle.tt_commands.specs.declared.terms.Terms.{Terms}
 
 -- an open session: its database, how its numbers are told, the records of the last calls, how many records are kept at most, how many calls there were, and
@@ -71,14 +71,6 @@ with_latest_if session latest = record session { records = records_with session.
 -- what the last call asked for and was answered, on record
 abbrev pub with_record : OpenSession → ℕ → What → OpenSession
 with_record session worker what = with_latest_if session (Some (record { call = session.calls; worker = worker; what = what }))
-
--- the session with no records
-abbrev pub without_records : OpenSession → OpenSession
-without_records session = record session { records = [] }
-
--- a session with earlier records before its own: as many of the last ones as it keeps
-abbrev pub with_earlier_records : List Record → OpenSession → OpenSession
-with_earlier_records earlier session = record session { records = last_items session.most_records (earlier ++ session.records) }
 
 -- the session with no more records than this
 abbrev pub with_most_records : OpenSession → ℕ → OpenSession

@@ -4,7 +4,7 @@ use Rattle.tt_values.specs.Tables.{IsCatalog}
 use Rattle.tt_db.specs.Limits.{max_limits, Fits}
 use Rattle.tt_db.specs.State.{IsLegal}
 use Rattle.tt_db.specs.Database.{Database, state_of}
-use Rattle.tt_numbers.specs.Numbers.{Numbering, IsNumbering}
+use Rattle.tt_requests.specs.Numbers.{Numbering, IsNumbering}
 use Rattle.tt_records.specs.declared.record.Record.{Record}
 use Rattle.tt_requests.specs.Opening.{max_records}
 use Rattle.tt_commands.specs.Room.{has_no_room_to_end}

@@ -8,9 +8,9 @@ use Rattle.tt_generations.specs.TwoGenerations.{is_repairing}
 use Rattle.tt_db.specs.declared.errors.ReadError.TheVariants as read_errors
 use Rattle.tt_db.specs.State.{slots_in}
 use Rattle.tt_db.specs.Database.{now_in, oldest_in}
-use Rattle.tt_numbers.specs.declared.told.ToldTime.{ToldTime}
-use Rattle.tt_numbers.specs.declared.told.ToldGeneration.{ToldGeneration}
-use Rattle.tt_numbers.specs.Numbers.{Numbering, told_time, own_time, is_forgotten_time, is_behind_horizon, own_generation}
+use Rattle.tt_requests.specs.declared.told.ToldTime.{ToldTime}
+use Rattle.tt_requests.specs.declared.told.ToldGeneration.{ToldGeneration}
+use Rattle.tt_requests.specs.Numbers.{Numbering, told_time, own_time, is_forgotten_time, is_behind_horizon, own_generation}
 use Rattle.tt_requests.specs.declared.request.Page.{Page}
 use Rattle.tt_requests.specs.declared.request.ToldEdits.{ToldEdits}
 use Rattle.tt_answers.specs.declared.answer.Refusal.{Refusal}

@@ -2,7 +2,7 @@
 ghost use Rattle.std.specs.Prelude.{◌≡◌, ◌≢◌, true, false, IfErr, MatchOption};
 ghost use Rattle.tt_commands.specs.Answers.{Becomes};
 ghost use Rattle.tt_commands.specs.Session.{with_database};
-ghost use Rattle.tt_commands.specs.Commands.{status, declared_tables, carried_out, is_read_only, reads_records, asks_read_only, asks_for_records, is_forget, asks_to_forget, repair_worker_told, moved_to, outcome_of_request};
+ghost use Rattle.tt_commands.specs.Commands.{status, declared_tables, carried_out, is_read_only, asks_read_only, is_forget, asks_to_forget, repair_worker_told, moved_to, outcome_of_request};
 ghost use Rattle.tt_commands.specs.ForgetRequests.{IsForgetRequest};
 
 use crate::change_entries::{changes, next_changes};
@@ -16,8 +16,7 @@ use crate::told_requests::{begin_as_told, read_as_told, slots};
 use crate::writing::write;
 use tt_answers::{Answer, Refusal};
 use tt_grammar::DocFault;
-use tt_numbers::{Numbering, ToldTime};
-use tt_requests::{Command, Request};
+use tt_requests::{Command, Numbering, Request, ToldTime};
 
 /// How the database stands.
 fn status(session: &OpenSession) -> Result<Response, Failure>
@@ -58,19 +57,6 @@ fn is_read_only(command: &Command) -> bool
     }
 }
 
-/// Whether a command asks for the records of earlier calls, as forgetting does, by which some of
-/// them go.
-fn reads_records(command: &Command) -> bool
-    ensures { result ≡ reads_records command.now }
-{
-    match command {
-        Command::Changes => true,
-        Command::NextChanges => true,
-        Command::Forget(_) => true,
-        _ => false,
-    }
-}
-
 /// Whether what a line asks leaves the database as it is, as a fault does.
 pub fn asks_read_only(asked: &Result<Request, DocFault>) -> bool
     ensures { result ≡ asks_read_only asked.now }
@@ -78,16 +64,6 @@ pub fn asks_read_only(asked: &Result<Request, DocFault>) -> bool
     match asked {
         Ok(request) => is_read_only(&request.command),
         Err(_) => true,
-    }
-}
-
-/// Whether a line asks for the records of earlier calls.
-pub fn asks_for_records(asked: &Result<Request, DocFault>) -> bool
-    ensures { result ≡ asks_for_records asked.now }
-{
-    match asked {
-        Ok(request) => reads_records(&request.command),
-        Err(_) => false,
     }
 }
 

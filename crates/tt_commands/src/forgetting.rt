@@ -15,7 +15,7 @@ use std::alloc::AllocError;
 use tt_answers::{Answer, Refusal};
 use tt_db::{DbError, ReadError};
 use tt_horizon::{Forgotten, forgotten};
-use tt_numbers::{NUMBER_LIMIT, Numbering, ToldTime};
+use tt_requests::{NUMBER_LIMIT, Numbering, ToldTime};
 
 /// Why a session doesn't forget what lies before a time, memory aside.
 fn forget_refusal(session: &OpenSession, time: ToldTime) -> Option<Refusal>

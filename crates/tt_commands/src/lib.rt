@@ -20,8 +20,7 @@ mod told_requests;
 mod writing;
 
 pub use commands::{
-    ForgetRequest, asks_for_records, asks_read_only, asks_to_forget, forget_request,
-    outcome_of_request,
+    ForgetRequest, asks_read_only, asks_to_forget, forget_request, outcome_of_request,
 };
 pub use failure::Failure;
 pub use forgetting::outcome_of_forget;

@@ -1,7 +1,7 @@
 //! A session that is open.
 ghost use Rattle.std.specs.Prelude.{◌≡◌, ◌+◌, ◌<◌, ◌≤◌, ◌-◌, ◌^◌, true, false, length, OnOk, OnErr, IfOk};
 ghost use Rattle.tt_requests.specs.Opening.{max_keep, max_records};
-ghost use Rattle.tt_commands.specs.Session.{counted, opened, terms_of, with_latest_if, with_earlier_records, without_records};
+ghost use Rattle.tt_commands.specs.Session.{counted, opened, terms_of, with_database, with_latest_if};
 ghost use Rattle.tt_commands.specs.Changes.{forgotten_by, with_change};
 ghost use Rattle.tt_commands.specs.Invariants.{IsOpenSession};
 ghost use Rattle.tt_commands.specs.Session.{reopened_by, with_most_records};
@@ -15,9 +15,8 @@ use crate::terms::Terms;
 use std::alloc::{AllocError, Global};
 use std::marker::Model;
 use tt_db::{Db, Limits};
-use tt_numbers::Numbering;
 use tt_records::Record;
-use tt_requests::{LogOpening, Opening};
+use tt_requests::{LogOpening, Numbering, Opening};
 
 /// A session that is open: its database, how its numbers are told, and the records of its last
 /// calls.
@@ -242,47 +241,11 @@ impl OpenSession {
         self.numbering = numbering;
     }
 
-    /// A session to go ahead of this one, which stays as it is: its database shares all pages with
-    /// the database of this one, and it has no records yet.
-    pub fn fork(&self) -> Result<OpenSession, AllocError>
-        ensures ahead { IfOk result (λ ahead. ahead ≡ without_records self.now) }
-        ensures few { length self.now.records ≤ self.now.most_records }
+    /// Goes on with another database, with which the session is sound. Takes no memory.
+    pub fn set_database(&mut self, db: Db)
+        requires { IsOpenSession (with_database self.old db) }
+        ensures { self.new ≡ with_database self.old db }
     {
-        let db = self.db.share()?;
-        Ok(OpenSession {
-            alloc: self.alloc,
-            db,
-            numbering: self.numbering,
-            records: Records::new(self.alloc),
-            most_records: self.most_records,
-            calls: self.calls,
-            has_opening: self.has_opening,
-        })
-    }
-
-    /// Catches up with a session that went ahead of this one. Where memory runs out, this one is as
-    /// before.
-    pub fn catch_up(&mut self, ahead: OpenSession) -> Result<(), AllocError>
-        ensures session { OnOk result
-            (self.new ≡ with_earlier_records self.old.records ahead) }
-        ensures stays { OnErr result (self.new ≡ self.old) }
-    {
-        let OpenSession {
-            alloc: _,
-            db,
-            numbering,
-            records,
-            most_records,
-            calls,
-            has_opening,
-        } = ahead;
-        self.records.append(records)?;
-        self.records.keep_last(most_records as usize);
         self.db = db;
-        self.numbering = numbering;
-        self.most_records = most_records;
-        self.calls = calls;
-        self.has_opening = has_opening;
-        Ok(())
     }
 }

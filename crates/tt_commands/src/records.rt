@@ -56,14 +56,6 @@ impl Records {
         Ok(())
     }
 
-    /// Adds the records of later calls. Where memory runs out, the records stay as they are.
-    pub(crate) fn append(&mut self, mut later: Records) -> Result<(), AllocError>
-        ensures ok { OnOk result (self.new ≡ self.old ++ later) }
-        ensures err { OnErr result (self.new ≡ self.old) }
-    {
-        self.queue.append(&mut later.queue)
-    }
-
     /// Keeps the latest records, at most this many.
     pub(crate) fn keep_last(&mut self, most: usize)
         ensures { self.new ≡ last_items most self.old }

@@ -11,7 +11,7 @@ use crate::open_session::OpenSession;
 use crate::response::Response;
 use crate::session_change::SessionChange;
 use tt_answers::{Answer, RepairStatus, Status};
-use tt_db::{Db, DbError, Edit, Event, Outcome, Progress};
+use tt_db::{Db, DbError, Edit, Event, Progress, SwitchOutcome};
 use tt_values::Items;
 
 /// How far the repair of a database is: nothing is done where none is under way.
@@ -120,18 +120,16 @@ pub(crate) fn finish(session: &mut OpenSession, worker: u32) -> Result<Response,
 {
     let progress = repair_under_way(session.db())?;
     session.make_steps(worker, progress.left)?;
-    match session.carry_out(worker, Event::Switch)? {
-        Outcome::Switched {
-            generation,
-            slots,
-            rerun,
-        } => Ok(Response::unrecorded(Answer::Finished {
-            generation,
-            slots,
-            rerun,
-        })),
-        _ => unreachable!(),
-    }
+    let SwitchOutcome {
+        generation,
+        slots,
+        rerun,
+    } = session.switch(worker)?;
+    Ok(Response::unrecorded(Answer::Finished {
+        generation,
+        slots,
+        rerun,
+    }))
 }
 
 /// The repair is given up.

@@ -1,27 +1,46 @@
 //! Room for the end of a repair.
-ghost use Rattle.std.specs.Prelude.{◌≡◌, true, Some};
+ghost use Rattle.std.specs.Prelude.{◌≡◌, ◌-◌, true, Some, length};
 ghost use Rattle.tt_db.specs.State.{next_state};
 ghost use Rattle.tt_db.specs.Database.{state_of};
 ghost use Rattle.tt_commands.specs.Room.{has_no_room_to_end, refusal_in_session};
 
 use tt_db::{Db, DbError, Event};
+use tt_values::Action;
 
 /// Whether an event would leave no room for the end of a repair. Takes no memory.
 pub(crate) fn leaves_no_room(db: &Db, event: &Event) -> bool
     ensures { result
         ≡ has_no_room_to_end db.now.limits (next_state db.now.limits (state_of db.now) event.now) }
 {
-    // The room behind the entry of the event. At the end of the repair a step of each slot that is
-    // left, and the switch, have to fit into it.
-    let limit = db.limits().events;
-    let room = limit.saturating_sub(db.events()).saturating_sub(1);
+    // At the end of the repair a step of each slot that is left, and the switch, have to fit in
+    // behind the entry of the event.
     match event {
-        Event::Write(_) => db.is_repairing() && room.saturating_sub(1) <= db.slots_left(),
-        Event::Begin(_) => room <= db.now(),
-        Event::Step => db.is_repairing() && room <= db.slots_left().saturating_sub(1),
+        Event::Write(_) => action_leaves_no_room(db),
+        Event::Begin(_) => room_behind_entry(db) <= db.now(),
+        Event::Step => {
+            db.is_repairing() && room_behind_entry(db) <= db.slots_left().saturating_sub(1)
+        }
         Event::Switch => false,
         Event::Abort => false,
     }
+}
+
+/// Whether each action would leave no room for the end of a repair. Takes no memory.
+pub(crate) fn action_leaves_no_room(db: &Db) -> bool
+    ensures { (action : Action) → result ≡ has_no_room_to_end
+        db.now.limits (next_state db.now.limits (state_of db.now) (Event.Write action)) }
+{
+    db.is_repairing() && room_behind_entry(db).saturating_sub(1) <= db.slots_left()
+}
+
+/// How many entries more the history may have behind the next one.
+fn room_behind_entry(db: &Db) -> u64
+    ensures { result ≡ db.now.limits.events - length db.now.history - 1 }
+{
+    db.limits()
+        .events
+        .saturating_sub(db.events())
+        .saturating_sub(1)
 }
 
 /// Why a session refuses an event that would leave no room for the end of a repair: for the

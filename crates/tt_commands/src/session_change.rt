@@ -2,8 +2,8 @@
 use std::alloc::{AllocError, Global};
 use std::marker::Model;
 use tt_db::Db;
-use tt_numbers::Numbering;
 use tt_records::Record;
+use tt_requests::Numbering;
 
 /// What becomes of a session once the answer to a request is made.
 #[derive(Drop)]
@@ -29,7 +29,7 @@ pub struct Forgetting {
 
 impl Model for Forgetting {
     ghost use Rattle.std.specs.Prelude.{◌≡◌, ◌≤◌, []};
-    ghost use Rattle.tt_horizon.specs.Grounds.{HasGround};
+    ghost use Rattle.tt_horizon.specs.GroundEntries.{HasGround};
     ghost use Rattle.tt_commands.specs.Session.{Forgetting};
     ghost use Rattle.tt_commands.specs.Sound.{IsSound};
 

@@ -1,6 +1,6 @@
 //! What requests ask for, by the numbers that a session tells.
 ghost use Rattle.std.specs.Prelude.{◌≡◌, ◌≢◌, map, option_map, IfOk, IfErr};
-ghost use Rattle.tt_numbers.specs.Numbers.{own_time};
+ghost use Rattle.tt_requests.specs.Numbers.{own_time};
 ghost use Rattle.tt_commands.specs.Answers.{Becomes};
 ghost use Rattle.tt_commands.specs.Session.{with_database};
 ghost use Rattle.tt_commands.specs.Commands.{slots};
@@ -15,8 +15,7 @@ use crate::slot_entries::slots_between;
 use std::alloc::{AllocError, Global};
 use tt_answers::Refusal;
 use tt_db::{Edit, ReadError};
-use tt_numbers::{Numbering, ToldGeneration, ToldTime};
-use tt_requests::{Page, ToldEdits};
+use tt_requests::{Numbering, Page, ToldEdits, ToldGeneration, ToldTime};
 use tt_values::{Items, RowId, Select};
 
 /// A generation can't be read.

@@ -10,7 +10,7 @@ use crate::response::Response;
 use crate::session_change::SessionChange;
 use std::alloc::AllocError;
 use tt_answers::Answer;
-use tt_db::{Event, Outcome};
+use tt_db::WriteOutcome;
 use tt_records::{Record, What};
 use tt_values::{Action, Items, Reply};
 
@@ -46,11 +46,7 @@ pub(crate) fn write(
     ensures stays { IfErr result (λ f. f ≢ Failure.Memory → session.new ≡ session.old) }
     ensures rest { session.new ≡ with_database session.old session.new.database }
 {
-    match session.advance(worker, Event::Write(action))? {
-        Outcome::Written { slot, replies } => {
-            let response = written(session.calls(), worker, slot, replies)?;
-            Ok(response)
-        }
-        _ => unreachable!(),
-    }
+    let WriteOutcome { slot, replies } = session.write(worker, action)?;
+    let response = written(session.calls(), worker, slot, replies)?;
+    Ok(response)
 }

@@ -10,6 +10,7 @@ ghost use Rattle.tt_db.specs.Database.{state_of, now_in, oldest_in, with_entry, 
 ghost use Rattle.tt_db.specs.RightAnswers.{Answers, RowsHaveRisingKeys};
 ghost use Rattle.tt_db.specs.Transition.{Allows, IsTransition, closed_after};
 
+mod kinds;
 mod page;
 mod steps;
 

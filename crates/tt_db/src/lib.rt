@@ -18,7 +18,7 @@ pub use database::Db;
 pub use errors::{DbError, ReadError};
 pub use event::{Entry, Event};
 pub use limits::Limits;
-pub use outcome::{Outcome, StepsMade};
+pub use outcome::{Outcome, StepOutcome, StepsMade, SwitchOutcome, WriteOutcome};
 pub use tt_generations::{Edit, FirstRows, MAX_SLOTS, Progress, Slot, Slots};
 
 /// The largest limit of entries.

@@ -28,6 +28,35 @@ pub enum Outcome {
     Aborted,
 }
 
+/// The outcome of an action that was carried out.
+#[derive(Clone, Debug, PartialEq, Drop)]
+pub struct WriteOutcome {
+    /// The number of its slot, counted from 1.
+    pub slot: u64,
+    /// The replies to its writes, of a whole action up to the first without an effect.
+    pub replies: Items<Reply>,
+}
+
+/// The outcome of one step of a repair.
+#[derive(Clone, Copy, Debug, PartialEq, Eq)]
+pub struct StepOutcome {
+    /// The number of the slot that the repair has done.
+    pub slot: u64,
+    /// Whether the slot was re-executed.
+    pub rerun: bool,
+}
+
+/// The outcome of a switch.
+#[derive(Clone, Copy, Debug, PartialEq, Eq)]
+pub struct SwitchOutcome {
+    /// The number of the generation that has become the current one.
+    pub generation: u64,
+    /// How many slots it has.
+    pub slots: u64,
+    /// How many of them the repair re-executed.
+    pub rerun: u64,
+}
+
 /// Steps of a repair that were made together.
 #[derive(Debug, PartialEq, Drop)]
 pub struct StepsMade {

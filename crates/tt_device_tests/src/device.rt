@@ -2,7 +2,7 @@
 ghost use Rattle.std.specs.Prelude.{◌≡◌, ◌≤◌, ◌-◌, ◌++◌, true, length, replicate, OnOk, OnErr};
 ghost use Rattle.tt_log.specs.Device.{CountsFailure};
 ghost use Rattle.tt_device_tests.specs.Outcomes.{outcomes, may_leave_of, LeftSince};
-ghost use Rattle.tt_device_tests.specs.Device.{leaves_new};
+ghost use Rattle.tt_device_tests.specs.Device.{is_there, leaves_new};
 ghost use Rattle.tt_device_tests.specs.Laws.{now_counts, now_only, seen_is_left_of, synced_is_left_of};
 
 use crate::event::{Bytes, Event};
@@ -29,6 +29,12 @@ impl<'a, R: Wait> Device for MemoryDevice<'a, R> {
     ghost may_leave_new = { λ d. leaves_new d.new_state d.new_file.items };
 
     ghost may_leave_named = { λ d. (outcomes d.events.items).named };
+
+    ghost has_new = { λ d. is_there d.new_state };
+
+    ghost renames = { λ d. (outcomes d.events.items).renames };
+
+    ghost cannot_read = { λ d. ⊥ };
 
     ghost moment = { λ d. length d.events.items };
 
@@ -181,7 +187,9 @@ fn begin_on_new<R: Wait>(
     state: &mut NewState,
     failures: &mut Failures<'_, R>,
 ) -> Result<(), DeviceError>
-    ensures { CountsFailure failures.old.count failures.new.count result }
+    ensures failed { CountsFailure failures.old.count failures.new.count result }
+    ensures there { OnOk result (is_there state.old) }
+    ensures there_err { OnErr result (is_there state.new → is_there state.old) }
 {
     if !is_usable(*state) {
         return Err(failures.add());
@@ -200,7 +208,9 @@ fn grow_to(bytes: &mut Vec<u8>, len: u64) -> Result<(), AllocError>
 }
 
 /// Whether there is a new file on which no call has failed.
-fn is_usable(state: NewState) -> bool {
+fn is_usable(state: NewState) -> bool
+    ensures { result ≡ true → is_there state }
+{
     matches!(state, NewState::Unsynced | NewState::Synced)
 }
 

@@ -1,7 +1,7 @@
 -- What a session on a log has done once the log was made anew for a line, or couldn't be.
-use Rattle.std.proofs.Common.{◌≡◌, ℕ, ◌+◌, ◌≤◌, true, List, [], ◌∷◌, ◌++◌, length, take, append-nil, append_assoc, inl, inr, Option, refl, sym, ap, ◌∙◌, subst, arith}
+use Rattle.std.proofs.Common.{◌≡◌, ℕ, ◌+◌, ◌≤◌, true, List, [], ◌∷◌, ◌++◌, length, take, append-nil, append_assoc, inl, inr, ⊎_elim, Option, refl, sym, ap, ◌∙◌, subst, arith}
 use Rattle.std.proofs.Math.Seq.{take-append-add, take-length}
-use Rattle.tt_log.specs.Device.{Left, LeavesOnly, ShowsFirst}
+use Rattle.tt_log.specs.Device.{Left, LeavesOnly, ShowsFirst, RemovesNew}
 use Rattle.tt_log.specs.Lines.{logged}
 use Rattle.tt_log.specs.Log.{Keeps, KeepsEither}
 use Rattle.tt_log.specs.declared.log.Log.{Log}
@@ -22,7 +22,7 @@ use Rattle.tt_durable.specs.OnLog.{Telling, LeavesAnswered, HandedOnLog, Stopped
 use Rattle.tt_lines.specs.Anew.{Forgets}
 use Rattle.tt_durable.specs.Renewing.{IsReadable, KeepsLog, LosesLog, KeepsShowing, HandsOverAlone, FailsAlone}
 use Rattle.tt_session.proofs.LoggedLemmas.{IsAsFar, log-append, log-anew, log-far, far-not-anew, unlogged-append}
-use Rattle.tt_durable.proofs.OnLogLemmas.{leaves-more, leaves-all, new-append, not-anew}
+use Rattle.tt_durable.proofs.OnLogLemmas.{leaves-more, leaves-all, new-append, not-anew, no-new-then, no-new-behind}
 use Rattle.tt_lines.proofs.RunningLemmas.{text-one}
 
 -- a line is read behind others, by which the log is made anew or goes on
@@ -31,7 +31,7 @@ pub record Step (start : Session) (over : List LineRead) (read : LineRead) (line
   pub text_is : (turns_of start (over ++ read ∷ [])).text ≡ (turns_of start over).text ++ text
   pub new_logs : NewLogsAreRead (turns_of start over).session (read ∷ [])
 
-module _ {D : Type 0} (of : Telling D) (may_leave : D → List ℕ → Type 0) (first : D) (start : Session) (over : List LineRead) where
+module _ {D : Type 0} (of : Telling D) (first : D) (start : Session) (over : List LineRead) where
   abbrev lines : List (List ℕ)
   lines = logged (of.seen first)
 
@@ -125,7 +125,8 @@ module _ {D : Type 0} (of : Telling D) (may_leave : D → List ℕ → Type 0) (
     )
 
     module _ (mid after : Log D) (run : LeavesOnly of.moment of.left_since old mid.device (KeepsEither (logged (of.seen old)) new (of.shown old))) (lines_mid : logged (of.seen mid.device) ≡ new)
-        (shown_mid : of.shown mid.device ≡ of.shown old) (failures : of.failures old + unlogged_count (read ∷ []) ≤ of.failures mid.device) where
+        (shown_mid : of.shown mid.device ≡ of.shown old) (failures : of.failures old + unlogged_count (read ∷ []) ≤ of.failures mid.device)
+        (no_new : RemovesNew of.has_new of.failures (unlogged_count (read ∷ [])) old mid.device) where
       showing : (left : Left) → KeepsShowing (logged (of.seen mid.device)) (of.shown mid.device) text left → KeepsShowing new (of.shown old) text left
       showing left p = record { lines_are = p.lines_are ∙ lines_mid; bytes = p.bytes; shown_is = p.shown_is ∙ ap (λ t. t ++ take p.bytes text) shown_mid }
 
@@ -135,8 +136,13 @@ module _ {D : Type 0} (of : Telling D) (may_leave : D → List ℕ → Type 0) (
           moments.joined of.moment of.left_since first mid.device after.device _ _ (LeavesAnswered start lines (over ++ read ∷ []) shown) (renewed mid.device run) last (λ left p. p)
           (λ left p. leaves-showing left (showing left p))
 
+      -- of the new file up to here
+      all-removed : RemovesNew of.has_new of.failures (unlogged_count (over ++ read ∷ [])) first mid.device
+      all-removed =
+          no-new-behind of first old mid.device (unlogged_count over) (unlogged_count (read ∷ [])) (unlogged_count (over ++ read ∷ [])) (unlogged-append over (read ∷ [])) h.no_new h.failures no_new failures
+
       -- the text is handed over
-      pub handed-anew : HandsOverAlone of may_leave mid after text → HandedOnLog of first after.device start (over ++ read ∷ [])
+      pub handed-anew : HandsOverAlone of mid after text → HandedOnLog of first after.device start (over ++ read ∷ [])
       handed-anew alone = record {
         tells = alone.tells;
         lines_are = alone.lines_are ∙ lines_mid ∙ s.lines_are;
@@ -144,6 +150,7 @@ module _ {D : Type 0} (of : Telling D) (may_leave : D → List ℕ → Type 0) (
         any_moment = all-moments alone.any_moment;
         new_logs = all-new;
         failures = omega (arith, h.failures, failures, alone.failures, unlogged-append over (read ∷ []));
+        no_new = no-new-then of first mid.device after.device (unlogged_count (over ++ read ∷ [])) all-removed alone.no_new alone.failures;
       }
 
       -- the output has failed before it had all of it
@@ -158,12 +165,15 @@ module _ {D : Type 0} (of : Telling D) (may_leave : D → List ℕ → Type 0) (
             new_logs = all-new;
             lines_are = alone.lines_are ∙ lines_mid ∙ s.lines_are;
             failed = omega (arith, h.failures, failures, alone.failed, unlogged-append over (read ∷ []));
+            no_new = λ now.
+                ⊎_elim (λ was. inl was) (λ more_failed. inr (omega (arith, more_failed, alone.failed))) (all-removed (alone.no_new now));
           } in
           subst (λ e. StoppedOnLog e of first after.device start ((over ++ read ∷ []) ++ more)) (sym alone.error_is) in_output
 
     -- the name of the new file couldn't be synced
-    pub lost-anew : (before after : Log D) (more : List LineRead) → before.device ≡ old → unlogged_count (read ∷ []) ≡ 0 → LosesLog of before after new → StoppedInLog of first after.device start ((over ++ read ∷ []) ++ more)
-    lost-anew before after more same logs loses = record {
+    pub lost-anew : (before after : Log D) (more : List LineRead) → before.device ≡ old → unlogged_count (read ∷ []) ≡ 0 → LosesLog of before after new
+        → RemovesNew of.has_new of.failures 1 before.device after.device → StoppedInLog of first after.device start ((over ++ read ∷ []) ++ more)
+    lost-anew before after more same logs loses no_new = record {
       answered = over;
       pending = read ∷ [];
       others = more;
@@ -172,12 +182,17 @@ module _ {D : Type 0} (of : Telling D) (may_leave : D → List ℕ → Type 0) (
       any_moment = renewed after.device (subst (λ d. LeavesOnly of.moment of.left_since d after.device (KeepsEither (logged (of.seen d)) new (of.shown d))) same loses.any_moment);
       new_logs = all-new;
       failures = omega (arith, h.failures, ap of.failures same, loses.failed, logs, unlogged-append over (read ∷ []));
-      why = inl (omega (arith, h.failures, ap of.failures same, loses.failed, logs, unlogged-append over (read ∷ [])));
+      why = inl (
+        omega (arith, h.failures, ap of.failures same, loses.failed, logs, unlogged-append over (read ∷ [])),
+        no-new-behind of first old after.device (unlogged_count over) 1 (unlogged_count (over ++ read ∷ []) + 1) (omega (arith, logs, unlogged-append over (read ∷ []))) h.no_new h.failures
+            (subst (λ d. RemovesNew of.has_new of.failures 1 d after.device) same no_new) (omega (arith, ap of.failures same, loses.failed)),
+      );
     }
 
   -- the log goes on as it was
-  pub handed-kept : (old after : Log D) → HandedOnLog of first old.device start over → KeepsLog of may_leave old after → HandedOnLog of first after.device start over
-  handed-kept old after h keeps = record {
+  pub handed-kept : (old after : Log D) → HandedOnLog of first old.device start over → KeepsLog of old after → RemovesNew of.has_new of.failures 0 old.device after.device
+      → HandedOnLog of first after.device start over
+  handed-kept old after h keeps no_new = record {
     tells = keeps.tells;
     lines_are = ap logged keeps.seen ∙ h.lines_are;
     shown_is = keeps.shown ∙ h.shown_is;
@@ -188,4 +203,5 @@ module _ {D : Type 0} (of : Telling D) (may_leave : D → List ℕ → Type 0) (
         (p.shown_is ∙ h.shown_is ∙ ap (λ t. shown ++ t) (sym (take-length (turns_of start over).text))));
     new_logs = h.new_logs;
     failures = omega (arith, h.failures, keeps.failures);
+    no_new = no-new-behind of first old.device after.device (unlogged_count over) 0 (unlogged_count over) (omega arith) h.no_new h.failures no_new (omega (arith, keeps.failures));
   }

@@ -16,7 +16,7 @@ use Rattle.serde_json.specs.Data as spec
 use Rattle.serde_json.specs.Find.{get, get_member}
 use Rattle.serde_json.specs.Read.{max_depth}
 use Rattle.serde_json.proofs.Numbers.{number_of-decimal}
-use Rattle.tt_numbers.specs.Numbers.{Numbering, number_limit, IsNumbering}
+use Rattle.tt_requests.specs.Numbers.{Numbering, number_limit, IsNumbering}
 use Rattle.tt_values.specs.declared.statement.Write.{Write}
 use Rattle.tt_values.specs.declared.action.Action.{Action}
 use Rattle.tt_values.specs.Tables.{Tables, IsCatalog}

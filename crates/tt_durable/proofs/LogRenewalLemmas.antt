@@ -19,10 +19,10 @@ use Rattle.tt_db.specs.State.{State, next_state, first_refusal, IsLegalFrom, IsL
 use Rattle.tt_db.specs.Database.{Database, state_of, now_in, current_of_db, refusal_of, with_entry}
 use Rattle.tt_db.proofs.EntryLemmas.{after-push}
 use Rattle.tt_horizon.specs.Forgetting.{entry_of, ground_worker}
-use Rattle.tt_horizon.specs.Grounds.{inserts_alone, is_inserted, is_of_ground, AreGround, HasGround, emptied}
+use Rattle.tt_horizon.specs.GroundEntries.{inserts_alone, is_inserted, is_of_ground, AreGround, HasGround, emptied}
 use Rattle.tt_horizon.specs.Laying.{with_entries}
 use Rattle.tt_grammar.proofs.EveryLemmas.{Every, every}
-use Rattle.tt_numbers.specs.Numbers.{Numbering, IsNumbering}
+use Rattle.tt_requests.specs.Numbers.{Numbering, IsNumbering}
 use Rattle.tt_requests.specs.LineValue.{value_of_line}
 use Rattle.tt_requests.specs.declared.request.Command.TheVariants as commands
 use Rattle.tt_requests.specs.declared.log_opening.LogOpening.{LogOpening}

@@ -1,8 +1,8 @@
 -- How a session on a log goes on from what was read back.
-use Rattle.std.proofs.Common.{◌≡◌, ◌⊎◌, ℕ, ◌<◌, ◌≤◌, List, [], ◌++◌, length, append-nil, Option, None, Some, inl, inr, refl, sym, ap, ◌∙◌, subst, arith}
+use Rattle.std.proofs.Common.{◌≡◌, ◌⊎◌, ⊎_elim, ℕ, ◌+◌, ◌<◌, ◌≤◌, ◌^◌, List, [], ◌++◌, length, append-nil, Option, None, Some, inl, inr, refl, sym, ap, ◌∙◌, subst, arith}
 use Rattle.std.proofs.Math.Seq.{take-length}
 use Rattle.std.specs.Io.KnownBytes.{Keeps}
-use Rattle.tt_log.specs.Device.{Left, Now, Only, LeavesOnly}
+use Rattle.tt_log.specs.Device.{Left, Now, Only, LeavesOnly, RemovesNew}
 use Rattle.tt_log.specs.Lines.{logged, IsJoined}
 use Rattle.tt_log.specs.Log.{Keeps as KeepsLines, KeepsOnceSynced}
 use Rattle.tt_log.proofs.MomentLemmas as moments
@@ -17,31 +17,31 @@ use Rattle.tt_durable.specs.declared.logged_session.LoggedFault.{LoggedFault}
 use Rattle.tt_durable.specs.declared.logged_session.LoggedFault.TheVariants as faults
 use Rattle.tt_session.specs.Answering.{LineRead, turns_of, unlogged_count}
 use Rattle.tt_durable.specs.Restoring.{NewLogsAreRead, IsNoLine}
-use Rattle.tt_durable.proofs.OnLogLemmas.{leaves-all}
+use Rattle.tt_durable.proofs.OnLogLemmas.{leaves-all, no-new-then}
 use Rattle.tt_lines.specs.Ends.{Fails}
 use Rattle.tt_durable.specs.OnLog.{Telling, LeavesAnswered, HandedOnLog, StoppedInLog, StoppedInOutput, StoppedOnLog}
 use Rattle.tt_durable.specs.LoggedFaults.{fault_of, fault_of_restore, fault_at_start}
 use Rattle.tt_durable.specs.declared.restoring.RestoreFault.{RestoreFault}
 use Rattle.tt_durable.specs.declared.restoring.RestoreFault.TheVariants as restores
-use Rattle.tt_durable.specs.LoggedSession.{Begins, GoesOnLog, StaysOnLog, StaysAsItWas, StopsInLog, StopsInOutput, BeginsOnLog, FailsAtStart, FailsOnLog}
+use Rattle.tt_durable.specs.LoggedSession.{Begins, GoesOnLog, StaysOnLog, StaysAsItWas, StopsInLog, StopsInOutput, BeginsOnLog, FailsToRead, FailsAtStart, FailsOnLog}
 
-module _ {D : Type 0} (of : Telling D) (may_leave : D → List ℕ → Type 0) (device : D) (session : Session) (log : Log D) (begun : BeginsOnLog of may_leave device session log) (after : D) (reads : List LineRead) where
-  pub goes-on : HandedOnLog of log.device after session reads → GoesOnLog of may_leave device after reads
+module _ {D : Type 0} (of : Telling D) (device : D) (session : Session) (log : Log D) (begun : BeginsOnLog of device session log) (after : D) (reads : List LineRead) where
+  pub goes-on : HandedOnLog of log.device after session reads → GoesOnLog of device after reads
   goes-on h = record { start = session; begun = log.device; begins = begun.begins; goes_on = h }
 
-  pub stops-in-log : StoppedInLog of log.device after session reads → StopsInLog of may_leave device after reads
+  pub stops-in-log : StoppedInLog of log.device after session reads → StopsInLog of device after reads
   stops-in-log h = record { start = session; begun = log.device; begins = begun.begins; stops = h }
 
-  pub stops-in-output : StoppedInOutput of log.device after session reads → StopsInOutput of may_leave device after reads
+  pub stops-in-output : StoppedInOutput of log.device after session reads → StopsInOutput of device after reads
   stops-in-output h = record { start = session; begun = log.device; begins = begun.begins; stops = h }
 
 -- a session has stopped on a log with this error
-abbrev pub StopsFor : {D : Type 0} → Option LogError → Telling D → (D → List ℕ → Type 0) → D → D → List LineRead → Type 0
-StopsFor (Some errors.HandOver) of may_leave before after reads = StopsInOutput of may_leave before after reads
-StopsFor error of may_leave before after reads = StopsInLog of may_leave before after reads
+abbrev pub StopsFor : {D : Type 0} → Option LogError → Telling D → D → D → List LineRead → Type 0
+StopsFor (Some errors.HandOver) of before after reads = StopsInOutput of before after reads
+StopsFor error of before after reads = StopsInLog of before after reads
 
-pub stops-for : {D : Type 0} (error : Option LogError) (of : Telling D) (may_leave : D → List ℕ → Type 0) (device : D) (session : Session) (log : Log D) (begun : BeginsOnLog of may_leave device session log)
-    (after : D) (reads : List LineRead) → StoppedOnLog error of log.device after session reads → StopsFor error of may_leave device after reads
+pub stops-for : {D : Type 0} (error : Option LogError) (of : Telling D) (device : D) (session : Session) (log : Log D) (begun : BeginsOnLog of device session log)
+    (after : D) (reads : List LineRead) → StoppedOnLog error of log.device after session reads → StopsFor error of device after reads
 stops-for None = stops-in-log
 stops-for (Some errors.Read) = stops-in-log
 stops-for (Some errors.Write) = stops-in-log
@@ -49,14 +49,14 @@ stops-for (Some errors.Full) = stops-in-log
 stops-for (Some errors.HandOver) = stops-in-output
 
 -- the session didn't begin
-pub fails-at-start : {D : Type 0} (fault : LoggedFault) (unread left : Option (List ℕ)) (of : Telling D) (may_leave : D → List ℕ → Type 0) (before after : D) → Keeps unread left → FailsAtStart fault of may_leave before after
-    → FailsOnLog fault unread left of may_leave before after
-fails-at-start faults.Read unread left of may_leave before after kept p = absurd p
-fails-at-start faults.Write unread left of may_leave before after kept p = absurd p
-fails-at-start faults.Memory unread left of may_leave before after kept p = (kept, p)
-fails-at-start faults.LogRead unread left of may_leave before after kept p = (kept, p)
-fails-at-start (faults.LogLine number) unread left of may_leave before after kept p = (kept, p)
-fails-at-start faults.LogWrite unread left of may_leave before after kept p = inl (kept, p)
+pub fails-at-start : {D : Type 0} (fault : LoggedFault) (unread left : Option (List ℕ)) (of : Telling D) (before after : D) → Keeps unread left → FailsAtStart fault of before after
+    → FailsOnLog fault unread left of before after
+fails-at-start faults.Read unread left of before after kept p = absurd p
+fails-at-start faults.Write unread left of before after kept p = absurd p
+fails-at-start faults.Memory unread left of before after kept p = (kept, p)
+fails-at-start faults.LogRead unread left of before after kept p = (kept, p)
+fails-at-start (faults.LogLine number) unread left of before after kept p = (kept, p)
+fails-at-start faults.LogWrite unread left of before after kept p = inl (kept, p)
 
 -- nothing was read
 pub keeps-same : (unread : Option (List ℕ)) → Keeps unread unread
@@ -64,47 +64,50 @@ keeps-same None = tt
 keeps-same (Some xs) = refl
 
 -- it has ended early
-pub fails-on-log : {D : Type 0} (fault : SessionFault) (error : Option LogError) (unread left : Option (List ℕ)) (of : Telling D) (may_leave : D → List ℕ → Type 0) (before after : D)
-    → Fails fault unread left (GoesOnLog of may_leave before after) (StopsFor error of may_leave before after) → FailsOnLog (fault_of fault error) unread left of may_leave before after
-fails-on-log ends.Read error unread left of may_leave before after p = p
-fails-on-log ends.Memory error unread left of may_leave before after p = absurd p
-fails-on-log ends.Write None unread left of may_leave before after p = inr p
-fails-on-log ends.Write (Some errors.Read) unread left of may_leave before after p = inr p
-fails-on-log ends.Write (Some errors.Write) unread left of may_leave before after p = inr p
-fails-on-log ends.Write (Some errors.Full) unread left of may_leave before after p = inr p
-fails-on-log ends.Write (Some errors.HandOver) unread left of may_leave before after p = p
+pub fails-on-log : {D : Type 0} (fault : SessionFault) (error : Option LogError) (unread left : Option (List ℕ)) (of : Telling D) (before after : D)
+    → Fails fault unread left (GoesOnLog of before after) (StopsFor error of before after) → FailsOnLog (fault_of fault error) unread left of before after
+fails-on-log ends.Read error unread left of before after p = p
+fails-on-log ends.Memory error unread left of before after p = absurd p
+fails-on-log ends.Write None unread left of before after p = inr p
+fails-on-log ends.Write (Some errors.Read) unread left of before after p = inr p
+fails-on-log ends.Write (Some errors.Write) unread left of before after p = inr p
+fails-on-log ends.Write (Some errors.Full) unread left of before after p = inr p
+fails-on-log ends.Write (Some errors.HandOver) unread left of before after p = p
 
 -- ---- a file that stays
 
-module _ {D : Type 0} (of : Telling D) (may_leave : D → List ℕ → Type 0) (device : D) (only_now : (c : Left) → of.left_since device (of.moment device) c → Now (may_leave device) (of.shown device) c) where
+module _ {D : Type 0} (of : Telling D) (device : D) (only_now : (c : Left) → of.left_since device (of.moment device) c → Now (of.may_leave device) (of.shown device) c) where
   -- nothing was done
-  pub stays-untouched : StaysAsItWas of may_leave device device
+  pub stays-untouched : StaysAsItWas of device device
   stays-untouched = record {
     stays = record {
-      any_moment = moments.started of.moment of.left_since device (KeepsOnceSynced (may_leave device) (logged (of.seen device)) (of.shown device))
-          (λ c now. earlier (may_leave device) (may_leave device) (logged (of.seen device)) (of.shown device) (λ f left. left) c (only_now c now));
+      any_moment = moments.started of.moment of.left_since device (KeepsOnceSynced (of.may_leave device) (logged (of.seen device)) (of.shown device))
+          (λ c now. earlier (of.may_leave device) (of.may_leave device) (logged (of.seen device)) (of.shown device) (λ f left. left) c (only_now c now));
       shown_is = refl;
     };
     seen = refl;
+    no_new = λ now. inl now;
   }
 
 -- ---- the end
 
 -- A log was ended: its file is its lines and nothing else, all of it on the disk. A crash on the way leaves the same lines, and nothing was handed over.
-pub record EndsLog {D : Type 0} (of : Telling D) (may_leave : D → List ℕ → Type 0) (before after : D) : Type 0 where
+pub record EndsLog {D : Type 0} (of : Telling D) (before after : D) : Type 0 where
   pub tells : of.tells after
   pub lines : IsJoined (of.seen after)
   pub lines_are : logged (of.seen after) ≡ logged (of.seen before)
-  pub durable : Only (of.seen after) (may_leave after)
+  pub durable : Only (of.seen after) (of.may_leave after)
   pub shown_is : of.shown after ≡ of.shown before
   pub any_moment : LeavesOnly of.moment of.left_since before after (KeepsLines (logged (of.seen before)) (of.shown before))
   pub failures : of.failures before ≤ of.failures after
+  pub no_new : of.has_new after → of.has_new before
 
 -- a log couldn't be ended, and a crash leaves the same lines
 pub record FailsToEnd {D : Type 0} (of : Telling D) (before after : D) : Type 0 where
   pub shown_is : of.shown after ≡ of.shown before
   pub any_moment : LeavesOnly of.moment of.left_since before after (KeepsLines (logged (of.seen before)) (of.shown before))
   pub failed : of.failures before < of.failures after
+  pub no_new : of.has_new after → of.has_new before
 
 module _ {D : Type 0} (of : Telling D) (begun mid after : D) (start : Session) (reads : List LineRead) (handed : HandedOnLog of begun mid start reads) where
   leaves : (left : Left) → KeepsLines (logged (of.seen mid)) (of.shown mid) left → LeavesAnswered start (logged (of.seen begun)) reads (of.shown begun) left
@@ -118,14 +121,15 @@ module _ {D : Type 0} (of : Telling D) (begun mid after : D) (start : Session) (
       moments.joined of.moment of.left_since begun mid after (LeavesAnswered start (logged (of.seen begun)) reads (of.shown begun)) (KeepsLines (logged (of.seen mid)) (of.shown mid))
       (LeavesAnswered start (logged (of.seen begun)) reads (of.shown begun)) handed.any_moment ending (λ c l. l) leaves
 
-  pub handed-ended : (may_leave : D → List ℕ → Type 0) → EndsLog of may_leave mid after → HandedOnLog of begun after start reads
-  handed-ended may_leave e = record {
+  pub handed-ended : EndsLog of mid after → HandedOnLog of begun after start reads
+  handed-ended e = record {
     tells = e.tells;
     lines_are = e.lines_are ∙ handed.lines_are;
     shown_is = e.shown_is ∙ handed.shown_is;
     any_moment = run e.any_moment;
     new_logs = handed.new_logs;
     failures = omega (arith, handed.failures, e.failures);
+    no_new = no-new-then of begun mid after (unlogged_count reads) handed.no_new e.no_new e.failures;
   }
 
   -- all answers are handed over, and the log isn't ended
@@ -141,32 +145,37 @@ module _ {D : Type 0} (of : Telling D) (begun mid after : D) (start : Session) (
         any_moment = subst (λ rs. LeavesOnly of.moment of.left_since begun after (LeavesAnswered start (logged (of.seen begun)) rs (of.shown begun))) (sym all) (run f.any_moment);
         new_logs = subst (NewLogsAreRead start) (sym all) handed.new_logs;
         failures = omega (arith, handed.failures, f.failed, ap unlogged_count all);
-        why = inl (omega (arith, handed.failures, f.failed, ap unlogged_count all));
+        why = inl (
+          omega (arith, handed.failures, f.failed, ap unlogged_count all),
+          λ now. ⊎_elim (λ was. inl was) (λ more_failed. inr (omega (arith, more_failed, f.failed, ap unlogged_count all))) (handed.no_new (f.no_new now)),
+        );
       }
 
-  pub goes-ended : (may_leave : D → List ℕ → Type 0) (device : D) → Begins of may_leave device begun start → EndsLog of may_leave mid after → GoesOnLog of may_leave device after reads
-  goes-ended may_leave device begins e = record { start = start; begun = begun; begins = begins; goes_on = handed-ended may_leave e }
+  pub goes-ended : (device : D) → Begins of device begun start → EndsLog of mid after → GoesOnLog of device after reads
+  goes-ended device begins e = record { start = start; begun = begun; begins = begins; goes_on = handed-ended e }
 
-  pub stops-ending : (may_leave : D → List ℕ → Type 0) (device : D) → Begins of may_leave device begun start → FailsToEnd of mid after → StopsInLog of may_leave device after reads
-  stops-ending may_leave device begins f = record { start = start; begun = begun; begins = begins; stops = stopped-ending f }
+  pub stops-ending : (device : D) → Begins of device begun start → FailsToEnd of mid after → StopsInLog of device after reads
+  stops-ending device begins f = record { start = start; begun = begun; begins = begins; stops = stopped-ending f }
 
 -- ---- the start
 
-module _ {D : Type 0} (of : Telling D) (may_leave : D → List ℕ → Type 0) (before after : D) where
+module _ {D : Type 0} (of : Telling D) (before after : D) where
   -- the log can't be read back
-  pub fails-restoring : (fault : RestoreFault) → StaysAsItWas of may_leave before after → ((n : ℕ) → fault ≡ restores.Line n → IsNoLine (logged (of.seen before)) n)
-      → FailsAtStart (fault_of_restore fault) of may_leave before after
-  fails-restoring restores.Read stays no_line = stays
-  fails-restoring (restores.Line n) stays no_line = record { stays = stays; is_no_line = no_line n refl }
-  fails-restoring restores.Memory stays no_line = stays
+  pub fails-restoring : (fault : RestoreFault) → StaysAsItWas of before after → (fault ≡ restores.Read → of.cannot_read after ⊎ (2 ^ 60 ≤ length (of.seen before))) → ((n : ℕ) → fault ≡ restores.Line n → IsNoLine (logged (of.seen before)) n)
+      → FailsAtStart (fault_of_restore fault) of before after
+  fails-restoring restores.Read stays why no_line = record { stays = stays; why = why refl }
+  fails-restoring (restores.Line n) stays why no_line = record { stays = stays; is_no_line = no_line n refl }
+  fails-restoring restores.Memory stays why no_line = stays
 
   -- its lines can't be put on the disk
-  pub fails-settling : (error : LogError) → (error ≡ errors.Read) ⊎ (error ≡ errors.Write) → StaysOnLog of may_leave before after
-      → (error ≡ errors.Read → of.seen after ≡ of.seen before) → (error ≡ errors.Write → of.failures before < of.failures after)
-      → FailsAtStart (fault_at_start error) of may_leave before after
-  fails-settling errors.Read either stays seen failed = record { stays = stays; seen = seen refl }
-  fails-settling errors.Write either stays seen failed = record { stays = stays; failed = failed refl }
-  fails-settling errors.Full (inl is) stays seen failed = absurd (cc)
-  fails-settling errors.Full (inr is) stays seen failed = absurd (cc)
-  fails-settling errors.HandOver (inl is) stays seen failed = absurd (cc)
-  fails-settling errors.HandOver (inr is) stays seen failed = absurd (cc)
+  pub fails-settling : (error : LogError) → (error ≡ errors.Read) ⊎ (error ≡ errors.Write) → StaysOnLog of before after
+      → (error ≡ errors.Read → of.seen after ≡ of.seen before) → (error ≡ errors.Read → of.cannot_read after) → (error ≡ errors.Read → RemovesNew of.has_new of.failures 0 before after)
+      → (error ≡ errors.Write → of.failures before < of.failures after) → (error ≡ errors.Write → RemovesNew of.has_new of.failures 1 before after)
+      → FailsAtStart (fault_at_start error) of before after
+  fails-settling errors.Read either stays seen why gone failed left =
+      record { stays = record { stays = stays; seen = seen refl; no_new = gone refl }; why = inl (why refl) }
+  fails-settling errors.Write either stays seen why gone failed left = record { stays = stays; failed = failed refl; no_new = left refl }
+  fails-settling errors.Full (inl is) stays seen why gone failed left = absurd (cc)
+  fails-settling errors.Full (inr is) stays seen why gone failed left = absurd (cc)
+  fails-settling errors.HandOver (inl is) stays seen why gone failed left = absurd (cc)
+  fails-settling errors.HandOver (inr is) stays seen why gone failed left = absurd (cc)

@@ -1,7 +1,7 @@
 -- What a crash leaves of a session whose lines are logged.
-use Rattle.std.proofs.Common.{◌≡◌, ℕ, ◌+◌, ◌≤◌, ◌^◌, Bool, true, false, List, [], ◌∷◌, ◌++◌, length, take, append-nil, append_assoc, length-append, inl, inr, Option, Result, Err, refl, sym, ap, ◌∙◌, subst, arith}
+use Rattle.std.proofs.Common.{◌≡◌, ◌⊎◌, ⊎_elim, ℕ, ◌+◌, ◌≤◌, ◌^◌, Bool, true, false, List, [], ◌∷◌, ◌++◌, length, take, append-nil, append_assoc, length-append, inl, inr, Option, Result, Err, refl, sym, ap, ◌∙◌, subst, arith}
 use Rattle.std.proofs.Math.Seq.{take-append-add, take-length}
-use Rattle.tt_log.specs.Device.{Left, Now, Only, ShowsFirst}
+use Rattle.tt_log.specs.Device.{Left, Now, Only, ShowsFirst, RemovesNew}
 use Rattle.tt_log.specs.Lines.{logged, joined}
 use Rattle.tt_log.specs.Log.{KeepsFirst, KeepsAnswered}
 use Rattle.tt_log.specs.declared.log_error.LogError.{LogError}
@@ -141,10 +141,21 @@ why-stopped result errors.HandOver P is write hand_over full read = hand_over is
 why-stopped result errors.Full P is write hand_over full read = full is
 why-stopped result errors.Read P is write hand_over full read = absurd (read is)
 
+-- calls that make no new file
+pub no-new-then : {D : Type 0} (of : Telling D) (before mid after : D) (count : ℕ) → RemovesNew of.has_new of.failures count before mid → (of.has_new after → of.has_new mid) → of.failures mid ≤ of.failures after
+    → RemovesNew of.has_new of.failures count before after
+no-new-then of before mid after count p less later now = ⊎_elim (λ was. inl was) (λ failed. inr (omega (arith, failed, later))) (p (less now))
+
+-- calls behind which a new file is left only where the device has failed so many times more
+pub no-new-behind : {D : Type 0} (of : Telling D) (before mid after : D) (count more all : ℕ) → all ≡ count + more → RemovesNew of.has_new of.failures count before mid → of.failures before + count ≤ of.failures mid
+    → RemovesNew of.has_new of.failures more mid after → of.failures mid + more ≤ of.failures after → RemovesNew of.has_new of.failures all before after
+no-new-behind of before mid after count more all is p least q later now =
+    ⊎_elim (λ was. ⊎_elim (λ first. inl first) (λ failed. inr (omega (arith, is, failed, later))) (p was)) (λ failed. inr (omega (arith, is, failed, least))) (q now)
+
 -- nothing was read since a moment at which the lines were on the disk
-pub handed-none : {D : Type 0} (of : Telling D) (may_leave : D → List ℕ → Type 0) (device : D) (start : Session) → of.tells device → Only (of.seen device) (may_leave device)
-    → ((left : Left) → of.left_since device (of.moment device) left → Now (may_leave device) (of.shown device) left) → HandedOnLog of device device start []
-handed-none of may_leave device start told durable only_now = record {
+pub handed-none : {D : Type 0} (of : Telling D) (device : D) (start : Session) → of.tells device → Only (of.seen device) (of.may_leave device)
+    → ((left : Left) → of.left_since device (of.moment device) left → Now (of.may_leave device) (of.shown device) left) → HandedOnLog of device device start []
+handed-none of device start told durable only_now = record {
   tells = told;
   lines_are = refl;
   shown_is = sym (append-nil (of.shown device));
@@ -155,6 +166,7 @@ handed-none of may_leave device start told durable only_now = record {
       leaves-none start (logged (of.seen device)) (of.shown device) left (ap logged (durable left.file now.0)) now.1);
   new_logs = tt;
   failures = omega arith;
+  no_new = λ now. inl now;
 }
 
 -- of the same devices

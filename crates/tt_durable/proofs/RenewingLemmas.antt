@@ -17,7 +17,7 @@ use Rattle.tt_durable.specs.OnLog.{Telling}
 use Rattle.tt_session.specs.LogLines.{line_of_entry, lines_of_entries}
 use Rattle.tt_durable.specs.declared.log_renewal.RenewFault.{RenewFault}
 use Rattle.tt_durable.specs.declared.log_renewal.RenewFault.TheVariants as faults
-use Rattle.tt_durable.specs.Renewing.{FailsToRenew, KeepsLog, TakesLines, LosesLog, IsWriting, KeepsShowing}
+use Rattle.tt_durable.specs.Renewing.{FailsToRenew, FailsToWrite, failures_by, KeepsLog, TakesLines, LosesLog, IsWriting, KeepsShowing}
 
 -- what holds of an error gives what holds of it
 pub fails-then : {A E : Type 0} (F G : E → Type 0) (r : Result A E) → IfErr r F → ((e : E) → F e → G e) → IfErr r G
@@ -57,10 +57,10 @@ pub all-one : {X : Type 0} (P : X → Type 0) (x : X) → P x → All P (x ∷ [
 all-one P x p zero d less = p
 all-one P x p (suc k) d less = absurd (omega arith)
 
-module _ {D : Type 0} (of : Telling D) (may_leave : D → List ℕ → Type 0) where
+module _ {D : Type 0} (of : Telling D) where
   -- before the first call
-  pub keeps-none : (log : Log D) → of.tells log.device → IsSettled of.seen may_leave log → ((left : Left) → of.left_since log.device (of.moment log.device) left → Now (may_leave log.device) (of.shown log.device) left)
-      → KeepsLog of may_leave log log
+  pub keeps-none : (log : Log D) → of.tells log.device → IsSettled of.seen of.may_leave log → ((left : Left) → of.left_since log.device (of.moment log.device) left → Now (of.may_leave log.device) (of.shown log.device) left)
+      → KeepsLog of log log
   keeps-none log told settled only_now = record {
     tells = told;
     settled = settled;
@@ -75,10 +75,10 @@ module _ {D : Type 0} (of : Telling D) (may_leave : D → List ℕ → Type 0) w
   }
 
   -- the same lines and the same text were there before
-  moved : (before mid : Log D) → KeepsLog of may_leave before mid → (left : Left) → Keeps (logged (of.seen mid.device)) (of.shown mid.device) left → Keeps (logged (of.seen before.device)) (of.shown before.device) left
+  moved : (before mid : Log D) → KeepsLog of before mid → (left : Left) → Keeps (logged (of.seen mid.device)) (of.shown mid.device) left → Keeps (logged (of.seen before.device)) (of.shown before.device) left
   moved before mid p left q = record { lines_are = q.lines_are ∙ ap logged p.seen; shown_is = q.shown_is ∙ p.shown }
 
-  pub keeps-trans : (before mid after : Log D) → KeepsLog of may_leave before mid → KeepsLog of may_leave mid after → KeepsLog of may_leave before after
+  pub keeps-trans : (before mid after : Log D) → KeepsLog of before mid → KeepsLog of mid after → KeepsLog of before after
   keeps-trans before mid after p q = record {
     tells = q.tells;
     settled = q.settled;
@@ -89,12 +89,12 @@ module _ {D : Type 0} (of : Telling D) (may_leave : D → List ℕ → Type 0) w
     failures = omega (arith, p.failures, q.failures);
   }
 
-  moved-either : (before mid : Log D) (lines : List (List ℕ)) → KeepsLog of may_leave before mid → (left : Left) → KeepsEither (logged (of.seen mid.device)) lines (of.shown mid.device) left
+  moved-either : (before mid : Log D) (lines : List (List ℕ)) → KeepsLog of before mid → (left : Left) → KeepsEither (logged (of.seen mid.device)) lines (of.shown mid.device) left
       → KeepsEither (logged (of.seen before.device)) lines (of.shown before.device) left
   moved-either before mid lines p left (inl q) = inl (moved before mid p left q)
   moved-either before mid lines p left (inr q) = inr (record { lines_are = q.lines_are; shown_is = q.shown_is ∙ p.shown })
 
-  pub takes-behind : (before mid after : Log D) (lines : List (List ℕ)) → KeepsLog of may_leave before mid → TakesLines of may_leave mid after lines → TakesLines of may_leave before after lines
+  pub takes-behind : (before mid after : Log D) (lines : List (List ℕ)) → KeepsLog of before mid → TakesLines of mid after lines → TakesLines of before after lines
   takes-behind before mid after lines p q = record {
     tells = q.tells;
     settled = q.settled;
@@ -106,7 +106,7 @@ module _ {D : Type 0} (of : Telling D) (may_leave : D → List ℕ → Type 0) w
     failures = omega (arith, p.failures, q.failures);
   }
 
-  pub loses-behind : (before mid after : Log D) (lines : List (List ℕ)) → KeepsLog of may_leave before mid → LosesLog of mid after lines → LosesLog of before after lines
+  pub loses-behind : (before mid after : Log D) (lines : List (List ℕ)) → KeepsLog of before mid → LosesLog of mid after lines → LosesLog of before after lines
   loses-behind before mid after lines p q = record {
     shown = q.shown ∙ p.shown;
     any_moment =
@@ -115,64 +115,69 @@ module _ {D : Type 0} (of : Telling D) (may_leave : D → List ℕ → Type 0) w
     failed = omega (arith, p.failures, q.failed);
   }
 
-  pub fails-behind : (fault : RenewFault) (before mid after : Log D) (lines : List (List ℕ)) → KeepsLog of may_leave before mid → FailsToRenew fault of may_leave mid after lines
-      → FailsToRenew fault of may_leave before after lines
+  pub fails-behind : (fault : RenewFault) (before mid after : Log D) (lines : List (List ℕ)) → KeepsLog of before mid → FailsToRenew fault of mid after lines
+      → FailsToRenew fault of before after lines
   fails-behind faults.Memory before mid after lines p q = keeps-trans before mid after p q
   fails-behind faults.Kept before mid after lines p q = (keeps-trans before mid after p q.0, omega (arith, p.failures, q.1))
   fails-behind faults.Lost before mid after lines p q = loses-behind before mid after lines p q
 
+  -- so often has the device failed
+  pub failed-by : (fault : RenewFault) (before after : Log D) → FailsToWrite fault of before after → of.failures before.device + failures_by fault ≤ of.failures after.device
+  failed-by faults.Memory before after p = omega (arith, p.failures)
+  failed-by faults.Kept before after p = omega (arith, p.1)
+  failed-by faults.Lost before after p = absurd p
+
   -- ---- the lines of the new file
 
-  module _ (new_file : D → List ℕ) where
-    -- a line more is to follow
-    pub writing-push : (before log : Log D) (pending more all : List (List ℕ)) (line : List ℕ) → IsWriting of may_leave new_file before log pending all → IsLine line → more ≡ pending ++ line ∷ []
-        → IsWriting of may_leave new_file before log more (all ++ line ∷ [])
-    writing-push before log pending more all line p is more_is = record {
-      keeps = p.keeps;
-      making = p.making;
-      written =
-          ap (λ ls. new_file log.device ++ joined ls) more_is ∙ ap (λ bs. new_file log.device ++ bs) (joined-append pending (line ∷ []))
-          ∙ sym (append_assoc (new_file log.device) (joined pending) (joined (line ∷ []))) ∙ ap (λ bs. bs ++ joined (line ∷ [])) p.written
-          ∙ sym (joined-append all (line ∷ []));
-      are_lines = AreLines-append all (line ∷ []) p.are_lines (is, tt);
-    }
+  -- a line more is to follow
+  pub writing-push : (before log : Log D) (pending more all : List (List ℕ)) (line : List ℕ) → IsWriting of before log pending all → IsLine line → more ≡ pending ++ line ∷ []
+      → IsWriting of before log more (all ++ line ∷ [])
+  writing-push before log pending more all line p is more_is = record {
+    keeps = p.keeps;
+    making = p.making;
+    written =
+        ap (λ ls. of.new_file log.device ++ joined ls) more_is ∙ ap (λ bs. of.new_file log.device ++ bs) (joined-append pending (line ∷ []))
+        ∙ sym (append_assoc (of.new_file log.device) (joined pending) (joined (line ∷ []))) ∙ ap (λ bs. bs ++ joined (line ∷ [])) p.written
+        ∙ sym (joined-append all (line ∷ []));
+    are_lines = AreLines-append all (line ∷ []) p.are_lines (is, tt);
+  }
 
-    -- those that were to follow are written
-    pub writing-flush : (before log after : Log D) (pending all : List (List ℕ)) → IsWriting of may_leave new_file before log pending all → KeepsLog of may_leave log after → IsMaking new_file after
-        → new_file after.device ≡ new_file log.device ++ joined pending → IsWriting of may_leave new_file before after [] all
-    writing-flush before log after pending all p keeps making pushed = record {
-      keeps = keeps-trans before log after p.keeps keeps;
-      making = making;
-      written = append-nil (new_file after.device) ∙ pushed ∙ p.written;
-      are_lines = p.are_lines;
-    }
+  -- those that were to follow are written
+  pub writing-flush : (before log after : Log D) (pending all : List (List ℕ)) → IsWriting of before log pending all → KeepsLog of log after → IsMaking of.new_file after
+      → of.new_file after.device ≡ of.new_file log.device ++ joined pending → IsWriting of before after [] all
+  writing-flush before log after pending all p keeps making pushed = record {
+    keeps = keeps-trans before log after p.keeps keeps;
+    making = making;
+    written = append-nil (of.new_file after.device) ∙ pushed ∙ p.written;
+    are_lines = p.are_lines;
+  }
 
-    -- further lines are written, or are to follow
-    abbrev pub WritesOn : Log D → Log D → List (List ℕ) → List (List ℕ) → List (List ℕ) → Type 0
-    WritesOn old new pending following more =
-        (before : Log D) (all : List (List ℕ)) → IsWriting of may_leave new_file before old pending all → IsWriting of may_leave new_file before new following (all ++ more)
+  -- further lines are written, or are to follow
+  abbrev pub WritesOn : Log D → Log D → List (List ℕ) → List (List ℕ) → List (List ℕ) → Type 0
+  WritesOn old new pending following more =
+      (before : Log D) (all : List (List ℕ)) → IsWriting of before old pending all → IsWriting of before new following (all ++ more)
 
-    pub writes-more : (old mid new : Log D) (pending following last first more both : List (List ℕ)) → both ≡ first ++ more → WritesOn old mid pending following first → WritesOn mid new following last more
-        → WritesOn old new pending last both
-    writes-more old mid new pending following last first more both is p q before all w =
-        subst (λ ls. IsWriting of may_leave new_file before new last ls) (append_assoc all first more ∙ ap (λ ls. all ++ ls) (sym is)) (q before (all ++ first) (p before all w))
+  pub writes-more : (old mid new : Log D) (pending following last first more both : List (List ℕ)) → both ≡ first ++ more → WritesOn old mid pending following first → WritesOn mid new following last more
+      → WritesOn old new pending last both
+  writes-more old mid new pending following last first more both is p q before all w =
+      subst (λ ls. IsWriting of before new last ls) (append_assoc all first more ∙ ap (λ ls. all ++ ls) (sym is)) (q before (all ++ first) (p before all w))
 
-    -- nothing is written yet
-    pub writing-none : (log : Log D) (pending : List (List ℕ)) → pending ≡ [] → KeepsLog of may_leave log log → IsMaking new_file log → new_file log.device ≡ [] → IsWriting of may_leave new_file log log pending []
-    writing-none log pending none keeps making empty = record {
-      keeps = keeps;
-      making = making;
-      written = ap (λ ls. new_file log.device ++ joined ls) none ∙ append-nil (new_file log.device) ∙ empty;
-      are_lines = tt;
-    }
+  -- nothing is written yet
+  pub writing-none : (log : Log D) (pending : List (List ℕ)) → pending ≡ [] → KeepsLog of log log → IsMaking of.new_file log → of.new_file log.device ≡ [] → IsWriting of log log pending []
+  writing-none log pending none keeps making empty = record {
+    keeps = keeps;
+    making = making;
+    written = ap (λ ls. of.new_file log.device ++ joined ls) none ∙ append-nil (of.new_file log.device) ∙ empty;
+    are_lines = tt;
+  }
 
-    -- all are written
-    pub all-written : (before log : Log D) (all : List (List ℕ)) → IsWriting of may_leave new_file before log [] all → (logged (new_file log.device) ≡ all) × IsJoined (new_file log.device)
-    all-written before log all p =
-        let bytes : new_file log.device ≡ joined all = sym (append-nil (new_file log.device)) ∙ p.written in
-        let lines : logged (new_file log.device) ≡ all =
-        ap logged bytes ∙ ap logged (sym (append-nil (joined all))) ∙ logged-joined all [] p.are_lines ∙ append-nil all in
-        (lines, bytes ∙ ap joined (sym lines))
+  -- all are written
+  pub all-written : (before log : Log D) (all : List (List ℕ)) → IsWriting of before log [] all → (logged (of.new_file log.device) ≡ all) × IsJoined (of.new_file log.device)
+  all-written before log all p =
+      let bytes : of.new_file log.device ≡ joined all = sym (append-nil (of.new_file log.device)) ∙ p.written in
+      let lines : logged (of.new_file log.device) ≡ all =
+      ap logged bytes ∙ ap logged (sym (append-nil (joined all))) ∙ logged-joined all [] p.are_lines ∙ append-nil all in
+      (lines, bytes ∙ ap joined (sym lines))
 
 -- a text that is handed over with no lines
 pub shows-none : (lines : List (List ℕ)) (shown text : List ℕ) (left : Left) → KeepsAnswered lines [] shown text left → KeepsShowing lines shown text left

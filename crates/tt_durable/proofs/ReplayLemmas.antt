@@ -5,7 +5,7 @@ use Rattle.tt_db.specs.Database.{Database}
 use Rattle.tt_grammar.specs.declared.fault.DocFault.{DocFault}
 use Rattle.tt_grammar.specs.Version.{newest_version}
 use Rattle.tt_requests.specs.declared.opening.Opening.{Opening}
-use Rattle.tt_numbers.specs.Numbers.{Numbering}
+use Rattle.tt_requests.specs.Numbers.{Numbering}
 use Rattle.tt_requests.specs.declared.request.Request.{Request}
 use Rattle.tt_requests.specs.Lines.{is_passed_over, is_too_long}
 use Rattle.tt_requests.specs.LineValue.{value_of_line}

@@ -1,6 +1,6 @@
 -- What is printed into a log that is made anew is read from it as the same; and its opening is none for an input.
 use Rattle.std.specs.Prelude.{◌≡◌, ℕ, ◌^◌, ◌<◌, ◌≤◌, false, List, All, None, Result, Ok, IsErr}
-use Rattle.tt_numbers.specs.Numbers.{Numbering, IsNumbering}
+use Rattle.tt_requests.specs.Numbers.{Numbering, IsNumbering}
 use Rattle.tt_values.specs.declared.action.Action.{Action}
 use Rattle.tt_values.specs.Tables.{Tables, IsCatalog}
 use Rattle.tt_values.specs.Check.{action_fault}

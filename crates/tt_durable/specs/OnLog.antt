@@ -1,6 +1,7 @@
 -- How a session goes on whose lines are logged, and what a crash leaves of it.
 use Rattle.std.specs.Prelude.{◌≡◌, ◌⊎◌, ℕ, ◌+◌, ◌<◌, ◌≤◌, ◌^◌, List, ◌++◌, length, take, Option, Some}
-use Rattle.tt_log.specs.Device.{Left, LeavesOnly, ShowsFirst}
+use Rattle.tt_log.specs.Device.{Left, LeavesOnly, ShowsFirst, RemovesNew}
+use Rattle.tt_log.specs.declared.device.Device.{Ghosts}
 use Rattle.tt_log.specs.declared.log_error.LogError.{LogError}
 use Rattle.tt_log.specs.declared.log_error.LogError.TheVariants as errors
 use Rattle.tt_log.specs.Lines.{logged, joined}
@@ -20,19 +21,10 @@ pub record LeavesAnswered (start : Session) (lines : List (List ℕ)) (reads : L
   pub shown_is : left.shown ≡ shown ++ take bytes (turns_of start answered).text
 
 -- what a device tells of itself
-pub record Telling (D : Type 0) : Type 1 where
-  pub tells : D → Type 0
-  pub seen : D → List ℕ
-  pub shown : D → List ℕ
-  pub moment : D → ℕ
-  pub left_since : D → ℕ → Left → Type 0
-  pub failures : D → ℕ
+abbrev pub Telling : Type 0 → Type 1
+Telling D = Ghosts D
 
-abbrev pub telling : {D : Type 0} → (D → Type 0) → (D → List ℕ) → (D → List ℕ) → (D → ℕ) → (D → ℕ → Left → Type 0) → (D → ℕ) → Telling D
-telling tells seen shown moment left_since failures =
-    record { tells = tells; seen = seen; shown = shown; moment = moment; left_since = left_since; failures = failures }
-
--- Since a device was like this, the answers to lines that a session read were handed over, and its log is the one after these lines. The device has failed each time that it couldn't be made anew.
+-- Since a device was like this, the answers to lines that a session read were handed over, and its log is the one after these lines. The device has failed each time that it couldn't be made anew, and once more where a new file of the device is left that wasn't there.
 pub record HandedOnLog {D : Type 0} (of : Telling D) (before after : D) (start : Session) (reads : List LineRead) : Type 0 where
   pub tells : of.tells after
   pub lines_are : logged (of.seen after) ≡ log_after (logged (of.seen before)) start reads
@@ -40,10 +32,17 @@ pub record HandedOnLog {D : Type 0} (of : Telling D) (before after : D) (start :
   pub any_moment : LeavesOnly of.moment of.left_since before after (LeavesAnswered start (logged (of.seen before)) reads (of.shown before))
   pub new_logs : NewLogsAreRead start reads
   pub failures : of.failures before + unlogged_count reads ≤ of.failures after
+  pub no_new : RemovesNew of.has_new of.failures (unlogged_count reads) before after
 
 -- these lines don't fit into a log
 abbrev pub IsFull : List (List ℕ) → Type 0
 IsFull lines = 2 ^ 60 ≤ length (joined lines)
+
+-- A log with these lines couldn't be written, since the device has failed more often than so many times, or is full. A new file that is left is one more failure.
+abbrev pub CannotWrite : {D : Type 0} → Telling D → D → D → ℕ → List (List ℕ) → Type 0
+CannotWrite of before after count lines =
+    ((of.failures before + count < of.failures after) × RemovesNew of.has_new of.failures (count + 1) before after)
+    ⊎ (IsFull lines × RemovesNew of.has_new of.failures count before after)
 
 -- The log couldn't be written, since the device has failed, or is full: the answers to the first lines read were handed over, and nothing of those to the lines that were to be logged then.
 pub record StoppedInLog {D : Type 0} (of : Telling D) (before after : D) (start : Session) (reads : List LineRead) : Type 0 where
@@ -55,7 +54,7 @@ pub record StoppedInLog {D : Type 0} (of : Telling D) (before after : D) (start 
   pub any_moment : LeavesOnly of.moment of.left_since before after (LeavesAnswered start (logged (of.seen before)) (answered ++ pending) (of.shown before))
   pub new_logs : NewLogsAreRead start (answered ++ pending)
   pub failures : of.failures before + unlogged_count (answered ++ pending) ≤ of.failures after
-  pub why : (of.failures before + unlogged_count (answered ++ pending) < of.failures after) ⊎ IsFull (log_after (logged (of.seen before)) start (answered ++ pending))
+  pub why : CannotWrite of before after (unlogged_count (answered ++ pending)) (log_after (logged (of.seen before)) start (answered ++ pending))
 
 -- The output has failed while it was handed the answers to the first lines read: the log is the one after these lines.
 pub record StoppedInOutput {D : Type 0} (of : Telling D) (before after : D) (start : Session) (reads : List LineRead) : Type 0 where
@@ -67,6 +66,7 @@ pub record StoppedInOutput {D : Type 0} (of : Telling D) (before after : D) (sta
   pub new_logs : NewLogsAreRead start answered
   pub lines_are : logged (of.seen after) ≡ log_after (logged (of.seen before)) start answered
   pub failed : of.failures before + unlogged_count answered < of.failures after
+  pub no_new : RemovesNew of.has_new of.failures (unlogged_count answered + 1) before after
 
 -- answers couldn't be handed over, and this is why
 abbrev pub StoppedOnLog : {D : Type 0} → Option LogError → Telling D → D → D → Session → List LineRead → Type 0

@@ -37,18 +37,18 @@ IsReadable f terms = (session : OpenSession) → session.database ≡ f.db → s
     IsLogOf (lines_of_log (sessions.Open session)) (sessions.Open session)
 
 -- a log goes on as it was
-pub record KeepsLog {D : Type 0} (of : Telling D) (may_leave : D → List ℕ → Type 0) (before after : Log D) : Type 0 where
+pub record KeepsLog {D : Type 0} (of : Telling D) (before after : Log D) : Type 0 where
   pub tells : of.tells after.device
-  pub settled : IsSettled of.seen may_leave after
+  pub settled : IsSettled of.seen of.may_leave after
   pub seen : of.seen after.device ≡ of.seen before.device
   pub shown : of.shown after.device ≡ of.shown before.device
   pub any_moment : LeavesOnly of.moment of.left_since before.device after.device (Keeps (logged (of.seen before.device)) (of.shown before.device))
   pub failures : of.failures before.device ≤ of.failures after.device
 
 -- a log has these lines in the place of its own
-pub record TakesLines {D : Type 0} (of : Telling D) (may_leave : D → List ℕ → Type 0) (before after : Log D) (lines : List (List ℕ)) : Type 0 where
+pub record TakesLines {D : Type 0} (of : Telling D) (before after : Log D) (lines : List (List ℕ)) : Type 0 where
   pub tells : of.tells after.device
-  pub settled : IsSettled of.seen may_leave after
+  pub settled : IsSettled of.seen of.may_leave after
   pub lines_are : logged (of.seen after.device) ≡ lines
   pub shown : of.shown after.device ≡ of.shown before.device
   pub any_moment : LeavesOnly of.moment of.left_since before.device after.device (KeepsEither (logged (of.seen before.device)) lines (of.shown before.device))
@@ -61,22 +61,27 @@ pub record LosesLog {D : Type 0} (of : Telling D) (before after : Log D) (lines 
   pub failed : of.failures before.device < of.failures after.device
 
 -- the log isn't made anew with these lines, for this fault
-abbrev pub FailsToRenew : {D : Type 0} → RenewFault → Telling D → (D → List ℕ → Type 0) → Log D → Log D → List (List ℕ) → Type 0
-FailsToRenew faults.Memory of may_leave before after lines = KeepsLog of may_leave before after
-FailsToRenew faults.Kept of may_leave before after lines = KeepsLog of may_leave before after × (of.failures before.device < of.failures after.device)
-FailsToRenew faults.Lost of may_leave before after lines = LosesLog of before after lines
+abbrev pub FailsToRenew : {D : Type 0} → RenewFault → Telling D → Log D → Log D → List (List ℕ) → Type 0
+FailsToRenew faults.Memory of before after lines = KeepsLog of before after
+FailsToRenew faults.Kept of before after lines = KeepsLog of before after × (of.failures before.device < of.failures after.device)
+FailsToRenew faults.Lost of before after lines = LosesLog of before after lines
+
+-- how often the device has failed at least where a log isn't made anew, for this fault
+abbrev pub failures_by : RenewFault → ℕ
+failures_by faults.Memory = 0
+failures_by fault = 1
 
 -- the new file isn't written, for this fault
-abbrev pub FailsToWrite : {D : Type 0} → RenewFault → Telling D → (D → List ℕ → Type 0) → Log D → Log D → Type 0
-FailsToWrite faults.Memory of may_leave before after = KeepsLog of may_leave before after
-FailsToWrite faults.Kept of may_leave before after = KeepsLog of may_leave before after × (of.failures before.device < of.failures after.device)
-FailsToWrite faults.Lost of may_leave before after = ⊥
+abbrev pub FailsToWrite : {D : Type 0} → RenewFault → Telling D → Log D → Log D → Type 0
+FailsToWrite faults.Memory of before after = KeepsLog of before after
+FailsToWrite faults.Kept of before after = KeepsLog of before after × (of.failures before.device < of.failures after.device)
+FailsToWrite faults.Lost of before after = ⊥
 
 -- of the lines of the new file the first ones are written, and these are to follow
-pub record IsWriting {D : Type 0} (of : Telling D) (may_leave : D → List ℕ → Type 0) (new_file : D → List ℕ) (before log : Log D) (pending all : List (List ℕ)) : Type 0 where
-  pub keeps : KeepsLog of may_leave before log
-  pub making : IsMaking new_file log
-  pub written : new_file log.device ++ joined pending ≡ joined all
+pub record IsWriting {D : Type 0} (of : Telling D) (before log : Log D) (pending all : List (List ℕ)) : Type 0 where
+  pub keeps : KeepsLog of before log
+  pub making : IsMaking of.new_file log
+  pub written : of.new_file log.device ++ joined pending ≡ joined all
   pub are_lines : AreLines all
 
 -- a crash left these lines, when the first bytes of a text had been handed over behind what had been before
@@ -86,13 +91,14 @@ pub record KeepsShowing (lines : List (List ℕ)) (shown text : List ℕ) (left 
   pub shown_is : left.shown ≡ shown ++ take bytes text
 
 -- a text was handed over, and the log is as it was
-pub record HandsOverAlone {D : Type 0} (of : Telling D) (may_leave : D → List ℕ → Type 0) (before after : Log D) (text : List ℕ) : Type 0 where
+pub record HandsOverAlone {D : Type 0} (of : Telling D) (before after : Log D) (text : List ℕ) : Type 0 where
   pub tells : of.tells after.device
-  pub settled : IsSettled of.seen may_leave after
+  pub settled : IsSettled of.seen of.may_leave after
   pub lines_are : logged (of.seen after.device) ≡ logged (of.seen before.device)
   pub shown : of.shown after.device ≡ of.shown before.device ++ text
   pub any_moment : LeavesOnly of.moment of.left_since before.device after.device (KeepsShowing (logged (of.seen before.device)) (of.shown before.device) text)
   pub failures : of.failures before.device ≤ of.failures after.device
+  pub no_new : of.has_new after.device → of.has_new before.device
 
 -- the output has failed before it had all of a text
 pub record FailsAlone {D : Type 0} (error : Option LogError) (of : Telling D) (before after : Log D) (text : List ℕ) : Type 0 where
@@ -101,3 +107,4 @@ pub record FailsAlone {D : Type 0} (error : Option LogError) (of : Telling D) (b
   pub first : ShowsFirst (of.shown before.device) (of.shown after.device) text
   pub any_moment : LeavesOnly of.moment of.left_since before.device after.device (KeepsShowing (logged (of.seen before.device)) (of.shown before.device) text)
   pub failed : of.failures before.device < of.failures after.device
+  pub no_new : of.has_new after.device → of.has_new before.device

@@ -1,7 +1,7 @@
 //! Answers whose lines are logged.
 ghost use Rattle.std.specs.Prelude.{◌≡◌, ◌↔◌, OnOk, OnErr};
 ghost use Rattle.tt_log.specs.Log.{IsSettled};
-ghost use Rattle.tt_durable.specs.OnLog.{telling, HandedOnLog, StoppedOnLog};
+ghost use Rattle.tt_durable.specs.OnLog.{HandedOnLog, StoppedOnLog};
 ghost use Rattle.tt_durable.specs.Renewing.{HandsOverAlone, FailsAlone};
 
 use crate::log_renewal::{RenewFault, make_anew};
@@ -31,11 +31,9 @@ impl<D: Device> LogOutlet<D> {
     /// Hands over a text for which nothing is logged.
     fn hand_over_alone(&mut self, alloc: Global, text: &[u8]) -> Result<(), OutletError>
         requires { D.tells self.old.log.device → IsSettled D.seen D.may_leave self.old.log }
-        ensures ok { OnOk result (D.tells self.old.log.device → HandsOverAlone
-            (telling D.tells D.seen D.shown D.moment D.left_since D.failures) D.may_leave
-            self.old.log self.new.log text.now) }
-        ensures err { OnErr result (D.tells self.old.log.device → FailsAlone self.new.error
-            (telling D.tells D.seen D.shown D.moment D.left_since D.failures)
+        ensures ok { OnOk result (D.tells self.old.log.device → HandsOverAlone D.Device self.old.log
+            self.new.log text.now) }
+        ensures err { OnErr result (D.tells self.old.log.device → FailsAlone self.new.error D.Device
             self.old.log self.new.log text.now) }
         ensures tells { D.tells self.old.log.device ↔ D.tells self.new.log.device }
     {
@@ -62,13 +60,11 @@ impl<D: Device> Outlet for LogOutlet<D> {
 
     ghost is_ready = { λ o. D.tells o.log.device → IsSettled D.seen D.may_leave o.log };
 
-    ghost handed = { λ before after start reads. D.tells before.log.device → HandedOnLog
-        (telling D.tells D.seen D.shown D.moment D.left_since D.failures)
+    ghost handed = { λ before after start reads. D.tells before.log.device → HandedOnLog D.Device
         before.log.device after.log.device start reads };
 
-    ghost stopped = { λ before after start reads. D.tells before.log.device
-        → StoppedOnLog after.error (telling D.tells D.seen D.shown D.moment D.left_since D.failures)
-        before.log.device after.log.device start reads };
+    ghost stopped = { λ before after start reads. D.tells before.log.device → StoppedOnLog
+        after.error D.Device before.log.device after.log.device start reads };
 
     fn hand_over(&mut self, lines: &Lines, text: &[u8]) -> Result<(), OutletError> {
         match self.log.hand_over(lines, text) {

@@ -2,10 +2,10 @@
 ghost use Rattle.std.specs.Prelude.{◌≡◌, ◌↔◌, ◌++◌, ◌∷◌, ◌+◌, ◌-◌, ◌<◌, ◌≤◌, [], List, ℕ, All, length, take, drop, IsTrue, IfErr, IsErrOf, OnOk};
 ghost use Rattle.tt_db.specs.Limits.{usual_limits};
 ghost use Rattle.tt_log.specs.Lines.{logged, IsJoined};
+ghost use Rattle.tt_log.specs.Device.{RemovesNew};
 ghost use Rattle.tt_log.specs.Log.{IsSettled, IsMaking};
-ghost use Rattle.tt_durable.specs.OnLog.{telling};
 ghost use Rattle.tt_session.specs.LogLines.{line_of_entry, lines_of_entries, lines_of_database};
-ghost use Rattle.tt_durable.specs.Renewing.{IsPrintable, IsReadable, IsWriting, TakesLines, FailsToRenew, FailsToWrite};
+ghost use Rattle.tt_durable.specs.Renewing.{IsPrintable, IsReadable, IsWriting, TakesLines, FailsToRenew, FailsToWrite, failures_by};
 
 use crate::storable::read_action;
 use std::alloc::{AllocError, Global};
@@ -47,14 +47,16 @@ pub(crate) fn make_anew<D: Device>(
     terms: Terms,
 ) -> Result<(), RenewFault>
     requires { D.tells log.old.device → IsSettled D.seen D.may_leave log.old }
-    ensures ok { OnOk result (D.tells log.old.device → TakesLines
-        (telling D.tells D.seen D.shown D.moment D.left_since D.failures) D.may_leave
-        log.old log.new
+    ensures ok { OnOk result (D.tells log.old.device → TakesLines D.Device log.old log.new
         (lines_of_database forgetting.now.db forgetting.now.numbering terms)) }
-    ensures err { IfErr result (λ fault. D.tells log.old.device → FailsToRenew fault
-        (telling D.tells D.seen D.shown D.moment D.left_since D.failures) D.may_leave
-        log.old log.new
-        (lines_of_database forgetting.now.db forgetting.now.numbering terms)) }
+    ensures err { IfErr result (λ fault. D.tells log.old.device → FailsToRenew fault D.Device
+        log.old log.new (lines_of_database forgetting.now.db forgetting.now.numbering terms)) }
+
+    // Where it isn't made anew, the new file is removed, unless the device has failed once more.
+    ensures no_new { OnOk result (D.tells log.old.device → D.has_new log.new.device → ⊥) }
+    ensures no_new_err { IfErr result (λ fault. D.tells log.old.device
+        → RemovesNew D.has_new D.failures (failures_by fault) log.old.device log.new.device) }
+
     ensures readable { OnOk result (IsReadable forgetting.now terms) }
     ensures readable_lost { IsErrOf result RenewFault.Lost
         → IsReadable forgetting.now terms }
@@ -82,12 +84,14 @@ fn take_new<D: Device>(log: &mut Log<D>) -> Result<(), RenewFault>
     requires settled { D.tells log.old.device → IsSettled D.seen D.may_leave log.old }
     requires making { D.tells log.old.device → IsMaking D.new_file log.old }
     requires lines { D.tells log.old.device → IsJoined (D.new_file log.old.device) }
-    ensures ok { OnOk result (D.tells log.old.device → TakesLines
-        (telling D.tells D.seen D.shown D.moment D.left_since D.failures) D.may_leave
+    ensures ok { OnOk result (D.tells log.old.device → TakesLines D.Device log.old log.new (logged
+        (D.new_file log.old.device))) }
+    ensures err { IfErr result (λ fault. D.tells log.old.device → FailsToRenew fault D.Device
         log.old log.new (logged (D.new_file log.old.device))) }
-    ensures err { IfErr result (λ fault. D.tells log.old.device → FailsToRenew fault
-        (telling D.tells D.seen D.shown D.moment D.left_since D.failures) D.may_leave
-        log.old log.new (logged (D.new_file log.old.device))) }
+    ensures no_new { OnOk result (D.tells log.old.device → D.has_new log.new.device → ⊥) }
+    ensures no_new_err { IfErr result (λ fault. D.tells log.old.device
+        → D.has_new log.new.device
+        → D.failures log.old.device + failures_by fault < D.failures log.new.device) }
     ensures tells { D.tells log.old.device ↔ D.tells log.new.device }
 {
     match log.take_new() {
@@ -111,12 +115,9 @@ fn write_new<D: Device>(
     requires settled { D.tells log.old.device → IsSettled D.seen D.may_leave log.old }
     requires making { D.tells log.old.device → IsMaking D.new_file log.old }
     requires empty { D.tells log.old.device → D.new_file log.old.device ≡ [] }
-    ensures ok { OnOk result (D.tells log.old.device → IsWriting
-        (telling D.tells D.seen D.shown D.moment D.left_since D.failures) D.may_leave D.new_file
-        log.old log.new []
+    ensures ok { OnOk result (D.tells log.old.device → IsWriting D.Device log.old log.new []
         (lines_of_database forgetting.now.db forgetting.now.numbering terms)) }
-    ensures err { IfErr result (λ fault. D.tells log.old.device → FailsToWrite fault
-        (telling D.tells D.seen D.shown D.moment D.left_since D.failures) D.may_leave
+    ensures err { IfErr result (λ fault. D.tells log.old.device → FailsToWrite fault D.Device
         log.old log.new) }
     ensures readable { OnOk result (IsReadable forgetting.now terms) }
     ensures tells { D.tells log.old.device ↔ D.tells log.new.device }
@@ -167,19 +168,13 @@ fn push_slots<D: Device>(
     requires end { to ≤ length db.now.history }
     requires settled { D.tells log.old.device → IsSettled D.seen D.may_leave log.old }
     requires making { D.tells log.old.device → IsMaking D.new_file log.old }
-    ensures ok { OnOk result (D.tells log.old.device → (before : Log D)
-        (all : List (List ℕ)) → IsWriting
-        (telling D.tells D.seen D.shown D.moment D.left_since D.failures) D.may_leave D.new_file
-        before log.old lines.old all → IsWriting
-        (telling D.tells D.seen D.shown D.moment D.left_since D.failures) D.may_leave D.new_file
-        before log.new lines.new (all ++ lines_of_entries is_ground db.now.catalog
-        (take (to - from) (drop from db.now.history)))) }
-    ensures err { IfErr result (λ fault. D.tells log.old.device → (before : Log D)
-        (all : List (List ℕ)) → IsWriting
-        (telling D.tells D.seen D.shown D.moment D.left_since D.failures) D.may_leave D.new_file
-        before log.old lines.old all → FailsToWrite fault
-        (telling D.tells D.seen D.shown D.moment D.left_since D.failures) D.may_leave
-        before log.new) }
+    ensures ok { OnOk result (D.tells log.old.device → (before : Log D) (all : List (List ℕ)) →
+        IsWriting D.Device before log.old lines.old all → IsWriting D.Device before log.new
+        lines.new (all ++ lines_of_entries is_ground db.now.catalog (take (to - from) (drop from
+        db.now.history)))) }
+    ensures err { IfErr result (λ fault. D.tells log.old.device → (before : Log D) (all : List (List
+        ℕ)) → IsWriting D.Device before log.old lines.old all → FailsToWrite fault D.Device before
+        log.new) }
     ensures printable { OnOk result (All (IsPrintable is_ground)
         (take (to - from) (drop from db.now.history))) }
     ensures settled { OnOk result
@@ -229,18 +224,12 @@ fn print_slot(
 fn push_line<D: Device>(log: &mut Log<D>, lines: &mut Lines, line: &[u8]) -> Result<(), RenewFault>
     requires settled { D.tells log.old.device → IsSettled D.seen D.may_leave log.old }
     requires making { D.tells log.old.device → IsMaking D.new_file log.old }
-    ensures ok { OnOk result (D.tells log.old.device → (before : Log D)
-        (all : List (List ℕ)) → IsWriting
-        (telling D.tells D.seen D.shown D.moment D.left_since D.failures) D.may_leave D.new_file
-        before log.old lines.old all → IsWriting
-        (telling D.tells D.seen D.shown D.moment D.left_since D.failures) D.may_leave D.new_file
-        before log.new lines.new (all ++ line.now ∷ [])) }
-    ensures err { IfErr result (λ fault. D.tells log.old.device → (before : Log D)
-        (all : List (List ℕ)) → IsWriting
-        (telling D.tells D.seen D.shown D.moment D.left_since D.failures) D.may_leave D.new_file
-        before log.old lines.old all → FailsToWrite fault
-        (telling D.tells D.seen D.shown D.moment D.left_since D.failures) D.may_leave
-        before log.new) }
+    ensures ok { OnOk result (D.tells log.old.device → (before : Log D) (all : List (List ℕ)) →
+        IsWriting D.Device before log.old lines.old all → IsWriting D.Device before log.new
+        lines.new (all ++ line.now ∷ [])) }
+    ensures err { IfErr result (λ fault. D.tells log.old.device → (before : Log D) (all : List (List
+        ℕ)) → IsWriting D.Device before log.old lines.old all → FailsToWrite fault D.Device before
+        log.new) }
     ensures settled { OnOk result
         (D.tells log.new.device → IsSettled D.seen D.may_leave log.new) }
     ensures making { OnOk result (D.tells log.new.device → IsMaking D.new_file log.new) }
@@ -260,19 +249,12 @@ fn push_line<D: Device>(log: &mut Log<D>, lines: &mut Lines, line: &[u8]) -> Res
 fn write_pending<D: Device>(log: &mut Log<D>, lines: &mut Lines) -> Result<(), RenewFault>
     requires settled { D.tells log.old.device → IsSettled D.seen D.may_leave log.old }
     requires making { D.tells log.old.device → IsMaking D.new_file log.old }
-    ensures ok { OnOk result (D.tells log.old.device → (before : Log D)
-        (all : List (List ℕ)) → IsWriting
-        (telling D.tells D.seen D.shown D.moment D.left_since D.failures) D.may_leave D.new_file
-        before log.old lines.old all → IsWriting
-        (telling D.tells D.seen D.shown D.moment D.left_since D.failures) D.may_leave D.new_file
-        before log.new [] all) }
+    ensures ok { OnOk result (D.tells log.old.device → (before : Log D) (all : List (List ℕ)) →
+        IsWriting D.Device before log.old lines.old all → IsWriting D.Device before log.new [] all) }
     ensures lines { OnOk result (lines.new ≡ []) }
-    ensures err { IfErr result (λ fault. D.tells log.old.device → (before : Log D)
-        (all : List (List ℕ)) → IsWriting
-        (telling D.tells D.seen D.shown D.moment D.left_since D.failures) D.may_leave D.new_file
-        before log.old lines.old all → FailsToWrite fault
-        (telling D.tells D.seen D.shown D.moment D.left_since D.failures) D.may_leave
-        before log.new) }
+    ensures err { IfErr result (λ fault. D.tells log.old.device → (before : Log D) (all : List (List
+        ℕ)) → IsWriting D.Device before log.old lines.old all → FailsToWrite fault D.Device before
+        log.new) }
     ensures settled { OnOk result
         (D.tells log.new.device → IsSettled D.seen D.may_leave log.new) }
     ensures making { OnOk result (D.tells log.new.device → IsMaking D.new_file log.new) }

@@ -3,7 +3,7 @@ ghost use Rattle.std.specs.Prelude.{◌≡◌, ◌⊎◌, ◌+◌, ◌-◌, ◌^
 ghost use Rattle.tt_log.specs.Log.{IsAsLeft, IsSettled};
 ghost use Rattle.tt_session.specs.Run.{calls_of};
 ghost use Rattle.tt_lines.specs.Ends.{HandsOverAll, Fails};
-ghost use Rattle.tt_durable.specs.OnLog.{telling, HandedOnLog, StoppedOnLog};
+ghost use Rattle.tt_durable.specs.OnLog.{HandedOnLog, StoppedOnLog};
 ghost use Rattle.tt_durable.specs.LoggedSession.{GoesOnLog, BeginsOnLog, FailsAtStart, FailsOnLog};
 ghost use Rattle.tt_durable.specs.LoggedSession.{IsEnded};
 ghost use Rattle.tt_durable.specs.LoggedFaults.{fault_at_start, fault_of};
@@ -61,15 +61,11 @@ pub fn run_logged_session<R: Read, D: Device>(
     device: D,
 ) -> Result<(SessionEnd, D), (LoggedFault, D)>
     requires left { D.tells device → IsAsLeft (D.seen device) (D.once_synced device) }
-    ensures ok { IfOk result (λ end. D.tells device
-        → HandsOverAll (R.remaining reader.old) (R.remaining reader.new) (GoesOnLog
-        (telling D.tells D.seen D.shown D.moment D.left_since D.failures)
-        D.may_leave device end.1)) }
+    ensures ok { IfOk result (λ end. D.tells device → HandsOverAll (R.remaining reader.old)
+        (R.remaining reader.new) (GoesOnLog D.Device device end.1)) }
     ensures ended { IfOk result (λ end. D.tells device → IsEnded D.seen D.may_leave end.1) }
-    ensures err { IfErr result (λ e. D.tells device
-        → FailsOnLog e.0 (R.remaining reader.old) (R.remaining reader.new)
-        (telling D.tells D.seen D.shown D.moment D.left_since D.failures)
-        D.may_leave device e.1) }
+    ensures err { IfErr result (λ e. D.tells device → FailsOnLog e.0 (R.remaining reader.old)
+        (R.remaining reader.new) D.Device device e.1) }
 {
     let mut zeros = match vec![in alloc; 0; BUFFER_BYTES] {
         Ok(zeros) => zeros,
@@ -79,12 +75,12 @@ pub fn run_logged_session<R: Read, D: Device>(
         Ok(begun) => begun,
         Err(fault) => return Err(fault),
     };
-    let (session, log) = match serve_on_log(alloc, session, reader, log, zeros.as_mut_slice()) {
+    let (end, log) = match serve_on_log(alloc, session, reader, log, zeros.as_mut_slice()) {
         Ok(served) => served,
         Err((fault, error, log)) => return Err((fault_of(fault, error), log.into_device())),
     };
     match log.close() {
-        Ok(device) => Ok((SessionEnd::of(session), device)),
+        Ok(device) => Ok((end, device)),
         Err((_, device)) => Err((LoggedFault::LogWrite, device)),
     }
 }
@@ -98,15 +94,12 @@ fn begin<D: Device>(
     requires some { 0 < length buffer.old }
     requires few { length buffer.old ≤ 65536 }
     requires left { D.tells device → IsAsLeft (D.seen device) (D.once_synced device) }
-    ensures ok { IfOk result (λ begun. D.tells device → BeginsOnLog
-        (telling D.tells D.seen D.shown D.moment D.left_since D.failures)
-        D.may_leave device begun.0 begun.1) }
+    ensures ok { IfOk result (λ begun. D.tells device
+        → BeginsOnLog D.Device device begun.0 begun.1) }
     ensures calls { IfOk result (λ begun. calls_of begun.0 < 2 ^ 64 - 65537) }
     ensures settled { IfOk result (λ begun. D.tells begun.1.device
         → IsSettled D.seen D.may_leave begun.1) }
-    ensures err { IfErr result (λ e. D.tells device → FailsAtStart e.0
-        (telling D.tells D.seen D.shown D.moment D.left_since D.failures)
-        D.may_leave device e.1) }
+    ensures err { IfErr result (λ e. D.tells device → FailsAtStart e.0 D.Device device e.1) }
 {
     let mut log = match UnreadLog::open(device) {
         Ok(log) => log,
@@ -167,29 +160,24 @@ fn serve_on_log<R: Read, D: Device>(
     reader: &mut R,
     log: Log<D>,
     buffer: &mut [u8],
-) -> Result<(Session, Log<D>), (SessionFault, Option<LogError>, Log<D>)>
+) -> Result<(SessionEnd, Log<D>), (SessionFault, Option<LogError>, Log<D>)>
     requires some { 0 < length buffer.old }
     requires few { length buffer.old ≤ 65536 }
     requires calls { calls_of session < 2 ^ 64 - 65537 }
     requires settled { D.tells log.device → IsSettled D.seen D.may_leave log }
-    ensures ok { IfOk result (λ end. D.tells log.device
-        → HandsOverAll (R.remaining reader.old) (R.remaining reader.new)
-        (HandedOnLog (telling D.tells D.seen D.shown D.moment D.left_since D.failures)
-        log.device end.1.device session)) }
+    ensures ok { IfOk result (λ end. D.tells log.device → HandsOverAll (R.remaining reader.old)
+        (R.remaining reader.new) (HandedOnLog D.Device log.device end.1.device session)) }
     ensures settled { IfOk result (λ end. D.tells end.1.device
         → IsSettled D.seen D.may_leave end.1) }
-    ensures err { IfErr result (λ e. D.tells log.device
-        → Fails e.0 (R.remaining reader.old) (R.remaining reader.new)
-        (HandedOnLog (telling D.tells D.seen D.shown D.moment D.left_since D.failures)
-        log.device e.2.device session)
-        (StoppedOnLog e.1 (telling D.tells D.seen D.shown D.moment D.left_since D.failures)
-        log.device e.2.device session)) }
+    ensures err { IfErr result (λ e. D.tells log.device → Fails e.0 (R.remaining reader.old)
+        (R.remaining reader.new) (HandedOnLog D.Device log.device e.2.device session) (StoppedOnLog
+        e.1 D.Device log.device e.2.device session)) }
 {
     let mut outlet = LogOutlet::new(log);
     match serve_session(alloc, session, true, reader, &mut outlet, buffer) {
-        Ok(session) => {
+        Ok(end) => {
             let (log, _) = outlet.into_parts();
-            Ok((session, log))
+            Ok((end, log))
         }
         Err(fault) => {
             let (log, error) = outlet.into_parts();

@@ -1,5 +1,5 @@
 //! A session that is read back from its log.
-ghost use Rattle.std.specs.Prelude.{◌≡◌, ◌+◌, ◌-◌, ◌<◌, ◌≤◌, ◌^◌, ◌++◌, ◌∷◌, [], ℕ, List, Some, None, true, false, length, if◌then◌else◌, IfOk, IfErr, OnOk};
+ghost use Rattle.std.specs.Prelude.{◌≡◌, ◌⊎◌, ◌+◌, ◌-◌, ◌<◌, ◌≤◌, ◌^◌, ◌++◌, ◌∷◌, [], ℕ, List, Some, None, true, false, length, if◌then◌else◌, IfOk, IfErr, OnOk, IsErrOf};
 ghost use Rattle.tt_log.specs.Lines.{text, logged};
 ghost use Rattle.tt_log.specs.Reading.{unread, IsReading};
 ghost use Rattle.tt_requests.specs.Lines.{is_passed_over};
@@ -16,7 +16,10 @@ use tt_json::Scratch;
 use tt_lines::{Line, MAX_TOTAL};
 use tt_log::{Device, UnreadLog};
 use tt_requests::{LogOpening, SessionLine, ground_action_from_line, is_passed_over};
-use tt_session::{Session, SessionExtent, answer_in_place, first_feed, open_or_stay, read_line};
+use tt_session::{
+    RecoverableSession, Session, SessionExtent, answer_in_place, first_feed, open_or_stay,
+    read_line,
+};
 
 /// Why a log isn't read back.
 #[derive(Clone, Copy, Debug, PartialEq, Eq)]
@@ -58,6 +61,8 @@ pub(crate) fn restore<D: Device>(
     ensures calls { IfOk result (λ session. calls_of session < 2 ^ 64 - 65537) }
     ensures line { IfErr result (λ e. (n : ℕ) → e ≡ RestoreFault.Line n
         → D.tells log.old.device → IsNoLine (logged (D.seen log.old.device)) n) }
+    ensures read { IsErrOf result RestoreFault.Read → D.tells log.old.device
+        → D.cannot_read log.old.device ⊎ (2 ^ 60 ≤ length (D.seen log.old.device)) }
 {
     let mut restoring = Restoring::new(alloc);
     let mut total = 0;
@@ -116,6 +121,7 @@ impl Restoring {
         ensures whole { OnOk result (self.ground_left ≡ 0) }
         ensures line { IfErr result (λ e.
             (e ≡ RestoreFault.Line (self.count + 1)) × (0 < self.ground_left)) }
+        ensures no_read { IsErrOf result RestoreFault.Read → ⊥ }
     {
         let Restoring {
             alloc: _,
@@ -132,7 +138,7 @@ impl Restoring {
         match session {
             Some(mut session) => {
                 session.await_opening();
-                Ok(Session::Open(session))
+                Ok(Session::Open(RecoverableSession::new(session)))
             }
             None => Ok(Session::NotOpen),
         }
@@ -146,6 +152,7 @@ impl Restoring {
             → IsRestoring (given ++ bytes.now) self.new) }
         ensures err { IfErr result (λ e. (given : List ℕ) → IsRestoring given self.old
             → FailsIn (given ++ bytes.now) e) }
+        ensures no_read { IsErrOf result RestoreFault.Read → ⊥ }
         ensures calls { OnOk result (calls_of (begun self.new.session)
             ≤ calls_of (begun self.old.session) + length bytes.now) }
         ensures count { OnOk result (self.new.count ≤ self.old.count + length bytes.now) }
@@ -174,6 +181,7 @@ impl Restoring {
             → IsRestoring (given ++ 10 ∷ []) self.new) }
         ensures err { IfErr result (λ e. (given : List ℕ) → IsRestoring given self.old
             → FailsIn (given ++ 10 ∷ []) e) }
+        ensures no_read { IsErrOf result RestoreFault.Read → ⊥ }
         ensures calls { OnOk result
             (calls_of (begun self.new.session) ≤ calls_of (begun self.old.session) + 1) }
         ensures count { OnOk result (self.new.count ≡ self.old.count + 1) }

@@ -24,7 +24,7 @@ use Rattle.tt_db.specs.declared.event.Event.TheVariants as events
 use Rattle.tt_db.specs.declared.event.Entry.{Entry}
 use Rattle.tt_db.specs.State.{State, start, after, now_of, next_state, edits_fault, refusal, IsLegal, IsLegalFrom}
 use Rattle.tt_db.proofs.RefusalLemmas.{accepted_action, accepted_begin, has_room_for_entry, has_room_for_slot}
-use Rattle.tt_horizon_laws.specs.Laws.{HasFewWrites}
+use Rattle.tt_horizon.specs.Laws.{HasFewWrites}
 
 -- ---- the actions have no fault
 

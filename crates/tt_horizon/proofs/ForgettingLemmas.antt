@@ -10,12 +10,13 @@ use Rattle.tt_db.specs.State.{State, start, current_at, now_of, IsLegal}
 use Rattle.tt_db.specs.Database.{Database, state_of, now_in, current_slots, current_of_db}
 use Rattle.tt_db.proofs.LawProofs.{each_slot_has_its_place}
 use Rattle.tt_db.proofs.HistoryLemmas.{entries-count}
-use Rattle.tt_horizon_laws.specs.Ground.{kept_slot, on_ground, moved}
-use Rattle.tt_horizon_laws.specs.Laws.{Leaves}
-use Rattle.tt_horizon_laws.proofs.LawProofs.{forgetting_keeps_contents, ground_leaves_content, ground_is_small}
+use Rattle.tt_horizon.specs.Ground.{kept_slot, on_ground, moved}
 use Rattle.tt_horizon.specs.Forgetting.{workers_of, ground_of, ground_worker, entry_of, entries_behind, forgotten_history, forgotten_db}
 use Rattle.tt_horizon.specs.Laying.{database_of_ground, with_entries}
-use Rattle.tt_horizon.specs.Laws.{state_behind, Forgets, ForgettingIsSound}
+use Rattle.tt_horizon.specs.Laws.{Leaves, state_behind, Forgets, ForgettingIsSound}
+use Rattle.tt_horizon.proofs.GroundSlotsLemmas.{forgetting_keeps_contents}
+use Rattle.tt_horizon.proofs.InsertsLemmas.{ground_leaves_content}
+use Rattle.tt_horizon.proofs.RowCountsLemmas.{ground_is_small}
 use Rattle.tt_horizon.proofs.AcceptedLemmas.{AllAccepted-legal, AllAccepted-drop, All-few_writes, few_slots, few_entries}
 use Rattle.tt_horizon.proofs.GroundLemmas.{AllActionsPass-legal, IsWithinTables-legal}
 use Rattle.tt_horizon.proofs.HistoryLemmas.{AreActions, AreActions-append, AreActions-ground, AreActions-pairs, action_of_pair, length-AreActions, after-actions, IsLegal-actions, AllActionsPass-append, AllActionsPass-pairs, kept_slots-pairs}

@@ -19,8 +19,8 @@ use Rattle.tt_db.specs.declared.limits.Limits.{Limits}
 use Rattle.tt_db.specs.declared.event.Entry.{Entry}
 use Rattle.tt_db.specs.State.{after, current_at, IsLegal}
 use Rattle.tt_db.proofs.KeyLemmas.{AllKeyed, IsKeyedContent-legal}
-use Rattle.tt_horizon_laws.specs.Ground.{inserts_of, inserts_of_tables, some_pieces, ground_writes, ground_of_content}
-use Rattle.tt_horizon_laws.specs.Laws.{IsWithinTables}
+use Rattle.tt_horizon.specs.Ground.{inserts_of, inserts_of_tables, some_pieces, ground_writes, ground_of_content}
+use Rattle.tt_horizon.specs.Laws.{IsWithinTables}
 use Rattle.tt_horizon.proofs.AcceptedLemmas.{AllAccepted-legal}
 use Rattle.tt_horizon.proofs.RowLemmas.{AllPass, IsPassing, HaveNoFaults, IsPassing-content_of, AllPass-past}
 

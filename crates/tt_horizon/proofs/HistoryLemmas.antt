@@ -11,7 +11,7 @@ use Rattle.tt_db.specs.declared.event.Entry.{Entry}
 use Rattle.tt_db.specs.declared.errors.DbError.TheVariants as errors
 use Rattle.tt_db.specs.State.{State, now_of, next_state, first_refusal, refusal, IsLegalFrom}
 use Rattle.tt_db.proofs.EntryLemmas.{full_at-below}
-use Rattle.tt_horizon_laws.specs.Ground.{kept_slot}
+use Rattle.tt_horizon.specs.Ground.{kept_slot}
 use Rattle.tt_horizon.specs.Forgetting.{entry_of}
 use Rattle.tt_horizon.proofs.AcceptedLemmas.{AllAccepted}
 use Rattle.tt_horizon.proofs.GroundLemmas.{AllActionsPass}

@@ -18,10 +18,10 @@ use Rattle.tt_db.specs.declared.event.Entry.{Entry}
 use Rattle.tt_db.specs.declared.errors.ReadError.TheVariants as read_errors
 use Rattle.tt_db.specs.Database.{Database, with_entry, now_in, current_of_db, right_answer_at}
 use Rattle.tt_db.specs.RightAnswers.{unless_fault}
-use Rattle.tt_horizon_laws.specs.Ground.{inserts_of, inserts_of_tables, some_pieces, in_pieces, ground_writes, ground_of_content}
+use Rattle.tt_horizon.specs.Ground.{inserts_of, inserts_of_tables, some_pieces, in_pieces, ground_writes, ground_of_content}
 use Rattle.tt_horizon.specs.declared.ground.Ground.{Ground}
 use Rattle.tt_horizon.specs.Forgetting.{entry_of, ground_worker}
-use Rattle.tt_horizon.specs.Grounds.{is_of_ground, IsOfGround, AreGround, emptied, HasGround, IsGround}
+use Rattle.tt_horizon.specs.GroundEntries.{is_of_ground, IsOfGround, AreGround, emptied, HasGround, IsGround}
 use Rattle.tt_horizon.specs.Laying.{ground_entry, AreLaid, AddsWrites, with_last, with_entries}
 
 -- one more write waits

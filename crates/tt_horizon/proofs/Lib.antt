@@ -1,3 +1,11 @@
+mod SlotsLemmas
+mod GroundSlotsLemmas
+mod EditsLemmas
+mod UndueLemmas
+mod RepairsLemmas
+mod PiecesLemmas
+mod InsertsLemmas
+mod RowCountsLemmas
 mod AcceptedLemmas
 mod RowLemmas
 mod GroundLemmas

@@ -1,1 +1,3 @@
+mod Grounds
+mod Repairs
 mod Forgetting

@@ -8,7 +8,7 @@ use Rattle.tt_db.specs.declared.event.Entry.{Entry}
 use Rattle.tt_db.specs.History.{is_write}
 use Rattle.tt_db.specs.Database.{Database, state_of, now_in, current_slots, current_of_db}
 use Rattle.tt_generations.specs.TwoGenerations.{is_repairing}
-use Rattle.tt_horizon_laws.specs.Ground.{ground_of_content}
+use Rattle.tt_horizon.specs.Ground.{ground_of_content}
 use Rattle.tt_horizon.specs.declared.forgetting.ForgetError.{ForgetError}
 use Rattle.tt_horizon.specs.declared.forgetting.ForgetError.TheVariants as errors
 

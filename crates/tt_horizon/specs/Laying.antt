@@ -5,10 +5,10 @@ use Rattle.tt_values.specs.declared.action.Action.{Action}
 use Rattle.tt_values.specs.Action.{action_of}
 use Rattle.tt_db.specs.declared.event.Entry.{Entry}
 use Rattle.tt_db.specs.Database.{Database, with_entry, slot_of}
-use Rattle.tt_horizon_laws.specs.Ground.{ground_writes}
+use Rattle.tt_horizon.specs.Ground.{ground_writes}
 use Rattle.tt_horizon.specs.declared.ground.Ground.{Ground}
 use Rattle.tt_horizon.specs.Forgetting.{ground_of, entry_of, ground_worker}
-use Rattle.tt_horizon.specs.Grounds.{IsGround}
+use Rattle.tt_horizon.specs.GroundEntries.{IsGround}
 
 -- the entry of an action of the ground, of these writes
 abbrev pub ground_entry : List Write → Entry

@@ -1,4 +1,5 @@
+pub mod Ground
 pub mod Forgetting
-pub mod Grounds
+pub mod GroundEntries
 pub mod Laying
 pub mod Laws

@@ -3,7 +3,7 @@ ghost use Rattle.tt_db.specs.Database.{with_entry};
 ghost use Rattle.tt_horizon.specs.Forgetting.{entry_of};
 
 use std::alloc::AllocError;
-use tt_db::{Db, Entry, Event};
+use tt_db::Db;
 use tt_values::Action;
 
 /// Carries out an action of a worker, where a database doesn't refuse it. Without memory nothing is
@@ -11,11 +11,7 @@ use tt_values::Action;
 pub(crate) fn carry_out(db: &mut Db, worker: u32, action: Action) -> Result<(), AllocError>
     ensures { OnOk result (db.new ≡ with_entry db.old (entry_of worker action)) }
 {
-    let entry = Entry {
-        worker,
-        event: Event::Write(action),
-    };
-    match db.advance(entry) {
+    match db.write(worker, action) {
         Ok(_) => Ok(()),
         // It isn't refused, so there is no memory.
         Err(_) => Err(AllocError),

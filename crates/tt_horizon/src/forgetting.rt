@@ -3,7 +3,7 @@ ghost use Rattle.std.specs.Prelude.{◌≡◌, ◌≤◌, false, None, IfOk, IfE
 ghost use Rattle.tt_generations.specs.TwoGenerations.{is_repairing};
 ghost use Rattle.tt_db.specs.Database.{state_of, now_in};
 ghost use Rattle.tt_horizon.specs.Forgetting.{forget_refusal, refusal_of_error};
-ghost use Rattle.tt_horizon.specs.Grounds.{HasGround};
+ghost use Rattle.tt_horizon.specs.GroundEntries.{HasGround};
 ghost use Rattle.tt_horizon.specs.Laws.{Forgets};
 
 use crate::forgotten_database::Forgotten;

@@ -2,8 +2,8 @@
 ghost use Rattle.std.specs.Prelude.{◌≡◌, [], ◌∷◌, true, map, IfOk, OnOk};
 ghost use Rattle.tt_values.specs.Action.{action_of};
 ghost use Rattle.tt_db.specs.Database.{with_entry, current_of_db};
-ghost use Rattle.tt_horizon_laws.specs.Ground.{inserts_of};
-ghost use Rattle.tt_horizon.specs.Grounds.{is_of_ground, IsGround};
+ghost use Rattle.tt_horizon.specs.Ground.{inserts_of};
+ghost use Rattle.tt_horizon.specs.GroundEntries.{is_of_ground, IsGround};
 ghost use Rattle.tt_horizon.specs.Laying.{ground_entry, database_of_ground, AddsWrites, with_last};
 
 use crate::laying::lay;

@@ -3,7 +3,7 @@ ghost use Rattle.std.specs.Prelude.{◌≡◌, true, OnOk};
 ghost use Rattle.std.specs.List.{list_all};
 ghost use Rattle.tt_db.specs.Database.{with_entry};
 ghost use Rattle.tt_horizon.specs.Forgetting.{entry_of, ground_worker};
-ghost use Rattle.tt_horizon.specs.Grounds.{is_insert, is_inserted, is_empty, inserts_alone, has_inserted, is_of_ground};
+ghost use Rattle.tt_horizon.specs.GroundEntries.{is_insert, is_inserted, is_empty, inserts_alone, has_inserted, is_of_ground};
 
 use std::alloc::AllocError;
 use tt_db::{Db, Entry, Event, Outcome};

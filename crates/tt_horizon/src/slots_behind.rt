@@ -22,11 +22,10 @@ pub(crate) fn carry_out_behind(
 {
     for before in time..db.now() {
         let number = before + 1;
-        let Some(worker) = worker_of(db, number) else {
-            unreachable!();
-        };
-        let action = action_of(alloc, db, number)?;
-        carry_out(next, worker, action)?;
+        if let Some(worker) = worker_of(db, number) {
+            let action = action_of(alloc, db, number)?;
+            carry_out(next, worker, action)?;
+        }
     }
     Ok(())
 }

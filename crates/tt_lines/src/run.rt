@@ -76,13 +76,6 @@ pub struct SessionEnd {
     _session: Session,
 }
 
-impl SessionEnd {
-    /// This session is left.
-    pub fn of(session: Session) -> SessionEnd {
-        SessionEnd { _session: session }
-    }
-}
-
 /// As [`run_session`], and hands over what the session leaves.
 pub fn run_session_to_end<R: Read, W: Write>(
     alloc: Global,
@@ -98,13 +91,13 @@ pub fn run_session_to_end<R: Read, W: Write>(
     let mut zeros = vec![in alloc; 0; BUFFER_BYTES]?;
     let buffer = zeros.as_mut_slice();
     match serve_session(alloc, Session::NotOpen, false, reader, writer, buffer) {
-        Ok(session) => Ok(SessionEnd::of(session)),
+        Ok(end) => Ok(end),
         Err(fault) => Err(fault),
     }
 }
 
 /// Goes on with a session, whose answers go to an outlet with a log or without one: answers the
-/// lines of a reader until its end. Returns the session after them.
+/// lines of a reader until its end. Hands over what the session leaves.
 pub fn serve_session<R: Read, O: Outlet>(
     alloc: Global,
     session: Session,
@@ -112,7 +105,7 @@ pub fn serve_session<R: Read, O: Outlet>(
     reader: &mut R,
     outlet: &mut O,
     buffer: &mut [u8],
-) -> Result<Session, SessionFault>
+) -> Result<SessionEnd, SessionFault>
     requires some { 0 < length buffer.old }
     requires few { length buffer.old ≤ 65536 }
     requires calls { calls_of session < 2 ^ 64 - 65537 }
@@ -128,7 +121,7 @@ pub fn serve_session<R: Read, O: Outlet>(
 {
     let mut run = Run::new(alloc, session, has_log);
     match run.serve(reader, outlet, buffer) {
-        Ok(()) => Ok(run.into_session()),
+        Ok(()) => Ok(run.into_end()),
         Err(fault) => Err(fault),
     }
 }
@@ -164,11 +157,11 @@ impl Run {
         }
     }
 
-    /// The session as it is.
-    fn into_session(self) -> Session
-        ensures { result ≡ self.session }
-    {
-        self.session
+    /// What the session leaves in memory.
+    fn into_end(self) -> SessionEnd {
+        SessionEnd {
+            _session: self.session,
+        }
     }
 
     /// Answers the lines of a reader, until its end.

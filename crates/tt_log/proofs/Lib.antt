@@ -1,7 +1,7 @@
 pub mod LineLemmas
 pub mod MomentLemmas
 mod PendingLemmas
-mod ReadingLemmas
+pub mod ReadingLemmas
 mod RenewalLemmas
 mod RestLemmas
 mod ShowLemmas

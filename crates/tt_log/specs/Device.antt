@@ -1,5 +1,5 @@
 -- What the calls of a device do, and what a crash may leave at each moment.
-use Rattle.std.specs.Prelude.{◌<◌, ◌≡◌, ◌⊎◌, ℕ, ◌≤◌, List, ◌++◌, length, take, Result, OnErr}
+use Rattle.std.specs.Prelude.{◌<◌, ◌≡◌, ◌⊎◌, ℕ, ◌≤◌, ◌+◌, List, ◌++◌, length, take, Result, OnErr}
 
 -- what a crash leaves: the file, and all that had been handed over by then
 pub record Left : Type 0 where
@@ -51,6 +51,10 @@ ShowsFirst old new bytes = (n : ℕ) × (new ≡ old ++ take n bytes)
 pub record CountsFailure {T E : Type 0} (before now : ℕ) (result : Result T E) : Type 0 where
   pub later : before ≤ now
   pub failed : OnErr result (before < now)
+
+-- no new file is there that wasn't there before, or the device has failed more often than so many times
+abbrev pub RemovesNew : {D : Type 0} → (D → Type 0) → (D → ℕ) → ℕ → D → D → Type 0
+RemovesNew has_new failures count old new = has_new new → has_new old ⊎ (failures old + count < failures new)
 
 -- Calls that leave the file as it is, with what was handed over, and what a crash may leave.
 pub record StaysOnDisk {D : Type 0} (seen shown : D → List ℕ) (may_leave : D → List ℕ → Type 0) (moment : D → ℕ) (left_since : D → ℕ → Left → Type 0) (failures : D → ℕ) (old new : D) : Type 0 where

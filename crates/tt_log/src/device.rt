@@ -1,7 +1,7 @@
 //! What a log is kept on.
-ghost use Rattle.std.specs.Prelude.{◌≡◌, ◌⊎◌, ◌↔◌, ◌≤◌, ◌+◌, ◌-◌, ◌++◌, [], List, ℕ, length, take, drop, IfOk, OnOk, OnErr, IsErrOf};
+ghost use Rattle.std.specs.Prelude.{◌≡◌, ◌⊎◌, ◌↔◌, ◌<◌, ◌≤◌, ◌+◌, ◌-◌, ◌++◌, [], List, ℕ, length, take, drop, IfOk, OnOk, OnErr, IsErrOf};
 ghost use Rattle.tt_log.specs.Crash.{written_over, MayBeWritten, MayBeLonger, MayBeCut, IsWritten, IsLonger, IsCut};
-ghost use Rattle.tt_log.specs.Device.{Left, Only, AllAsLong, NothingNew, Follows, Now, NowShowing, Elapses, CountsFailure, ShowsFirst};
+ghost use Rattle.tt_log.specs.Device.{Left, Only, AllAsLong, NothingNew, Follows, Now, NowShowing, Elapses, CountsFailure, ShowsFirst, RemovesNew};
 ghost use Rattle.tt_log.specs.Lines.{zeros};
 
 use thiserror::Error;
@@ -68,6 +68,15 @@ pub trait Device {
     /// the disk.
     ghost may_leave_named: { Self → List ℕ → Type 0 };
 
+    /// That a new file which the device has made is there, beside the file.
+    ghost has_new: { Self → Type 0 };
+
+    /// How often a new file may have been given the name of the file.
+    ghost renames: { Self → ℕ };
+
+    /// That the file can't be read, or its length can't be told.
+    ghost cannot_read: { Self → Type 0 };
+
     /// The moment, as a number that doesn't fall.
     ghost moment: { Self → ℕ };
 
@@ -79,14 +88,16 @@ pub trait Device {
 
     /// The length of the file, in bytes. An error changes nothing.
     fn length(&self) -> Result<u64, DeviceError>
-        ensures { tells self.now → IfOk result (λ n. n ≡ length (seen self.now)) };
+        ensures length { tells self.now → IfOk result (λ n. n ≡ length (seen self.now)) }
+        ensures failed { tells self.now → OnErr result (cannot_read self.now) };
 
     /// Fills a buffer with the bytes of the file from a place on. After an error nothing is known
     /// of the buffer, and the file is as before.
     fn read_at(&self, at: u64, buffer: &mut [u8]) -> Result<(), DeviceError>
         requires { tells self.now → at + length buffer.old ≤ length (seen self.now) }
-        ensures { tells self.now → OnOk result
-            (buffer.new ≡ take (length buffer.old) (drop at (seen self.now))) };
+        ensures read { tells self.now → OnOk result
+            (buffer.new ≡ take (length buffer.old) (drop at (seen self.now))) }
+        ensures failed { tells self.now → OnErr result (cannot_read self.now) };
 
     /// Writes over bytes that are there. Until the next sync, and after an error, a crash may leave
     /// the old byte or the new one at each place.
@@ -103,6 +114,8 @@ pub trait Device {
             (may_leave self.old) (may_leave self.new) }
         ensures synced { tells self.old → OnOk result (Follows (IsWritten at bytes.now)
             (once_synced self.old) (once_synced self.new)) }
+        ensures no_new { tells self.old → has_new self.new → has_new self.old }
+        ensures renames { tells self.old → renames self.new ≡ renames self.old }
         ensures time { tells self.old → Elapses (moment self.old) (moment self.new)
             (left_since self.old) (left_since self.new)
             (Now (may_leave self.new) (shown self.old)) }
@@ -122,6 +135,8 @@ pub trait Device {
             (may_leave self.old) (may_leave self.new) }
         ensures synced { tells self.old → OnOk result (Follows (IsLonger len)
             (once_synced self.old) (once_synced self.new)) }
+        ensures no_new { tells self.old → has_new self.new → has_new self.old }
+        ensures renames { tells self.old → renames self.new ≡ renames self.old }
         ensures time { tells self.old → Elapses (moment self.old) (moment self.new)
             (left_since self.old) (left_since self.new)
             (Now (may_leave self.new) (shown self.old)) }
@@ -139,6 +154,8 @@ pub trait Device {
             (may_leave self.old) (may_leave self.new) }
         ensures synced { tells self.old → OnOk result (Follows (IsCut len)
             (once_synced self.old) (once_synced self.new)) }
+        ensures no_new { tells self.old → has_new self.new → has_new self.old }
+        ensures renames { tells self.old → renames self.new ≡ renames self.old }
         ensures time { tells self.old → Elapses (moment self.old) (moment self.new)
             (left_since self.old) (left_since self.new)
             (Now (may_leave self.new) (shown self.old)) }
@@ -156,6 +173,8 @@ pub trait Device {
         ensures seen { tells self.old → OnOk result (seen self.new ≡ seen self.old) }
         ensures shown { tells self.old → shown self.new ≡ shown self.old }
         ensures crash { tells self.old → NothingNew (may_leave self.old) (may_leave self.new) }
+        ensures no_new { tells self.old → has_new self.new → has_new self.old }
+        ensures renames { tells self.old → renames self.new ≡ renames self.old }
         ensures time { tells self.old → Elapses (moment self.old) (moment self.new)
             (left_since self.old) (left_since self.new)
             (Now (may_leave self.new) (shown self.old)) }
@@ -171,6 +190,8 @@ pub trait Device {
         ensures first { tells self.old → ShowsFirst (shown self.old) (shown self.new) bytes.now }
         ensures seen { tells self.old → seen self.new ≡ seen self.old }
         ensures crash { tells self.old → NothingNew (may_leave self.old) (may_leave self.new) }
+        ensures no_new { tells self.old → has_new self.new → has_new self.old }
+        ensures renames { tells self.old → renames self.new ≡ renames self.old }
         ensures time { tells self.old → Elapses (moment self.old) (moment self.new)
             (left_since self.old) (left_since self.new)
             (NowShowing (may_leave self.new) (shown self.old) bytes.now) }
@@ -178,14 +199,18 @@ pub trait Device {
             → CountsFailure (failures self.old) (failures self.new) result };
 
     /// Makes an empty new file beside the file, to be filled and then put in its place. Fails where
-    /// there is one. Whatever comes of it, the file stays as it is. After an error of a call on the
-    /// new file each further one fails, until it is removed and made again.
+    /// there is one. After an error the new file isn't there, unless removing it has failed, too.
+    /// Whatever comes of it, the file stays as it is. After an error of a call on the new file each
+    /// further one fails, until it is removed and made again.
     fn create_new(&mut self) -> Result<(), DeviceError>
         ensures tells { tells self.old ↔ tells self.new }
         ensures created { tells self.old → OnOk result (new_file self.new ≡ []) }
         ensures seen { tells self.old → seen self.new ≡ seen self.old }
         ensures shown { tells self.old → shown self.new ≡ shown self.old }
         ensures crash { tells self.old → NothingNew (may_leave self.old) (may_leave self.new) }
+        ensures no_new { tells self.old → OnErr result
+            (RemovesNew has_new failures 1 self.old self.new) }
+        ensures renames { tells self.old → renames self.new ≡ renames self.old }
         ensures time { tells self.old → Elapses (moment self.old) (moment self.new)
             (left_since self.old) (left_since self.new)
             (Now (may_leave self.new) (shown self.old)) }
@@ -201,6 +226,8 @@ pub trait Device {
         ensures seen { tells self.old → seen self.new ≡ seen self.old }
         ensures shown { tells self.old → shown self.new ≡ shown self.old }
         ensures crash { tells self.old → NothingNew (may_leave self.old) (may_leave self.new) }
+        ensures no_new { tells self.old → has_new self.new → has_new self.old }
+        ensures renames { tells self.old → renames self.new ≡ renames self.old }
         ensures time { tells self.old → Elapses (moment self.old) (moment self.new)
             (left_since self.old) (left_since self.new)
             (Now (may_leave self.new) (shown self.old)) }
@@ -217,6 +244,8 @@ pub trait Device {
         ensures seen { tells self.old → seen self.new ≡ seen self.old }
         ensures shown { tells self.old → shown self.new ≡ shown self.old }
         ensures crash { tells self.old → NothingNew (may_leave self.old) (may_leave self.new) }
+        ensures no_new { tells self.old → has_new self.new → has_new self.old }
+        ensures renames { tells self.old → renames self.new ≡ renames self.old }
         ensures time { tells self.old → Elapses (moment self.old) (moment self.new)
             (left_since self.old) (left_since self.new)
             (Now (may_leave self.new) (shown self.old)) }
@@ -235,6 +264,8 @@ pub trait Device {
         ensures seen { tells self.old → seen self.new ≡ seen self.old }
         ensures shown { tells self.old → shown self.new ≡ shown self.old }
         ensures crash { tells self.old → NothingNew (may_leave self.old) (may_leave self.new) }
+        ensures no_new { tells self.old → has_new self.new → has_new self.old }
+        ensures renames { tells self.old → renames self.new ≡ renames self.old }
         ensures time { tells self.old → Elapses (moment self.old) (moment self.new)
             (left_since self.old) (left_since self.new)
             (Now (may_leave self.new) (shown self.old)) }
@@ -256,6 +287,20 @@ pub trait Device {
         ensures crash { tells self.old → IsErrOf result RenameError.Kept
             → NothingNew (may_leave self.old) (may_leave self.new) }
         ensures shown { tells self.old → shown self.new ≡ shown self.old }
+        ensures no_new { tells self.old → OnOk result (has_new self.new → ⊥) }
+        ensures no_new_kept { tells self.old → IsErrOf result RenameError.Kept
+            → has_new self.new → has_new self.old }
+
+        // Where the new file is still there, and still nobody knows which one has the name, that
+        // couldn't be looked up, either: the device has failed twice.
+        ensures no_new_unknown { tells self.old → IsErrOf result RenameError.Unknown
+            → has_new self.new → failures self.old + 1 < failures self.new }
+
+        ensures renames { tells self.old → OnOk result (renames self.old < renames self.new) }
+        ensures renames_kept { tells self.old → IsErrOf result RenameError.Kept
+            → renames self.new ≡ renames self.old }
+        ensures renames_unknown { tells self.old → IsErrOf result RenameError.Unknown
+            → renames self.old < renames self.new }
         ensures time { tells self.old → Elapses (moment self.old) (moment self.new)
             (left_since self.old) (left_since self.new)
             (Now (may_leave self.new) (shown self.old)) }
@@ -271,18 +316,25 @@ pub trait Device {
         ensures seen { tells self.old → seen self.new ≡ seen self.old }
         ensures shown { tells self.old → shown self.new ≡ shown self.old }
         ensures crash { tells self.old → NothingNew (may_leave self.old) (may_leave self.new) }
+        ensures no_new { tells self.old → has_new self.new → has_new self.old }
+        ensures renames { tells self.old → renames self.new ≡ renames self.old }
         ensures time { tells self.old → Elapses (moment self.old) (moment self.new)
             (left_since self.old) (left_since self.new)
             (Now (may_leave self.new) (shown self.old)) }
         ensures failed { tells self.old
             → CountsFailure (failures self.old) (failures self.new) result };
 
-    /// Removes the new file, if there is one and it can be removed. The file stays as it is.
+    /// Removes the new file, if there is one. It is still there only where that has failed. The file
+    /// stays as it is.
     fn remove_new(&mut self)
         ensures tells { tells self.old ↔ tells self.new }
         ensures seen { tells self.old → seen self.new ≡ seen self.old }
         ensures shown { tells self.old → shown self.new ≡ shown self.old }
         ensures crash { tells self.old → NothingNew (may_leave self.old) (may_leave self.new) }
+        ensures no_new { tells self.old → has_new self.new
+            → failures self.old < failures self.new }
+        ensures renames { tells self.old → renames self.new ≡ renames self.old }
+        ensures read { tells self.old → cannot_read self.old → cannot_read self.new }
         ensures time { tells self.old → Elapses (moment self.old) (moment self.new)
             (left_since self.old) (left_since self.new)
             (Now (may_leave self.new) (shown self.old)) }
@@ -297,7 +349,8 @@ pub trait Device {
         → NothingNew (may_leave device) (once_synced device) };
 
     /// What is read is one of the files that a crash may leave. So is what a process leaves that is
-    /// killed.
+    /// killed between two calls of the device. One that is killed within a call may leave a part of
+    /// what the call does.
     ghost seen_is_left: { (device : Self) → tells device
         → ∥ may_leave device (seen device) ∥₁ };
 

@@ -155,6 +155,12 @@ impl<'a, F: Files<File = File> + Eprint, W: Write> Device for FileDevice<'a, F, 
 
     ghost may_leave_named = { λ d c. ⊥ };
 
+    ghost has_new = { λ d. ⊥ };
+
+    ghost renames = { λ d. 0 };
+
+    ghost cannot_read = { λ d. ⊥ };
+
     ghost moment = { λ d. 0 };
 
     ghost left_since = { λ d t left. ⊥ };

@@ -1,7 +1,7 @@
 //! A log that is written.
 ghost use Rattle.std.specs.Prelude.{◌≡◌, ◌≢◌, ◌↔◌, ◌⊎◌, ◌+◌, ◌++◌, ◌<◌, ◌≤◌, ◌^◌, [], List, ℕ, length, IsOk, IfOk, IfErr, OnOk, OnErr, IsErrOf};
 ghost use Rattle.tt_log.specs.Lines.{logged, joined, IsJoined};
-ghost use Rattle.tt_log.specs.Device.{Only, LeavesOnly, ShowsFirst};
+ghost use Rattle.tt_log.specs.Device.{Only, LeavesOnly, ShowsFirst, RemovesNew};
 
 use crate::closing::end_file;
 use crate::placing::{ROOM_UNIT, put_in_place};
@@ -75,6 +75,12 @@ impl<D: Device> Log<D> {
             → LeavesOnly D.moment D.left_since self.device e.1
             (Keeps (logged (D.seen self.device)) (D.shown self.device))) }
 
+        // It makes no new file beside the log's own.
+        ensures no_new { IfOk result (λ device. D.tells self.device
+            → D.has_new device → D.has_new self.device) }
+        ensures no_new_err { IfErr result (λ e. D.tells self.device
+            → D.has_new e.1 → D.has_new self.device) }
+
         ensures failures { IfOk result (λ device. D.tells self.device
             → D.failures self.device ≤ D.failures device) }
         ensures failed { IfErr result (λ e. D.tells self.device
@@ -113,9 +119,14 @@ impl<D: Device> Log<D> {
             self.old.device self.new.device
             (KeepsFirst (logged (D.seen self.old.device)) lines.now (D.shown self.old.device)) }
 
-        // A crash at any moment of the call, or a kill, leaves a file that doesn't look ended.
+        // A crash at any moment of the call leaves a file that doesn't look ended. So does a kill
+        // between two calls of the device; one within a call may leave a part of what it does.
         ensures unclean { D.tells self.old.device → LeavesOnly D.moment D.left_since
             self.old.device self.new.device LeavesUnclean }
+
+        // It makes no new file beside the log's own.
+        ensures no_new { D.tells self.old.device
+            → D.has_new self.new.device → D.has_new self.old.device }
 
         // It doesn't give up by itself.
         ensures failures { D.tells self.old.device
@@ -159,7 +170,8 @@ impl<D: Device> Log<D> {
             (KeepsAnswered (logged (D.seen self.old.device)) lines.now
             (D.shown self.old.device) answers.now) }
 
-        // A crash at any moment of the call, or a kill, leaves a file that doesn't look ended.
+        // A crash at any moment of the call leaves a file that doesn't look ended. So does a kill
+        // between two calls of the device; one within a call may leave a part of what it does.
         ensures unclean { D.tells self.old.device → LeavesOnly D.moment D.left_since
             self.old.device self.new.device LeavesUnclean }
 
@@ -171,6 +183,8 @@ impl<D: Device> Log<D> {
             → D.shown self.new.device ≡ D.shown self.old.device) }
         ensures all_logged { D.tells self.old.device → IsErrOf result LogError.HandOver
             → logged (D.seen self.new.device) ≡ logged (D.seen self.old.device) ++ lines.now }
+        ensures no_new { D.tells self.old.device
+            → D.has_new self.new.device → D.has_new self.old.device }
         ensures failures { D.tells self.old.device
             → D.failures self.old.device ≤ D.failures self.new.device }
         ensures write { D.tells self.old.device → IsErrOf result LogError.Write
@@ -212,6 +226,10 @@ impl<D: Device> Log<D> {
             self.old.device self.new.device
             (Keeps (logged (D.seen self.old.device)) (D.shown self.old.device)) }
 
+        // After an error there is no new file, unless removing it has failed, too.
+        ensures no_new { D.tells self.old.device → OnErr result
+            (RemovesNew D.has_new D.failures 1 self.old.device self.new.device) }
+
         ensures failures { D.tells self.old.device
             → D.failures self.old.device ≤ D.failures self.new.device }
         ensures failed { D.tells self.old.device → OnErr result
@@ -244,6 +262,8 @@ impl<D: Device> Log<D> {
             self.old.device self.new.device
             (Keeps (logged (D.seen self.old.device)) (D.shown self.old.device)) }
 
+        ensures no_new { D.tells self.old.device
+            → D.has_new self.new.device → D.has_new self.old.device }
         ensures failures { D.tells self.old.device
             → D.failures self.old.device ≤ D.failures self.new.device }
         ensures write { D.tells self.old.device → IsErrOf result LogError.Write
@@ -271,8 +291,11 @@ impl<D: Device> Log<D> {
         requires making { D.tells self.old.device → IsMaking D.new_file self.old }
         requires lines { D.tells self.old.device → IsJoined (D.new_file self.old.device) }
         ensures tells { D.tells self.old.device ↔ D.tells self.new.device }
+
+        // A crash leaves the new file alone, so its name is on the disk.
         ensures settled { D.tells self.old.device → OnOk result
             (IsSettled D.seen D.may_leave self.new) }
+
         ensures logged { D.tells self.old.device → OnOk result
             (logged (D.seen self.new.device) ≡ logged (D.new_file self.old.device)) }
         ensures shown { D.tells self.old.device
@@ -285,7 +308,8 @@ impl<D: Device> Log<D> {
             self.old.device self.new.device (KeepsEither (logged (D.seen self.old.device))
             (logged (D.new_file self.old.device)) (D.shown self.old.device)) }
 
-        // Neither does it, or a kill, leave a file that looks ended.
+        // Neither does it leave a file that looks ended, nor does a kill between two calls of the
+        // device.
         ensures unclean { D.tells self.old.device → LeavesOnly D.moment D.left_since
             self.old.device self.new.device LeavesUnclean }
 
@@ -297,6 +321,22 @@ impl<D: Device> Log<D> {
         ensures kept_any_moment { D.tells self.old.device → IsErrOf result RenewError.Kept
             → LeavesOnly D.moment D.left_since self.old.device self.new.device
             (Keeps (logged (D.seen self.old.device)) (D.shown self.old.device)) }
+
+        // The new file is beside the log's own no longer, or as it was before. Where it has got the
+        // name or not, it is still there only where the device has failed twice.
+        ensures no_new { D.tells self.old.device
+            → OnOk result (D.has_new self.new.device → ⊥) }
+        ensures no_new_kept { D.tells self.old.device → IsErrOf result RenewError.Kept
+            → D.has_new self.new.device → D.has_new self.old.device }
+        ensures no_new_lost { D.tells self.old.device → IsErrOf result RenewError.Lost
+            → D.has_new self.new.device
+            → D.failures self.old.device + 1 < D.failures self.new.device }
+
+        // Only where the new file may have got the name, the log is `Lost`.
+        ensures renames_kept { D.tells self.old.device → IsErrOf result RenewError.Kept
+            → D.renames self.new.device ≡ D.renames self.old.device }
+        ensures renames_lost { D.tells self.old.device → IsErrOf result RenewError.Lost
+            → D.renames self.old.device < D.renames self.new.device }
 
         // It doesn't give up by itself.
         ensures failures { D.tells self.old.device
@@ -325,6 +365,10 @@ impl<D: Device> Log<D> {
             self.old.device self.new.device
             (Keeps (logged (D.seen self.old.device)) (D.shown self.old.device)) }
 
+        // The new file is still there only where removing it has failed.
+        ensures no_new { D.tells self.old.device → D.has_new self.new.device
+            → D.failures self.old.device < D.failures self.new.device }
+
         ensures failures { D.tells self.old.device
             → D.failures self.old.device ≤ D.failures self.new.device }
     {
@@ -351,6 +395,8 @@ impl<D: Device> Log<D> {
             (Keeps (logged (D.seen self.old.device)) (D.shown self.old.device)) }
         ensures unclean { D.tells self.old.device → LeavesOnly D.moment D.left_since
             self.old.device self.new.device LeavesUnclean }
+        ensures no_new { D.tells self.old.device
+            → D.has_new self.new.device → D.has_new self.old.device }
         ensures failures { D.tells self.old.device
             → D.failures self.old.device ≤ D.failures self.new.device }
         ensures write { D.tells self.old.device → IsErrOf result LogError.Write

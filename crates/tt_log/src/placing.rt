@@ -1,5 +1,5 @@
 //! A new file that takes the place of a file.
-ghost use Rattle.std.specs.Prelude.{◌≡◌, ◌↔◌, ◌^◌, ◌<◌, ◌≤◌, length, IfOk, OnOk, OnErr, IsErrOf};
+ghost use Rattle.std.specs.Prelude.{◌≡◌, ◌↔◌, ◌^◌, ◌+◌, ◌<◌, ◌≤◌, length, IfOk, OnOk, OnErr, IsErrOf};
 ghost use Rattle.tt_log.specs.Device.{Left, Only, Now, LeavesOnly, StaysOnDisk};
 ghost use Rattle.tt_log.specs.Lines.{logged, IsJoined};
 ghost use Rattle.tt_log.specs.Log.{AllUnclean, IsAtRest, KeepsOnceSynced, LeavesUnclean, length_with_room};
@@ -39,6 +39,15 @@ pub(crate) fn put_in_place<D: Device>(device: &mut D, end: u64) -> Result<u64, R
     ensures kept { D.tells device.old → IsErrOf result RenewError.Kept
         → StaysOnDisk D.seen D.shown D.may_leave D.moment D.left_since D.failures
         device.old device.new }
+    ensures no_new { D.tells device.old → OnOk result (D.has_new device.new → ⊥) }
+    ensures no_new_kept { D.tells device.old → IsErrOf result RenewError.Kept
+        → D.has_new device.new → D.has_new device.old }
+    ensures no_new_lost { D.tells device.old → IsErrOf result RenewError.Lost
+        → D.has_new device.new → D.failures device.old + 1 < D.failures device.new }
+    ensures renames_kept { D.tells device.old → IsErrOf result RenewError.Kept
+        → D.renames device.new ≡ D.renames device.old }
+    ensures renames_lost { D.tells device.old → IsErrOf result RenewError.Lost
+        → D.renames device.old < D.renames device.new }
     ensures failures { D.tells device.old → D.failures device.old ≤ D.failures device.new }
     ensures failed { D.tells device.old → OnErr result
         (D.failures device.old < D.failures device.new) }
@@ -79,6 +88,17 @@ fn name_new<D: Device>(device: &mut D, len: u64) -> Result<(), RenameError>
     ensures kept { D.tells device.old → IsErrOf result RenameError.Kept
         → StaysOnDisk D.seen D.shown D.may_leave D.moment D.left_since D.failures
         device.old device.new }
+    ensures renames { D.tells device.old
+        → OnOk result (D.renames device.old < D.renames device.new) }
+    ensures no_new { D.tells device.old → OnOk result (D.has_new device.new → ⊥) }
+    ensures no_new_kept { D.tells device.old → IsErrOf result RenameError.Kept
+        → D.has_new device.new → D.has_new device.old }
+    ensures no_new_unknown { D.tells device.old → IsErrOf result RenameError.Unknown
+        → D.has_new device.new → D.failures device.old + 1 < D.failures device.new }
+    ensures renames_kept { D.tells device.old → IsErrOf result RenameError.Kept
+        → D.renames device.new ≡ D.renames device.old }
+    ensures renames_unknown { D.tells device.old → IsErrOf result RenameError.Unknown
+        → D.renames device.old < D.renames device.new }
     ensures failures { D.tells device.old → D.failures device.old ≤ D.failures device.new }
     ensures failed { D.tells device.old → OnErr result
         (D.failures device.old < D.failures device.new) }

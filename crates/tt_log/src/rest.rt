@@ -1,5 +1,5 @@
 //! What stands behind the lines of a file.
-ghost use Rattle.std.specs.Prelude.{◌≡◌, ◌-◌, ◌<◌, ◌≤◌, length, min, IfOk, IfErr, IsTrue, false};
+ghost use Rattle.std.specs.Prelude.{◌≡◌, ◌-◌, ◌<◌, ◌≤◌, length, min, IfOk, IfErr, OnErr, IsTrue, false};
 ghost use Rattle.tt_log.specs.Crash.{written_over};
 ghost use Rattle.tt_log.specs.Lines.{zeros};
 
@@ -21,6 +21,7 @@ pub(crate) fn is_clear<D: Device>(
         → D.seen device.now ≡ written_over (D.seen device.now) from (zeros (len - from)) → ⊥) }
     ensures some { 0 < length buffer.new }
     ensures read { IfErr result (λ e. e ≡ LogError.Read) }
+    ensures cannot_read { D.tells device.now → OnErr result (D.cannot_read device.now) }
 {
     let mut at = from;
     while at < len {

@@ -1,5 +1,5 @@
 //! Looking at a log, without writing to it.
-ghost use Rattle.std.specs.Prelude.{◌≡◌, ◌≢◌, ◌⊎◌, ◌↔◌, ◌+◌, ◌^◌, ◌<◌, ◌≤◌, ◌++◌, [], length, take, false, IfOk, IfErr, IsTrue, OnOk, IsErrOf};
+ghost use Rattle.std.specs.Prelude.{◌≡◌, ◌≢◌, ◌⊎◌, ◌↔◌, ◌+◌, ◌^◌, ◌<◌, ◌≤◌, ◌++◌, [], length, take, false, IfOk, IfErr, IsTrue, OnOk, OnErr, IsErrOf};
 ghost use Rattle.tt_log.specs.Device.{NothingNew, ShowsFirst};
 ghost use Rattle.tt_log.specs.Lines.{logged, joined, whole_lines_of};
 ghost use Rattle.tt_log.specs.Show.{IsSummaryOf};
@@ -38,6 +38,8 @@ pub fn show_log<D: Device>(device: &mut D, buffer: &mut [u8]) -> Result<LogSumma
 
     ensures summary { D.tells device.old → IfOk result (IsSummaryOf (D.seen device.old)) }
     ensures err { IfErr result (λ e. (e ≡ LogError.Read) ⊎ (e ≡ LogError.HandOver)) }
+    ensures read { D.tells device.old → IsErrOf result LogError.Read
+        → D.cannot_read device.new }
     ensures hand_over { D.tells device.old → IsErrOf result LogError.HandOver
         → D.failures device.old < D.failures device.new }
 {
@@ -63,6 +65,7 @@ pub fn has_lines<D: Device>(device: &D, buffer: &mut [u8]) -> Result<bool, LogEr
     ensures none { D.tells device.now → IfOk result (λ b. b ≡ false
         → logged (D.seen device.now) ≡ []) }
     ensures read { IfErr result (λ e. e ≡ LogError.Read) }
+    ensures cannot_read { D.tells device.now → OnErr result (D.cannot_read device.now) }
 {
     let Ok(len) = device.length() else {
         return Err(LogError::Read);
@@ -95,6 +98,7 @@ fn end_of_lines<D: Device>(device: &D, len: u64, buffer: &mut [u8]) -> Result<u6
         end ≡ length (joined (logged (D.seen device.now)))) }
     ensures within { IfOk result (λ end. end ≤ len) }
     ensures read { IfErr result (λ e. e ≡ LogError.Read) }
+    ensures cannot_read { D.tells device.now → OnErr result (D.cannot_read device.now) }
 {
     let mut at = 0;
     let mut end = 0;
@@ -142,6 +146,8 @@ fn show_first<D: Device>(device: &mut D, end: u64, buffer: &mut [u8]) -> Result<
     ensures lines { D.tells device.old → IfOk result (λ n.
         n ≡ length (whole_lines_of (take end (D.seen device.old)))) }
     ensures err { IfErr result (λ e. (e ≡ LogError.Read) ⊎ (e ≡ LogError.HandOver)) }
+    ensures read { D.tells device.old → IsErrOf result LogError.Read
+        → D.cannot_read device.new }
     ensures hand_over { D.tells device.old → IsErrOf result LogError.HandOver
         → D.failures device.old < D.failures device.new }
 {

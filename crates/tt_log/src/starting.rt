@@ -1,6 +1,6 @@
 //! How a log begins on a file that another process has left.
-ghost use Rattle.std.specs.Prelude.{◌≡◌, ◌⊎◌, ◌↔◌, ◌^◌, ◌<◌, ◌≤◌, [], length, take, IfOk, IfErr, OnOk, OnErr, IsErrOf};
-ghost use Rattle.tt_log.specs.Device.{Only, LeavesOnly, StaysOnDisk};
+ghost use Rattle.std.specs.Prelude.{◌≡◌, ◌⊎◌, ◌↔◌, ◌^◌, ◌+◌, ◌<◌, ◌≤◌, [], length, take, IfOk, IfErr, OnOk, OnErr, IsErrOf};
+ghost use Rattle.tt_log.specs.Device.{Only, LeavesOnly, StaysOnDisk, RemovesNew};
 ghost use Rattle.tt_log.specs.Lines.{logged, joined, IsJoined};
 ghost use Rattle.tt_log.specs.Log.{IsAtRest, KeepsOnceSynced};
 
@@ -28,6 +28,7 @@ pub(crate) fn add_room<D: Device>(device: &mut D, end: u64) -> Result<u64, LogEr
     ensures any_moment { D.tells device.old → LeavesOnly D.moment D.left_since
         device.old device.new (KeepsOnceSynced (D.may_leave device.old)
         (logged (D.seen device.old)) (D.shown device.old)) }
+    ensures no_new { D.tells device.old → D.has_new device.new → D.has_new device.old }
     ensures failures { D.tells device.old → D.failures device.old ≤ D.failures device.new }
     ensures write { IfErr result (λ e. e ≡ LogError.Write) }
     ensures failed { D.tells device.old → OnErr result
@@ -62,12 +63,22 @@ pub(crate) fn make_anew<D: Device>(
     ensures any_moment { D.tells device.old → LeavesOnly D.moment D.left_since
         device.old device.new (KeepsOnceSynced (D.may_leave device.old)
         (logged (D.seen device.old)) (D.shown device.old)) }
+
+    // After an error there is no new file, unless removing it has failed, too.
+    ensures no_new { D.tells device.old → OnOk result (D.has_new device.new → ⊥) }
+    ensures no_new_read { D.tells device.old → IsErrOf result LogError.Read
+        → RemovesNew D.has_new D.failures 0 device.old device.new }
+    ensures no_new_write { D.tells device.old → IsErrOf result LogError.Write
+        → RemovesNew D.has_new D.failures 1 device.old device.new }
+
     ensures failures { D.tells device.old → D.failures device.old ≤ D.failures device.new }
     ensures err { IfErr result (λ e. (e ≡ LogError.Read) ⊎ (e ≡ LogError.Write)) }
     ensures write { D.tells device.old → IsErrOf result LogError.Write
         → D.failures device.old < D.failures device.new }
     ensures read { D.tells device.old → IsErrOf result LogError.Read
         → D.seen device.new ≡ D.seen device.old }
+    ensures cannot_read { D.tells device.old → IsErrOf result LogError.Read
+        → D.cannot_read device.new }
 {
     device.create_new()?;
     match copy_lines(device, end, buffer) {
@@ -97,6 +108,9 @@ fn take_place<D: Device>(device: &mut D, end: u64) -> Result<u64, LogError>
     ensures any_moment { D.tells device.old → LeavesOnly D.moment D.left_since
         device.old device.new (KeepsOnceSynced (D.may_leave device.old)
         (logged (D.new_file device.old)) (D.shown device.old)) }
+    ensures no_new { D.tells device.old → OnOk result (D.has_new device.new → ⊥) }
+    ensures no_new_err { D.tells device.old → OnErr result (D.has_new device.new
+        → D.failures device.old + 1 < D.failures device.new) }
     ensures failures { D.tells device.old → D.failures device.old ≤ D.failures device.new }
     ensures write { IfErr result (λ e. e ≡ LogError.Write) }
     ensures failed { D.tells device.old → OnErr result
@@ -126,6 +140,8 @@ fn copy_lines<D: Device>(device: &mut D, end: u64, buffer: &mut [u8]) -> Result<
     ensures err { IfErr result (λ e. (e ≡ LogError.Read) ⊎ (e ≡ LogError.Write)) }
     ensures write { D.tells device.old → IsErrOf result LogError.Write
         → D.failures device.old < D.failures device.new }
+    ensures cannot_read { D.tells device.old → IsErrOf result LogError.Read
+        → D.cannot_read device.new }
 {
     let mut at = 0;
     while at < end {

@@ -1,7 +1,7 @@
 //! A log whose lines are still to be read.
 ghost use Rattle.std.specs.Prelude.{◌≡◌, ◌⊎◌, ◌↔◌, ◌+◌, ◌<◌, ◌≤◌, ◌^◌, ◌++◌, [], true, false, length, take, IfOk, IfErr, OnErr};
 ghost use Rattle.tt_log.specs.Lines.{text, logged, joined, whole_lines_of, end_behind};
-ghost use Rattle.tt_log.specs.Device.{LeavesOnly};
+ghost use Rattle.tt_log.specs.Device.{LeavesOnly, RemovesNew};
 
 use crate::log::MAX_LEN;
 use crate::rest::piece_len;
@@ -38,6 +38,8 @@ impl<D: Device> UnreadLog<D> {
         ensures unread { IfOk result (λ log. D.tells device
             → unread D.seen log ≡ text (D.seen device)) }
         ensures err { IfErr result (λ e. (e.0 ≡ LogError.Read) × (e.1 ≡ device)) }
+        ensures read { OnErr result (D.tells device
+            → D.cannot_read device ⊎ (2 ^ 60 ≤ length (D.seen device))) }
     {
         match device.length() {
             Ok(len) if len < MAX_LEN => Ok(UnreadLog {
@@ -78,6 +80,8 @@ impl<D: Device> UnreadLog<D> {
         ensures end { D.tells self.old.device → IfOk result (λ n. n ≡ 0
             → 0 < length buffer.new → unread D.seen self.new ≡ []) }
         ensures stays { OnErr result (self.new ≡ self.old) }
+        ensures failed { D.tells self.old.device
+            → OnErr result (D.cannot_read self.old.device) }
     {
         let count = self.next_count(buffer.len());
         if count == 0 {
@@ -158,9 +162,21 @@ impl<D: Device> UnreadLog<D> {
             → D.shown e.1 ≡ D.shown self.device) }
         ensures seen_err { IfErr result (λ e. D.tells self.device → e.0 ≡ LogError.Read
             → D.seen e.1 ≡ D.seen self.device) }
+
+        // Where a new file was made, it has the name of the file, or was removed, unless removing it
+        // has failed, too.
+        ensures no_new { IfOk result (λ log. D.tells self.device
+            → D.has_new log.device → D.has_new self.device) }
+        ensures no_new_read { IfErr result (λ e. D.tells self.device → e.0 ≡ LogError.Read
+            → RemovesNew D.has_new D.failures 0 self.device e.1) }
+        ensures no_new_write { IfErr result (λ e. D.tells self.device → e.0 ≡ LogError.Write
+            → RemovesNew D.has_new D.failures 1 self.device e.1) }
+
         ensures failures { IfOk result (λ log. D.tells self.device
             → D.failures self.device ≤ D.failures log.device) }
         ensures err { IfErr result (λ e. (e.0 ≡ LogError.Read) ⊎ (e.0 ≡ LogError.Write)) }
+        ensures read { IfErr result (λ e. D.tells self.device → e.0 ≡ LogError.Read
+            → D.cannot_read e.1) }
         ensures write { IfErr result (λ e. D.tells self.device → e.0 ≡ LogError.Write
             → D.failures self.device < D.failures e.1) }
     {

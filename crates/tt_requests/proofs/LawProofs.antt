@@ -1,6 +1,5 @@
 -- The law of requests: what a request asks for has been judged.
-use Rattle.std.proofs.Common.{◌≡◌, ℕ, ◌≤◌, Bool, true, false, List, [], ◌∷◌, ◌++◌, length, Option, None, Some, if◌then◌else◌, Result, Ok, codes, sym, subst, ltb-false}
-use Rattle.std.specs.List.{AllByRecursion}
+use Rattle.std.proofs.Common.{◌≡◌, ℕ, ◌≤◌, Bool, true, false, List, [], ◌∷◌, length, Option, None, Some, if◌then◌else◌, Result, Ok, codes, sym, subst, ltb-false}
 use Rattle.std.specs.Str.{bytes_eq}
 use Rattle.std.proofs.lemmas.List.Elements.{All-from_recursion}
 use Rattle.serde_json.specs.Data.{Data}
@@ -20,14 +19,17 @@ use Rattle.tt_grammar.specs.Conditions.{table_named}
 use Rattle.tt_grammar.specs.Statements.{checked_statement, conditions, no_members_at, insert, update, delete}
 use Rattle.tt_grammar.specs.Actions.{action}
 use Rattle.tt_grammar.specs.Edits.{max_edits, replacement}
+use Rattle.tt_requests.specs.declared.kinds.Kind.{Kind}
+use Rattle.tt_requests.specs.declared.kinds.Kind.TheVariants as kinds
 use Rattle.tt_requests.specs.declared.request.Command.{Command}
 use Rattle.tt_requests.specs.declared.request.Command.TheVariants as commands
 use Rattle.tt_requests.specs.declared.request.Request.{Request}
-use Rattle.tt_requests.specs.Told.{told_time, told_generation}
+use Rattle.tt_requests.specs.Kinds.{kind_of}
+use Rattle.tt_requests.specs.Told.{named_time, named_generation}
 use Rattle.tt_requests.specs.Edits.{cancel, replace, edit, edits}
 use Rattle.tt_requests.specs.Reads.{page, read, preview}
 use Rattle.tt_requests.specs.Questions.{worker_number, span, row_named, slots, changes_named, changes_asked, changes}
-use Rattle.tt_requests.specs.Requests.{one_write, several_writes, begin, max_steps, forget, only_true, bare, statement_kinds, repair_kinds, question_kinds, by_first_kind, command, members_of_request}
+use Rattle.tt_requests.specs.Requests.{one_write, several_writes, begin, max_steps, forget, only_true, bare, command_of, command, members_of_request}
 use Rattle.tt_requests.specs.Requests as requests
 use Rattle.tt_requests.specs.Judged.{AreJudgedEdits, IsJudged, RequestsAreJudged}
 use Rattle.tt_requests.proofs.StepBackLemmas.{ok_same, step, with_path-ok, either-ok, or_refuse-ok, within_limit-ok, member-ok, each-ok}
@@ -71,16 +73,9 @@ edits-judged version tables v asked e =
 
 -- ---- commands, by their kinds
 
--- a kind of command: the member that names it, and its meaning
-abbrev Kind : Type 0
-Kind = List ℕ × (Data → Result Command DocFault)
-
 -- whatever a meaning gives has been judged
 abbrev Judges : Tables → (Data → Result Command DocFault) → Type 0
 Judges tables meaning = (v : Data) (asked : Command) → meaning v ≡ Ok asked → IsJudged tables asked
-
-abbrev JudgesKind : Tables → Kind → Type 0
-JudgesKind tables kind = Judges tables kind.1
 
 one_write-judged : (tables : Tables) (reading : Result Write DocFault) (asked : Command) → ((w : Write) → reading ≡ Ok w → Accepts tables w)
     → one_write reading ≡ Ok asked → IsJudged tables asked
@@ -109,8 +104,8 @@ unfolding read
 read-judged version tables v asked e =
     let table = step (member (codes "select") (table_named tables) v) _ asked e in
     let equals = step (conditions version tables table.value v) _ asked table.rest in
-    let time = step (optional (codes "at") told_time v) _ asked equals.rest in
-    let generation = step (optional (codes "in") told_generation v) _ asked time.rest in
+    let time = step (optional (codes "at") named_time v) _ asked equals.rest in
+    let generation = step (optional (codes "in") named_generation v) _ asked time.rest in
     let wanted = step (page v) _ asked generation.rest in
     let known = step (no_members_at contexts.Request (codes "after" ∷ codes "at" ∷ codes "in" ∷ codes "most" ∷ codes "select" ∷ codes "where" ∷ []) v) _ asked wanted.rest in
     let statement : Select = record { table = table.value; equals = equals.value } in
@@ -159,7 +154,7 @@ abort-judged tables v asked e =
 forget-judged : (tables : Tables) → Judges tables forget
 unfolding forget
 forget-judged tables v asked e =
-    let time = step (member (codes "forget") told_time v) _ asked e in
+    let time = step (member (codes "forget") named_time v) _ asked e in
     let known = step (no_members_at contexts.Request (codes "forget" ∷ []) v) _ asked time.rest in
     subst (IsJudged tables) (ok_same known.rest) tt
 
@@ -203,41 +198,36 @@ changes-judged tables v asked e =
     let source = member-ok (codes "changes") changes_asked v read.value read.is in
     subst (IsJudged tables) (ok_same known.rest) (changes_asked-judged tables source.value read.value source.is)
 
--- ---- a command, by the first of its kinds
+-- ---- a command, by its kind
 
-by_first_kind-judged : (tables : Tables) (kinds : List Kind) → AllByRecursion (JudgesKind tables) kinds → Judges tables (by_first_kind kinds)
-by_first_kind-judged tables [] all v asked e = cc
-by_first_kind-judged tables (kind ∷ others) all v asked e =
-    either-ok (has kind.0 v) _ _ asked e (all.0 v asked) (by_first_kind-judged tables others all.1 v asked)
-
-statement_kinds-judged : (version : Version) (tables : Tables) → AllByRecursion (JudgesKind tables) (statement_kinds version tables)
-statement_kinds-judged version tables =
-    (insert-judged tables, (update-judged version tables, (delete-judged version tables, (read-judged version tables, (preview-judged version tables, (several_writes-judged version tables, tt))))))
-
-repair_kinds-judged : (version : Version) (tables : Tables) → AllByRecursion (JudgesKind tables) (repair_kinds version tables)
-repair_kinds-judged version tables =
-    (begin-judged version tables, (step-judged tables, (finish-judged tables, (abort-judged tables, tt))))
-
-question_kinds-judged : (tables : Tables) → AllByRecursion (JudgesKind tables) (question_kinds tables)
-question_kinds-judged tables =
-    (bare-judged tables (codes "status") commands.Status tt, (slots-judged tables, (changes-judged tables, (bare-judged tables (codes "tables") commands.Tables tt, (forget-judged tables, tt)))))
-
-all-append : {X : Type 0} (P : X → Type 0) (xs ys : List X) → AllByRecursion P xs → AllByRecursion P ys → AllByRecursion P (xs ++ ys)
-all-append P [] ys first second = second
-all-append P (x ∷ xs) ys first second = (first.0, all-append P xs ys first.1 second)
+command_of-judged : (version : Version) (tables : Tables) (kind : Kind) (v : Data) (asked : Command) → command_of version tables kind v ≡ Ok asked → IsJudged tables asked
+command_of-judged version tables kinds.Insert v asked e = insert-judged tables v asked e
+command_of-judged version tables kinds.Update v asked e = update-judged version tables v asked e
+command_of-judged version tables kinds.Delete v asked e = delete-judged version tables v asked e
+command_of-judged version tables kinds.Select v asked e = read-judged version tables v asked e
+command_of-judged version tables kinds.Preview v asked e = preview-judged version tables v asked e
+command_of-judged version tables kinds.Do v asked e = several_writes-judged version tables v asked e
+command_of-judged version tables kinds.Begin v asked e = begin-judged version tables v asked e
+command_of-judged version tables kinds.Step v asked e = step-judged tables v asked e
+command_of-judged version tables kinds.Finish v asked e = finish-judged tables v asked e
+command_of-judged version tables kinds.Abort v asked e = abort-judged tables v asked e
+command_of-judged version tables kinds.Status v asked e = bare-judged tables (codes "status") commands.Status tt v asked e
+command_of-judged version tables kinds.Slots v asked e = slots-judged tables v asked e
+command_of-judged version tables kinds.Changes v asked e = changes-judged tables v asked e
+command_of-judged version tables kinds.Tables v asked e = bare-judged tables (codes "tables") commands.Tables tt v asked e
+command_of-judged version tables kinds.Forget v asked e = forget-judged tables v asked e
 
 command-judged : (version : Version) (tables : Tables) → Judges tables (command version tables)
-command-judged version tables =
-    let later = all-append (JudgesKind tables) (repair_kinds version tables) (question_kinds tables) (repair_kinds-judged version tables) (question_kinds-judged tables) in
-    by_first_kind-judged tables (statement_kinds version tables ++ (repair_kinds version tables ++ question_kinds tables))
-    (all-append (JudgesKind tables) (statement_kinds version tables) (repair_kinds version tables ++ question_kinds tables) (statement_kinds-judged version tables) later)
+command-judged version tables v asked e =
+    let kind = step (kind_of v) _ asked e in
+    command_of-judged version tables kind.value v asked kind.rest
 
 members-judged : (version : Version) (tables : Tables) (v : Data) (request : Request) → members_of_request version tables v ≡ Ok request → IsJudged tables request.command
 unfolding members_of_request
 members-judged version tables v request e =
     let is_object = step (object v) _ request e in
     let worker = step (optional (codes "worker") worker_number v) _ request is_object.rest in
-    let expected = step (optional (codes "if") told_time v) _ request worker.rest in
+    let expected = step (optional (codes "if") named_time v) _ request worker.rest in
     let asked = step (command version tables v) _ request expected.rest in
     subst (λ (r : Request). IsJudged tables r.command) (ok_same asked.rest) (command-judged version tables v asked.value asked.is)
 

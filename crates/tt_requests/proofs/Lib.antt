@@ -1,3 +1,5 @@
+pub mod NumberLemmas
+pub mod KindLemmas
 pub mod LineLemmas
 pub mod StepBackLemmas
 pub mod BoundLemmas

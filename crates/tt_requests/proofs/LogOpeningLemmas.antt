@@ -3,7 +3,7 @@ use Rattle.std.proofs.Common.{◌≡◌, ℕ, ◌<◌, ◌≤◌, Bool, true, fa
 use Rattle.std.specs.Prelude.{IfOk}
 use Rattle.std.proofs.lemmas.Bool.{ltb-false, ltb-true}
 use Rattle.serde_json.specs.Data.{Data}
-use Rattle.tt_numbers.specs.Numbers.{Numbering, number_limit, IsNumbering}
+use Rattle.tt_requests.specs.Numbers.{Numbering, number_limit, IsNumbering}
 use Rattle.tt_grammar.specs.declared.fault.DocFault.{DocFault}
 use Rattle.tt_grammar.specs.Fault.{◌>>=◌, refuse, Gives, document_path}
 use Rattle.tt_grammar.specs.Decoder.{object, count, count_within, member}

@@ -11,11 +11,14 @@ use Rattle.tt_grammar.specs.Edits.{max_edits, replacement}
 use Rattle.tt_grammar.specs.NewestVersion.{ReadsTheSame}
 use Rattle.tt_grammar.specs.Version.{newest_version}
 use Rattle.tt_grammar.proofs.NewestVersionLemmas.{then-same, made-same, with_path-same, if-same, member-same, each-same, conditions-same, update-same, delete-same, action-same, replacement-same}
-use Rattle.tt_requests.specs.Told.{told_time}
+use Rattle.tt_requests.specs.declared.kinds.Kind.{Kind}
+use Rattle.tt_requests.specs.declared.kinds.Kind.TheVariants as kinds
+use Rattle.tt_requests.specs.Kinds.{kind_of}
+use Rattle.tt_requests.specs.Told.{named_time}
 use Rattle.tt_requests.specs.Edits.{replace, edit, edits}
 use Rattle.tt_requests.specs.Reads.{read, preview}
 use Rattle.tt_requests.specs.Questions.{worker_number}
-use Rattle.tt_requests.specs.Requests.{one_write, several_writes, begin, command, members_of_request}
+use Rattle.tt_requests.specs.Requests.{one_write, several_writes, begin, command_of, command, members_of_request}
 use Rattle.tt_requests.specs.NewestVersion.{RequestsReadTheSame}
 
 -- ---- edits
@@ -60,16 +63,26 @@ begin-same version tables v =
     made-same _ _ _ (member-same (codes "begin") (edits version tables) (edits newest_version tables) v (edits-same version tables))
 
 -- of the kinds, the conditions, the actions and the edits depend on the version
-command-same : (version : Version) (tables : Tables) (v : Data) → ReadsTheSame (command version tables v) (command newest_version tables v)
+command_of-same : (version : Version) (tables : Tables) (kind : Kind) (v : Data) → ReadsTheSame (command_of version tables kind v) (command_of newest_version tables kind v)
 unfolding one_write
-command-same version tables v =
-    if-same (has (codes "insert") v) _ _ _ _ (λ t e. e) (
-    if-same (has (codes "update") v) _ _ _ _ (made-same _ _ _ (update-same version tables contexts.Request v)) (
-    if-same (has (codes "delete") v) _ _ _ _ (made-same _ _ _ (delete-same version tables contexts.Request v)) (
-    if-same (has (codes "select") v) _ _ _ _ (read-same version tables v) (
-    if-same (has (codes "preview") v) _ _ _ _ (preview-same version tables v) (
-    if-same (has (codes "do") v) _ _ _ _ (several_writes-same version tables v) (
-    if-same (has (codes "begin") v) _ _ _ _ (begin-same version tables v) (λ t e. e)))))))
+command_of-same version tables kinds.Insert v = λ t e. e
+command_of-same version tables kinds.Update v = made-same _ _ _ (update-same version tables contexts.Request v)
+command_of-same version tables kinds.Delete v = made-same _ _ _ (delete-same version tables contexts.Request v)
+command_of-same version tables kinds.Select v = read-same version tables v
+command_of-same version tables kinds.Preview v = preview-same version tables v
+command_of-same version tables kinds.Do v = several_writes-same version tables v
+command_of-same version tables kinds.Begin v = begin-same version tables v
+command_of-same version tables kinds.Step v = λ t e. e
+command_of-same version tables kinds.Finish v = λ t e. e
+command_of-same version tables kinds.Abort v = λ t e. e
+command_of-same version tables kinds.Status v = λ t e. e
+command_of-same version tables kinds.Slots v = λ t e. e
+command_of-same version tables kinds.Changes v = λ t e. e
+command_of-same version tables kinds.Tables v = λ t e. e
+command_of-same version tables kinds.Forget v = λ t e. e
+
+command-same : (version : Version) (tables : Tables) (v : Data) → ReadsTheSame (command version tables v) (command newest_version tables v)
+command-same version tables v = then-same (kind_of v) _ _ (λ kind. command_of-same version tables kind v)
 
 -- ---- requests
 
@@ -78,7 +91,7 @@ unfolding members_of_request
 members-same version tables v =
     then-same (object v) _ _ (λ is_object.
     then-same (optional (codes "worker") worker_number v) _ _ (λ worker.
-    then-same (optional (codes "if") told_time v) _ _ (λ expected.
+    then-same (optional (codes "if") named_time v) _ _ (λ expected.
     made-same _ _ _ (command-same version tables v))))
 
 -- a request that has no fault in a version is read the same in the newest one

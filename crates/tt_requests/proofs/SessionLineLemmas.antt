@@ -1,7 +1,6 @@
 -- No request has a version.
-use Rattle.std.proofs.Common.{◌≡◌, ℕ, false, List, [], ◌∷◌, ◌++◌, Result, Ok, Err, IfOk, OnOk, codes, refl, sym, ap, ◌∙◌, ◌≢◌}
+use Rattle.std.proofs.Common.{◌≡◌, ℕ, false, List, [], ◌∷◌, Result, Ok, Err, IfOk, OnOk, codes, refl, sym, ap, ◌∙◌, ◌≢◌}
 use Rattle.std.specs.Prelude.{is_some}
-use Rattle.std.specs.List.{AllByRecursion}
 use Rattle.serde_json.specs.Data.{Data}
 use Rattle.tt_values.specs.declared.statement.Write.{Write}
 use Rattle.tt_values.specs.Tables.{Tables}
@@ -19,19 +18,22 @@ use Rattle.tt_grammar.specs.Conditions.{value, table_named}
 use Rattle.tt_grammar.specs.Statements.{conditions, no_members_at, insert, update, delete}
 use Rattle.tt_grammar.specs.Actions.{writes, is_whole, members_of_action, action}
 use Rattle.tt_grammar.proofs.KnownLemmas.{are_known, not_there}
+use Rattle.tt_requests.specs.declared.kinds.Kind.{Kind}
+use Rattle.tt_requests.specs.declared.kinds.Kind.TheVariants as kinds
 use Rattle.tt_requests.specs.declared.request.Command.{Command}
 use Rattle.tt_requests.specs.declared.request.Command.TheVariants as commands
 use Rattle.tt_requests.specs.declared.request.Request.{Request}
-use Rattle.tt_requests.specs.Told.{told_time, told_generation}
+use Rattle.tt_requests.specs.Kinds.{kind_of}
+use Rattle.tt_requests.specs.Told.{named_time, named_generation}
 use Rattle.tt_requests.specs.Edits.{edits}
 use Rattle.tt_requests.specs.Reads.{page, read, preview}
 use Rattle.tt_requests.specs.Questions.{worker_number, span, row_named, slots, changes_asked, changes}
-use Rattle.tt_requests.specs.Requests.{one_write, several_writes, begin, max_steps, end_of_repair, finish, abort, forget, only_true, bare, statement_kinds, repair_kinds, question_kinds, by_first_kind, command, members_of_request, request_of}
+use Rattle.tt_requests.specs.Requests.{one_write, several_writes, begin, max_steps, end_of_repair, finish, abort, forget, only_true, bare, command_of, command, members_of_request, request_of}
 use Rattle.tt_requests.specs.Requests as requests
 use Rattle.tt_requests.specs.declared.session_line.SessionLine.{SessionLine}
 use Rattle.tt_requests.specs.declared.session_line.SessionLine.TheVariants as lines
 use Rattle.tt_requests.specs.SessionLine.{is_opening, session_line_of, RequestsAreNoOpenings}
-use Rattle.tt_requests.proofs.StepBackLemmas.{step, with_path-ok, either-ok}
+use Rattle.tt_requests.proofs.StepBackLemmas.{step, with_path-ok}
 
 -- whatever is read without a fault has no version
 abbrev HasNone : {T : Type 0} → (Data → Result T DocFault) → Type 0
@@ -84,12 +86,6 @@ action-none version tables v a e =
 
 -- ---- commands, by their kinds
 
-abbrev Kind : Type 0
-Kind = List ℕ × (Data → Result Command DocFault)
-
-abbrev KindHasNone : Kind → Type 0
-KindHasNone kind = HasNone kind.1
-
 one_write-none : (reading : Data → Result Write DocFault) → HasNone reading → HasNone (λ v. one_write (reading v))
 unfolding one_write
 one_write-none reading none v asked e =
@@ -107,8 +103,8 @@ unfolding read
 read-none version tables v asked e =
     let table = step (member (codes "select") (table_named tables) v) _ asked e in
     let equals = step (conditions version tables table.value v) _ asked table.rest in
-    let time = step (optional (codes "at") told_time v) _ asked equals.rest in
-    let generation = step (optional (codes "in") told_generation v) _ asked time.rest in
+    let time = step (optional (codes "at") named_time v) _ asked equals.rest in
+    let generation = step (optional (codes "in") named_generation v) _ asked time.rest in
     let wanted = step (page v) _ asked generation.rest in
     let known = step (no_members_at contexts.Request (codes "after" ∷ codes "at" ∷ codes "in" ∷ codes "most" ∷ codes "select" ∷ codes "where" ∷ []) v) _ asked wanted.rest in
     none-at (codes "after" ∷ codes "at" ∷ codes "in" ∷ codes "most" ∷ codes "select" ∷ codes "where" ∷ []) refl v known.value known.is
@@ -160,7 +156,7 @@ abort-none v asked e =
 forget-none : HasNone forget
 unfolding forget
 forget-none v asked e =
-    let time = step (member (codes "forget") told_time v) _ asked e in
+    let time = step (member (codes "forget") named_time v) _ asked e in
     let known = step (no_members_at contexts.Request (codes "forget" ∷ []) v) _ asked time.rest in
     none-at (codes "forget" ∷ []) refl v known.value known.is
 
@@ -187,49 +183,36 @@ changes-none v asked e =
     let known = step (no_members_at contexts.Request (codes "changes" ∷ []) v) _ asked read.rest in
     none-at (codes "changes" ∷ []) refl v known.value known.is
 
--- ---- a command, by the first of its kinds
+-- ---- a command, by its kind
 
-by_first_kind-none : (kinds : List Kind) → AllByRecursion KindHasNone kinds → HasNone (by_first_kind kinds)
-by_first_kind-none [] all v asked e = cc
-by_first_kind-none (kind ∷ others) all v asked e =
-    either-ok (has kind.0 v) _ _ asked e (all.0 v asked) (by_first_kind-none others all.1 v asked)
-
-all-append : {X : Type 0} (P : X → Type 0) (xs ys : List X) → AllByRecursion P xs → AllByRecursion P ys → AllByRecursion P (xs ++ ys)
-all-append P [] ys first second = second
-all-append P (x ∷ xs) ys first second = (first.0, all-append P xs ys first.1 second)
-
-statement_kinds-none : (version : Version) (tables : Tables) → AllByRecursion KindHasNone (statement_kinds version tables)
-statement_kinds-none version tables = (
-  one_write-none (insert tables contexts.Request) (insert-none tables),
-  (
-    one_write-none (update version tables contexts.Request) (update-none version tables),
-    (
-      one_write-none (delete version tables contexts.Request) (delete-none version tables),
-      (read-none version tables, (preview-none version tables, (several_writes-none version tables, tt))),
-    ),
-  ),
-)
-
-repair_kinds-none : (version : Version) (tables : Tables) → AllByRecursion KindHasNone (repair_kinds version tables)
-repair_kinds-none version tables =
-    (begin-none version tables, (step-none, (finish-none, (abort-none, tt))))
-
-question_kinds-none : (tables : Tables) → AllByRecursion KindHasNone (question_kinds tables)
-question_kinds-none tables =
-    (bare-none (codes "status") commands.Status refl, (slots-none tables, (changes-none, (bare-none (codes "tables") commands.Tables refl, (forget-none, tt)))))
+command_of-none : (version : Version) (tables : Tables) (kind : Kind) (v : Data) (asked : Command) → command_of version tables kind v ≡ Ok asked → has (codes "version") v ≡ false
+command_of-none version tables kinds.Insert v asked e = one_write-none (insert tables contexts.Request) (insert-none tables) v asked e
+command_of-none version tables kinds.Update v asked e = one_write-none (update version tables contexts.Request) (update-none version tables) v asked e
+command_of-none version tables kinds.Delete v asked e = one_write-none (delete version tables contexts.Request) (delete-none version tables) v asked e
+command_of-none version tables kinds.Select v asked e = read-none version tables v asked e
+command_of-none version tables kinds.Preview v asked e = preview-none version tables v asked e
+command_of-none version tables kinds.Do v asked e = several_writes-none version tables v asked e
+command_of-none version tables kinds.Begin v asked e = begin-none version tables v asked e
+command_of-none version tables kinds.Step v asked e = step-none v asked e
+command_of-none version tables kinds.Finish v asked e = finish-none v asked e
+command_of-none version tables kinds.Abort v asked e = abort-none v asked e
+command_of-none version tables kinds.Status v asked e = bare-none (codes "status") commands.Status refl v asked e
+command_of-none version tables kinds.Slots v asked e = slots-none tables v asked e
+command_of-none version tables kinds.Changes v asked e = changes-none v asked e
+command_of-none version tables kinds.Tables v asked e = bare-none (codes "tables") commands.Tables refl v asked e
+command_of-none version tables kinds.Forget v asked e = forget-none v asked e
 
 command-none : (version : Version) (tables : Tables) → HasNone (command version tables)
-command-none version tables =
-    let later = all-append KindHasNone (repair_kinds version tables) (question_kinds tables) (repair_kinds-none version tables) (question_kinds-none tables) in
-    by_first_kind-none (statement_kinds version tables ++ (repair_kinds version tables ++ question_kinds tables))
-    (all-append KindHasNone (statement_kinds version tables) (repair_kinds version tables ++ question_kinds tables) (statement_kinds-none version tables) later)
+command-none version tables v asked e =
+    let kind = step (kind_of v) _ asked e in
+    command_of-none version tables kind.value v asked kind.rest
 
 members-none : (version : Version) (tables : Tables) → HasNone (members_of_request version tables)
 unfolding members_of_request
 members-none version tables v request e =
     let is_object = step (object v) _ request e in
     let worker = step (optional (codes "worker") worker_number v) _ request is_object.rest in
-    let expected = step (optional (codes "if") told_time v) _ request worker.rest in
+    let expected = step (optional (codes "if") named_time v) _ request worker.rest in
     let asked = step (command version tables v) _ request expected.rest in
     command-none version tables v asked.value asked.is
 

@@ -9,7 +9,7 @@ use Rattle.json.specs.Lex.{lex, punctuate}
 use Rattle.json.specs.Text.{content, short_escape}
 use Rattle.json.specs.Word.{word, after_number}
 use Rattle.serde_json.specs.Read.{number_of}
-use Rattle.tt_numbers.specs.declared.told.ToldTime.{ToldTime}
+use Rattle.tt_requests.specs.declared.told.ToldTime.{ToldTime}
 use Rattle.tt_values.specs.declared.statement.Write.TheVariants as writes
 use Rattle.tt_values.specs.declared.action.Action.{Action}
 use Rattle.tt_repair_laws.specs.declared.edit.Edit.TheVariants.{Replace}

@@ -1,10 +1,13 @@
 pub mod Lines
 pub mod LineValue
 pub mod Opening
+pub mod Numbers
+pub mod ToldExactly
 pub mod Told
 pub mod Edits
 pub mod Reads
 pub mod Questions
+pub mod Kinds
 pub mod Requests
 pub mod SessionLine
 pub mod LogOpening

@@ -1,7 +1,7 @@
 -- The opening of a log that was made anew: as an opening, and with the ground, which the rest of the log stands on.
 use Rattle.std.specs.Prelude.{ℕ, ◌≤◌, nat_lt, if◌then◌else◌, [], ◌∷◌, Result, Ok, codes}
 use Rattle.serde_json.specs.Data.{Data}
-use Rattle.tt_numbers.specs.Numbers.{Numbering, number_limit, IsNumbering}
+use Rattle.tt_requests.specs.Numbers.{Numbering, number_limit, IsNumbering}
 use Rattle.tt_grammar.specs.declared.fault.DocFault.{DocFault}
 use Rattle.tt_grammar.specs.Fault.{◌>>=◌, refuse, with_path, document_path}
 use Rattle.tt_grammar.specs.Decoder.{object, count, count_within, member}

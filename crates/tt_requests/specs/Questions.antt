@@ -2,7 +2,7 @@
 use Rattle.std.specs.Prelude.{ℕ, ◌+◌, nat_lt, List, [], ◌∷◌, Option, None, Some, if◌then◌else◌, Result, Ok, codes}
 use Rattle.std.specs.Str.{bytes_eq}
 use Rattle.serde_json.specs.Data.{Data}
-use Rattle.tt_numbers.specs.declared.told.ToldTime.{ToldTime}
+use Rattle.tt_requests.specs.declared.told.ToldTime.{ToldTime}
 use Rattle.tt_values.specs.declared.row_id.RowId.{RowId}
 use Rattle.tt_values.specs.Tables.{Tables}
 use Rattle.tt_grammar.specs.declared.fault.DocFault.{DocFault}
@@ -13,7 +13,7 @@ use Rattle.tt_grammar.specs.Conditions.{pair, table_named}
 use Rattle.tt_grammar.specs.Statements.{no_members_at}
 use Rattle.tt_requests.specs.declared.request.Command.{Command}
 use Rattle.tt_requests.specs.declared.request.Command.TheVariants as commands
-use Rattle.tt_requests.specs.Told.{told_time}
+use Rattle.tt_requests.specs.Told.{named_time}
 
 -- the largest number of a worker
 abbrev pub max_worker : ℕ
@@ -35,8 +35,8 @@ within_span from to = if nat_lt (from.number + max_span) to.number then refuse (
 unfoldable pub span : Data → Result (ToldTime × ToldTime) DocFault
 span v = do
   items ← pair v
-  from ← with_path (item_path 0) (told_time items.0)
-  to ← with_path (item_path 1) (told_time items.1)
+  from ← with_path (item_path 0) (named_time items.0)
+  to ← with_path (item_path 1) (named_time items.1)
   within_span from to
 
 -- a row, by the name of its table and its key

@@ -14,7 +14,7 @@ use Rattle.tt_grammar.specs.Statements.{checked_statement, conditions, no_member
 use Rattle.tt_requests.specs.declared.request.Command.{Command}
 use Rattle.tt_requests.specs.declared.request.Command.TheVariants as commands
 use Rattle.tt_requests.specs.declared.request.Page.{Page}
-use Rattle.tt_requests.specs.Told.{told_time, told_generation}
+use Rattle.tt_requests.specs.Told.{named_time, named_generation}
 
 -- the largest number of rows that a page may ask for
 abbrev pub max_page : ℕ
@@ -32,8 +32,8 @@ unfoldable pub read : Version → Tables → Data → Result Command DocFault
 read version tables v = do
   table ← member (codes "select") (table_named tables) v
   equals ← conditions version tables table v
-  at ← optional (codes "at") told_time v
-  generation ← optional (codes "in") told_generation v
+  at ← optional (codes "at") named_time v
+  generation ← optional (codes "in") named_generation v
   page ← page v
   _ ← no_members_at contexts.Request (codes "after" ∷ codes "at" ∷ codes "in" ∷ codes "most" ∷ codes "select" ∷ codes "where" ∷ []) v
   let statement : Select = record { table = table; equals = equals }

@@ -1,7 +1,7 @@
 -- The meaning of a request, as of a version of the grammar: its worker, the current time for which it is meant, and its command;
 -- or its first fault. The members are judged in the order in which they are named here, each one wholly before the next; then an
 -- unknown member, the least by its bytes; then the statement as a whole.
-use Rattle.std.specs.Prelude.{ℕ, List, [], ◌∷◌, ◌++◌, Option, unwrap_or, if◌then◌else◌, Result, Ok, codes, ⊤}
+use Rattle.std.specs.Prelude.{ℕ, List, [], ◌∷◌, Option, unwrap_or, if◌then◌else◌, Result, Ok, codes, ⊤}
 use Rattle.serde_json.specs.Data.{Data}
 use Rattle.tt_values.specs.declared.statement.Write.{Write}
 use Rattle.tt_values.specs.Tables.{Tables}
@@ -9,13 +9,16 @@ use Rattle.tt_grammar.specs.declared.fault.DocFault.{DocFault}
 use Rattle.tt_grammar.specs.declared.statements.Context.TheVariants as contexts
 use Rattle.tt_grammar.specs.declared.version.Version.{Version}
 use Rattle.tt_grammar.specs.Fault.{◌>>=◌, refuse, with_path, document_path}
-use Rattle.tt_grammar.specs.Decoder.{object, flag, count_within, has, member, optional}
+use Rattle.tt_grammar.specs.Decoder.{object, flag, count_within, member, optional}
 use Rattle.tt_grammar.specs.Statements.{no_members_at, insert, update, delete}
 use Rattle.tt_grammar.specs.Actions.{action_of_one, action}
+use Rattle.tt_requests.specs.declared.kinds.Kind.{Kind}
+use Rattle.tt_requests.specs.declared.kinds.Kind.TheVariants as kinds
 use Rattle.tt_requests.specs.declared.request.Command.{Command}
 use Rattle.tt_requests.specs.declared.request.Command.TheVariants as commands
 use Rattle.tt_requests.specs.declared.request.Request.{Request}
-use Rattle.tt_requests.specs.Told.{told_time}
+use Rattle.tt_requests.specs.Kinds.{kind_of}
+use Rattle.tt_requests.specs.Told.{named_time}
 use Rattle.tt_requests.specs.Edits.{edits}
 use Rattle.tt_requests.specs.Reads.{read, preview}
 use Rattle.tt_requests.specs.Questions.{worker_number, slots, changes}
@@ -54,7 +57,7 @@ step v = do
 -- what lies before a time is forgotten: the time
 unfoldable pub forget : Data → Result Command DocFault
 forget v = do
-  time ← member (codes "forget") told_time v
+  time ← member (codes "forget") named_time v
   _ ← no_members_at contexts.Request (codes "forget" ∷ []) v
   Ok (commands.Forget time)
 
@@ -91,48 +94,29 @@ bare name command v = do
   _ ← no_members_at contexts.Request (name ∷ []) v
   Ok command
 
--- the statements, each by the member that names it, and its meaning
-abbrev pub statement_kinds : Version → Tables → List (List ℕ × (Data → Result Command DocFault))
-statement_kinds version tables =
-    (codes "insert", λ v. one_write (insert tables contexts.Request v))
-    ∷ (codes "update", λ v. one_write (update version tables contexts.Request v))
-    ∷ (codes "delete", λ v. one_write (delete version tables contexts.Request v))
-    ∷ (codes "select", read version tables)
-    ∷ (codes "preview", preview version tables)
-    ∷ (codes "do", several_writes version tables)
-    ∷ []
-
--- the commands of a repair
-abbrev pub repair_kinds : Version → Tables → List (List ℕ × (Data → Result Command DocFault))
-repair_kinds version tables =
-    (codes "begin", begin version tables)
-    ∷ (codes "step", step)
-    ∷ (codes "finish", finish)
-    ∷ (codes "abort", abort)
-    ∷ []
-
--- the questions about the database and its past, and the forgetting of what lies before a time
-abbrev pub question_kinds : Tables → List (List ℕ × (Data → Result Command DocFault))
-question_kinds tables =
-    (codes "status", bare (codes "status") commands.Status)
-    ∷ (codes "slots", slots tables)
-    ∷ (codes "changes", changes)
-    ∷ (codes "tables", bare (codes "tables") commands.Tables)
-    ∷ (codes "forget", forget)
-    ∷ []
-
--- why a request is refused that has none of the kinds
-abbrev pub no_kind : List ℕ
-no_kind = codes "missing one of insert, update, delete, select, preview, do, begin, step, finish, abort, status, slots, changes, tables, forget"
-
--- the command of an object, by the first of these kinds that it has
-abbrev pub by_first_kind : List (List ℕ × (Data → Result Command DocFault)) → Data → Result Command DocFault
-by_first_kind [] v = refuse no_kind
-by_first_kind (kind ∷ others) v = if has kind.0 v then kind.1 v else by_first_kind others v
+-- the command of an object of this kind
+abbrev pub command_of : Version → Tables → Kind → Data → Result Command DocFault
+command_of version tables kinds.Insert v = one_write (insert tables contexts.Request v)
+command_of version tables kinds.Update v = one_write (update version tables contexts.Request v)
+command_of version tables kinds.Delete v = one_write (delete version tables contexts.Request v)
+command_of version tables kinds.Select v = read version tables v
+command_of version tables kinds.Preview v = preview version tables v
+command_of version tables kinds.Do v = several_writes version tables v
+command_of version tables kinds.Begin v = begin version tables v
+command_of version tables kinds.Step v = step v
+command_of version tables kinds.Finish v = finish v
+command_of version tables kinds.Abort v = abort v
+command_of version tables kinds.Status v = bare (codes "status") commands.Status v
+command_of version tables kinds.Slots v = slots tables v
+command_of version tables kinds.Changes v = changes v
+command_of version tables kinds.Tables v = bare (codes "tables") commands.Tables v
+command_of version tables kinds.Forget v = forget v
 
 -- the command of an object, by the first of its kinds
 abbrev pub command : Version → Tables → Data → Result Command DocFault
-command version tables v = by_first_kind (statement_kinds version tables ++ (repair_kinds version tables ++ question_kinds tables)) v
+command version tables v = do
+  kind ← kind_of v
+  command_of version tables kind v
 
 -- the worker whose number is left out
 abbrev pub usual_worker : ℕ
@@ -143,7 +127,7 @@ unfoldable pub members_of_request : Version → Tables → Data → Result Reque
 members_of_request version tables v = do
   _ ← object v
   worker ← optional (codes "worker") worker_number v
-  expected ← optional (codes "if") told_time v
+  expected ← optional (codes "if") named_time v
   command ← command version tables v
   Ok (record { worker = unwrap_or worker usual_worker; expected = expected; command = command })
 

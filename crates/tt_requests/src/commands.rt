@@ -1,110 +1,82 @@
-//! Reading of commands, each by the first of its kinds that's there.
-ghost use Rattle.std.specs.Prelude.{◌∷◌, ◌++◌, Ok};
+//! Reading of commands, each by its kind.
+ghost use Rattle.std.specs.Prelude.{Ok};
+ghost use Rattle.tt_json.specs.Tape.{IsValue, value_at};
 ghost use Rattle.tt_grammar.specs.Fault.{Gives};
-ghost use Rattle.tt_requests.specs.Requests.{one_write, several_writes, begin, step, end_of_repair, finish, abort, forget, only_true, bare, repair_kinds, question_kinds, by_first_kind, command};
+ghost use Rattle.tt_requests.specs.Requests.{one_write, several_writes, begin, step, end_of_repair, finish, abort, forget, only_true, bare, command_of, command};
 
 use crate::MAX_STEPS;
 use crate::edits::EditsDecoder;
+use crate::kinds::Kind;
 use crate::questions::{WORKER, changes, slots};
 use crate::reads::{preview, read};
 use crate::request::{Command, ToldEdits};
 use crate::told::ToldTimeDecoder;
+use json::Tape;
 use std::alloc::Global;
 use tt_grammar::DocFault;
 use tt_grammar::decoding::{
     Context, CountDecoder, Decoder, FlagDecoder, OUT_OF_RANGE, Version, action, action_of_one,
-    delete, has, insert, member, no_members_but, optional, update,
+    delete, insert, member, no_members_but, optional, update,
 };
-use tt_json::JsonValue;
+use tt_json::{JsonValue, root};
 use tt_values::{Catalog, Write};
-
-const NO_KIND: &str =
-    "missing one of insert, update, delete, select, preview, do, begin, step, finish, abort, status, slots, changes, tables, forget";
 
 const STEPS: CountDecoder = CountDecoder {
     min: 1,
     max: MAX_STEPS,
 };
 
-/// The command of an object.
+/// The command of an object, by the first of its kinds.
+pub(crate) fn command(
+    alloc: Global,
+    version: Version,
+    catalog: &Catalog,
+    tape: &Tape<'_>,
+) -> Result<Command, DocFault>
+    requires { IsValue tape.now }
+    ensures { Gives result (command version catalog.now (value_at tape.now)) }
+{
+    let kind = Kind::of(alloc, tape)?;
+    command_of(alloc, version, catalog, kind, &root(tape))
+}
+
+/// The command of an object of this kind.
 #[tactic(auto, unfolding(crate::specs::Requests::one_write))]
-pub(crate) fn command<V: JsonValue>(
+fn command_of<V: JsonValue>(
     alloc: Global,
     version: Version,
     catalog: &Catalog,
+    kind: Kind,
     value: &V,
 ) -> Result<Command, DocFault>
-    ensures { Gives result (command version catalog.now (V.json value.now)) }
+    ensures { Gives result (command_of version catalog.now kind (V.json value.now)) }
 {
-    if has(value, "insert") {
-        let write = insert(alloc, catalog, Context::Request, value)?;
-        return one_write(alloc, write);
+    match kind {
+        Kind::Insert => {
+            let write = insert(alloc, catalog, Context::Request, value)?;
+            one_write(alloc, write)
+        }
+        Kind::Update => {
+            let write = update(alloc, version, catalog, Context::Request, value)?;
+            one_write(alloc, write)
+        }
+        Kind::Delete => {
+            let write = delete(alloc, version, catalog, Context::Request, value)?;
+            one_write(alloc, write)
+        }
+        Kind::Select => read(alloc, version, catalog, value),
+        Kind::Preview => preview(alloc, version, catalog, value),
+        Kind::Do => several_writes(alloc, version, catalog, value),
+        Kind::Begin => begin(alloc, version, catalog, value),
+        Kind::Step => step(alloc, value),
+        Kind::Finish => finish(alloc, value),
+        Kind::Abort => abort(alloc, value),
+        Kind::Status => bare(alloc, "status", Command::Status, value),
+        Kind::Slots => slots(alloc, catalog, value),
+        Kind::Changes => changes(alloc, value),
+        Kind::Tables => bare(alloc, "tables", Command::Tables, value),
+        Kind::Forget => forget(alloc, value),
     }
-    if has(value, "update") {
-        let write = update(alloc, version, catalog, Context::Request, value)?;
-        return one_write(alloc, write);
-    }
-    if has(value, "delete") {
-        let write = delete(alloc, version, catalog, Context::Request, value)?;
-        return one_write(alloc, write);
-    }
-    if has(value, "select") {
-        return read(alloc, version, catalog, value);
-    }
-    if has(value, "preview") {
-        return preview(alloc, version, catalog, value);
-    }
-    if has(value, "do") {
-        return several_writes(alloc, version, catalog, value);
-    }
-    repair_or_question(alloc, version, catalog, value)
-}
-
-fn repair_or_question<V: JsonValue>(
-    alloc: Global,
-    version: Version,
-    catalog: &Catalog,
-    value: &V,
-) -> Result<Command, DocFault>
-    ensures { Gives result
-        (by_first_kind (repair_kinds version catalog.now ++ question_kinds catalog.now)
-        (V.json value.now)) }
-{
-    if has(value, "begin") {
-        return begin(alloc, version, catalog, value);
-    }
-    if has(value, "step") {
-        return step(alloc, value);
-    }
-    if has(value, "finish") {
-        return finish(alloc, value);
-    }
-    if has(value, "abort") {
-        return abort(alloc, value);
-    }
-    question(alloc, catalog, value)
-}
-
-/// The question of an object, or its command to forget.
-fn question<V: JsonValue>(alloc: Global, catalog: &Catalog, value: &V) -> Result<Command, DocFault>
-    ensures { Gives result (by_first_kind (question_kinds catalog.now) (V.json value.now)) }
-{
-    if has(value, "status") {
-        return bare(alloc, "status", Command::Status, value);
-    }
-    if has(value, "slots") {
-        return slots(alloc, catalog, value);
-    }
-    if has(value, "changes") {
-        return changes(alloc, value);
-    }
-    if has(value, "tables") {
-        return bare(alloc, "tables", Command::Tables, value);
-    }
-    if has(value, "forget") {
-        return forget(alloc, value);
-    }
-    Err(DocFault::here(alloc, NO_KIND))
 }
 
 /// A write of its own, as an action of one, which isn't whole.

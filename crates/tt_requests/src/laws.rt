@@ -3,6 +3,7 @@
 ghost use Rattle.tt_requests.specs.Judged.{RequestsAreJudged};
 ghost use Rattle.tt_requests.specs.NewestVersion.{RequestsReadTheSame};
 ghost use Rattle.tt_requests.specs.SessionLine.{RequestsAreNoOpenings};
+ghost use Rattle.tt_requests.specs.ToldExactly.{NumbersAreToldExactly};
 
 /// A request that is read, as of any version, has been judged by the tables that it is read with:
 /// its select, its action and the actions that are to replace others have no fault, and it begins a
@@ -23,4 +24,10 @@ pub fn requests_read_the_same()
 #[tactic(auto, using(crate::proofs::SessionLineLemmas::requests_are_no_openings))]
 pub fn requests_are_no_openings()
     ensures { RequestsAreNoOpenings }
+{}
+
+/// The numbers of a database up to [`NUMBER_LIMIT`](crate::NUMBER_LIMIT) are told exactly, and what
+/// they are told as is looked up as the same.
+pub fn numbers_are_told_exactly()
+    ensures { NumbersAreToldExactly }
 {}

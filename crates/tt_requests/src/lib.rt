@@ -5,10 +5,12 @@
 mod commands;
 mod edits;
 mod ground_action;
+mod kinds;
 pub mod laws;
 mod line_value;
 mod lines;
 mod log_opening;
+mod numbering;
 mod opening;
 mod questions;
 mod reads;
@@ -19,9 +21,11 @@ mod told;
 pub use ground_action::ground_action_from_line;
 pub use lines::{is_blank, is_passed_over};
 pub use log_opening::LogOpening;
+pub use numbering::{NUMBER_LIMIT, Numbering};
 pub use opening::Opening;
 pub use request::{Command, Page, Request, ToldEdits};
 pub use session_line::SessionLine;
+pub use told::{ToldGeneration, ToldTime};
 
 /// The largest length of a line, in bytes, without its line feed.
 pub const MAX_LINE_BYTES: usize = 16_777_216;

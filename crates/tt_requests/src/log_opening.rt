@@ -5,14 +5,15 @@ ghost use Rattle.tt_requests.specs.LogOpening.{remembered_number, ground_numberi
 
 use crate::MAX_GROUND_SLOTS;
 use crate::line_value::parse_line;
+use crate::numbering::{NUMBER_LIMIT, Numbering};
 use crate::opening::{Opening, declaration};
+use crate::told::{ToldGeneration, ToldTime};
 use std::alloc::Global;
 use tt_grammar::DocFault;
 use tt_grammar::decoding::{
     CountDecoder, Decoder, OUT_OF_RANGE, count, member, no_members_but, object,
 };
 use tt_json::{JsonValue, Scratch, root};
-use tt_numbers::{NUMBER_LIMIT, Numbering, ToldGeneration, ToldTime};
 
 const GROUND_SLOTS: CountDecoder = CountDecoder {
     min: 0,

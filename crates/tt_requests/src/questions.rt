@@ -5,7 +5,7 @@ ghost use Rattle.tt_requests.specs.Questions.{within_span, span, row_named, slot
 
 use crate::MAX_SPAN;
 use crate::request::Command;
-use crate::told::ToldTimeDecoder;
+use crate::told::{ToldTime, ToldTimeDecoder};
 use std::alloc::Global;
 use tt_grammar::DocFault;
 use tt_grammar::decoding::{
@@ -13,7 +13,6 @@ use tt_grammar::decoding::{
     no_members_but, optional, pair, text,
 };
 use tt_json::JsonValue;
-use tt_numbers::ToldTime;
 use tt_values::{Catalog, RowId};
 
 /// The number of a worker.

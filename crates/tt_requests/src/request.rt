@@ -1,16 +1,17 @@
 //! Requests: what a line of an open session asks for.
 ghost use Rattle.std.specs.Prelude.{Ok};
+ghost use Rattle.tt_json.specs.Tape.{IsValue, value_at};
 ghost use Rattle.tt_grammar.specs.Fault.{Gives};
 ghost use Rattle.tt_requests.specs.Requests.{members_of_request, request_of};
 
 use crate::commands::command;
 use crate::questions::WORKER;
-use crate::told::ToldTimeDecoder;
+use crate::told::{ToldGeneration, ToldTime, ToldTimeDecoder};
+use json::Tape;
 use std::alloc::Global;
 use tt_grammar::DocFault;
 use tt_grammar::decoding::{Version, object, optional};
-use tt_json::JsonValue;
-use tt_numbers::{ToldGeneration, ToldTime};
+use tt_json::root;
 use tt_repair_laws::Edit;
 use tt_values::{Action, Catalog, Items, RowId, Select};
 
@@ -101,17 +102,18 @@ pub struct Page {
     pub most: Option<u32>,
 }
 
-/// The request that a JSON value spells, by a version of the grammar and with these tables, or its
-/// first fault. Memory can run out before the fault is met.
-pub(crate) fn request_from_json<V: JsonValue>(
+/// The request that the JSON value on a tape spells, by a version of the grammar and with these
+/// tables, or its first fault. Memory can run out before the fault is met.
+pub(crate) fn request_from_tape(
     alloc: Global,
     version: Version,
     catalog: &Catalog,
-    value: &V,
+    tape: &Tape<'_>,
 ) -> Result<Request, DocFault>
-    ensures { Gives result (request_of version catalog.now (Ok (V.json value.now))) }
+    requires { IsValue tape.now }
+    ensures { Gives result (request_of version catalog.now (Ok (value_at tape.now))) }
 {
-    match from_members(alloc, version, catalog, value) {
+    match from_members(alloc, version, catalog, tape) {
         Ok(request) => Ok(request),
         Err(fault) => Err(fault.in_document(alloc)),
     }
@@ -119,18 +121,20 @@ pub(crate) fn request_from_json<V: JsonValue>(
 
 /// The request of an object. Paths begin at the object.
 #[tactic(auto, unfolding(crate::specs::Requests::members_of_request))]
-fn from_members<V: JsonValue>(
+fn from_members(
     alloc: Global,
     version: Version,
     catalog: &Catalog,
-    value: &V,
+    tape: &Tape<'_>,
 ) -> Result<Request, DocFault>
-    ensures { Gives result (members_of_request version catalog.now (V.json value.now)) }
+    requires { IsValue tape.now }
+    ensures { Gives result (members_of_request version catalog.now (value_at tape.now)) }
 {
-    object(alloc, value)?;
-    let worker = optional(alloc, value, "worker", &WORKER)?;
-    let expected = optional(alloc, value, "if", &ToldTimeDecoder)?;
-    let command = command(alloc, version, catalog, value)?;
+    let value = root(tape);
+    object(alloc, &value)?;
+    let worker = optional(alloc, &value, "worker", &WORKER)?;
+    let expected = optional(alloc, &value, "if", &ToldTimeDecoder)?;
+    let command = command(alloc, version, catalog, tape)?;
     Ok(Request {
         worker: worker.unwrap_or(USUAL_WORKER),
         expected,

@@ -1,15 +1,17 @@
 //! What a line of an open session is.
 ghost use Rattle.std.specs.Prelude.{◌≡◌, ◌≢◌, Ok, Err, IfOk, OnOk};
+ghost use Rattle.tt_json.specs.Tape.{IsValue, value_at};
 ghost use Rattle.tt_grammar.specs.Fault.{Gives};
 ghost use Rattle.tt_requests.specs.Requests.{request_of};
 ghost use Rattle.tt_requests.specs.SessionLine.{session_line_of};
 
 use crate::line_value::parse_line;
-use crate::request::{Request, request_from_json};
+use crate::request::{Request, request_from_tape};
+use json::Tape;
 use std::alloc::{AllocError, Global};
 use tt_grammar::DocFault;
 use tt_grammar::decoding::{Version, has};
-use tt_json::{JsonValue, Scratch, root};
+use tt_json::{Scratch, root};
 use tt_values::Catalog;
 
 /// What a line of an open session is.
@@ -41,7 +43,7 @@ impl SessionLine {
             told ≡ session_line_of version catalog.now (value_of_line line.now)) }
     {
         match parse_line(alloc, line, scratch) {
-            Ok(tape) => from_json(alloc, version, catalog, &root(&tape)),
+            Ok(tape) => from_tape(alloc, version, catalog, &tape),
             Err(fault) => faulty(fault.in_document(alloc)),
         }
     }
@@ -49,19 +51,20 @@ impl SessionLine {
 
 /// No request has a version, so it is looked for where there is a fault alone.
 #[tactic(auto, using(crate::proofs::SessionLineLemmas::requests_have_no_version))]
-fn from_json<V: JsonValue>(
+fn from_tape(
     alloc: Global,
     version: Version,
     catalog: &Catalog,
-    value: &V,
+    tape: &Tape<'_>,
 ) -> Result<SessionLine, AllocError>
+    requires { IsValue tape.now }
     ensures { IfOk result (λ told.
-        told ≡ session_line_of version catalog.now (Ok (V.json value.now))) }
+        told ≡ session_line_of version catalog.now (Ok (value_at tape.now))) }
 {
-    match request_from_json(alloc, version, catalog, value) {
+    match request_from_tape(alloc, version, catalog, tape) {
         Ok(request) => Ok(SessionLine::Request(Ok(request))),
         Err(fault) => {
-            if has(value, "version") {
+            if has(&root(tape), "version") {
                 return Ok(SessionLine::Opening);
             }
             faulty(fault)

@@ -15,9 +15,9 @@ use Rattle.tt_records.specs.declared.record.Record.{Record}
 use Rattle.tt_requests.specs.declared.request.Command.{Command}
 use Rattle.tt_requests.specs.declared.request.Command.TheVariants as commands
 use Rattle.tt_requests.specs.declared.request.Page.{Page}
-use Rattle.tt_numbers.specs.declared.told.ToldTime.{ToldTime}
-use Rattle.tt_numbers.specs.declared.told.ToldGeneration.{ToldGeneration}
-use Rattle.tt_numbers.specs.Numbers.{Numbering, own_time, own_generation}
+use Rattle.tt_requests.specs.declared.told.ToldTime.{ToldTime}
+use Rattle.tt_requests.specs.declared.told.ToldGeneration.{ToldGeneration}
+use Rattle.tt_requests.specs.Numbers.{Numbering, own_time, own_generation}
 use Rattle.tt_requests.specs.declared.request.Request.{Request}
 use Rattle.tt_answers.specs.declared.answer.Refusal.{Refusal}
 use Rattle.tt_answers.specs.declared.answer.Answer.TheVariants as answers

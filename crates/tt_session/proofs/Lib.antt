@@ -7,6 +7,6 @@ pub mod TurnLemmas
 pub mod AnsweringLemmas
 pub mod LoggedLemmas
 pub mod ReopeningLemmas
-pub mod EarlierLemmas
 pub mod TogetherLemmas
+pub mod RecoveryLemmas
 mod worked_sessions

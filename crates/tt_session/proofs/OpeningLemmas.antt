@@ -21,7 +21,7 @@ use Rattle.tt_db.specs.Database.{Database}
 use Rattle.tt_answers.specs.declared.answer.Status.{Status}
 use Rattle.tt_answers.specs.declared.answer.Answer.TheVariants as answers
 use Rattle.tt_answers.specs.AnswerText.{opening_text}
-use Rattle.tt_numbers.specs.Numbers.{Numbering}
+use Rattle.tt_requests.specs.Numbers.{Numbering}
 use Rattle.tt_commands.specs.Session.{OpenSession, opened}
 use Rattle.tt_commands.specs.Repairing.{status_of}
 use Rattle.tt_session.specs.Run.{turn_by_opening}

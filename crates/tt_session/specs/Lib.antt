@@ -1,5 +1,6 @@
 pub mod Reopening
 pub mod Run
+pub mod Recovery
 pub mod Feeds
 pub mod ShortAnswers
 pub mod Changing

@@ -5,7 +5,7 @@ use Rattle.tt_values.specs.Action as actions
 use Rattle.tt_values.specs.Tables.{Tables}
 use Rattle.tt_db.specs.declared.event.Entry.{Entry}
 use Rattle.tt_db.specs.Database.{Database}
-use Rattle.tt_numbers.specs.Numbers.{Numbering}
+use Rattle.tt_requests.specs.Numbers.{Numbering}
 use Rattle.tt_answers.specs.LogText.{log_opening_line, ground_line, slot_line}
 use Rattle.tt_session.specs.declared.session.Session.{Session}
 use Rattle.tt_session.specs.declared.session.Session.TheVariants as sessions

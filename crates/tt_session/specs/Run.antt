@@ -12,7 +12,7 @@ use Rattle.tt_requests.specs.SessionLine.{is_opening}
 use Rattle.tt_session.specs.declared.session.Session.{Session}
 use Rattle.tt_session.specs.declared.session.Session.TheVariants as sessions
 use Rattle.tt_commands.specs.Session.{OpenSession, opened, request_in, counted}
-use Rattle.tt_numbers.specs.Numbers.{nothing_forgotten}
+use Rattle.tt_requests.specs.Numbers.{nothing_forgotten}
 use Rattle.tt_answers.specs.declared.answer.Refusal.{Refusal}
 use Rattle.tt_answers.specs.declared.answer.Refusal.TheVariants as refusals
 use Rattle.tt_answers.specs.declared.answer.Answer.{Answer}

@@ -4,7 +4,7 @@ use Rattle.tt_answers.specs.declared.answer.Answer.TheVariants as answers
 use Rattle.tt_answers.specs.declared.answer.Refusal.TheVariants as refusals
 use Rattle.tt_answers.specs.RefusalText.{too_long}
 use Rattle.tt_answers.specs.AnswerText.{opening_text, call_text}
-use Rattle.tt_numbers.specs.Numbers.{nothing_forgotten}
+use Rattle.tt_requests.specs.Numbers.{nothing_forgotten}
 use Rattle.tt_session.specs.declared.short_answer.ShortAnswer.{ShortAnswer}
 use Rattle.tt_session.specs.declared.short_answer.ShortAnswer.TheVariants as shorts
 

@@ -82,15 +82,3 @@ IsFirstLine tables bytes firsts.NotWhole = Unit {0}
 IsFirstLine tables bytes firsts.Opening = Unit {0}
 IsFirstLine tables bytes (firsts.PassedOver len) = BeginsPassedOver bytes len
 IsFirstLine tables bytes (firsts.Read line) = BeginsWithLine tables bytes line.len line.asked
-
--- what this line asks is answered, and then the lines that the first of the bytes behind it are
-pub record AnswersWith (asked : Result Request DocFault) (line behind : List ℕ) (count : ℕ) (old new : OpenSession) (before after : List ℕ) (kept left : Option (List (List ℕ))) : Type 0 where
-  pub mid : OpenSession
-  pub text : List ℕ
-  pub turn : turn_by_request (counted old) asked ≡ record { text = text; session = sessions.Open mid }
-  pub calls : mid.calls ≡ old.calls + 1
-  pub others : AnswersFront behind count (sessions.Open mid) (sessions.Open new) (before ++ text) after (with_lines kept (logged_by (sessions.Open old) (sessions.Open mid) line)) left
-
--- there are further lines that are to be logged
-abbrev pub Grows : Option (List (List ℕ)) → Option (List (List ℕ)) → Type 0
-Grows kept left = (more : List (List ℕ)) × (left ≡ with_lines kept more)

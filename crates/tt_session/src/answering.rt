@@ -33,26 +33,31 @@ pub fn answer_in_place(
     session.change(change)
 }
 
-/// Answers what a line asks that leaves the database as it is, or its fault, as a call: adds the
-/// text of the answer, which is made in `text`. Where memory runs out, the session and what the
-/// text is added to are as before.
-pub(crate) fn answer_read(
+/// Answers what a line asks, or its fault, as a call: adds the text of the answer, which is made in
+/// `text`, and goes on as the call leaves the session. Where memory runs out, what the text is added
+/// to is as before, and so is the session but for its database; that, too, if what is asked is
+/// read-only.
+pub(crate) fn answer_call(
     session: &mut OpenSession,
     out: &mut Vec<u8>,
     text: &mut Vec<u8>,
     asked: Result<Request, DocFault>,
 ) -> Result<(), AllocError>
-    requires calls { session.old.calls < 2 ^ 64 - 1 }
-    requires reads { asks_read_only asked ≡ true }
+    requires { session.old.calls < 2 ^ 64 - 1 }
     ensures text { OnOk result (out.new.items
         ≡ out.old.items ++ (turn_by_request (counted session.old) asked).text) }
     ensures session { OnOk result
         (Open session.new ≡ (turn_by_request (counted session.old) asked).session) }
     ensures calls { OnOk result (session.new.calls ≡ session.old.calls + 1) }
-    ensures database { OnOk result (session.new.database ≡ session.old.database) }
-    ensures told { OnOk result (session.new.numbering ≡ session.old.numbering) }
+    ensures reads { asks_read_only asked ≡ true → OnOk result
+        (session.new.database ≡ session.old.database) }
+    ensures told { asks_read_only asked ≡ true → OnOk result
+        (session.new.numbering ≡ session.old.numbering) }
     ensures text_stays { OnErr result (out.new.items ≡ out.old.items) }
-    ensures session_stays { OnErr result (session.new ≡ session.old) }
+    ensures rest { OnErr result
+        (session.new ≡ with_database session.old session.new.database) }
+    ensures reads_stay { asks_read_only asked ≡ true → OnErr result
+        (session.new ≡ session.old) }
 {
     session.count_call();
     match answer_counted(session, out, text, asked) {
@@ -64,24 +69,29 @@ pub(crate) fn answer_read(
     }
 }
 
-/// Answers what a line asks that leaves the database as it is, whose call is counted already. Where
-/// memory runs out, the session and what the text is added to are as before.
+/// Answers what a line asks, whose call is counted already. Where memory runs out, what the text is
+/// added to is as before, and so is the session but for its database; that, too, if what is asked
+/// is read-only.
 fn answer_counted(
     session: &mut OpenSession,
     out: &mut Vec<u8>,
     text: &mut Vec<u8>,
     asked: Result<Request, DocFault>,
 ) -> Result<(), AllocError>
-    requires { asks_read_only asked ≡ true }
     ensures text { OnOk result
         (out.new.items ≡ out.old.items ++ (turn_by_request session.old asked).text) }
     ensures session { OnOk result
         (Open session.new ≡ (turn_by_request session.old asked).session) }
     ensures calls { OnOk result (session.new.calls ≡ session.old.calls) }
-    ensures database { OnOk result (session.new.database ≡ session.old.database) }
-    ensures told { OnOk result (session.new.numbering ≡ session.old.numbering) }
+    ensures reads { asks_read_only asked ≡ true → OnOk result
+        (session.new.database ≡ session.old.database) }
+    ensures told { asks_read_only asked ≡ true → OnOk result
+        (session.new.numbering ≡ session.old.numbering) }
     ensures text_stays { OnErr result (out.new.items ≡ out.old.items) }
-    ensures session_stays { OnErr result (session.new ≡ session.old) }
+    ensures rest { OnErr result
+        (session.new ≡ with_database session.old session.new.database) }
+    ensures reads_stay { asks_read_only asked ≡ true → OnErr result
+        (session.new ≡ session.old) }
 {
     text.clear();
     let change = carry_out_asked(session, text, asked)?;

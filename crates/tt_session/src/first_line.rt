@@ -6,6 +6,7 @@ ghost use Rattle.tt_requests.specs.SessionLine.{session_line_of};
 ghost use Rattle.tt_session.specs.Feeds.{has_no_feed, HasFirstFeed};
 ghost use Rattle.tt_session.specs.Together.{IsFirstLine};
 
+use crate::recoverable_session::RecoverableSession;
 use memchr::memchr;
 use std::alloc::AllocError;
 use tt_commands::OpenSession;
@@ -38,11 +39,12 @@ pub(crate) enum FirstLine {
 impl FirstLine {
     /// Reads the first line of some bytes, for a session.
     pub(crate) fn of(
-        session: &OpenSession,
+        session: &mut RecoverableSession,
         bytes: &[u8],
         scratch: &mut Scratch,
     ) -> Result<FirstLine, AllocError>
-        ensures { IfOk result (IsFirstLine session.now.database.catalog bytes.now) }
+        ensures line { IfOk result (IsFirstLine session.old.database.catalog bytes.now) }
+        ensures stays { session.new ≡ session.old }
     {
         let Some(end) = first_feed(bytes) else {
             return Ok(FirstLine::NotWhole);
@@ -51,7 +53,7 @@ impl FirstLine {
         if is_passed_over(line) {
             return Ok(FirstLine::PassedOver(end + 1));
         }
-        match read_line(session, line, scratch)? {
+        match session.read(line, scratch)? {
             SessionLine::Opening => Ok(FirstLine::Opening),
             SessionLine::Request(asked) => Ok(FirstLine::Read(RequestLine {
                 asked,

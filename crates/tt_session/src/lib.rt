@@ -2,12 +2,14 @@
 #![tactic(auto)]
 
 mod answering;
+mod checkpoint;
 mod first_line;
 pub mod laws;
 mod logging;
 mod lost_line;
 mod pending_lines;
 mod ready_to_forget;
+mod recoverable_session;
 mod reopening;
 mod session;
 mod short_answer;
@@ -20,6 +22,7 @@ pub use logging::SessionExtent;
 pub use lost_line::LostLine;
 pub use pending_lines::PendingLines;
 pub use ready_to_forget::ReadyToForget;
+pub use recoverable_session::RecoverableSession;
 pub use session::{Session, open_or_stay};
 pub use short_answer::ShortAnswer;
 pub use together::Extent;

@@ -13,33 +13,6 @@ use tt_commands::OpenSession;
 use tt_grammar::DocFault;
 use tt_requests::Request;
 
-/// Answers what a line asks, or its fault, as a call: pushes the text of the answer to that in the
-/// workspace, goes on as the call leaves the session, and keeps the line if it is to be logged.
-/// Where memory runs out, nothing is promised of the session and the text.
-pub(crate) fn log_in_place(
-    session: &mut OpenSession,
-    asked: Result<Request, DocFault>,
-    line: &[u8],
-    workspace: &mut Workspace,
-) -> Result<(), AllocError>
-    requires { session.old.calls < 2 ^ 64 - 1 }
-    ensures text { OnOk result (workspace.new.text.items
-        ≡ workspace.old.text.items ++ (turn_by_request (counted session.old) asked).text) }
-    ensures session { OnOk result
-        (Open session.new ≡ (turn_by_request (counted session.old) asked).session) }
-    ensures calls { OnOk result (session.new.calls ≡ session.old.calls + 1) }
-    ensures lines { OnOk result (workspace.new.lines ≡ with_lines workspace.old.lines
-        (logged_by (Open session.old) (Open session.new) line.now)) }
-    ensures lines_stay { OnErr result (workspace.new.lines ≡ workspace.old.lines) }
-{
-    let extent = SessionExtent::of(session);
-    answer_in_place(session, &mut workspace.text, asked)?;
-    if extent.is_of(session) {
-        return Ok(());
-    }
-    workspace.lines.push(line)
-}
-
 /// How far a session is.
 #[derive(Clone, Copy)]
 pub struct SessionExtent {

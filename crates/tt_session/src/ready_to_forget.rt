@@ -5,6 +5,7 @@ ghost use Rattle.tt_commands.specs.Session.{counted};
 ghost use Rattle.tt_session.specs.ForgetTurns.{turn_of_forget, TurnsForget, Prepares};
 
 use crate::answering::push_answer;
+use crate::recoverable_session::RecoverableSession;
 use crate::workspace::append;
 use std::alloc::AllocError;
 use tt_answers::{Answer, push_call};
@@ -99,7 +100,7 @@ fn answer_to_forget(
 /// goes on behind the time. Where memory runs out, the session and what the text is added to are as
 /// before.
 pub(crate) fn forget_at_once(
-    session: &mut OpenSession,
+    session: &mut RecoverableSession,
     out: &mut Vec<u8>,
     request: ForgetRequest,
 ) -> Result<(), AllocError>
@@ -112,7 +113,7 @@ pub(crate) fn forget_at_once(
     ensures session_stays { OnErr result (session.new ≡ session.old) }
     ensures text_stays { OnErr result (out.new.items ≡ out.old.items) }
 {
-    let Some(ready) = prepare_to_forget(session, out, request)? else {
+    let Some(ready) = session.prepare_to_forget(out, request)? else {
         return Ok(());
     };
     let ReadyToForget {

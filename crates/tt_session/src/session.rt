@@ -6,7 +6,8 @@ ghost use Rattle.tt_answers.specs.AnswerText.{opening_text};
 
 use crate::lost_line::LostLine;
 use crate::pending_lines::PendingLines;
-use crate::ready_to_forget::{ReadyToForget, forget_at_once, prepare_to_forget};
+use crate::ready_to_forget::{ReadyToForget, forget_at_once};
+use crate::recoverable_session::RecoverableSession;
 use crate::short_answer::ShortAnswer;
 use crate::together::{self, Extent};
 use crate::workspace::{Workspace, append};
@@ -14,8 +15,7 @@ use std::alloc::{AllocError, Global};
 use tt_answers::{Answer, push_opening};
 use tt_commands::{BoxedForgetting, ForgetRequest, OpenSession, Terms, status_of};
 use tt_grammar::DocFault;
-use tt_numbers::Numbering;
-use tt_requests::{Opening, is_passed_over};
+use tt_requests::{Numbering, Opening, is_passed_over};
 
 /// A session: a database that is opened by a line, and answers each further line.
 #[derive(Drop)]
@@ -23,7 +23,7 @@ pub enum Session {
     /// No line has opened it yet.
     NotOpen,
     /// It holds a database.
-    Open(OpenSession),
+    Open(RecoverableSession),
 }
 
 impl Session {
@@ -143,7 +143,7 @@ impl Session {
         ensures text_stays { OnErr result (out.new.items ≡ out.old.items) }
     {
         match self {
-            Session::Open(session) => prepare_to_forget(session, out, request),
+            Session::Open(session) => session.prepare_to_forget(out, request),
             Session::NotOpen => Ok(None),
         }
     }
@@ -250,7 +250,7 @@ fn open(
     let before = out.len();
     match open_or_stay(alloc, out, line)? {
         Some(session) => match lines.push(line) {
-            Ok(()) => Ok(Session::Open(session)),
+            Ok(()) => Ok(Session::Open(RecoverableSession::new(session))),
             Err(AllocError) => {
                 out.truncate(before);
                 Err(AllocError)

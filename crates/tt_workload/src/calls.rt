@@ -12,7 +12,7 @@ ghost use Rattle.tt_workload.specs.Room.{HasRoom, AreAccepted, IsBefore};
 use crate::record_text::push_record;
 use crate::run_fault::RunFault;
 use std::alloc::{AllocError, Global};
-use tt_db::{Db, Entry, Event, Outcome, ReadError};
+use tt_db::{Db, Entry, Event, Outcome, ReadError, WriteOutcome};
 use tt_document::{Ask, Call};
 use tt_records::{Record, What};
 use tt_values::{Action, Select};
@@ -31,6 +31,22 @@ pub(crate) fn carry_out(db: &mut Db, entry: Entry) -> Result<Outcome, RunFault>
     }
 }
 
+/// Carries out an action that isn't refused, and returns its outcome.
+fn write(db: &mut Db, worker: u32, action: Action) -> Result<WriteOutcome, RunFault>
+    requires { refusal_of db.old (Event.Write action) ≡ None }
+    ensures state { OnOk result (db.new
+        ≡ with_entry db.old (record { worker = worker; event = Event.Write action })) }
+    ensures outcome { IfOk result (λ outcome. Outcome.Written outcome.slot outcome.replies
+        ≡ outcome_for db.old (Event.Write action)) }
+    ensures err { IfErr result (λ e. e ≡ RunFault.Memory) }
+{
+    match db.write(worker, action) {
+        Ok(outcome) => Ok(outcome),
+        // It isn't refused, so there is no memory.
+        Err(_) => Err(RunFault::Memory),
+    }
+}
+
 /// Carries out an action. Returns the slot with the replies.
 fn make_action(db: &mut Db, worker: u32, action: Action) -> Result<What, RunFault>
     requires accepted { action_fault db.old.catalog action.writes ≡ None }
@@ -41,14 +57,8 @@ fn make_action(db: &mut Db, worker: u32, action: Action) -> Result<What, RunFaul
         what ≡ answer_in (state_of db.old) (Ask.Write action)) }
     ensures err { IfErr result (λ e. e ≡ RunFault.Memory) }
 {
-    let entry = Entry {
-        worker,
-        event: Event::Write(action),
-    };
-    match carry_out(db, entry)? {
-        Outcome::Written { slot, replies } => Ok(What::Write { slot, replies }),
-        _ => unreachable!(),
-    }
+    let WriteOutcome { slot, replies } = write(db, worker, action)?;
+    Ok(What::Write { slot, replies })
 }
 
 /// Reads what a select asks for: at a time, or now where none is given.

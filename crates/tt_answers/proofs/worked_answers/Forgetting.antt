@@ -1,7 +1,7 @@
 -- Answers of a session that has forgotten what lies before the time 3, in its generation 2: one slot of its database is the ground.
 use Rattle.std.specs.Prelude.{◌≡◌, pos, [], ◌∷◌, ◌++◌, None, Some, codes, refl}
 use Rattle.std.specs.Fmt.{digits}
-use Rattle.tt_numbers.specs.Numbers.{Numbering}
+use Rattle.tt_requests.specs.Numbers.{Numbering}
 use Rattle.tt_values.specs.declared.reply.Reply.TheVariants as replies
 use Rattle.tt_values.specs.Action.{action_of}
 use Rattle.tt_values.specs.declared.statement.Write.TheVariants as writes

@@ -1,7 +1,7 @@
 -- Refusals and faults as they are answered.
 use Rattle.std.specs.Prelude.{◌≡◌, ◌++◌, codes, refl}
 use Rattle.std.specs.Fmt.{digits}
-use Rattle.tt_numbers.specs.Numbers.{nothing_forgotten}
+use Rattle.tt_requests.specs.Numbers.{nothing_forgotten}
 use Rattle.tt_db.specs.declared.errors.DbError.TheVariants as errors
 use Rattle.tt_db.specs.declared.errors.ReadError.TheVariants as read_errors
 use Rattle.tt_grammar.specs.declared.fault.DocFault.TheVariants as faults

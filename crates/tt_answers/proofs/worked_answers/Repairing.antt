@@ -1,7 +1,7 @@
 -- Repairs as they are answered, and what they have changed.
 use Rattle.std.specs.Prelude.{◌≡◌, pos, [], ◌∷◌, ◌++◌, None, Some, codes, refl}
 use Rattle.std.specs.Fmt.{digits}
-use Rattle.tt_numbers.specs.Numbers.{nothing_forgotten}
+use Rattle.tt_requests.specs.Numbers.{nothing_forgotten}
 use Rattle.tt_values.specs.declared.reply.Reply.TheVariants as replies
 use Rattle.tt_records.specs.declared.changed.After.TheVariants as afters
 use Rattle.tt_grammar.proofs.worked_texts.Accounts.{accounts, account}

@@ -1,7 +1,7 @@
 -- What is told of slots and of the database.
 use Rattle.std.specs.Prelude.{◌≡◌, pos, [], ◌∷◌, ◌++◌, None, Some, codes, refl}
 use Rattle.std.specs.Fmt.{digits}
-use Rattle.tt_numbers.specs.Numbers.{nothing_forgotten}
+use Rattle.tt_requests.specs.Numbers.{nothing_forgotten}
 use Rattle.tt_values.specs.declared.value.Value.TheVariants as values
 use Rattle.tt_values.specs.declared.statement.Change.TheVariants as changes
 use Rattle.tt_values.specs.declared.statement.Write.TheVariants as writes

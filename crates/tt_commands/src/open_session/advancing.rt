@@ -9,9 +9,9 @@ ghost use Rattle.tt_commands.specs.Repairing.{with_event, with_steps};
 ghost use Rattle.tt_commands.specs.Grounds.{with_ground};
 
 use super::OpenSession;
-use crate::room::{leaves_no_room, refusal_without_room};
+use crate::room::{action_leaves_no_room, leaves_no_room, refusal_without_room};
 use std::alloc::AllocError;
-use tt_db::{DbError, Entry, Event, Outcome};
+use tt_db::{DbError, Entry, Event, Outcome, SwitchOutcome, WriteOutcome};
 use tt_horizon::{GROUND_WORKER, has_inserted, inserts_alone};
 use tt_values::Action;
 
@@ -34,6 +34,47 @@ impl OpenSession {
         match self.db.advance(Entry { worker, event }) {
             Ok(outcome) => Ok(outcome),
             Err(error) => Err(error),
+        }
+    }
+
+    /// Carries out an action of a worker as [`advance`](OpenSession::advance) does, or stays and
+    /// returns why a session refuses it. Without memory nothing is promised of the database.
+    pub(crate) fn write(&mut self, worker: u32, action: Action) -> Result<WriteOutcome, DbError>
+        ensures state { OnOk result (self.new ≡ with_database
+            self.old (with_event self.old.database worker (Event.Write action))) }
+        ensures outcome { IfOk result (λ o. Outcome.Written o.slot o.replies
+            ≡ outcome_for self.old.database (Event.Write action)) }
+        ensures accepted { OnOk result
+            (refusal_in_session self.old.database (Event.Write action) ≡ None) }
+        ensures refused { IfErr result (λ e.
+            IsRefusal e (refusal_in_session self.old.database (Event.Write action))) }
+        ensures stays { IfErr result (λ e. e ≢ DbError.Memory → self.new ≡ self.old) }
+        ensures rest { self.new ≡ with_database self.old self.new.database }
+    {
+        if action_leaves_no_room(&self.db) {
+            return Err(refusal_without_room(&self.db, &Event::Write(action)));
+        }
+        match self.db.write(worker, action) {
+            Ok(outcome) => Ok(outcome),
+            Err(error) => Err(error),
+        }
+    }
+
+    /// Switches to the next generation, which isn't refused. Without memory nothing is promised of
+    /// the database.
+    pub(crate) fn switch(&mut self, worker: u32) -> Result<SwitchOutcome, AllocError>
+        requires { refusal_in_session self.old.database Event.Switch ≡ None }
+        ensures state { OnOk result (self.new ≡ with_database
+            self.old (with_event self.old.database worker Event.Switch)) }
+        ensures outcome { IfOk result (λ o. Outcome.Switched o.generation o.slots o.rerun
+            ≡ outcome_for self.old.database Event.Switch) }
+        ensures rest { self.new ≡ with_database self.old self.new.database }
+    {
+        // It takes no room: behind it no repair is under way.
+        match self.db.switch(worker) {
+            Ok(outcome) => Ok(outcome),
+            // It isn't refused, so there is no memory.
+            Err(_) => Err(AllocError),
         }
     }
 

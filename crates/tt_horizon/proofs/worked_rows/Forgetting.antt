@@ -12,7 +12,7 @@ use Rattle.tt_db.specs.Limits.{max_limits}
 use Rattle.tt_db.specs.Database.{Database}
 use Rattle.tt_horizon.specs.declared.forgetting.ForgetError.TheVariants as errors
 use Rattle.tt_horizon.specs.Forgetting.{entry_of, ground_of, forgotten_history, forget_refusal}
-use Rattle.tt_horizon.specs.Grounds.{is_of_ground}
+use Rattle.tt_horizon.specs.GroundEntries.{is_of_ground}
 
 abbrev entry : ℕ → Event → Entry
 entry worker event = record { worker = worker; event = event }

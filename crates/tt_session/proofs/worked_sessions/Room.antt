@@ -21,7 +21,7 @@ use Rattle.tt_requests.specs.Edits.{cancel, edit}
 use Rattle.tt_requests.specs.Requests.{one_write, begin, end_of_repair, finish, abort, only_true, members_of_request}
 use Rattle.tt_session.specs.declared.session.Session.{Session}
 use Rattle.tt_session.specs.declared.session.Session.TheVariants as sessions
-use Rattle.tt_numbers.specs.Numbers.{nothing_forgotten}
+use Rattle.tt_requests.specs.Numbers.{nothing_forgotten}
 use Rattle.tt_session.specs.Run.{turn_of_lines}
 use Rattle.tt_session.proofs.worked_sessions.Asking.{no_losses, answers}
 

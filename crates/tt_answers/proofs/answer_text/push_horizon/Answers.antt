@@ -1,6 +1,6 @@
 use Rattle.std.proofs.Common.{◌≡◌, ◌==◌, false, ap, arith}
 use Rattle.std.proofs.lemmas.Bool.Decides.{nat_tests}
-use Rattle.tt_numbers.specs.declared.told.ToldTime.{ToldTime}
+use Rattle.tt_requests.specs.declared.told.ToldTime.{ToldTime}
 use Rattle.tt_answers.proofs.PieceLemmas.{horizon-piece}
 use Rattle.tt_answers.proofs.answer_text.push_horizon.Goals as goal
 

@@ -1,8 +1,8 @@
 -- The pieces of the members, one after another.
 use Rattle.std.proofs.Common.{◌++◌, map, ap, ◌∙◌, codes}
 use Rattle.std.specs.Fmt.{decimal}
-use Rattle.tt_numbers.specs.declared.told.ToldTime.{ToldTime}
-use Rattle.tt_numbers.specs.Numbers.{told_time}
+use Rattle.tt_requests.specs.declared.told.ToldTime.{ToldTime}
+use Rattle.tt_requests.specs.Numbers.{told_time}
 use Rattle.tt_grammar.specs.JsonText.{array_text}
 use Rattle.tt_answers.specs.AnswerText.{slot_text}
 use Rattle.tt_answers.proofs.PieceLemmas.{number-value}

@@ -3,9 +3,9 @@ use Rattle.std.proofs.Common.{◌++◌, map, ap, ◌∙◌, codes}
 use Rattle.std.specs.List.{flat_map}
 use Rattle.std.specs.Option.{option_map}
 use Rattle.std.specs.Fmt.{decimal}
-use Rattle.tt_numbers.specs.declared.told.ToldTime.{ToldTime}
-use Rattle.tt_numbers.specs.declared.told.ToldGeneration.{ToldGeneration}
-use Rattle.tt_numbers.specs.Numbers.{told_time, told_generation}
+use Rattle.tt_requests.specs.declared.told.ToldTime.{ToldTime}
+use Rattle.tt_requests.specs.declared.told.ToldGeneration.{ToldGeneration}
+use Rattle.tt_requests.specs.Numbers.{told_time, told_generation}
 use Rattle.tt_grammar.specs.JsonText.{further_item, member_text, text_or_null}
 use Rattle.tt_answers.specs.AnswerText.{repair_text, horizon_members}
 use Rattle.tt_answers.proofs.PieceLemmas.{status-pieces}

@@ -1,8 +1,8 @@
 -- The pieces of the members, one after another.
 use Rattle.std.proofs.Common.{◌++◌, ap, ◌∙◌, codes}
 use Rattle.std.specs.Fmt.{decimal}
-use Rattle.tt_numbers.specs.declared.told.ToldTime.{ToldTime}
-use Rattle.tt_numbers.specs.Numbers.{told_time}
+use Rattle.tt_requests.specs.declared.told.ToldTime.{ToldTime}
+use Rattle.tt_requests.specs.Numbers.{told_time}
 use Rattle.tt_answers.specs.AnswerText.{replies_text}
 use Rattle.tt_answers.proofs.PieceLemmas.{number-value}
 use Rattle.tt_answers.proofs.answer_text.push_written.Goals as goal

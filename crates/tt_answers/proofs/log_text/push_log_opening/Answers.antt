@@ -1,8 +1,8 @@
 -- The pieces of the line, one after another.
 use Rattle.std.proofs.Common.{◌++◌, ap, ◌∙◌, codes}
 use Rattle.std.specs.Fmt.{decimal}
-use Rattle.tt_numbers.specs.declared.told.ToldTime.{ToldTime}
-use Rattle.tt_numbers.specs.declared.told.ToldGeneration.{ToldGeneration}
+use Rattle.tt_requests.specs.declared.told.ToldTime.{ToldTime}
+use Rattle.tt_requests.specs.declared.told.ToldGeneration.{ToldGeneration}
 use Rattle.tt_grammar.specs.Version.{newest_session_version}
 use Rattle.tt_grammar.specs.WriteText.{tables_text}
 use Rattle.tt_answers.proofs.PieceLemmas.{log-pieces}

@@ -1,8 +1,8 @@
 -- The pieces of the members, one after another.
 use Rattle.std.proofs.Common.{◌++◌, ap, ◌∙◌, codes}
 use Rattle.std.specs.Fmt.{decimal}
-use Rattle.tt_numbers.specs.declared.told.ToldGeneration.{ToldGeneration}
-use Rattle.tt_numbers.specs.Numbers.{told_generation}
+use Rattle.tt_requests.specs.declared.told.ToldGeneration.{ToldGeneration}
+use Rattle.tt_requests.specs.Numbers.{told_generation}
 use Rattle.tt_answers.proofs.PieceLemmas.{two-numbers}
 use Rattle.tt_answers.proofs.refusal_text.push_no_generation.Goals as goal
 

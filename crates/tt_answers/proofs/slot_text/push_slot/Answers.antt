@@ -3,8 +3,8 @@ use Rattle.std.proofs.Common.{List, ◌∷◌, ◌++◌, map, ap, ◌∙◌, cod
 use Rattle.std.specs.List.{flat_map}
 use Rattle.std.specs.Option.{option_map}
 use Rattle.std.specs.Fmt.{decimal}
-use Rattle.tt_numbers.specs.declared.told.ToldTime.{ToldTime}
-use Rattle.tt_numbers.specs.Numbers.{told_time}
+use Rattle.tt_requests.specs.declared.told.ToldTime.{ToldTime}
+use Rattle.tt_requests.specs.Numbers.{told_time}
 use Rattle.tt_grammar.specs.JsonText.{Member, further_item, member_text, members_text, text_or_null}
 use Rattle.tt_grammar.specs.WriteText.{action_members_or_null}
 use Rattle.tt_grammar.proofs.PieceLemmas.{further-action}

@@ -5,41 +5,31 @@ use Rattle.tt_db.specs.declared.event.Event.{Event}
 use Rattle.tt_db.specs.State.{next_state, slots_left}
 use Rattle.tt_db.specs.Database.{state_of}
 use Rattle.tt_commands.specs.Room.{has_no_room_to_end}
-use Rattle.tt_commands.proofs.RoomLemmas.{no_room-write, no_room-begin, no_room-step}
+use Rattle.tt_commands.proofs.RoomLemmas.{no_room-begin, no_room-step}
 use Rattle.tt_commands.proofs.room.leaves_no_room.Goals as goal
 
-pub returns-then-is_repairing : goal.returns-then-is_repairing
-returns-then-is_repairing c =
+pub returns-in-Write : goal.returns-in-Write
+returns-in-Write c =
     let db = c.args.db.now in
     let S = state_of db in
-    let free : c.saturating_sub.result ≡ db.limits.events - length db.history = c.saturating_sub.ensures ∙ (λ i. (c.limits-limit.ensures.value i).events - c.events.ensures.count i) in
-    let room : c.saturating_sub-room.result ≡ db.limits.events - length db.history - 1 = c.saturating_sub-room.ensures ∙ ap (λ n. n - 1) free in
-    let less : c.saturating_sub-then-is_repairing.result ≡ db.limits.events - length db.history - 1 - 1 = c.saturating_sub-then-is_repairing.ensures ∙ ap (λ n. n - 1) room in
-    let repairing : is_repairing S.phase ≡ true = sym c.is_repairing.ensures ∙ c.if-is_repairing.true in
-    (λ i. nat_le (less i) (c.slots_left.ensures.left i))
-    ∙ ap (λ b. b && nat_le (db.limits.events - length db.history - 1 - 1) (slots_left S)) (sym repairing)
-    ∙ no_room-write db c.in-Write.field-0 c.slots_left.ensures.within
+    c.action_leaves_no_room.ensures c.in-Write.field-0
     ∙ ap (λ (e : Event). has_no_room_to_end db.limits (next_state db.limits S e)) (sym c.in-Write.is)
 
 pub returns-in-Begin : goal.returns-in-Begin
 returns-in-Begin c =
     let db = c.args.db.now in
     let S = state_of db in
-    let free : c.saturating_sub.result ≡ db.limits.events - length db.history = c.saturating_sub.ensures ∙ (λ i. (c.limits-limit.ensures.value i).events - c.events.ensures.count i) in
-    let room : c.saturating_sub-room.result ≡ db.limits.events - length db.history - 1 = c.saturating_sub-room.ensures ∙ ap (λ n. n - 1) free in
-    (λ i. nat_le (room i) (c.now.ensures i))
+    (λ i. nat_le (c.room_behind_entry.ensures i) (c.now.ensures i))
     ∙ no_room-begin db c.in-Begin.field-0
     ∙ ap (λ (e : Event). has_no_room_to_end db.limits (next_state db.limits S e)) (sym c.in-Begin.is)
 
-pub returns-then-is_repairing-2 : goal.returns-then-is_repairing-2
-returns-then-is_repairing-2 c =
+pub returns-then-is_repairing : goal.returns-then-is_repairing
+returns-then-is_repairing c =
     let db = c.args.db.now in
     let S = state_of db in
-    let free : c.saturating_sub.result ≡ db.limits.events - length db.history = c.saturating_sub.ensures ∙ (λ i. (c.limits-limit.ensures.value i).events - c.events.ensures.count i) in
-    let room : c.saturating_sub-room.result ≡ db.limits.events - length db.history - 1 = c.saturating_sub-room.ensures ∙ ap (λ n. n - 1) free in
-    let left : c.saturating_sub-then-is_repairing-2.result ≡ slots_left S - 1 = c.saturating_sub-then-is_repairing-2.ensures ∙ ap (λ n. n - 1) c.slots_left-then-is_repairing-2.ensures.left in
-    let repairing : is_repairing S.phase ≡ true = sym c.is_repairing-in-Step.ensures ∙ c.if-is_repairing-2.true in
-    (λ i. nat_le (room i) (left i))
+    let left : c.saturating_sub.result ≡ slots_left S - 1 = c.saturating_sub.ensures ∙ ap (λ n. n - 1) c.slots_left.ensures.left in
+    let repairing : is_repairing S.phase ≡ true = sym c.is_repairing.ensures ∙ c.if-is_repairing.true in
+    (λ i. nat_le (c.room_behind_entry-then-is_repairing.ensures i) (left i))
     ∙ ap (λ b. b && nat_le (db.limits.events - length db.history - 1) (slots_left S - 1)) (sym repairing)
     ∙ no_room-step db
     ∙ ap (λ (e : Event). has_no_room_to_end db.limits (next_state db.limits S e)) (sym c.in-Step.is)

@@ -2,7 +2,6 @@
 use Rattle.std.proofs.Common.{◌≡◌, ◌+◌, ◌-◌, ◌≤◌, List, [], ◌∷◌, ◌++◌, ℕ, Some, All, take, drop, slice_get, sym, ap, subst, arith}
 use Rattle.std.specs.Option.{option_copied}
 use Rattle.std.proofs.lemmas.List.Elements.{All-append}
-use Rattle.tt_durable.specs.OnLog.{telling}
 use Rattle.tt_session.specs.LogLines.{lines_of_entries}
 use Rattle.tt_durable.specs.Renewing.{IsPrintable, IsWriting}
 use Rattle.tt_durable.specs.declared.log_renewal.RenewFault.TheVariants as faults
@@ -22,7 +21,7 @@ returns-in_err-push_line-clause-err g c =
 pub loop-place-preserved : goal.loop-place-preserved
 loop-place-preserved g c =
     let D = g.D.Device in
-    let of = telling D.tells D.seen D.shown D.moment D.left_since D.failures in
+    let of = D in
     let l = c.loop-place in
     let from = c.args.from in
     let is_ground = c.args.is_ground in
@@ -43,7 +42,7 @@ loop-place-preserved g c =
       making = λ told. pushed.making (pushed.tells.0 (l.invariant.tells.0 told));
       tells = (λ told. pushed.tells.0 (l.invariant.tells.0 told), λ told. l.invariant.tells.1 (pushed.tells.1 told));
       writes = λ told.
-          writes-more of D.may_leave D.new_file c.args.log.now l.log c.push_line.new.log c.args.lines.now l.lines c.push_line.new.lines so_far (line ∷ []) _ both (l.invariant.writes told)
+          writes-more of c.args.log.now l.log c.push_line.new.log c.args.lines.now l.lines c.push_line.new.lines so_far (line ∷ []) _ both (l.invariant.writes told)
           (pushed.ok (l.invariant.tells.0 told));
       printable =
           subst (All (IsPrintable is_ground)) (sym further)
@@ -53,13 +52,13 @@ loop-place-preserved g c =
 pub returns-clause-ok : goal.returns-clause-ok
 returns-clause-ok g c =
     let D = g.D.Device in
-    let of = telling D.tells D.seen D.shown D.moment D.left_since D.failures in
+    let of = D in
     let l = c.loop-place in
     let h = c.args.db.now.history in
     let end : l.place ≡ c.args.to = omega (arith, c.requires.within, l.auto.place-end, c.loop-place-test.false) in
     λ told before all so_far.
     subst
-    (λ n. IsWriting of D.may_leave D.new_file before l.log l.lines (all ++ lines_of_entries c.args.is_ground c.args.db.now.catalog (take (n - c.args.from) (drop c.args.from h)))) end
+    (λ n. IsWriting of before l.log l.lines (all ++ lines_of_entries c.args.is_ground c.args.db.now.catalog (take (n - c.args.from) (drop c.args.from h)))) end
     (l.invariant.writes told before all so_far)
 
 pub returns-clause-printable : goal.returns-clause-printable

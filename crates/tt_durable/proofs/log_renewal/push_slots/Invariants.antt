@@ -1,7 +1,6 @@
 -- the lines of the slots so far are written or to follow, and the log goes on as it was
 use Rattle.std.proofs.Common.{◌↔◌, ◌-◌, All, take, drop}
 use Rattle.tt_log.specs.Log.{IsSettled, IsMaking}
-use Rattle.tt_durable.specs.OnLog.{telling}
 use Rattle.tt_session.specs.LogLines.{lines_of_entries}
 use Rattle.tt_durable.specs.Renewing.{IsPrintable}
 use Rattle.tt_durable.proofs.RenewingLemmas.{WritesOn}
@@ -12,6 +11,6 @@ invariant-loop-place g l = record {
   settled : g.D.Device.tells l.initial.log.device → IsSettled g.D.Device.seen g.D.Device.may_leave l.log;
   making : g.D.Device.tells l.initial.log.device → IsMaking g.D.Device.new_file l.log;
   tells : g.D.Device.tells l.initial.log.device ↔ g.D.Device.tells l.log.device;
-  writes : g.D.Device.tells l.initial.log.device → WritesOn (telling g.D.Device.tells g.D.Device.seen g.D.Device.shown g.D.Device.moment g.D.Device.left_since g.D.Device.failures) g.D.Device.may_leave g.D.Device.new_file l.initial.log l.log l.initial.lines l.lines (lines_of_entries l.is_ground l.db.catalog (take (l.place - l.from) (drop l.from l.db.history)));
+  writes : g.D.Device.tells l.initial.log.device → WritesOn g.D.Device l.initial.log l.log l.initial.lines l.lines (lines_of_entries l.is_ground l.db.catalog (take (l.place - l.from) (drop l.from l.db.history)));
   printable : All (IsPrintable l.is_ground) (take (l.place - l.from) (drop l.from l.db.history));
 }

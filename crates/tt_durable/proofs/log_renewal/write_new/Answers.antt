@@ -4,7 +4,6 @@ use Rattle.tt_db.specs.Limits.{usual_limits}
 use Rattle.tt_db.specs.declared.limits.Limits.{Limits}
 use Rattle.tt_answers.specs.LogText.{log_opening_line}
 use Rattle.tt_commands.specs.Session.{Forgetting}
-use Rattle.tt_durable.specs.OnLog.{telling}
 use Rattle.tt_session.specs.LogLines.{lines_of_database}
 use Rattle.tt_durable.specs.Renewing.{IsWriting, IsReadable}
 use Rattle.tt_commands.proofs.ResultLemmas.{on_ok}
@@ -15,24 +14,24 @@ use Rattle.tt_durable.proofs.log_renewal.write_new.Goals as goal
 pub returns-in_err-push_slots-clause-err : goal.returns-in_err-push_slots-clause-err
 returns-in_err-push_slots-clause-err g c =
     let D = g.D.Device in
-    let of = telling D.tells D.seen D.shown D.moment D.left_since D.failures in
+    let of = D in
     let log = c.args.log.now in
     err_is _ c.from_residual-in_err-push_slots.result c.in_err-push_slots.field-0.0 c.from_residual-in_err-push_slots.ensures.1
     (λ told.
     let begun =
-    writing-none of D.may_leave D.new_file log c.new-lines.result c.new-lines.ensures (keeps-none of D.may_leave log told (c.requires.settled told) (g.met.D.Device.only_now log.device)) (c.requires.making told)
+    writing-none of log c.new-lines.result c.new-lines.ensures (keeps-none of log told (c.requires.settled told) (g.met.D.Device.only_now log.device)) (c.requires.making told)
     (c.requires.empty told) in
     c.in_err-push_slots.ensures.err (c.push_line.ensures.tells.0 told) log _ (c.in_ok-push_line.ensures.ok told log [] begun))
 
 pub returns-in_err-push_slots-2-clause-err : goal.returns-in_err-push_slots-2-clause-err
 returns-in_err-push_slots-2-clause-err g c =
     let D = g.D.Device in
-    let of = telling D.tells D.seen D.shown D.moment D.left_since D.failures in
+    let of = D in
     let log = c.args.log.now in
     err_is _ c.from_residual-in_err-push_slots-2.result c.in_err-push_slots-2.field-0.0 c.from_residual-in_err-push_slots-2.ensures.1
     (λ told.
     let begun =
-    writing-none of D.may_leave D.new_file log c.new-lines.result c.new-lines.ensures (keeps-none of D.may_leave log told (c.requires.settled told) (g.met.D.Device.only_now log.device)) (c.requires.making told)
+    writing-none of log c.new-lines.result c.new-lines.ensures (keeps-none of log told (c.requires.settled told) (g.met.D.Device.only_now log.device)) (c.requires.making told)
     (c.requires.empty told) in
     let told_1 = c.push_line.ensures.tells.0 told in
     c.in_err-push_slots-2.ensures.err (c.push_slots.ensures.tells.0 told_1) log _
@@ -41,7 +40,7 @@ returns-in_err-push_slots-2-clause-err g c =
 pub returns-clause-ok : goal.returns-clause-ok
 returns-clause-ok g c =
     let D = g.D.Device in
-    let of = telling D.tells D.seen D.shown D.moment D.left_since D.failures in
+    let of = D in
     let log = c.args.log.now in
     let f = c.forgetting.inside in
     let terms = c.args.terms in
@@ -53,25 +52,25 @@ returns-clause-ok g c =
     on_ok c.write_pending.result
     (λ wrote told.
     let begun =
-    writing-none of D.may_leave D.new_file log c.new-lines.result c.new-lines.ensures (keeps-none of D.may_leave log told (c.requires.settled told) (g.met.D.Device.only_now log.device)) (c.requires.making told)
+    writing-none of log c.new-lines.result c.new-lines.ensures (keeps-none of log told (c.requires.settled told) (g.met.D.Device.only_now log.device)) (c.requires.making told)
     (c.requires.empty told) in
     let told_1 = c.push_line.ensures.tells.0 told in
     let told_2 = c.push_slots.ensures.tells.0 told_1 in
     let told_3 = c.push_slots-2.ensures.tells.0 told_2 in
     let third = c.in_ok-push_slots-2.ensures.ok told_2 log _ (c.in_ok-push_slots.ensures.ok told_1 log _ (c.in_ok-push_line.ensures.ok told log [] begun)) in
-    subst (λ ls. IsWriting of D.may_leave D.new_file log c.write_pending.new.log [] ls) (all ∙ ap (λ (f : Forgetting). lines_of_database f.db f.numbering terms) c.forgetting.view_is)
+    subst (λ ls. IsWriting of log c.write_pending.new.log [] ls) (all ∙ ap (λ (f : Forgetting). lines_of_database f.db f.numbering terms) c.forgetting.view_is)
     (wrote told_3 log _ third))
     c.write_pending.ensures.ok
 
 pub returns-clause-err : goal.returns-clause-err
 returns-clause-err g c =
     let D = g.D.Device in
-    let of = telling D.tells D.seen D.shown D.moment D.left_since D.failures in
+    let of = D in
     let log = c.args.log.now in
     fails-then _ _ c.write_pending.result c.write_pending.ensures.err
     (λ fault failed told.
     let begun =
-    writing-none of D.may_leave D.new_file log c.new-lines.result c.new-lines.ensures (keeps-none of D.may_leave log told (c.requires.settled told) (g.met.D.Device.only_now log.device)) (c.requires.making told)
+    writing-none of log c.new-lines.result c.new-lines.ensures (keeps-none of log told (c.requires.settled told) (g.met.D.Device.only_now log.device)) (c.requires.making told)
     (c.requires.empty told) in
     let told_1 = c.push_line.ensures.tells.0 told in
     let told_2 = c.push_slots.ensures.tells.0 told_1 in

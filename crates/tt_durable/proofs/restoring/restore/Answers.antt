@@ -1,7 +1,8 @@
 -- The lines are repeated piece by piece, until there are no more.
-use Rattle.std.proofs.Common.{◌≡◌, ◌++◌, [], take, length-take, append_assoc, refl, sym, ap, subst, ◌∙◌, arith}
+use Rattle.std.proofs.Common.{◌≡◌, ◌++◌, [], take, length, length-take, length-take-le, length-append, append_assoc, refl, sym, ap, subst, ◌∙◌, arith}
 use Rattle.tt_log.specs.Lines.{text}
 use Rattle.tt_log.specs.Reading.{unread}
+use Rattle.tt_log.proofs.ReadingLemmas.{text-le}
 use Rattle.tt_durable.specs.RestoringRun.{FailsIn}
 use Rattle.tt_durable.proofs.RestoringLemmas.{given-all, restores-if, no-line-if, no-line}
 use Rattle.tt_durable.proofs.restoring.restore.Goals as goal
@@ -15,6 +16,7 @@ loop-total-init g c = record {
   count = omega (arith, c.new-restoring.ensures.count);
   device = refl;
   reading = c.requires.reading;
+  room = λ told. omega (arith, ap length (c.requires.unread told), text-le (g.D.Device.seen c.args.log.now.device));
   so_far = record { given = []; restoring = c.new-restoring.ensures.restoring; parts = c.requires.unread };
 }
 
@@ -33,6 +35,16 @@ loop-total-preserved g c =
       count = omega (arith, l.invariant.count, taken.count, read.within, length-take c.in-Ok.count c.read.new.buffer);
       device = c.read.ensures.device ∙ l.invariant.device;
       reading = λ told. c.read.ensures.reading (subst g.D.Device.tells (sym l.invariant.device) told);
+      room = λ told.
+          omega (
+            arith,
+            l.invariant.room told,
+            read.within,
+            length-take c.in-Ok.count c.read.new.buffer,
+            length-take-le c.in-Ok.count c.read.new.buffer read.within,
+            length-append piece (unread g.D.Device.seen c.read.new.self),
+            ap length (read.bytes (subst g.D.Device.tells (sym l.invariant.device) told)),
+          );
       so_far = record {
         given = so_far.given ++ piece;
         restoring = taken.ok so_far.given so_far.restoring;

@@ -1,5 +1,5 @@
 -- the lines read so far are repeated, and there are no more of them than bytes
-use Rattle.std.proofs.Common.{◌≡◌, ◌-◌, ◌<◌, ◌≤◌, length}
+use Rattle.std.proofs.Common.{◌≡◌, ◌+◌, ◌-◌, ◌<◌, ◌≤◌, length}
 use Rattle.tt_log.specs.Lines.{text}
 use Rattle.tt_log.specs.Reading.{unread, IsReading}
 use Rattle.tt_session.specs.Run.{begun, calls_of}
@@ -15,6 +15,7 @@ invariant-loop-total g l = record {
   count : l.restoring.count ≤ l.total;
   device : l.log.device ≡ l.initial.log.device;
   reading : g.D.Device.tells l.initial.log.device → IsReading g.D.Device.seen l.log;
+  room : g.D.Device.tells l.initial.log.device → l.total + length (unread g.D.Device.seen l.log) ≤ length (g.D.Device.seen l.initial.log.device);
   so_far : RestoresSoFar (g.D.Device.tells l.initial.log.device) (unread g.D.Device.seen l.log) (text (g.D.Device.seen l.initial.log.device)) l.restoring;
 }
 

@@ -3,7 +3,7 @@ use Rattle.std.proofs.Common.{◌≡◌, length, sym, ap, subst, ◌∙◌}
 use Rattle.std.proofs.lemmas.List.{length-map}
 use Rattle.tt_db.specs.Database.{Database, now_in}
 use Rattle.tt_horizon.specs.Forgetting.{ground_of, entry_of, ground_worker, entries_behind}
-use Rattle.tt_horizon.specs.Grounds.{HasGround}
+use Rattle.tt_horizon.specs.GroundEntries.{HasGround}
 use Rattle.tt_horizon.proofs.LayingLemmas.{HasGround-behind}
 use Rattle.tt_values.specs.Tables.{IsCatalog}
 use Rattle.tt_db.specs.Limits.{Fits}

@@ -3,8 +3,8 @@ use Rattle.std.proofs.Common.{◌≡◌, length, sym, ap, subst, ◌∙◌, arit
 use Rattle.std.proofs.lemmas.Result.{IfOk-weaker}
 use Rattle.tt_values.specs.Tables.{Tables}
 use Rattle.tt_db.specs.Database.{Database, current_of_db}
-use Rattle.tt_horizon_laws.specs.Ground.{ground_writes, inserts_of_tables}
-use Rattle.tt_horizon.specs.Grounds.{IsGround}
+use Rattle.tt_horizon.specs.Ground.{ground_writes, inserts_of_tables}
+use Rattle.tt_horizon.specs.GroundEntries.{IsGround}
 use Rattle.tt_horizon.specs.Laying.{AreLaid, with_last}
 use Rattle.tt_horizon.proofs.LayingLemmas.{inserts_of_tables-more, laid-all}
 use Rattle.tt_horizon.proofs.ground.database_of_rows.Goals as goal

@@ -1,8 +1,8 @@
 -- the rows of the tables so far are laid
 use Rattle.std.proofs.Common.{◌≡◌}
 use Rattle.tt_db.specs.Database.{current_of_db}
-use Rattle.tt_horizon_laws.specs.Ground.{ground_writes, inserts_of_tables}
-use Rattle.tt_horizon.specs.Grounds.{IsGround}
+use Rattle.tt_horizon.specs.Ground.{ground_writes, inserts_of_tables}
+use Rattle.tt_horizon.specs.GroundEntries.{IsGround}
 use Rattle.tt_horizon.specs.Laying.{AreLaid}
 use Rattle.tt_horizon.proofs.ground.database_of_rows.Given as goal
 

@@ -20,6 +20,6 @@ loop-at-preserved g c =
       clear = λ told.
           let seen = g.D.Device.seen c.args.device.now in
           let within : at + n ≤ length seen = omega (arith, inv.within, c.piece_len-count.ensures, c.requires.len told) in
-          let is = c.in-Ok.ensures told ∙ ap (λ (k : ℕ). take k (drop at seen)) taken in
+          let is = c.in-Ok.ensures.read told ∙ ap (λ (k : ℕ). take k (drop at seen)) taken in
           clear_more seen piece c.args.from at n inv.behind within (inv.clear told) is long (c.if-not-is_zeros.ensures.zeros refl);
     }

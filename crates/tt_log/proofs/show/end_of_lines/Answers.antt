@@ -17,7 +17,7 @@ returns-then-extent-count-clause-end g c = λ told.
     let taken : length (take n buffer) ≡ n = length-take-le n buffer (omega (arith, c.piece_len-count.ensures)) in
     let long : length piece ≡ n = omega (arith, c.read_at.auto.buffer, taken) in
     let within : at + n ≤ length file = omega (arith, inv.within, c.piece_len-count.ensures, c.requires.len told) in
-    let is_piece = c.in-Ok.ensures told ∙ ap (λ (k : ℕ). take k (drop at file)) taken in
+    let is_piece = c.in-Ok.ensures.read told ∙ ap (λ (k : ℕ). take k (drop at file)) taken in
     let t = extent.result.taken in
     let is_end = end_behind-is c.loop-at.end at extent.result.end c.end_after-end.result (whole_lines_of (text piece)) extent.ensures.end c.end_after-end.ensures.none c.end_after-end.ensures.some in
     end_is file (at + t) c.end_after-end.result (read_more file piece at n t within is_piece extent.ensures.taken (inv.read told))
@@ -38,7 +38,7 @@ loop-at-preserved g c =
     let t = extent.result.taken in
     let whole : n ≡ t = omega (arith, long, extent.ensures.within, c.if-extent-count.false) in
     let within : (told : g.D.Device.tells c.args.device.now) → at + n ≤ length file = λ told. omega (arith, inv.within, c.piece_len-count.ensures, c.requires.len told) in
-    let is_piece = λ (told : g.D.Device.tells c.args.device.now). c.in-Ok.ensures told ∙ ap (λ (k : ℕ). take k (drop at file)) taken in
+    let is_piece = λ (told : g.D.Device.tells c.args.device.now). c.in-Ok.ensures.read told ∙ ap (λ (k : ℕ). take k (drop at file)) taken in
     let is_end = end_behind-is c.loop-at.end at extent.result.end c.end_after-end.result (whole_lines_of (text piece)) extent.ensures.end c.end_after-end.ensures.none c.end_after-end.ensures.some in
     record {
       some = omega (arith, inv.some, long, taken, length-append piece (drop n buffer), length-drop n buffer, c.piece_len-count.ensures);

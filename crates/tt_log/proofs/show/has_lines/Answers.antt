@@ -16,8 +16,8 @@ returns-then-extent-gt0-clause-some g c = λ told is_true.
     let piece = c.read_at.new.buffer in
     let extent = c.extent_of-extent in
     let taken : length (take n buffer) ≡ n = length-take-le n buffer (omega (arith, c.piece_len-count.ensures)) in
-    let within : at + n ≤ length file = omega (arith, inv.within, c.piece_len-count.ensures, c.in-Ok.ensures told) in
-    let is_piece = c.in-Ok-read_at.ensures told ∙ ap (λ (k : ℕ). take k (drop at file)) taken in
+    let within : at + n ≤ length file = omega (arith, inv.within, c.piece_len-count.ensures, c.in-Ok.ensures.length told) in
+    let is_piece = c.in-Ok-read_at.ensures.read told ∙ ap (λ (k : ℕ). take k (drop at file)) taken in
     let t = extent.result.taken in
     let end = extent.result.end in
     let some : 0 < end = omega (arith, c.if-extent-gt0.true) in
@@ -37,8 +37,8 @@ returns-then-extent-count-clause-none g c = λ told is_false.
     let extent = c.extent_of-extent in
     let taken : length (take n buffer) ≡ n = length-take-le n buffer (omega (arith, c.piece_len-count.ensures)) in
     let long : length piece ≡ n = omega (arith, c.read_at.auto.buffer, taken) in
-    let within : at + n ≤ length file = omega (arith, inv.within, c.piece_len-count.ensures, c.in-Ok.ensures told) in
-    let is_piece = c.in-Ok-read_at.ensures told ∙ ap (λ (k : ℕ). take k (drop at file)) taken in
+    let within : at + n ≤ length file = omega (arith, inv.within, c.piece_len-count.ensures, c.in-Ok.ensures.length told) in
+    let is_piece = c.in-Ok-read_at.ensures.read told ∙ ap (λ (k : ℕ). take k (drop at file)) taken in
     let t = extent.result.taken in
     let end = extent.result.end in
     let no_end : end ≡ 0 = omega (arith, c.if-extent-gt0.false) in
@@ -52,7 +52,7 @@ returns-clause-none g c = λ told is_false.
     let inv = c.loop-at.invariant in
     let file = g.D.Device.seen c.args.device.now in
     let at = c.loop-at.at in
-    none_logged file at (inv.read told) (ap text (drop_all at file (omega (arith, c.loop-at-test.false, c.in-Ok.ensures told)))) (inv.none told)
+    none_logged file at (inv.read told) (ap text (drop_all at file (omega (arith, c.loop-at-test.false, c.in-Ok.ensures.length told)))) (inv.none told)
 
 pub loop-at-preserved : goal.loop-at-preserved
 loop-at-preserved g c =
@@ -69,8 +69,8 @@ loop-at-preserved g c =
     let end = extent.result.end in
     let whole : n ≡ t = omega (arith, long, extent.ensures.within, c.if-extent-count.false) in
     let no_end : end ≡ 0 = omega (arith, c.if-extent-gt0.false) in
-    let within : (told : g.D.Device.tells c.args.device.now) → at + n ≤ length file = λ told. omega (arith, inv.within, c.piece_len-count.ensures, c.in-Ok.ensures told) in
-    let is_piece = λ (told : g.D.Device.tells c.args.device.now). c.in-Ok-read_at.ensures told ∙ ap (λ (k : ℕ). take k (drop at file)) taken in
+    let within : (told : g.D.Device.tells c.args.device.now) → at + n ≤ length file = λ told. omega (arith, inv.within, c.piece_len-count.ensures, c.in-Ok.ensures.length told) in
+    let is_piece = λ (told : g.D.Device.tells c.args.device.now). c.in-Ok-read_at.ensures.read told ∙ ap (λ (k : ℕ). take k (drop at file)) taken in
     let is_end = end_behind-is 0 at end 0 (whole_lines_of (text piece)) extent.ensures.end (λ none. refl) (λ more. omega (arith, more, no_end)) in
     record {
       some = omega (arith, inv.some, long, taken, length-append piece (drop n buffer), length-drop n buffer, c.piece_len-count.ensures);

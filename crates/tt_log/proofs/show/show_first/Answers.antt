@@ -16,7 +16,7 @@ loop-at-preserved g c =
     let taken : length (take n buffer) ≡ n = length-take-le n buffer few in
     let long : length piece ≡ n = omega (arith, c.read_at.auto.buffer, taken) in
     let is_piece : (told : g.D.Device.tells first) → piece ≡ take n (drop at file) = λ told.
-    c.in-Ok.ensures (inv.tells.0 told)
+    c.in-Ok.ensures.read (inv.tells.0 told)
     ∙ ap (λ (k : ℕ). take k (drop at (g.D.Device.seen c.loop-at.device))) taken
     ∙ ap (λ l. take n (drop at l)) (inv.seen told) in
     let over = c.hand_over.ensures in
@@ -43,7 +43,7 @@ returns-in_default-hand_over-clause-first g c = λ told.
     let buffer = c.loop-at.buffer in
     let taken : length (take n buffer) ≡ n = length-take-le n buffer (omega (arith, c.piece_len-count.ensures)) in
     let is_piece : c.read_at.new.buffer ≡ take n (drop at file) =
-    c.in-Ok.ensures (inv.tells.0 told)
+    c.in-Ok.ensures.read (inv.tells.0 told)
     ∙ ap (λ (k : ℕ). take k (drop at (g.D.Device.seen c.loop-at.device))) taken
     ∙ ap (λ l. take n (drop at l)) (inv.seen told) in
     first_of_piece file c.read_at.new.buffer (g.D.Device.shown c.loop-at.device) (g.D.Device.shown first) (g.D.Device.shown c.hand_over.new.self) at n c.args.end

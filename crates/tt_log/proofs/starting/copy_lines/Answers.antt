@@ -26,7 +26,7 @@ loop-at-preserved g c =
       copied = λ told.
           let told_mid = inv.tells.0 told in
           let file = V.seen first in
-          let is_piece : piece ≡ take n (drop at file) = c.in-Ok.ensures told_mid ∙ (λ j. take (taken j) (drop at ((inv.stays told).seen_is j))) in
+          let is_piece : piece ≡ take n (drop at file) = c.in-Ok.ensures.read told_mid ∙ (λ j. take (taken j) (drop at ((inv.stays told).seen_is j))) in
           c.in_ok-append_new.ensures.written told_mid ∙ (λ j. inv.copied told j ++ is_piece j) ∙ sym (take-add at n file);
       stays = λ told.
           let told_mid = inv.tells.0 told in

@@ -1,4 +1,4 @@
--- Further lines are answered, or none.
+-- One more line is answered, or none.
 use Rattle.std.proofs.Common.{◌+◌, ap, arith}
 use Rattle.tt_session.specs.declared.together.Extent.{Extent}
 use Rattle.tt_session.specs.declared.session.Session.TheVariants.{Open}

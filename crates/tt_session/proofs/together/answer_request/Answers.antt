@@ -1,4 +1,4 @@
--- A line is answered, and nothing is behind it; or it is returned.
+-- A line is answered, or it is returned.
 use Rattle.std.proofs.Common.{◌≡◌, ℕ, List, Bool, true, false, Ok, refl, sym, ap, ◌∙◌}
 use Rattle.tt_requests.proofs.LineLemmas.{value_of_line-long}
 use Rattle.tt_requests.specs.declared.request.Request.{Request}
@@ -30,8 +30,9 @@ returns-in-Some-clause-answered c =
       lines = refl;
     }
 
-pub returns-in_ok-answer_and_further-in-None-clause-answered : goal.returns-in_ok-answer_and_further-in-None-clause-answered
-returns-in_ok-answer_and_further-in-None-clause-answered c =
-    line-plain c.args.asked c.args.line.now c.in_ok-answer_and_further-in-None.field-0 c.args.session.now c.answer_and_further.new.session c.args.out.now.items c.answer_and_further.new.out.items
-    c.args.workspace.now.lines c.answer_and_further.new.workspace.lines c.requires.told c.requires.no_opening c.requires.asks c.in-None.ensures
-    c.in_ok-answer_and_further-in-None.ensures.answered
+pub returns-in_ok-answer-in-None-clause-answered : goal.returns-in_ok-answer-in-None-clause-answered
+returns-in_ok-answer-in-None-clause-answered c =
+    let done = c.in_ok-answer-in-None.ensures in
+    line-plain c.args.asked c.args.line.now c.args.session.now c.answer.new.self c.args.out.now.items c.answer.new.out.items
+    c.args.workspace.now.lines c.answer.new.workspace.lines c.requires.told c.requires.no_opening c.requires.asks c.in-None.ensures
+    done.text done.session done.lines

@@ -2,5 +2,5 @@
 use Rattle.tt_workload.proofs.RepairLemmas.{is_accepted}
 use Rattle.tt_workload.proofs.calls.make_action.Goals as goal
 
-pub carry_out-requires : goal.carry_out-requires
-carry_out-requires c = is_accepted c.args.db.now c.args.action c.requires.accepted c.requires.room
+pub write-requires : goal.write-requires
+write-requires c = is_accepted c.args.db.now c.args.action c.requires.accepted c.requires.room

@@ -4,7 +4,7 @@ use Rattle.std.proofs.Math.Logic.{∥∥₁_map}
 use Rattle.tt_log.specs.Crash.{MayBeCut, IsCut}
 use Rattle.tt_device_tests.specs.declared.event.Event.TheVariants.{Cut}
 use Rattle.tt_device_tests.proofs.EventLemmas.{outcomes-more, elapses_kept}
-use Rattle.tt_device_tests.proofs.ChangeLemmas.{uncut, all_cut, follows_same, crash_changed, synced_changed, once_changed, other_changed, shown_changed}
+use Rattle.tt_device_tests.proofs.ChangeLemmas.{uncut, all_cut, follows_same, crash_changed, synced_changed, once_changed, other_changed, shown_changed, renames_changed}
 use Rattle.tt_device_tests.proofs.device.MemoryDeviceDevice.cut.Goals as goal
 
 pub returns-in_err-call-clause-crash : goal.returns-in_err-call-clause-crash
@@ -37,6 +37,14 @@ returns-clause-shown g c = λ told.
     let new = c.record.new.events.items in
     let is = outcomes-more events (Cut len) new c.in_ok-record.ensures.ok in
     shown_changed (MayBeCut len) (IsCut len) events new is
+
+pub returns-clause-renames : goal.returns-clause-renames
+returns-clause-renames g c = λ told.
+    let events = c.args.self.now.events.items in
+    let len = c.args.len in
+    let new = c.record.new.events.items in
+    let is = outcomes-more events (Cut len) new c.in_ok-record.ensures.ok in
+    renames_changed (MayBeCut len) (IsCut len) events new is
 
 pub returns-clause-crash : goal.returns-clause-crash
 returns-clause-crash g c = λ told.

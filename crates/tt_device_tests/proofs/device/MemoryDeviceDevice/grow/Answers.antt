@@ -4,7 +4,7 @@ use Rattle.std.proofs.Math.Logic.{∥∥₁_map}
 use Rattle.tt_log.specs.Crash.{MayBeLonger, IsLonger}
 use Rattle.tt_device_tests.specs.declared.event.Event.TheVariants.{Grown}
 use Rattle.tt_device_tests.proofs.EventLemmas.{outcomes-more, elapses_kept}
-use Rattle.tt_device_tests.proofs.ChangeLemmas.{not_longer, all_longer, crash_changed, synced_changed, once_changed, other_changed, shown_changed}
+use Rattle.tt_device_tests.proofs.ChangeLemmas.{not_longer, all_longer, crash_changed, synced_changed, once_changed, other_changed, shown_changed, renames_changed}
 use Rattle.tt_device_tests.proofs.device.MemoryDeviceDevice.grow.Goals as goal
 
 pub invariant_of-self-in-Ok-record-clause-seen_left : goal.invariant_of-self-in-Ok-record-clause-seen_left
@@ -38,6 +38,16 @@ returns-in-Ok-record-clause-shown g c = λ told.
     let more = c.in-Ok-record.ensures.ok in
     let is = outcomes-more events (Grown len) new more in
     shown_changed (MayBeLonger len) (IsLonger len) events new is
+
+pub returns-in-Ok-record-clause-renames : goal.returns-in-Ok-record-clause-renames
+returns-in-Ok-record-clause-renames g c = λ told.
+    let d = c.args.self.now in
+    let events = d.events.items in
+    let len = c.args.len in
+    let new = c.record.new.events.items in
+    let more = c.in-Ok-record.ensures.ok in
+    let is = outcomes-more events (Grown len) new more in
+    renames_changed (MayBeLonger len) (IsLonger len) events new is
 
 pub returns-in-Ok-record-clause-crash : goal.returns-in-Ok-record-clause-crash
 returns-in-Ok-record-clause-crash g c = λ told.

@@ -45,6 +45,17 @@ returns-clause-shown g c = λ told.
     let is = outcomes-shown events bytes copy same new c.in_ok-record.ensures.ok in
     ap (λ (o : Outcomes). o.shown) is
 
+pub returns-clause-renames : goal.returns-clause-renames
+returns-clause-renames g c = λ told.
+    let d = c.args.self.now in
+    let events = d.events.items in
+    let bytes = c.args.bytes.now in
+    let new = c.record.new.events.items in
+    let copy = c.in_ok-bytes.bytes in
+    let same = copied c.copy_of.result copy bytes c.in_ok-bytes.ensures.ok c.copy_of.ensures in
+    let is = outcomes-shown events bytes copy same new c.in_ok-record.ensures.ok in
+    ap (λ (o : Outcomes). o.renames) is
+
 pub returns-clause-first : goal.returns-clause-first
 returns-clause-first g c = λ told.
     let d = c.args.self.now in

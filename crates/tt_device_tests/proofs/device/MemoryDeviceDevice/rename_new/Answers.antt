@@ -1,5 +1,5 @@
 -- The new file takes the name.
-use Rattle.std.proofs.Common.{ap, sym, ◌∙◌, subst, inl, inr, ⊎_elim}
+use Rattle.std.proofs.Common.{ap, sym, ◌∙◌, subst, inl, inr, ⊎_elim, arith}
 use Rattle.std.proofs.lemmas.Grind.{merely}
 use Rattle.std.specs.Prelude.{vec_items}
 use Rattle.tt_device_tests.specs.declared.event.Event.TheVariants.{Placed}
@@ -44,6 +44,17 @@ returns-in-Ok-clause-shown g c = λ told.
     let is = outcomes-placed events d.new_file.items copy same new is_on_disk c.in_ok-record.ensures.ok in
     ap (λ (o : Outcomes). o.shown) is
 
+pub returns-in-Ok-clause-renames : goal.returns-in-Ok-clause-renames
+returns-in-Ok-clause-renames g c = λ told.
+    let d = c.args.self.now in
+    let events = d.events.items in
+    let new = c.record.new.events.items in
+    let is_on_disk = c.is_synced-is_on_disk.result in
+    let copy = c.in_ok-bytes.bytes in
+    let same = copied c.copy_of.result copy c.deref.result.now c.in_ok-bytes.ensures.ok c.copy_of.ensures ∙ c.deref.ensures.value in
+    let is = outcomes-placed events d.new_file.items copy same new is_on_disk c.in_ok-record.ensures.ok in
+    omega (arith, ap (λ (o : Outcomes). o.renames) is)
+
 pub returns-in-Ok-clause-time : goal.returns-in-Ok-clause-time
 returns-in-Ok-clause-time g c = λ told.
     let d = c.args.self.now in
@@ -79,6 +90,17 @@ returns-in-Err-clause-shown g c = λ told.
     let same = copied c.copy_of.result copy c.deref.result.now c.in_ok-bytes.ensures.ok c.copy_of.ensures ∙ c.deref.ensures.value in
     let is = outcomes-placed events d.new_file.items copy same new is_on_disk c.in_ok-record.ensures.ok in
     ap (λ (o : Outcomes). o.shown) is
+
+pub returns-in-Err-clause-renames_unknown : goal.returns-in-Err-clause-renames_unknown
+returns-in-Err-clause-renames_unknown g c = λ told unknown.
+    let d = c.args.self.now in
+    let events = d.events.items in
+    let new = c.record.new.events.items in
+    let is_on_disk = c.is_synced-is_on_disk.result in
+    let copy = c.in_ok-bytes.bytes in
+    let same = copied c.copy_of.result copy c.deref.result.now c.in_ok-bytes.ensures.ok c.copy_of.ensures ∙ c.deref.ensures.value in
+    let is = outcomes-placed events d.new_file.items copy same new is_on_disk c.in_ok-record.ensures.ok in
+    omega (arith, ap (λ (o : Outcomes). o.renames) is)
 
 pub returns-in-Err-clause-time : goal.returns-in-Err-clause-time
 returns-in-Err-clause-time g c = λ told.

@@ -35,6 +35,13 @@ returns-in-Err-clause-shown g c = λ told.
     let new = c.record.new.events.items in
     ap (λ (o : Outcomes). o.shown) (outcomes-more events SyncFailed new c.in_ok-record.ensures.ok)
 
+pub returns-in-Err-clause-renames : goal.returns-in-Err-clause-renames
+returns-in-Err-clause-renames g c = λ told.
+    let d = c.args.self.now in
+    let events = d.events.items in
+    let new = c.record.new.events.items in
+    ap (λ (o : Outcomes). o.renames) (outcomes-more events SyncFailed new c.in_ok-record.ensures.ok)
+
 pub returns-in-Err-clause-crash : goal.returns-in-Err-clause-crash
 returns-in-Err-clause-crash g c = λ told left was.
     let d = c.args.self.now in
@@ -87,6 +94,13 @@ returns-clause-shown g c = λ told.
     let events = d.events.items in
     let new = c.record-2.new.events.items in
     ap (λ (o : Outcomes). o.shown) (outcomes-more events Synced new c.in_ok-record-2.ensures.ok)
+
+pub returns-clause-renames : goal.returns-clause-renames
+returns-clause-renames g c = λ told.
+    let d = c.args.self.now in
+    let events = d.events.items in
+    let new = c.record-2.new.events.items in
+    ap (λ (o : Outcomes). o.renames) (outcomes-more events Synced new c.in_ok-record-2.ensures.ok)
 
 pub returns-clause-crash : goal.returns-clause-crash
 returns-clause-crash g c = λ told left was.

@@ -37,6 +37,13 @@ returns-clause-shown g c = λ told.
     let new = c.record.new.events.items in
     ap (λ (o : Outcomes). o.shown) (outcomes-more events NameSynced new c.in_ok-record.ensures.ok)
 
+pub returns-clause-renames : goal.returns-clause-renames
+returns-clause-renames g c = λ told.
+    let d = c.args.self.now in
+    let events = d.events.items in
+    let new = c.record.new.events.items in
+    ap (λ (o : Outcomes). o.renames) (outcomes-more events NameSynced new c.in_ok-record.ensures.ok)
+
 pub returns-clause-crash : goal.returns-clause-crash
 returns-clause-crash g c = λ told left was.
     let d = c.args.self.now in

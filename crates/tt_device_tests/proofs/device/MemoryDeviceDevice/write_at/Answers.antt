@@ -8,7 +8,7 @@ use Rattle.tt_log.specs.Device.{AllAsLong}
 use Rattle.tt_device_tests.specs.declared.event.Event.TheVariants.{Written}
 use Rattle.tt_device_tests.specs.Outcomes.{may_leave_of}
 use Rattle.tt_device_tests.proofs.EventLemmas.{copied, outcomes-written, elapses_kept}
-use Rattle.tt_device_tests.proofs.ChangeLemmas.{length-over, unwritten, all_written, in_place, follows_same, crash_changed, synced_changed, once_changed, other_changed, shown_changed}
+use Rattle.tt_device_tests.proofs.ChangeLemmas.{length-over, unwritten, all_written, in_place, follows_same, crash_changed, synced_changed, once_changed, other_changed, shown_changed, renames_changed}
 use Rattle.tt_device_tests.proofs.device.MemoryDeviceDevice.write_at.Goals as goal
 
 -- a crash may find that nothing was written
@@ -76,6 +76,18 @@ returns-clause-shown g c = λ told.
     let same = copied c.copy_of.result copy bytes c.in_ok-written.ensures.ok c.copy_of.ensures in
     let is = outcomes-written events bytes copy same new at c.in_ok-record.ensures.ok in
     shown_changed (MayBeWritten at bytes) (IsWritten at bytes) events new is
+
+pub returns-clause-renames : goal.returns-clause-renames
+returns-clause-renames g c = λ told.
+    let d = c.args.self.now in
+    let events = d.events.items in
+    let at = c.args.at in
+    let bytes = c.args.bytes.now in
+    let new = c.record.new.events.items in
+    let copy = c.in_ok-written.written in
+    let same = copied c.copy_of.result copy bytes c.in_ok-written.ensures.ok c.copy_of.ensures in
+    let is = outcomes-written events bytes copy same new at c.in_ok-record.ensures.ok in
+    renames_changed (MayBeWritten at bytes) (IsWritten at bytes) events new is
 
 pub returns-clause-crash : goal.returns-clause-crash
 returns-clause-crash g c = λ told.

@@ -27,4 +27,5 @@ returns-clause-err g c = λ told.
           moments.weaker D.moment D.left_since old new (KeepsAnswered lines c.new.result shown text) (KeepsShowing lines shown text) (done.any_moment told)
           (λ left p. shows-none lines shown text left (subst (λ ls. KeepsAnswered lines ls shown text left) c.new.ensures p));
       failed = done.hand_over told is;
+      no_new = done.no_new told;
     }

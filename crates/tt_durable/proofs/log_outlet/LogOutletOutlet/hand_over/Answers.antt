@@ -1,5 +1,6 @@
 -- The lines are logged behind those that are there, and then the text is handed over.
-use Rattle.std.proofs.Common.{◌≡◌, ◌≢◌, ◌⊎◌, ◌+◌, ◌<◌, ◌++◌, Some, inl, inr, refl, ◌∙◌, arith}
+use Rattle.std.proofs.Common.{◌≡◌, ◌≢◌, ◌⊎◌, ◌+◌, ◌<◌, ◌++◌, Some, inl, inr, ⊎_elim, refl, sym, subst, ◌∙◌, arith}
+use Rattle.tt_log.specs.Device.{RemovesNew}
 use Rattle.tt_log.specs.Lines.{logged}
 use Rattle.tt_log.specs.declared.log_error.LogError.{LogError}
 use Rattle.tt_log.specs.declared.log_error.LogError.TheVariants as errors
@@ -7,9 +8,9 @@ use Rattle.tt_log.specs.Log.{KeepsAnswered}
 use Rattle.tt_log.proofs.MomentLemmas as moments
 use Rattle.tt_session.specs.Answering.{turns_of, unlogged_count}
 use Rattle.tt_session.specs.Logged.{log_after}
-use Rattle.tt_durable.specs.OnLog.{telling, LeavesAnswered, StoppedInLog, StoppedOnLog, IsFull}
+use Rattle.tt_durable.specs.OnLog.{LeavesAnswered, StoppedInLog, StoppedOnLog, CannotWrite}
 use Rattle.tt_commands.proofs.ResultLemmas.{at_err}
-use Rattle.tt_durable.proofs.OnLogLemmas.{leaves-more, leaves-shown, shown-all, shown-first, lines-all, full-stopped, why-stopped, new-append, new-plain, unlogged-kept}
+use Rattle.tt_durable.proofs.OnLogLemmas.{leaves-more, leaves-shown, shown-all, shown-first, lines-all, full-stopped, why-stopped, new-append, new-plain, unlogged-kept, no-new-then}
 use Rattle.tt_durable.proofs.log_outlet.LogOutletOutlet.hand_over.Goals as goal
 
 pub returns-in-Ok-clause-handed : goal.returns-in-Ok-clause-handed
@@ -37,6 +38,9 @@ returns-in-Ok-clause-handed g c = λ first start over kept so_far is told.
           leaves-shown start lines over kept shown c.args.lines.now c.args.text.now (logged (D.seen old)) (D.shown old) (is.lines_are tt) is.text_is is.plain h.lines_are h.shown_is left p);
       new_logs = new-append start over kept h.new_logs (new-plain (turns_of start over).session kept is.plain);
       failures = omega (arith, h.failures, done.failures h.tells, unlogged-kept start over kept is.plain);
+      no_new =
+          subst (λ n. RemovesNew D.has_new D.failures n begun new) (sym (unlogged-kept start over kept is.plain))
+          (no-new-then D begun old new (unlogged_count over) h.no_new (done.no_new h.tells) (done.failures h.tells));
     }
 
 pub returns-in-Err-clause-stopped : goal.returns-in-Err-clause-stopped
@@ -49,7 +53,7 @@ returns-in-Err-clause-stopped g c = λ first start over kept more so_far is told
     let new = c.hand_over.new.self.device in
     let lines = logged (D.seen begun) in
     let shown = D.shown begun in
-    let of = telling D.tells D.seen D.shown D.moment D.left_since D.failures in
+    let of = D in
     let now = logged (D.seen old) in
     let all = lines-all start lines over kept shown c.args.lines.now c.args.text.now now (D.shown old) (is.lines_are tt) is.text_is is.plain h.lines_are h.shown_is _ refl in
     let moment =
@@ -59,7 +63,9 @@ returns-in-Err-clause-stopped g c = λ first start over kept more so_far is told
     leaves-shown start lines over kept shown c.args.lines.now c.args.text.now now (D.shown old) (is.lines_are tt) is.text_is is.plain h.lines_are h.shown_is left p) in
     let new_logs = new-append start over kept h.new_logs (new-plain (turns_of start over).session kept is.plain) in
     let unlogged = unlogged-kept start over kept is.plain in
-    let in_log : D.shown new ≡ D.shown old → (D.failures begun + unlogged_count (over ++ kept) < D.failures new) ⊎ IsFull (log_after lines start (over ++ kept)) → StoppedInLog of begun new start ((over ++ kept) ++ more) = λ unshown why. record {
+    let no_new = no-new-then D begun old new (unlogged_count over) h.no_new (done.no_new h.tells) (done.failures h.tells) in
+    let no_new_failed : (D.failures old < D.failures new) → RemovesNew D.has_new D.failures (unlogged_count (over ++ kept) + 1) begun new = λ failed now. ⊎_elim (λ was. inl was) (λ more_failed. inr (omega (arith, more_failed, failed, unlogged))) (h.no_new (done.no_new h.tells now)) in
+    let in_log : D.shown new ≡ D.shown old → CannotWrite D begun new (unlogged_count (over ++ kept)) (log_after lines start (over ++ kept)) → StoppedInLog of begun new start ((over ++ kept) ++ more) = λ unshown why. record {
       answered = over;
       pending = kept;
       others = more;
@@ -72,7 +78,7 @@ returns-in-Err-clause-stopped g c = λ first start over kept more so_far is told
     } in
     let unless_output = λ (e : LogError). e ≢ errors.HandOver → D.shown new ≡ D.shown old in
     why-stopped c.hand_over.result c.in-Err.error (λ e. StoppedOnLog (Some e) of begun new start ((over ++ kept) ++ more)) c.in-Err.is
-    (λ e. in_log (at_err unless_output c.hand_over.result errors.Write e (done.unshown h.tells) (λ same. cc)) (inl (omega (arith, h.failures, done.write h.tells e, unlogged))))
+    (λ e. in_log (at_err unless_output c.hand_over.result errors.Write e (done.unshown h.tells) (λ same. cc)) (inl (omega (arith, h.failures, done.write h.tells e, unlogged), no_new_failed (done.write h.tells e))))
     (λ e. record {
       answered = over ++ kept;
       others = more;
@@ -82,5 +88,9 @@ returns-in-Err-clause-stopped g c = λ first start over kept more so_far is told
       new_logs = new_logs;
       lines_are = done.all_logged h.tells e ∙ all;
       failed = omega (arith, h.failures, done.hand_over h.tells e, unlogged);
+      no_new = no_new_failed (done.hand_over h.tells e);
     })
-    (λ e. in_log (at_err unless_output c.hand_over.result errors.Full e (done.unshown h.tells) (λ same. cc)) (inr (full-stopped start lines (over ++ kept) now c.args.lines.now c.args.self.now.log.end all (c.requires h.tells).end (done.full e)))) done.no_read
+    (λ e. in_log (at_err unless_output c.hand_over.result errors.Full e (done.unshown h.tells) (λ same. cc)) (inr (
+      full-stopped start lines (over ++ kept) now c.args.lines.now c.args.self.now.log.end all (c.requires h.tells).end (done.full e),
+      subst (λ n. RemovesNew D.has_new D.failures n begun new) (sym unlogged) no_new,
+    ))) done.no_read

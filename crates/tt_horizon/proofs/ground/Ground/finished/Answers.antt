@@ -1,6 +1,6 @@
 -- The action of the writes that wait is of the ground, too.
 use Rattle.std.proofs.Common.{sym, subst}
-use Rattle.tt_horizon.specs.Grounds.{IsGround}
+use Rattle.tt_horizon.specs.GroundEntries.{IsGround}
 use Rattle.tt_horizon.proofs.LayingLemmas.{IsGround-push}
 use Rattle.tt_horizon.proofs.ground.Ground.finished.Goals as goal
 

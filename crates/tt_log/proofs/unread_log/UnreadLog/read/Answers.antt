@@ -17,7 +17,7 @@ returns-clause-bytes g c = λ told.
     let more = c.take_piece.ensures in
     let all : length (take count buffer) ≡ count = length-take-le count buffer c.next_count-count.ensures.most in
     let within : at + count ≤ length seen = omega (arith, c.next_count-count.ensures.within, (c.requires.reading told).len) in
-    let is_piece = c.in_ok-read_at.ensures told ∙ ap (λ (k : ℕ). take k (drop at seen)) all in
+    let is_piece = c.in_ok-read_at.ensures.read told ∙ ap (λ (k : ℕ). take k (drop at seen)) all in
     let few : taken ≤ length piece = omega (arith, more.taken, text-le piece) in
     let after = c.take_piece.new.self in
     let unread_is : text (drop after.at (g.D.Device.seen after.device)) ≡ text (drop (at + taken) seen) = (λ j. text (drop (more.at j) (g.D.Device.seen (more.device j)))) in
@@ -39,7 +39,7 @@ returns-clause-reading g c = λ told.
     let r = c.requires.reading told in
     let all : length (take count buffer) ≡ count = length-take-le count buffer c.next_count-count.ensures.most in
     let within : at + count ≤ length seen = omega (arith, c.next_count-count.ensures.within, r.len) in
-    let is_piece = c.in_ok-read_at.ensures told ∙ ap (λ (k : ℕ). take k (drop at seen)) all in
+    let is_piece = c.in_ok-read_at.ensures.read told ∙ ap (λ (k : ℕ). take k (drop at seen)) all in
     let unread_is : text (drop after.at (g.D.Device.seen after.device)) ≡ text (drop (at + taken) seen) = (λ j. text (drop (more.at j) (g.D.Device.seen (more.device j)))) in
     record {
       len = more.len ∙ r.len ∙ ap (λ d. length (g.D.Device.seen d)) (sym more.device);

@@ -1,5 +1,0 @@
-use Rattle.tt_horizon_laws.proofs.LawProofs.{ground_is_small}
-use Rattle.tt_horizon_laws.proofs.laws.ground_is_small.Goals as goal
-
-pub returns : goal.returns
-returns c = ground_is_small

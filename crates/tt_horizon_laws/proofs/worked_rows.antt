@@ -1,2 +1,0 @@
-mod Grounds
-mod Repairs

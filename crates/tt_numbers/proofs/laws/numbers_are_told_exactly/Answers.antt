@@ -1,5 +1,0 @@
-use Rattle.tt_numbers.proofs.NumberLemmas.{numbers_are_told_exactly}
-use Rattle.tt_numbers.proofs.laws.numbers_are_told_exactly.Goals as goal
-
-pub returns : goal.returns
-returns c = numbers_are_told_exactly
