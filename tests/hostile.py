@@ -52,6 +52,9 @@ HELD = ['tests/sessions/incident_in_short', 'tests/sessions/repairs', 'tests/ses
 # Those that are held with a log, too, and in about how many ways each.
 ON_A_LOG, WAYS = ['tests/sessions/forgetting', 'tests/sessions/forgetting_many_rows'], 150
 
+# In about how many ways a session of many lines is held with too little memory.
+MANY_WAYS = 60
+
 # The status of a scenario that grows where it shouldn't, and of one that keeps a block.
 GREW, KEPT = 90, 91
 
@@ -183,6 +186,25 @@ class Growths(GrowthCase):
             found = self.refuse_growths(['session'], name, document, wanted(1), wanted(len(lines)))
             self.assertGreater(found, before, f'{name}: no growth for its lines is refused')
         progress(len(HELD), len(HELD), 'sessions that lack memory')
+
+    def test_a_line_behind_many_that_lacks_memory_changes_nothing(self) -> None:
+        """Behind more lines than a checkpoint of a session has entries, which is taken anew by then."""
+        lines = [b'{"version":4,"tables":[{"name":"acct","columns":[{"name":"id","kind":"int"},'
+                 b'{"name":"owner","kind":"text","partition":true}]}]}']
+        lines += [b'{"insert":"acct","row":[%d,"o%d"]}' % (key, key % 40) for key in range(1_100)]
+        lines += [b'{"begin":[{"cancel":7}]}', b'{"step":900}', b'{"insert":"acct","row":[7,"ann"]}',
+                  b'{"finish":true}', b'{"select":"acct","where":[["owner","o7"]]}', b'{"status":true}']
+        document = b'\n'.join(lines)
+        growths = self.growths_of(['session'], document)
+        for number in range(growths, 0, -(growths // MANY_WAYS)):
+            progress(growths - number, growths, 'growths of a session of many lines')
+            for last, most in ((number, 1), (ALL, len(lines))):
+                was_met, answer = self.refused(['session'], document, number, last)
+                self.assertTrue(was_met, f'growth {number} of {growths}')
+                is_begin = answer == WANT_OF_MEMORY
+                told = '' if is_begin else wanted_of(lines, answer, most)
+                self.assert_wanted(told, f'a session of many lines, growths {number} to {last}', answer)
+        progress(growths, growths, 'growths of a session of many lines')
 
 
 class OnALog(NamedTuple):
