@@ -330,7 +330,7 @@ SESSIONS = Chapter('Sessions and logs', [
         Meaning('tt_log', 'Device', 'Left LeavesOnly', 'the file and the output that a crash leaves; a crash at any'
                 ' moment, from one device on up to another, leaves what has a property'),
         Meaning('tt_log', 'Device', 'Only', 'a crash leaves this file and no other'),
-        Meaning('tt_log', 'Device', 'RemovesNew', 'no new file is left that wasn\'t there, or the device has failed'
+        Meaning('tt_log', 'Device', 'LeavesNoNewFile', 'no new file is left that wasn\'t there, or the device has failed'
                 ' more often than this many times')]),
     Row('logs', [
         Meaning('tt_log', 'Lines', 'logged IsJoined', 'the lines of a file that end before its first byte 0; it has'

@@ -52,6 +52,8 @@ NO_GROUNDS: list[tuple[Sequence[str], int]] = [
     ((GROUND % ONE, '{"if":0,"do":[{"insert":"acct","row":[3,"eve",0]}]}'), 2),
     ((GROUND % ONE, '{"insert":"acct","row":[3,"eve",0]}'), 2),
     ((GROUND % ONE, '{"do":[]}'), 2),
+    *(((GROUND % ONE, '{"do":[{"insert":"acct","row":[3,"eve",0]}],"whole":%s}' % whole), 2)
+      for whole in ('true', 'false')),
     ((GROUND % ONE, '{"do":[{"insert":"acct","row":[3,"eve"]}]}'), 2),
     ((GROUND % ONE, '{"do":[{"update":"acct","change":[],"where":[]}]}'), 2),
     ((GROUND % ONE, '{"do":[{"insert":"acct","row":[1,"",0]},{"delete":"acct","where":[]}]}'), 2),

@@ -53,7 +53,7 @@ PROMISED = {
                 'Store::refresh Store::close Worker::read Worker::read_at Worker::read_in '
                 'Worker::preview Worker::number Worker::seen Worker::seen_entry Worker::made Worker::place '
                 'Worker::progress Worker::write',
-    'tt_records': 'changes',
+    'tt_records': 'changes changes_next',
     'tt_repair': 'repair',
     'tt_document': 'Document::from_value',
     'tt_workload': 'Options::fits read_document write_text run_alone text_of text_of_change',

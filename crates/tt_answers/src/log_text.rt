@@ -1,6 +1,7 @@
 //! The lines of a log that is made anew, without their line feeds. Where memory runs out, `out` may
 //! end with a prefix of a line.
 ghost use Rattle.std.specs.Prelude.{◌≡◌, ◌++◌, OnOk};
+ghost use Rattle.tt_grammar.specs.ReadBack.{IsStorableAction};
 ghost use Rattle.tt_answers.specs.LogText.{log_opening_line, ground_line, slot_line};
 
 use crate::answer_text::push_declared;
@@ -37,8 +38,9 @@ pub fn push_ground_line(
     catalog: &Catalog,
     action: &Action,
 ) -> Result<(), AllocError>
-    ensures { OnOk result (out.new.items
+    ensures text { OnOk result (out.new.items
         ≡ out.old.items ++ ground_line catalog.now action.now) }
+    ensures storable { OnOk result (IsStorableAction action.now) }
 {
     out.push(b'{')?;
     push_action(out, catalog, action)?;
@@ -53,8 +55,9 @@ pub fn push_slot_line(
     worker: u32,
     action: &Action,
 ) -> Result<(), AllocError>
-    ensures { OnOk result (out.new.items
+    ensures text { OnOk result (out.new.items
         ≡ out.old.items ++ slot_line catalog.now worker action.now) }
+    ensures storable { OnOk result (IsStorableAction action.now) }
 {
     push_labelled(out, b"{\"worker\":", u64::from(worker))?;
     out.push(b',')?;

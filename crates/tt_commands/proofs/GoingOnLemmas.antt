@@ -41,10 +41,12 @@ use Rattle.tt_commands.specs.Sound.{IsSound}
 use Rattle.tt_commands.specs.Repairing.{status_of, entry_by, with_event, with_steps, with_all_steps, unless_refused, other_worker, unless_of_another, progress_answer, status_answer, after_switch, begin, step, finish, abort}
 use Rattle.tt_commands.specs.Reading.{read, selected_by, previewed_by, latest_if, asks_for_all}
 use Rattle.tt_commands.specs.ChangeEntries.{changes_answer, next_changes}
-use Rattle.tt_commands.specs.ToldRequests.{forgotten_in, asks_for_forgotten, read_at, read_in, read_as_told, missing_if_idle, unless_missing, own_edit, begin_as_told}
+use Rattle.tt_commands.specs.ToldRequests.{forgotten_in, asks_for_forgotten, read_at, read_in, read_as_told, missing_if_idle, unless_missing, begin_as_told}
+use Rattle.tt_requests.specs.ToldEdits.{own_edit}
 use Rattle.tt_commands.specs.Changes.{forgotten_by}
 use Rattle.tt_commands.specs.Forgetting.{forgetting_of, forget_refusal, forgets_nothing, forgotten_answer, forget}
-use Rattle.tt_commands.specs.Commands.{write, written, repair_worker_told, carried_out, moved_to, unless_moved, outcome_of_request}
+use Rattle.tt_commands.specs.Commands.{write, written, carried_out, moved_to, unless_moved, outcome_of_request}
+use Rattle.tt_requests.specs.Asked.{repair_worker_told}
 use Rattle.tt_commands.proofs.StepLemmas.{accepted_in_session, can_end, room-can_end, switch_is_accepted, abort_is_accepted}
 use Rattle.tt_commands.proofs.ForgettingLemmas.{from_forget, forgotten-sound}
 use Rattle.tt_commands.proofs.LawLemmas.{HasLegalHistory, legal-push, IsStepped, is_stepped}

@@ -36,9 +36,11 @@ use Rattle.tt_commands.specs.Answers.{Answered}
 use Rattle.tt_commands.specs.Room.{refusal_in_session}
 use Rattle.tt_commands.specs.Repairing.{unless_refused, other_worker, unless_of_another}
 use Rattle.tt_commands.specs.Reading.{read, selected_by, previewed_by}
-use Rattle.tt_commands.specs.ToldRequests.{no_generation, forgotten_in, asks_for_forgotten, read_at, read_in, read_as_told, missing_if_idle, unless_missing, own_edit}
+use Rattle.tt_commands.specs.ToldRequests.{no_generation, forgotten_in, asks_for_forgotten, read_at, read_in, read_as_told, missing_if_idle, unless_missing}
+use Rattle.tt_requests.specs.ToldEdits.{own_edit}
 use Rattle.tt_commands.specs.Forgetting.{unless_forget_refused}
-use Rattle.tt_commands.specs.Commands.{written, repair_worker_told, carried_out, moved_to, unless_moved}
+use Rattle.tt_commands.specs.Commands.{written, carried_out, moved_to, unless_moved}
+use Rattle.tt_requests.specs.Asked.{repair_worker_told}
 use Rattle.tt_commands.specs.Invariants.{IsOpenSession}
 use Rattle.tt_commands.specs.Laws.{answers_lines, OtherErrorsAnswerNoLine}
 use Rattle.tt_commands.proofs.StepLemmas.{room-test}

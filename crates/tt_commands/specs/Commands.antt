@@ -1,15 +1,15 @@
 -- What an open session answers to a request, and the session after it, or why the request is refused.
-use Rattle.std.specs.Prelude.{ℕ, ◌+◌, ◌==◌, Bool, true, false, Option, None, Some, Result, Ok, Err, if◌then◌else◌}
+use Rattle.std.specs.Prelude.{ℕ, ◌+◌, ◌==◌, Option, None, Some, Result, Ok, Err, if◌then◌else◌}
 use Rattle.tt_values.specs.declared.row_id.RowId.{RowId}
 use Rattle.tt_values.specs.declared.action.Action.{Action}
 use Rattle.tt_values.specs.Action.{replies_of}
 use Rattle.tt_db.specs.declared.event.Event.TheVariants as events
 use Rattle.tt_db.specs.Database.{now_in, current_of_db, repair_worker_of}
 use Rattle.tt_records.specs.declared.record.What.TheVariants as whats
-use Rattle.tt_grammar.specs.declared.fault.DocFault.{DocFault}
 use Rattle.tt_requests.specs.declared.request.Command.{Command}
 use Rattle.tt_requests.specs.declared.request.Command.TheVariants as commands
 use Rattle.tt_requests.specs.declared.request.Request.{Request}
+use Rattle.tt_requests.specs.Asked.{repair_worker_told}
 use Rattle.tt_requests.specs.declared.told.ToldTime.{ToldTime}
 use Rattle.tt_requests.specs.Numbers.{Numbering, told_time}
 use Rattle.tt_commands.specs.Session.{OpenSession, with_database, with_record}
@@ -62,38 +62,6 @@ slots session from to worker row = slots_between session (first_slot session.num
 abbrev pub declared_tables : OpenSession → Result Answered Refusal
 declared_tables session =
     unchanged session (answers.Declared session.database.limits.keep session.most_records)
-
--- whether a command leaves the database as it is
-abbrev pub is_read_only : Command → Bool
-is_read_only (commands.Write action) = false
-is_read_only (commands.Begin edits) = false
-is_read_only (commands.Step most told) = false
-is_read_only (commands.Finish told) = false
-is_read_only (commands.Abort told) = false
-is_read_only (commands.Forget time) = false
-is_read_only command = true
-
--- whether what a line asks leaves the database as it is, as a fault does
-abbrev pub asks_read_only : Result Request DocFault → Bool
-asks_read_only (Ok request) = is_read_only request.command
-asks_read_only (Err fault) = true
-
--- whether a command is to forget what lies before a time
-abbrev pub is_forget : Command → Bool
-is_forget (commands.Forget time) = true
-is_forget command = false
-
--- whether what a line asks is to forget what lies before a time
-abbrev pub asks_to_forget : Result Request DocFault → Bool
-asks_to_forget (Ok request) = is_forget request.command
-asks_to_forget (Err fault) = false
-
--- the worker for whose repair a command is, if it tells one
-abbrev pub repair_worker_told : Command → Option ℕ
-repair_worker_told (commands.Step most told) = told
-repair_worker_told (commands.Finish told) = told
-repair_worker_told (commands.Abort told) = told
-repair_worker_told command = None
 
 -- a command of a worker is carried out
 abbrev pub carried_out : OpenSession → ℕ → Command → Result Answered Refusal

@@ -1,21 +1,14 @@
 -- A request to forget what lies before a time, and what becomes of it.
-use Rattle.std.specs.Prelude.{◌≡◌, ℕ, false, Option, None, Some, Result, Ok}
-use Rattle.tt_grammar.specs.declared.fault.DocFault.{DocFault}
-use Rattle.tt_requests.specs.declared.request.Command.TheVariants as commands
-use Rattle.tt_requests.specs.declared.request.Request.{Request}
+use Rattle.std.specs.Prelude.{◌≡◌, false, Option, None, Some, Result, Ok}
 use Rattle.tt_db.specs.Database.{now_in}
 use Rattle.tt_answers.specs.declared.answer.Answer.{Answer}
 use Rattle.tt_answers.specs.declared.answer.Refusal.{Refusal}
-use Rattle.tt_commands.specs.declared.commands.ForgetRequest.{ForgetRequest}
+use Rattle.tt_requests.specs.declared.asked.ForgetRequest.{ForgetRequest}
 use Rattle.tt_commands.specs.Session.{OpenSession, Forgetting}
 use Rattle.tt_commands.specs.Answers.{Answered}
 use Rattle.tt_commands.specs.Changes.{forgotten_by}
 use Rattle.tt_commands.specs.Commands.{moved_to, unless_moved}
 use Rattle.tt_commands.specs.Forgetting.{forget, forgets_nothing}
-
--- this is what a line asks
-abbrev pub IsForgetRequest : Result Request DocFault → ForgetRequest → Type 0
-IsForgetRequest asked f = (worker : ℕ) × (asked ≡ Ok (record { worker = worker; expected = f.expected; command = commands.Forget f.time }))
 
 -- what becomes of a request to forget
 abbrev pub outcome_of_forget : OpenSession → ForgetRequest → Result Answered Refusal

@@ -1,16 +1,15 @@
 -- What requests ask for, by the numbers that a session tells: selects at a time or in a generation, slots, and the edits of a repair.
-use Rattle.std.specs.Prelude.{ℕ, ◌+◌, ◌&&◌, not, nat_lt, Bool, false, List, [], ◌∷◌, map, is_none, Option, None, Some, option_map, unwrap_or, Result, Err, if◌then◌else◌}
+use Rattle.std.specs.Prelude.{ℕ, ◌+◌, Bool, false, List, map, is_none, Option, None, Some, option_map, unwrap_or, Result, Err, if◌then◌else◌}
 use Rattle.tt_values.specs.declared.statement.Select.{Select}
 use Rattle.tt_repair_laws.specs.declared.edit.Edit.{Edit}
-use Rattle.tt_repair_laws.specs.declared.edit.Edit.TheVariants.{Cancel, Replace}
-use Rattle.tt_repair_laws.specs.Edits.{slot_number}
 use Rattle.tt_generations.specs.TwoGenerations.{is_repairing}
 use Rattle.tt_db.specs.declared.errors.ReadError.TheVariants as read_errors
 use Rattle.tt_db.specs.State.{slots_in}
 use Rattle.tt_db.specs.Database.{now_in, oldest_in}
 use Rattle.tt_requests.specs.declared.told.ToldTime.{ToldTime}
 use Rattle.tt_requests.specs.declared.told.ToldGeneration.{ToldGeneration}
-use Rattle.tt_requests.specs.Numbers.{Numbering, told_time, own_time, is_forgotten_time, is_behind_horizon, own_generation}
+use Rattle.tt_requests.specs.Numbers.{Numbering, own_time, is_forgotten_time, is_behind_horizon, own_generation}
+use Rattle.tt_requests.specs.ToldEdits.{missing_slot, own_edit}
 use Rattle.tt_requests.specs.declared.request.Page.{Page}
 use Rattle.tt_requests.specs.declared.request.ToldEdits.{ToldEdits}
 use Rattle.tt_answers.specs.declared.answer.Refusal.{Refusal}
@@ -55,24 +54,6 @@ first_slot numbering from = if is_behind_horizon numbering from then own_time nu
 
 abbrev pub last_slot : Numbering → ToldTime → ℕ
 last_slot numbering to = own_time numbering to
-
--- an edit's slot as it is told
-abbrev pub told_slot : Edit → ToldTime
-told_slot e = record { number = slot_number e }
-
--- whether a slot as it is told is there: behind the horizon, and no later than now
-abbrev pub is_there : Numbering → ℕ → ToldTime → Bool
-is_there numbering now slot = is_behind_horizon numbering slot && not (nat_lt (told_time numbering now).number slot.number)
-
--- the slot of the first edit whose slot isn't there
-abbrev pub missing_slot : Numbering → ℕ → List Edit → Option ToldTime
-missing_slot numbering now [] = None
-missing_slot numbering now (e ∷ edits) = if is_there numbering now (told_slot e) then missing_slot numbering now edits else Some (told_slot e)
-
--- an edit of a slot of the database
-abbrev pub own_edit : Numbering → Edit → Edit
-own_edit numbering (Cancel t) = Cancel (own_time numbering (record { number = t }))
-own_edit numbering (Replace t action) = Replace (own_time numbering (record { number = t })) action
 
 -- a repair begins, unless a slot isn't there
 abbrev pub unless_missing : Option ToldTime → Result Answered Refusal → Result Answered Refusal

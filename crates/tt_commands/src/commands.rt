@@ -1,9 +1,9 @@
 //! What an open session answers to a request.
-ghost use Rattle.std.specs.Prelude.{◌≡◌, ◌≢◌, true, false, IfErr, MatchOption};
+ghost use Rattle.std.specs.Prelude.{◌≡◌, ◌≢◌, true, IfErr};
 ghost use Rattle.tt_commands.specs.Answers.{Becomes};
 ghost use Rattle.tt_commands.specs.Session.{with_database};
-ghost use Rattle.tt_commands.specs.Commands.{status, declared_tables, carried_out, is_read_only, asks_read_only, is_forget, asks_to_forget, repair_worker_told, moved_to, outcome_of_request};
-ghost use Rattle.tt_commands.specs.ForgetRequests.{IsForgetRequest};
+ghost use Rattle.tt_commands.specs.Commands.{status, declared_tables, carried_out, moved_to, outcome_of_request};
+ghost use Rattle.tt_requests.specs.Asked.{is_read_only};
 
 use crate::change_entries::{changes, next_changes};
 use crate::failure::Failure;
@@ -15,7 +15,6 @@ use crate::response::Response;
 use crate::told_requests::{begin_as_told, read_as_told, slots};
 use crate::writing::write;
 use tt_answers::{Answer, Refusal};
-use tt_grammar::DocFault;
 use tt_requests::{Command, Numbering, Request, ToldTime};
 
 /// How the database stands.
@@ -34,93 +33,6 @@ fn declared_tables(session: &OpenSession) -> Result<Response, Failure>
         keep: session.db().limits().keep,
         records: session.terms().most_records,
     }))
-}
-
-/// Whether a command leaves the database as it is.
-fn is_read_only(command: &Command) -> bool
-    ensures { result ≡ is_read_only command.now }
-{
-    match command {
-        Command::Write(_) => false,
-        Command::Begin(_) => false,
-        Command::Step { .. } => false,
-        Command::Finish { .. } => false,
-        Command::Abort { .. } => false,
-        Command::Forget(_) => false,
-        Command::Read { .. } => true,
-        Command::Preview { .. } => true,
-        Command::Status => true,
-        Command::Slots { .. } => true,
-        Command::Changes => true,
-        Command::NextChanges => true,
-        Command::Tables => true,
-    }
-}
-
-/// Whether what a line asks leaves the database as it is, as a fault does.
-pub fn asks_read_only(asked: &Result<Request, DocFault>) -> bool
-    ensures { result ≡ asks_read_only asked.now }
-{
-    match asked {
-        Ok(request) => is_read_only(&request.command),
-        Err(_) => true,
-    }
-}
-
-/// A request to forget what lies before a time.
-#[derive(Clone, Copy)]
-pub struct ForgetRequest {
-    /// The current time that it expects, if it does.
-    pub expected: Option<ToldTime>,
-    /// What lies before this time is to be forgotten.
-    pub time: ToldTime,
-}
-
-/// Whether what a line asks is to forget what lies before a time.
-pub fn asks_to_forget(asked: &Result<Request, DocFault>) -> bool
-    ensures { result ≡ asks_to_forget asked.now }
-{
-    match asked {
-        Ok(request) => is_forget(&request.command),
-        Err(_) => false,
-    }
-}
-
-fn is_forget(command: &Command) -> bool
-    ensures { result ≡ is_forget command.now }
-{
-    match command {
-        Command::Forget(_) => true,
-        _ => false,
-    }
-}
-
-/// What a line asks, if it is to forget what lies before a time.
-pub fn forget_request(asked: &Result<Request, DocFault>) -> Option<ForgetRequest>
-    ensures { MatchOption result (asks_to_forget asked.now ≡ false) (IsForgetRequest asked.now) }
-{
-    let Ok(request) = asked else {
-        return None;
-    };
-    match request.command {
-        Command::Forget(time) => Some(ForgetRequest {
-            expected: request.expected,
-            time,
-        }),
-        _ => None,
-    }
-}
-
-/// The worker for whose repair a command is, if it tells one.
-fn repair_worker_told(command: &Command) -> Option<u32>
-    ensures { result ≡ repair_worker_told command.now }
-{
-    match command {
-        Command::Step { of, .. } => *of,
-        Command::Finish { of } => *of,
-        Command::Abort { of } => *of,
-        _ => None,
-    }
 }
 
 /// Carries out a command of a worker, whoever began the repair. Without memory the session is as
@@ -184,7 +96,7 @@ pub fn outcome_of_request(session: &mut OpenSession, request: Request) -> Result
     if let Some(now) = moved_to(session.numbering(), session.db().now(), request.expected) {
         return Err(Failure::Refused(Refusal::Moved { now }));
     }
-    match other_worker(session.db(), repair_worker_told(&request.command)) {
+    match other_worker(session.db(), request.command.repair_worker_told()) {
         Some(worker) => Err(Failure::Refused(Refusal::RepairOfAnother { worker })),
         None => carried_out(session, request.worker, request.command),
     }

@@ -5,7 +5,7 @@ ghost use Rattle.tt_commands.specs.Failures.{FailsWith};
 ghost use Rattle.tt_commands.specs.Forgetting.{forgetting_of, forget_refusal, forgets_nothing, forget};
 ghost use Rattle.tt_commands.specs.ForgetRequests.{AnswersForget, outcome_of_forget};
 
-use crate::commands::{ForgetRequest, moved_to};
+use crate::commands::moved_to;
 use crate::failure::Failure;
 use crate::open_session::OpenSession;
 use crate::repairing::status_of;
@@ -15,7 +15,7 @@ use std::alloc::AllocError;
 use tt_answers::{Answer, Refusal};
 use tt_db::{DbError, ReadError};
 use tt_horizon::{Forgotten, forgotten};
-use tt_requests::{NUMBER_LIMIT, Numbering, ToldTime};
+use tt_requests::{ForgetRequest, NUMBER_LIMIT, Numbering, ToldTime};
 
 /// Why a session doesn't forget what lies before a time, memory aside.
 fn forget_refusal(session: &OpenSession, time: ToldTime) -> Option<Refusal>

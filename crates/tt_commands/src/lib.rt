@@ -19,9 +19,7 @@ mod terms;
 mod told_requests;
 mod writing;
 
-pub use commands::{
-    ForgetRequest, asks_read_only, asks_to_forget, forget_request, outcome_of_request,
-};
+pub use commands::outcome_of_request;
 pub use failure::Failure;
 pub use forgetting::outcome_of_forget;
 pub use open_session::OpenSession;

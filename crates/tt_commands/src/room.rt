@@ -9,8 +9,8 @@ use tt_values::Action;
 
 /// Whether an event would leave no room for the end of a repair. Takes no memory.
 pub(crate) fn leaves_no_room(db: &Db, event: &Event) -> bool
-    ensures { result
-        ≡ has_no_room_to_end db.now.limits (next_state db.now.limits (state_of db.now) event.now) }
+    ensures { result ≡ has_no_room_to_end
+        db.now.limits (next_state db.now.limits (state_of db.now) event.now) }
 {
     // At the end of the repair a step of each slot that is left, and the switch, have to fit in
     // behind the entry of the event.

@@ -1,10 +1,10 @@
 //! What requests ask for, by the numbers that a session tells.
-ghost use Rattle.std.specs.Prelude.{◌≡◌, ◌≢◌, map, option_map, IfOk, IfErr};
+ghost use Rattle.std.specs.Prelude.{◌≡◌, ◌≢◌, option_map, IfErr};
 ghost use Rattle.tt_requests.specs.Numbers.{own_time};
 ghost use Rattle.tt_commands.specs.Answers.{Becomes};
 ghost use Rattle.tt_commands.specs.Session.{with_database};
 ghost use Rattle.tt_commands.specs.Commands.{slots};
-ghost use Rattle.tt_commands.specs.ToldRequests.{no_generation, forgotten_in, asks_for_forgotten, read_at, read_as_told, first_slot, told_slot, is_there, missing_slot, missing_if_idle, own_edit, begin_as_told};
+ghost use Rattle.tt_commands.specs.ToldRequests.{no_generation, forgotten_in, asks_for_forgotten, read_at, read_as_told, first_slot, missing_if_idle, begin_as_told};
 
 use crate::failure::Failure;
 use crate::open_session::OpenSession;
@@ -12,11 +12,10 @@ use crate::reading::{number_of, read};
 use crate::repairing::begin;
 use crate::response::Response;
 use crate::slot_entries::slots_between;
-use std::alloc::{AllocError, Global};
 use tt_answers::Refusal;
 use tt_db::{Edit, ReadError};
-use tt_requests::{Numbering, Page, ToldEdits, ToldGeneration, ToldTime};
-use tt_values::{Items, RowId, Select};
+use tt_requests::{Numbering, Page, ToldEdits, ToldGeneration, ToldTime, missing_slot, own_edits};
+use tt_values::{RowId, Select};
 
 /// A generation can't be read.
 fn no_generation(session: &OpenSession) -> Refusal
@@ -133,35 +132,6 @@ pub(crate) fn slots(
     slots_between(session, first, numbering.own_time(to), worker, row)
 }
 
-/// The slot of an edit, as it is told.
-fn told_slot(edit: &Edit) -> ToldTime
-    ensures { result ≡ told_slot edit.now }
-{
-    ToldTime {
-        number: edit.number(),
-    }
-}
-
-/// Whether a slot as it is told is there: behind the horizon, and no later than now.
-fn is_there(numbering: Numbering, now: u64, slot: ToldTime) -> bool
-    ensures { result ≡ is_there numbering now slot }
-{
-    numbering.is_behind_horizon(slot) && !(numbering.told_time(now).number < slot.number)
-}
-
-/// The slot of the first edit whose slot isn't there.
-fn missing_slot(numbering: Numbering, now: u64, edits: &[Edit]) -> Option<ToldTime>
-    ensures { result ≡ missing_slot numbering now edits.now }
-{
-    for edit in edits {
-        let slot = told_slot(edit);
-        if !is_there(numbering, now, slot) {
-            return Some(slot);
-        }
-    }
-    None
-}
-
 /// The slot that isn't there, if no repair is under way, which is refused before that.
 fn missing_if_idle(session: &OpenSession, edits: &[Edit]) -> Option<ToldTime>
     ensures { result ≡ missing_if_idle session.now edits.now }
@@ -171,34 +141,6 @@ fn missing_if_idle(session: &OpenSession, edits: &[Edit]) -> Option<ToldTime>
         return None;
     }
     missing_slot(session.numbering(), db.now(), edits)
-}
-
-/// An edit of a slot of the database.
-fn own_edit(numbering: Numbering, edit: &Edit) -> Result<Edit, AllocError>
-    ensures { IfOk result (λ own. own ≡ own_edit numbering edit.now) }
-{
-    match edit {
-        Edit::Cancel(number) => {
-            let slot = numbering.own_time(ToldTime { number: *number });
-            Ok(Edit::Cancel(slot))
-        }
-        Edit::Replace(number, action) => {
-            let slot = numbering.own_time(ToldTime { number: *number });
-            let action = action.clone()?;
-            Ok(Edit::Replace(slot, action))
-        }
-    }
-}
-
-/// Edits of slots of the database.
-fn own_edits(alloc: Global, numbering: Numbering, edits: &[Edit]) -> Result<Items<Edit>, AllocError>
-    ensures { IfOk result (λ own. own ≡ map (own_edit numbering) edits.now) }
-{
-    let mut own = Vec::with_capacity(alloc, edits.len())?;
-    for edit in edits {
-        own.push(own_edit(numbering, edit)?)?;
-    }
-    Items::new(alloc, own)
 }
 
 /// A repair begins with edits whose slots are told. Without memory nothing is promised of the

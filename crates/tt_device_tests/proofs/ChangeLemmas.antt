@@ -72,8 +72,8 @@ module _ (in_part whole : List ℕ → List ℕ → Type 0) (events new : List E
   pub shown_changed : (outcomes new).shown ≡ (outcomes events).shown
   shown_changed = ap (λ (o : Outcomes). o.shown) is
 
-  pub renames_changed : (outcomes new).renames ≡ (outcomes events).renames
-  renames_changed = ap (λ (o : Outcomes). o.renames) is
+  pub renames_changed : (outcomes new).rename_count ≡ (outcomes events).rename_count
+  renames_changed = ap (λ (o : Outcomes). o.rename_count) is
 
 pub follows_same : (step : List ℕ → List ℕ → Type 0) (events new : List Event) → new ≡ events → ((c : List ℕ) → may_leave_of events c → step c c) → Follows step (may_leave_of events) (may_leave_of new)
 follows_same step events new is same = subst (λ (es : List Event). Follows step (may_leave_of events) (may_leave_of es)) (sym is) (follows_none step (may_leave_of events) same)

@@ -23,11 +23,11 @@ pub record Outcomes : Type 1 where
   -- what has been handed over
   pub shown : List ℕ
   -- how often a file took the name
-  pub renames : ℕ
+  pub rename_count : ℕ
 
 -- no file yet
 abbrev pub nothing : Outcomes
-nothing = record { named = λ c. ⊥; once_synced = λ c. ⊥; other = λ c. ⊥; shown = []; renames = 0 }
+nothing = record { named = λ c. ⊥; once_synced = λ c. ⊥; other = λ c. ⊥; shown = []; rename_count = 0 }
 
 -- what a crash may leave
 abbrev pub left_by : Outcomes → List ℕ → Type 0
@@ -35,18 +35,18 @@ left_by o c = o.named c ⊎ o.other c
 
 -- a change that may be made in part, until it is synced
 abbrev pub changed : (List ℕ → List ℕ → Type 0) → (List ℕ → List ℕ → Type 0) → Outcomes → Outcomes
-changed in_part whole o = record { named = After in_part o.named; once_synced = After (λ d c. in_part d c × whole d c) o.once_synced; other = o.other; shown = o.shown; renames = o.renames }
+changed in_part whole o = record { named = After in_part o.named; once_synced = After (λ d c. in_part d c × whole d c) o.once_synced; other = o.other; shown = o.shown; rename_count = o.rename_count }
 
 -- one event more
 abbrev pub with_event : Outcomes → Event → Outcomes
-with_event o (Placed is_on_disk bytes) = record { named = left_of is_on_disk bytes; once_synced = left_of is_on_disk bytes; other = left_by o; shown = o.shown; renames = o.renames + 1 }
-with_event o NameSynced = record { named = o.named; once_synced = o.once_synced; other = λ c. ⊥; shown = o.shown; renames = o.renames }
+with_event o (Placed is_on_disk bytes) = record { named = left_of is_on_disk bytes; once_synced = left_of is_on_disk bytes; other = left_by o; shown = o.shown; rename_count = o.rename_count + 1 }
+with_event o NameSynced = record { named = o.named; once_synced = o.once_synced; other = λ c. ⊥; shown = o.shown; rename_count = o.rename_count }
 with_event o (Written at bytes) = changed (MayBeWritten at bytes) (IsWritten at bytes) o
 with_event o (Grown len) = changed (MayBeLonger len) (IsLonger len) o
 with_event o (Cut len) = changed (MayBeCut len) (IsCut len) o
-with_event o Synced = record { named = o.once_synced; once_synced = o.once_synced; other = o.other; shown = o.shown; renames = o.renames }
-with_event o SyncFailed = record { named = o.named; once_synced = o.named; other = o.other; shown = o.shown; renames = o.renames }
-with_event o (Shown bytes) = record { named = o.named; once_synced = o.once_synced; other = o.other; shown = o.shown ++ bytes; renames = o.renames }
+with_event o Synced = record { named = o.once_synced; once_synced = o.once_synced; other = o.other; shown = o.shown; rename_count = o.rename_count }
+with_event o SyncFailed = record { named = o.named; once_synced = o.named; other = o.other; shown = o.shown; rename_count = o.rename_count }
+with_event o (Shown bytes) = record { named = o.named; once_synced = o.once_synced; other = o.other; shown = o.shown ++ bytes; rename_count = o.rename_count }
 
 abbrev pub after : Outcomes → List Event → Outcomes
 after o [] = o

@@ -11,7 +11,7 @@ use crate::memory_device::{MemoryDevice, NewState, record};
 use std::alloc::AllocError;
 use std::mem;
 use std::sync::Wait;
-use tt_log::{Device, DeviceError, RenameError};
+use tt_log::{Device, DeviceError, RenewError};
 
 impl<'a, R: Wait> Device for MemoryDevice<'a, R> {
     ghost tells = { λ d. Unit {0} };
@@ -30,9 +30,9 @@ impl<'a, R: Wait> Device for MemoryDevice<'a, R> {
 
     ghost may_leave_named = { λ d. (outcomes d.events.items).named };
 
-    ghost has_new = { λ d. is_there d.new_state };
+    ghost has_new_file = { λ d. is_there d.new_state };
 
-    ghost renames = { λ d. (outcomes d.events.items).renames };
+    ghost rename_count = { λ d. (outcomes d.events.items).rename_count };
 
     ghost cannot_read = { λ d. ⊥ };
 
@@ -148,10 +148,10 @@ impl<'a, R: Wait> Device for MemoryDevice<'a, R> {
         Ok(())
     }
 
-    fn rename_new(&mut self) -> Result<(), RenameError> {
+    fn rename_new(&mut self) -> Result<(), RenewError> {
         if !is_usable(self.new_state) {
             self.failures.add();
-            return Err(RenameError::Kept);
+            return Err(RenewError::Kept);
         }
         let is_on_disk = is_synced(self.new_state);
         let bytes = self
@@ -164,7 +164,7 @@ impl<'a, R: Wait> Device for MemoryDevice<'a, R> {
         self.new_state = NewState::None;
         match self.failures.call() {
             Ok(()) => Ok(()),
-            Err(_) => Err(RenameError::Unknown),
+            Err(_) => Err(RenewError::Lost),
         }
     }
 

@@ -1,7 +1,7 @@
 -- What a session on a log has done once the log was made anew for a line, or couldn't be.
 use Rattle.std.proofs.Common.{◌≡◌, ℕ, ◌+◌, ◌≤◌, true, List, [], ◌∷◌, ◌++◌, length, take, append-nil, append_assoc, inl, inr, ⊎_elim, Option, refl, sym, ap, ◌∙◌, subst, arith}
 use Rattle.std.proofs.Math.Seq.{take-append-add, take-length}
-use Rattle.tt_log.specs.Device.{Left, LeavesOnly, ShowsFirst, RemovesNew}
+use Rattle.tt_log.specs.Device.{Left, LeavesOnly, ShowsFirst, LeavesNoNewFile}
 use Rattle.tt_log.specs.Lines.{logged}
 use Rattle.tt_log.specs.Log.{Keeps, KeepsEither}
 use Rattle.tt_log.specs.declared.log.Log.{Log}
@@ -126,7 +126,7 @@ module _ {D : Type 0} (of : Telling D) (first : D) (start : Session) (over : Lis
 
     module _ (mid after : Log D) (run : LeavesOnly of.moment of.left_since old mid.device (KeepsEither (logged (of.seen old)) new (of.shown old))) (lines_mid : logged (of.seen mid.device) ≡ new)
         (shown_mid : of.shown mid.device ≡ of.shown old) (failures : of.failures old + unlogged_count (read ∷ []) ≤ of.failures mid.device)
-        (no_new : RemovesNew of.has_new of.failures (unlogged_count (read ∷ [])) old mid.device) where
+        (no_new : LeavesNoNewFile of.has_new_file of.failures (unlogged_count (read ∷ [])) old mid.device) where
       showing : (left : Left) → KeepsShowing (logged (of.seen mid.device)) (of.shown mid.device) text left → KeepsShowing new (of.shown old) text left
       showing left p = record { lines_are = p.lines_are ∙ lines_mid; bytes = p.bytes; shown_is = p.shown_is ∙ ap (λ t. t ++ take p.bytes text) shown_mid }
 
@@ -137,7 +137,7 @@ module _ {D : Type 0} (of : Telling D) (first : D) (start : Session) (over : Lis
           (λ left p. leaves-showing left (showing left p))
 
       -- of the new file up to here
-      all-removed : RemovesNew of.has_new of.failures (unlogged_count (over ++ read ∷ [])) first mid.device
+      all-removed : LeavesNoNewFile of.has_new_file of.failures (unlogged_count (over ++ read ∷ [])) first mid.device
       all-removed =
           no-new-behind of first old mid.device (unlogged_count over) (unlogged_count (read ∷ [])) (unlogged_count (over ++ read ∷ [])) (unlogged-append over (read ∷ [])) h.no_new h.failures no_new failures
 
@@ -172,7 +172,7 @@ module _ {D : Type 0} (of : Telling D) (first : D) (start : Session) (over : Lis
 
     -- the name of the new file couldn't be synced
     pub lost-anew : (before after : Log D) (more : List LineRead) → before.device ≡ old → unlogged_count (read ∷ []) ≡ 0 → LosesLog of before after new
-        → RemovesNew of.has_new of.failures 1 before.device after.device → StoppedInLog of first after.device start ((over ++ read ∷ []) ++ more)
+        → LeavesNoNewFile of.has_new_file of.failures 1 before.device after.device → StoppedInLog of first after.device start ((over ++ read ∷ []) ++ more)
     lost-anew before after more same logs loses no_new = record {
       answered = over;
       pending = read ∷ [];
@@ -185,12 +185,12 @@ module _ {D : Type 0} (of : Telling D) (first : D) (start : Session) (over : Lis
       why = inl (
         omega (arith, h.failures, ap of.failures same, loses.failed, logs, unlogged-append over (read ∷ [])),
         no-new-behind of first old after.device (unlogged_count over) 1 (unlogged_count (over ++ read ∷ []) + 1) (omega (arith, logs, unlogged-append over (read ∷ []))) h.no_new h.failures
-            (subst (λ d. RemovesNew of.has_new of.failures 1 d after.device) same no_new) (omega (arith, ap of.failures same, loses.failed)),
+            (subst (λ d. LeavesNoNewFile of.has_new_file of.failures 1 d after.device) same no_new) (omega (arith, ap of.failures same, loses.failed)),
       );
     }
 
   -- the log goes on as it was
-  pub handed-kept : (old after : Log D) → HandedOnLog of first old.device start over → KeepsLog of old after → RemovesNew of.has_new of.failures 0 old.device after.device
+  pub handed-kept : (old after : Log D) → HandedOnLog of first old.device start over → KeepsLog of old after → LeavesNoNewFile of.has_new_file of.failures 0 old.device after.device
       → HandedOnLog of first after.device start over
   handed-kept old after h keeps no_new = record {
     tells = keeps.tells;

@@ -195,22 +195,22 @@ printed_log_opens tables keep records n sound few_kept few_records is few_slots 
 
 -- ---- slots of the ground
 
-ground-decoded : (tables : Tables) (ws : List Write) (whole : Bool) → AreWritesBack tables ws
+ground-decoded : (tables : Tables) (ws : List Write) (whole : Bool) → whole ≡ false → AreWritesBack tables ws
     → members_of_ground_action tables (action_data tables (record { writes = ws; whole = whole })) ≡ Ok (record { writes = ws; whole = whole })
 unfolding action
-ground-decoded tables ws false back = simp back.decoded
-ground-decoded tables ws true back = simp back.decoded
+ground-decoded tables ws false none back = simp back.decoded
+ground-decoded tables ws true none back = cc
 
-ground-back-action : (tables : Tables) (action : Action) → AreWritesBack tables action.writes
+ground-back-action : (tables : Tables) (action : Action) → action.whole ≡ false → AreWritesBack tables action.writes
     → IsReadBack 5 (action_tree tables action) (ground_line tables action) (action_data tables action) (members_of_ground_action tables) action
-ground-back-action tables action back =
+ground-back-action tables action none back =
     also-back 5 (action_tree tables action) (ground_line tables action) (action_data tables action) (replacement newest_version tables) action (members_of_ground_action tables) action
-    (action-back tables action back) (ground-decoded tables action.writes action.whole back)
+    (action-back tables action back) (ground-decoded tables action.writes action.whole none back)
 
 pub printed_ground_is_read : PrintedGroundIsRead
-printed_ground_is_read tables action catalog sound storable =
+printed_ground_is_read tables action catalog none sound storable =
     let line : List ℕ = ground_line tables action in
-    let back = ground-back-action tables action (writes-back tables action.writes catalog sound storable) in
+    let back = ground-back-action tables action none (writes-back tables action.writes catalog sound storable) in
     let long = length-action tables action catalog sound storable in
     let whole = length-object (action_members tables action) 7000018 long in
     let short = le-ltb max_line_bytes (length line) (omega arith) in

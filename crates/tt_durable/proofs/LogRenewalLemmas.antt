@@ -1,5 +1,5 @@
 -- The lines of a log that is made anew are read back: they make the same database again.
-use Rattle.std.proofs.Common.{◌≡◌, ℕ, ◌+◌, ◌-◌, ◌≤◌, ◌==◌, ◌&&◌, true, false, not, List, [], ◌∷◌, ◌++◌, length, take, drop, append-nil, append_assoc, length-append, Option, None, Some, option_and_then, is_none, Ok, All, refl, sym, ap, ◌∙◌, subst, arith, ne_eqb}
+use Rattle.std.proofs.Common.{◌≡◌, ℕ, ◌+◌, ◌-◌, ◌≤◌, ◌==◌, ◌&&◌, Bool, true, false, not, List, [], ◌∷◌, ◌++◌, length, take, drop, append-nil, append_assoc, length-append, Option, None, Some, option_and_then, is_none, Ok, All, refl, sym, ap, ◌∙◌, subst, arith, ne_eqb}
 use Rattle.std.specs.Option.{option_map}
 use Rattle.std.specs.List.{list_all}
 use Rattle.std.proofs.lemmas.Bool.{and_parts}
@@ -19,9 +19,10 @@ use Rattle.tt_db.specs.State.{State, next_state, first_refusal, IsLegalFrom, IsL
 use Rattle.tt_db.specs.Database.{Database, state_of, now_in, current_of_db, refusal_of, with_entry}
 use Rattle.tt_db.proofs.EntryLemmas.{after-push}
 use Rattle.tt_horizon.specs.Forgetting.{entry_of, ground_worker}
-use Rattle.tt_horizon.specs.GroundEntries.{inserts_alone, is_inserted, is_of_ground, AreGround, HasGround, emptied}
+use Rattle.tt_horizon.specs.GroundEntries.{inserts_alone, is_insert, is_inserted, is_empty, is_of_ground, AreGround, HasGround, emptied}
 use Rattle.tt_horizon.specs.Laying.{with_entries}
 use Rattle.tt_grammar.proofs.EveryLemmas.{Every, every}
+use Rattle.tt_grammar.specs.ReadBack.{IsStorableAction}
 use Rattle.tt_requests.specs.Numbers.{Numbering, IsNumbering}
 use Rattle.tt_requests.specs.LineValue.{value_of_line}
 use Rattle.tt_requests.specs.declared.request.Command.TheVariants as commands
@@ -41,7 +42,7 @@ use Rattle.tt_session.specs.LogLines.{action_in, line_of_entry, lines_of_entries
 use Rattle.tt_commands.specs.Grounds.{opened_on, can_be_laid, with_ground}
 use Rattle.tt_durable.specs.Restoring.{laid_by, laid_by_lines, repeated, repeated_all, AllChange, IsLogOf}
 use Rattle.tt_commands.specs.Sound.{IsSound}
-use Rattle.tt_durable.specs.Renewing.{IsStorableAction, IsPrintable, IsReadable}
+use Rattle.tt_durable.specs.Renewing.{IsPrintable, IsReadable}
 use Rattle.tt_durable.proofs.LogReadLemmas.{printed_log_opens, printed_ground_is_read, printed_slots_are_read}
 use Rattle.tt_session.proofs.TurnLemmas.{turn-request, asked-request}
 use Rattle.tt_durable.proofs.RestoringLemmas.{read-value}
@@ -65,6 +66,10 @@ fault-none (Some fault) slots entries none = cc
 
 no-fault : (db : Database) (action : Action) → refusal_of db (events.Write action) ≡ None → action_fault db.catalog action.writes ≡ None
 no-fault db action none = fault-none (action_fault db.catalog action.writes) _ _ none
+
+not-true : (b : Bool) → not b ≡ true → b ≡ false
+not-true true is = cc
+not-true false is = refl
 
 is-none : {X : Type 0} → (o : Option X) → is_none o ≡ true → o ≡ None
 is-none None is = refl
@@ -94,7 +99,8 @@ lays-one session action catalog idle ground storable =
     let parts = and_parts (inserts_alone action) (is_none (refusal_of db (events.Write action)) && list_all is_inserted (replies_of action (current_of_db db (now_in db)))) ground in
     let rest = and_parts (is_none (refusal_of db (events.Write action))) (list_all is_inserted (replies_of action (current_of_db db (now_in db)))) parts.1 in
     let none = is-none (refusal_of db (events.Write action)) rest.0 in
-    let read = printed_ground_is_read db.catalog action catalog (no-fault db action none) storable in
+    let one = and_parts (not action.whole) (not (is_empty action.writes) && list_all is_insert action.writes) parts.0 in
+    let read = printed_ground_is_read db.catalog action catalog (not-true action.whole one.0) (no-fault db action none) storable in
     let can : can_be_laid db action ≡ true = rw (parts.0, accepted db action idle none, rest.1) refl in
     ap (with_ground session) read.0 ∙ (rw can refl)
 

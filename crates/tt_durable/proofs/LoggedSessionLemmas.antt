@@ -1,12 +1,11 @@
 -- How a session on a log goes on from what was read back.
-use Rattle.std.proofs.Common.{◌≡◌, ◌⊎◌, ⊎_elim, ℕ, ◌+◌, ◌<◌, ◌≤◌, ◌^◌, List, [], ◌++◌, length, append-nil, Option, None, Some, inl, inr, refl, sym, ap, ◌∙◌, subst, arith}
+use Rattle.std.proofs.Common.{◌≡◌, ⊎_elim, ℕ, ◌<◌, ◌≤◌, List, [], ◌++◌, length, append-nil, Option, None, Some, inl, inr, refl, sym, ap, ◌∙◌, subst, arith}
 use Rattle.std.proofs.Math.Seq.{take-length}
 use Rattle.std.specs.Io.KnownBytes.{Keeps}
-use Rattle.tt_log.specs.Device.{Left, Now, Only, LeavesOnly, RemovesNew}
+use Rattle.tt_log.specs.Device.{Left, Only, LeavesOnly}
 use Rattle.tt_log.specs.Lines.{logged, IsJoined}
-use Rattle.tt_log.specs.Log.{Keeps as KeepsLines, KeepsOnceSynced}
+use Rattle.tt_log.specs.Log.{Keeps as KeepsLines}
 use Rattle.tt_log.proofs.MomentLemmas as moments
-use Rattle.tt_log.proofs.SyncLemmas.{earlier}
 use Rattle.tt_log.specs.declared.log.Log.{Log}
 use Rattle.tt_log.specs.declared.log_error.LogError.{LogError}
 use Rattle.tt_log.specs.declared.log_error.LogError.TheVariants as errors
@@ -16,14 +15,12 @@ use Rattle.tt_lines.specs.declared.run.SessionFault.TheVariants as ends
 use Rattle.tt_durable.specs.declared.logged_session.LoggedFault.{LoggedFault}
 use Rattle.tt_durable.specs.declared.logged_session.LoggedFault.TheVariants as faults
 use Rattle.tt_session.specs.Answering.{LineRead, turns_of, unlogged_count}
-use Rattle.tt_durable.specs.Restoring.{NewLogsAreRead, IsNoLine}
+use Rattle.tt_durable.specs.Restoring.{NewLogsAreRead}
 use Rattle.tt_durable.proofs.OnLogLemmas.{leaves-all, no-new-then}
 use Rattle.tt_lines.specs.Ends.{Fails}
 use Rattle.tt_durable.specs.OnLog.{Telling, LeavesAnswered, HandedOnLog, StoppedInLog, StoppedInOutput, StoppedOnLog}
-use Rattle.tt_durable.specs.LoggedFaults.{fault_of, fault_of_restore, fault_at_start}
-use Rattle.tt_durable.specs.declared.restoring.RestoreFault.{RestoreFault}
-use Rattle.tt_durable.specs.declared.restoring.RestoreFault.TheVariants as restores
-use Rattle.tt_durable.specs.LoggedSession.{Begins, GoesOnLog, StaysOnLog, StaysAsItWas, StopsInLog, StopsInOutput, BeginsOnLog, FailsToRead, FailsAtStart, FailsOnLog}
+use Rattle.tt_durable.specs.LoggedFaults.{fault_of}
+use Rattle.tt_durable.specs.LoggedSession.{Begins, GoesOnLog, StopsInLog, StopsInOutput, BeginsOnLog, FailsAtStart, FailsOnLog}
 
 module _ {D : Type 0} (of : Telling D) (device : D) (session : Session) (log : Log D) (begun : BeginsOnLog of device session log) (after : D) (reads : List LineRead) where
   pub goes-on : HandedOnLog of log.device after session reads → GoesOnLog of device after reads
@@ -74,21 +71,6 @@ fails-on-log ends.Write (Some errors.Write) unread left of before after p = inr 
 fails-on-log ends.Write (Some errors.Full) unread left of before after p = inr p
 fails-on-log ends.Write (Some errors.HandOver) unread left of before after p = p
 
--- ---- a file that stays
-
-module _ {D : Type 0} (of : Telling D) (device : D) (only_now : (c : Left) → of.left_since device (of.moment device) c → Now (of.may_leave device) (of.shown device) c) where
-  -- nothing was done
-  pub stays-untouched : StaysAsItWas of device device
-  stays-untouched = record {
-    stays = record {
-      any_moment = moments.started of.moment of.left_since device (KeepsOnceSynced (of.may_leave device) (logged (of.seen device)) (of.shown device))
-          (λ c now. earlier (of.may_leave device) (of.may_leave device) (logged (of.seen device)) (of.shown device) (λ f left. left) c (only_now c now));
-      shown_is = refl;
-    };
-    seen = refl;
-    no_new = λ now. inl now;
-  }
-
 -- ---- the end
 
 -- A log was ended: its file is its lines and nothing else, all of it on the disk. A crash on the way leaves the same lines, and nothing was handed over.
@@ -100,14 +82,14 @@ pub record EndsLog {D : Type 0} (of : Telling D) (before after : D) : Type 0 whe
   pub shown_is : of.shown after ≡ of.shown before
   pub any_moment : LeavesOnly of.moment of.left_since before after (KeepsLines (logged (of.seen before)) (of.shown before))
   pub failures : of.failures before ≤ of.failures after
-  pub no_new : of.has_new after → of.has_new before
+  pub no_new : of.has_new_file after → of.has_new_file before
 
 -- a log couldn't be ended, and a crash leaves the same lines
 pub record FailsToEnd {D : Type 0} (of : Telling D) (before after : D) : Type 0 where
   pub shown_is : of.shown after ≡ of.shown before
   pub any_moment : LeavesOnly of.moment of.left_since before after (KeepsLines (logged (of.seen before)) (of.shown before))
   pub failed : of.failures before < of.failures after
-  pub no_new : of.has_new after → of.has_new before
+  pub no_new : of.has_new_file after → of.has_new_file before
 
 module _ {D : Type 0} (of : Telling D) (begun mid after : D) (start : Session) (reads : List LineRead) (handed : HandedOnLog of begun mid start reads) where
   leaves : (left : Left) → KeepsLines (logged (of.seen mid)) (of.shown mid) left → LeavesAnswered start (logged (of.seen begun)) reads (of.shown begun) left
@@ -156,26 +138,3 @@ module _ {D : Type 0} (of : Telling D) (begun mid after : D) (start : Session) (
 
   pub stops-ending : (device : D) → Begins of device begun start → FailsToEnd of mid after → StopsInLog of device after reads
   stops-ending device begins f = record { start = start; begun = begun; begins = begins; stops = stopped-ending f }
-
--- ---- the start
-
-module _ {D : Type 0} (of : Telling D) (before after : D) where
-  -- the log can't be read back
-  pub fails-restoring : (fault : RestoreFault) → StaysAsItWas of before after → (fault ≡ restores.Read → of.cannot_read after ⊎ (2 ^ 60 ≤ length (of.seen before))) → ((n : ℕ) → fault ≡ restores.Line n → IsNoLine (logged (of.seen before)) n)
-      → FailsAtStart (fault_of_restore fault) of before after
-  fails-restoring restores.Read stays why no_line = record { stays = stays; why = why refl }
-  fails-restoring (restores.Line n) stays why no_line = record { stays = stays; is_no_line = no_line n refl }
-  fails-restoring restores.Memory stays why no_line = stays
-
-  -- its lines can't be put on the disk
-  pub fails-settling : (error : LogError) → (error ≡ errors.Read) ⊎ (error ≡ errors.Write) → StaysOnLog of before after
-      → (error ≡ errors.Read → of.seen after ≡ of.seen before) → (error ≡ errors.Read → of.cannot_read after) → (error ≡ errors.Read → RemovesNew of.has_new of.failures 0 before after)
-      → (error ≡ errors.Write → of.failures before < of.failures after) → (error ≡ errors.Write → RemovesNew of.has_new of.failures 1 before after)
-      → FailsAtStart (fault_at_start error) of before after
-  fails-settling errors.Read either stays seen why gone failed left =
-      record { stays = record { stays = stays; seen = seen refl; no_new = gone refl }; why = inl (why refl) }
-  fails-settling errors.Write either stays seen why gone failed left = record { stays = stays; failed = failed refl; no_new = left refl }
-  fails-settling errors.Full (inl is) stays seen why gone failed left = absurd (cc)
-  fails-settling errors.Full (inr is) stays seen why gone failed left = absurd (cc)
-  fails-settling errors.HandOver (inl is) stays seen why gone failed left = absurd (cc)
-  fails-settling errors.HandOver (inr is) stays seen why gone failed left = absurd (cc)

@@ -1,7 +1,7 @@
 -- What a crash leaves of a session whose lines are logged.
-use Rattle.std.proofs.Common.{◌≡◌, ◌⊎◌, ⊎_elim, ℕ, ◌+◌, ◌≤◌, ◌^◌, Bool, true, false, List, [], ◌∷◌, ◌++◌, length, take, append-nil, append_assoc, length-append, inl, inr, Option, Result, Err, refl, sym, ap, ◌∙◌, subst, arith}
+use Rattle.std.proofs.Common.{◌≡◌, ⊎_elim, ℕ, ◌+◌, ◌≤◌, ◌^◌, Bool, true, false, List, [], ◌∷◌, ◌++◌, length, take, append-nil, append_assoc, length-append, inl, inr, Option, Result, Err, refl, sym, ap, ◌∙◌, subst, arith}
 use Rattle.std.proofs.Math.Seq.{take-append-add, take-length}
-use Rattle.tt_log.specs.Device.{Left, Now, Only, ShowsFirst, RemovesNew}
+use Rattle.tt_log.specs.Device.{Left, Now, Only, ShowsFirst, LeavesNoNewFile}
 use Rattle.tt_log.specs.Lines.{logged, joined}
 use Rattle.tt_log.specs.Log.{KeepsFirst, KeepsAnswered}
 use Rattle.tt_log.specs.declared.log_error.LogError.{LogError}
@@ -142,13 +142,13 @@ why-stopped result errors.Full P is write hand_over full read = full is
 why-stopped result errors.Read P is write hand_over full read = absurd (read is)
 
 -- calls that make no new file
-pub no-new-then : {D : Type 0} (of : Telling D) (before mid after : D) (count : ℕ) → RemovesNew of.has_new of.failures count before mid → (of.has_new after → of.has_new mid) → of.failures mid ≤ of.failures after
-    → RemovesNew of.has_new of.failures count before after
+pub no-new-then : {D : Type 0} (of : Telling D) (before mid after : D) (count : ℕ) → LeavesNoNewFile of.has_new_file of.failures count before mid → (of.has_new_file after → of.has_new_file mid) → of.failures mid ≤ of.failures after
+    → LeavesNoNewFile of.has_new_file of.failures count before after
 no-new-then of before mid after count p less later now = ⊎_elim (λ was. inl was) (λ failed. inr (omega (arith, failed, later))) (p (less now))
 
 -- calls behind which a new file is left only where the device has failed so many times more
-pub no-new-behind : {D : Type 0} (of : Telling D) (before mid after : D) (count more all : ℕ) → all ≡ count + more → RemovesNew of.has_new of.failures count before mid → of.failures before + count ≤ of.failures mid
-    → RemovesNew of.has_new of.failures more mid after → of.failures mid + more ≤ of.failures after → RemovesNew of.has_new of.failures all before after
+pub no-new-behind : {D : Type 0} (of : Telling D) (before mid after : D) (count more all : ℕ) → all ≡ count + more → LeavesNoNewFile of.has_new_file of.failures count before mid → of.failures before + count ≤ of.failures mid
+    → LeavesNoNewFile of.has_new_file of.failures more mid after → of.failures mid + more ≤ of.failures after → LeavesNoNewFile of.has_new_file of.failures all before after
 no-new-behind of before mid after count more all is p least q later now =
     ⊎_elim (λ was. ⊎_elim (λ first. inl first) (λ failed. inr (omega (arith, is, failed, later))) (p was)) (λ failed. inr (omega (arith, is, failed, least))) (q now)
 

@@ -17,7 +17,7 @@ use Rattle.tt_durable.specs.OnLog.{Telling}
 use Rattle.tt_session.specs.LogLines.{line_of_entry, lines_of_entries}
 use Rattle.tt_durable.specs.declared.log_renewal.RenewFault.{RenewFault}
 use Rattle.tt_durable.specs.declared.log_renewal.RenewFault.TheVariants as faults
-use Rattle.tt_durable.specs.Renewing.{FailsToRenew, FailsToWrite, failures_by, KeepsLog, TakesLines, LosesLog, IsWriting, KeepsShowing}
+use Rattle.tt_durable.specs.Renewing.{FailsToRenew, FailsToWrite, failures_by, KeepsLog, TakesLines, LosesLog, IsWriting, WritesOn, KeepsShowing}
 
 -- what holds of an error gives what holds of it
 pub fails-then : {A E : Type 0} (F G : E → Type 0) (r : Result A E) → IfErr r F → ((e : E) → F e → G e) → IfErr r G
@@ -152,13 +152,8 @@ module _ {D : Type 0} (of : Telling D) where
     are_lines = p.are_lines;
   }
 
-  -- further lines are written, or are to follow
-  abbrev pub WritesOn : Log D → Log D → List (List ℕ) → List (List ℕ) → List (List ℕ) → Type 0
-  WritesOn old new pending following more =
-      (before : Log D) (all : List (List ℕ)) → IsWriting of before old pending all → IsWriting of before new following (all ++ more)
-
-  pub writes-more : (old mid new : Log D) (pending following last first more both : List (List ℕ)) → both ≡ first ++ more → WritesOn old mid pending following first → WritesOn mid new following last more
-      → WritesOn old new pending last both
+  pub writes-more : (old mid new : Log D) (pending following last first more both : List (List ℕ)) → both ≡ first ++ more → WritesOn of old mid pending following first
+      → WritesOn of mid new following last more → WritesOn of old new pending last both
   writes-more old mid new pending following last first more both is p q before all w =
       subst (λ ls. IsWriting of before new last ls) (append_assoc all first more ∙ ap (λ ls. all ++ ls) (sym is)) (q before (all ++ first) (p before all w))
 

@@ -36,9 +36,9 @@ PrintedLogOpens = (tables : Tables) (keep records : ℕ) (numbering : Numbering)
     → numbering.ground_slots ≤ max_ground_slots
     → OpensLog (log_opening_line tables keep records numbering) (record { opening = record { catalog = tables; keep = keep; records = records }; numbering = numbering })
 
--- an action of the ground that can be carried out is read as the same
+-- an action of the ground, which isn't whole, is read as the same where it can be carried out
 abbrev pub PrintedGroundIsRead : Type 0
-PrintedGroundIsRead = (tables : Tables) (action : Action) → IsCatalog tables → action_fault tables action.writes ≡ None → All (λ w. All IsStorable (values_of_write w)) action.writes →
+PrintedGroundIsRead = (tables : Tables) (action : Action) → IsCatalog tables → action.whole ≡ false → action_fault tables action.writes ≡ None → All (λ w. All IsStorable (values_of_write w)) action.writes →
     (ground_action_of tables (value_of_line (ground_line tables action)) ≡ Ok action) × IsTakenUp (ground_line tables action)
 
 -- an action of a further slot that can be carried out is read, as of the newest version, as a request of the same worker

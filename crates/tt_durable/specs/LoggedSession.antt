@@ -1,7 +1,7 @@
 -- What a session has done whose lines are logged, from a file as its last user or a crash has left it.
 use Rattle.std.specs.Prelude.{◌≡◌, ◌⊎◌, ℕ, ◌<◌, ◌≤◌, ◌^◌, List, length, Option}
 use Rattle.std.specs.Io.KnownBytes.{Keeps}
-use Rattle.tt_log.specs.Device.{LeavesOnly, Only, RemovesNew}
+use Rattle.tt_log.specs.Device.{LeavesOnly, Only, LeavesNoNewFile}
 use Rattle.tt_log.specs.Lines.{logged, IsJoined}
 use Rattle.tt_log.specs.Log.{IsSettled, KeepsOnceSynced}
 use Rattle.tt_log.specs.declared.log.Log.{Log}
@@ -21,7 +21,7 @@ pub record Begins {D : Type 0} (of : Telling D) (before begun : D) (start : Sess
   pub lines_are : logged (of.seen begun) ≡ logged (of.seen before)
   pub shown_is : of.shown begun ≡ of.shown before
   pub failures : of.failures before ≤ of.failures begun
-  pub no_new : of.has_new begun → of.has_new before
+  pub no_new : of.has_new_file begun → of.has_new_file before
 
 -- a file is lines and nothing else, all of it on the disk: so the next session goes on with it
 pub record IsEnded {D : Type 0} (seen : D → List ℕ) (may_leave : D → List ℕ → Type 0) (device : D) : Type 0 where
@@ -58,7 +58,7 @@ pub record StaysOnLog {D : Type 0} (of : Telling D) (before after : D) : Type 0 
 pub record StaysAsItWas {D : Type 0} (of : Telling D) (before after : D) : Type 0 where
   pub stays : StaysOnLog of before after
   pub seen : of.seen after ≡ of.seen before
-  pub no_new : RemovesNew of.has_new of.failures 0 before after
+  pub no_new : LeavesNoNewFile of.has_new_file of.failures 0 before after
 
 -- the same, since the file can't be read, or has 2^60 bytes or more
 pub record FailsToRead {D : Type 0} (of : Telling D) (before after : D) : Type 0 where
@@ -74,7 +74,7 @@ pub record RefusesLog {D : Type 0} (of : Telling D) (before after : D) (number :
 pub record FailsToBegin {D : Type 0} (of : Telling D) (before after : D) : Type 0 where
   pub stays : StaysOnLog of before after
   pub failed : of.failures before < of.failures after
-  pub no_new : RemovesNew of.has_new of.failures 1 before after
+  pub no_new : LeavesNoNewFile of.has_new_file of.failures 1 before after
 
 -- a session is read back from a file, and may go on
 pub record BeginsOnLog {D : Type 0} (of : Telling D) (before : D) (session : Session) (log : Log D) : Type 0 where

@@ -1,6 +1,6 @@
 -- How a session goes on whose lines are logged, and what a crash leaves of it.
 use Rattle.std.specs.Prelude.{◌≡◌, ◌⊎◌, ℕ, ◌+◌, ◌<◌, ◌≤◌, ◌^◌, List, ◌++◌, length, take, Option, Some}
-use Rattle.tt_log.specs.Device.{Left, LeavesOnly, ShowsFirst, RemovesNew}
+use Rattle.tt_log.specs.Device.{Left, LeavesOnly, ShowsFirst, LeavesNoNewFile}
 use Rattle.tt_log.specs.declared.device.Device.{Ghosts}
 use Rattle.tt_log.specs.declared.log_error.LogError.{LogError}
 use Rattle.tt_log.specs.declared.log_error.LogError.TheVariants as errors
@@ -32,7 +32,7 @@ pub record HandedOnLog {D : Type 0} (of : Telling D) (before after : D) (start :
   pub any_moment : LeavesOnly of.moment of.left_since before after (LeavesAnswered start (logged (of.seen before)) reads (of.shown before))
   pub new_logs : NewLogsAreRead start reads
   pub failures : of.failures before + unlogged_count reads ≤ of.failures after
-  pub no_new : RemovesNew of.has_new of.failures (unlogged_count reads) before after
+  pub no_new : LeavesNoNewFile of.has_new_file of.failures (unlogged_count reads) before after
 
 -- these lines don't fit into a log
 abbrev pub IsFull : List (List ℕ) → Type 0
@@ -41,8 +41,8 @@ IsFull lines = 2 ^ 60 ≤ length (joined lines)
 -- A log with these lines couldn't be written, since the device has failed more often than so many times, or is full. A new file that is left is one more failure.
 abbrev pub CannotWrite : {D : Type 0} → Telling D → D → D → ℕ → List (List ℕ) → Type 0
 CannotWrite of before after count lines =
-    ((of.failures before + count < of.failures after) × RemovesNew of.has_new of.failures (count + 1) before after)
-    ⊎ (IsFull lines × RemovesNew of.has_new of.failures count before after)
+    ((of.failures before + count < of.failures after) × LeavesNoNewFile of.has_new_file of.failures (count + 1) before after)
+    ⊎ (IsFull lines × LeavesNoNewFile of.has_new_file of.failures count before after)
 
 -- The log couldn't be written, since the device has failed, or is full: the answers to the first lines read were handed over, and nothing of those to the lines that were to be logged then.
 pub record StoppedInLog {D : Type 0} (of : Telling D) (before after : D) (start : Session) (reads : List LineRead) : Type 0 where
@@ -66,7 +66,7 @@ pub record StoppedInOutput {D : Type 0} (of : Telling D) (before after : D) (sta
   pub new_logs : NewLogsAreRead start answered
   pub lines_are : logged (of.seen after) ≡ log_after (logged (of.seen before)) start answered
   pub failed : of.failures before + unlogged_count answered < of.failures after
-  pub no_new : RemovesNew of.has_new of.failures (unlogged_count answered + 1) before after
+  pub no_new : LeavesNoNewFile of.has_new_file of.failures (unlogged_count answered + 1) before after
 
 -- answers couldn't be handed over, and this is why
 abbrev pub StoppedOnLog : {D : Type 0} → Option LogError → Telling D → D → D → Session → List LineRead → Type 0

@@ -1,14 +1,13 @@
 -- What has become of a log that is made anew.
-use Rattle.std.specs.Prelude.{◌≡◌, ℕ, ◌<◌, ◌≤◌, ◌^◌, Bool, false, List, ◌++◌, All, take, Option, Some}
+use Rattle.std.specs.Prelude.{◌≡◌, ℕ, ◌<◌, ◌≤◌, ◌^◌, Bool, false, List, [], ◌++◌, take, Option, Some}
 use Rattle.tt_log.specs.declared.log_error.LogError.{LogError}
 use Rattle.tt_log.specs.declared.log_error.LogError.TheVariants as errors
 use Rattle.tt_log.specs.Device.{Left, LeavesOnly, ShowsFirst}
 use Rattle.tt_log.specs.Lines.{logged, joined, AreLines}
 use Rattle.tt_log.specs.Log.{IsSettled, IsMaking, Keeps, KeepsEither}
 use Rattle.tt_log.specs.declared.log.Log.{Log}
-use Rattle.tt_values.specs.declared.action.Action.{Action}
 use Rattle.tt_db.specs.declared.event.Entry.{Entry}
-use Rattle.tt_grammar.specs.ReadBack.{IsStorable, values_of_write}
+use Rattle.tt_grammar.specs.ReadBack.{IsStorableAction}
 use Rattle.tt_horizon.specs.Forgetting.{entry_of}
 use Rattle.tt_requests.specs.Opening.{max_records}
 use Rattle.tt_session.specs.declared.session.Session.TheVariants as sessions
@@ -19,10 +18,6 @@ use Rattle.tt_commands.specs.Session.{OpenSession, Forgetting, terms_of}
 use Rattle.tt_session.specs.LogLines.{action_in, lines_of_log}
 use Rattle.tt_durable.specs.OnLog.{Telling}
 use Rattle.tt_durable.specs.Restoring.{IsLogOf}
-
--- each value of an action is one that is printed and read back
-abbrev pub IsStorableAction : Action → Type 0
-IsStorableAction action = All (λ w. All IsStorable (values_of_write w)) action.writes
 
 -- an entry is an action that is printed and read back, of a worker that may ask for one unless it is the ground's
 pub record IsPrintable (is_ground : Bool) (e : Entry) : Type 0 where
@@ -66,7 +61,7 @@ FailsToRenew faults.Memory of before after lines = KeepsLog of before after
 FailsToRenew faults.Kept of before after lines = KeepsLog of before after × (of.failures before.device < of.failures after.device)
 FailsToRenew faults.Lost of before after lines = LosesLog of before after lines
 
--- how often the device has failed at least where a log isn't made anew, for this fault
+-- where a log isn't made anew for this fault, the device has failed at least so often
 abbrev pub failures_by : RenewFault → ℕ
 failures_by faults.Memory = 0
 failures_by fault = 1
@@ -84,6 +79,18 @@ pub record IsWriting {D : Type 0} (of : Telling D) (before log : Log D) (pending
   pub written : of.new_file log.device ++ joined pending ≡ joined all
   pub are_lines : AreLines all
 
+-- further lines of the new file are written, or are to follow
+abbrev pub WritesOn : {D : Type 0} → Telling D → Log D → Log D → List (List ℕ) → List (List ℕ) → List (List ℕ) → Type 0
+WritesOn {D} of old new pending following more = (before : Log D) (all : List (List ℕ)) → IsWriting of before old pending all → IsWriting of before new following (all ++ more)
+
+-- the lines that were to follow are written
+abbrev pub WritesPending : {D : Type 0} → Telling D → Log D → Log D → List (List ℕ) → Type 0
+WritesPending {D} of old new pending = (before : Log D) (all : List (List ℕ)) → IsWriting of before old pending all → IsWriting of before new [] all
+
+-- further lines of the new file aren't written, for this fault
+abbrev pub FailsWriting : {D : Type 0} → RenewFault → Telling D → Log D → Log D → List (List ℕ) → Type 0
+FailsWriting {D} fault of old new pending = (before : Log D) (all : List (List ℕ)) → IsWriting of before old pending all → FailsToWrite fault of before new
+
 -- a crash left these lines, when the first bytes of a text had been handed over behind what had been before
 pub record KeepsShowing (lines : List (List ℕ)) (shown text : List ℕ) (left : Left) : Type 0 where
   pub lines_are : logged left.file ≡ lines
@@ -98,7 +105,7 @@ pub record HandsOverAlone {D : Type 0} (of : Telling D) (before after : Log D) (
   pub shown : of.shown after.device ≡ of.shown before.device ++ text
   pub any_moment : LeavesOnly of.moment of.left_since before.device after.device (KeepsShowing (logged (of.seen before.device)) (of.shown before.device) text)
   pub failures : of.failures before.device ≤ of.failures after.device
-  pub no_new : of.has_new after.device → of.has_new before.device
+  pub no_new : of.has_new_file after.device → of.has_new_file before.device
 
 -- the output has failed before it had all of a text
 pub record FailsAlone {D : Type 0} (error : Option LogError) (of : Telling D) (before after : Log D) (text : List ℕ) : Type 0 where
@@ -107,4 +114,4 @@ pub record FailsAlone {D : Type 0} (error : Option LogError) (of : Telling D) (b
   pub first : ShowsFirst (of.shown before.device) (of.shown after.device) text
   pub any_moment : LeavesOnly of.moment of.left_since before.device after.device (KeepsShowing (logged (of.seen before.device)) (of.shown before.device) text)
   pub failed : of.failures before.device < of.failures after.device
-  pub no_new : of.has_new after.device → of.has_new before.device
+  pub no_new : of.has_new_file after.device → of.has_new_file before.device

@@ -24,7 +24,8 @@ pub fn printed_log_opens()
     ensures { PrintedLogOpens }
 {}
 
-/// The line of a slot of the ground, as it is printed, is read as the same action.
+/// The line of a slot of the ground, whose action isn't whole, is read, as it is printed, as the
+/// same action.
 pub fn printed_ground_is_read()
     ensures { PrintedGroundIsRead }
 {}

@@ -6,6 +6,5 @@ mod log_outlet;
 mod log_renewal;
 mod logged_session;
 mod restoring;
-mod storable;
 
 pub use logged_session::{LoggedFault, run_logged_session};

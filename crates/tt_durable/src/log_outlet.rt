@@ -31,10 +31,10 @@ impl<D: Device> LogOutlet<D> {
     /// Hands over a text for which nothing is logged.
     fn hand_over_alone(&mut self, alloc: Global, text: &[u8]) -> Result<(), OutletError>
         requires { D.tells self.old.log.device → IsSettled D.seen D.may_leave self.old.log }
-        ensures ok { OnOk result (D.tells self.old.log.device → HandsOverAlone D.Device self.old.log
-            self.new.log text.now) }
-        ensures err { OnErr result (D.tells self.old.log.device → FailsAlone self.new.error D.Device
-            self.old.log self.new.log text.now) }
+        ensures ok { OnOk result (D.tells self.old.log.device
+            → HandsOverAlone D.Device self.old.log self.new.log text.now) }
+        ensures err { OnErr result (D.tells self.old.log.device
+            → FailsAlone self.new.error D.Device self.old.log self.new.log text.now) }
         ensures tells { D.tells self.old.log.device ↔ D.tells self.new.log.device }
     {
         match self.log.hand_over(&Lines::new(alloc), text) {

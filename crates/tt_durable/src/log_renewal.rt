@@ -1,13 +1,12 @@
 //! How a log is made anew, with the lines of a session that has forgotten what lies before a time.
-ghost use Rattle.std.specs.Prelude.{◌≡◌, ◌↔◌, ◌++◌, ◌∷◌, ◌+◌, ◌-◌, ◌<◌, ◌≤◌, [], List, ℕ, All, length, take, drop, IsTrue, IfErr, IsErrOf, OnOk};
+ghost use Rattle.std.specs.Prelude.{◌≡◌, ◌↔◌, ◌∷◌, ◌+◌, ◌-◌, ◌<◌, ◌≤◌, [], All, length, take, drop, IsTrue, IfErr, IsErrOf, OnOk};
 ghost use Rattle.tt_db.specs.Limits.{usual_limits};
 ghost use Rattle.tt_log.specs.Lines.{logged, IsJoined};
-ghost use Rattle.tt_log.specs.Device.{RemovesNew};
+ghost use Rattle.tt_log.specs.Device.{LeavesNoNewFile};
 ghost use Rattle.tt_log.specs.Log.{IsSettled, IsMaking};
 ghost use Rattle.tt_session.specs.LogLines.{line_of_entry, lines_of_entries, lines_of_database};
-ghost use Rattle.tt_durable.specs.Renewing.{IsPrintable, IsReadable, IsWriting, TakesLines, FailsToRenew, FailsToWrite, failures_by};
+ghost use Rattle.tt_durable.specs.Renewing.{IsPrintable, IsReadable, IsWriting, WritesOn, WritesPending, TakesLines, FailsToRenew, FailsToWrite, FailsWriting, failures_by};
 
-use crate::storable::read_action;
 use std::alloc::{AllocError, Global};
 use tt_answers::{push_ground_line, push_log_opening, push_slot_line};
 use tt_commands::{Forgetting, Terms};
@@ -47,15 +46,20 @@ pub(crate) fn make_anew<D: Device>(
     terms: Terms,
 ) -> Result<(), RenewFault>
     requires { D.tells log.old.device → IsSettled D.seen D.may_leave log.old }
-    ensures ok { OnOk result (D.tells log.old.device → TakesLines D.Device log.old log.new
+    ensures ok { OnOk result (D.tells log.old.device
+        → TakesLines D.Device log.old log.new
         (lines_of_database forgetting.now.db forgetting.now.numbering terms)) }
-    ensures err { IfErr result (λ fault. D.tells log.old.device → FailsToRenew fault D.Device
-        log.old log.new (lines_of_database forgetting.now.db forgetting.now.numbering terms)) }
+    ensures err { IfErr result (λ fault. D.tells log.old.device
+        → FailsToRenew fault D.Device log.old log.new
+        (lines_of_database forgetting.now.db forgetting.now.numbering terms)) }
 
-    // Where it isn't made anew, the new file is removed, unless the device has failed once more.
-    ensures no_new { OnOk result (D.tells log.old.device → D.has_new log.new.device → ⊥) }
+    // Where an error leaves a new file that wasn't there, the device has failed at least once more
+    // than the error tells.
+    ensures no_new { OnOk result (D.tells log.old.device
+        → D.has_new_file log.new.device → ⊥) }
     ensures no_new_err { IfErr result (λ fault. D.tells log.old.device
-        → RemovesNew D.has_new D.failures (failures_by fault) log.old.device log.new.device) }
+        → LeavesNoNewFile D.has_new_file D.failures (failures_by fault)
+        log.old.device log.new.device) }
 
     ensures readable { OnOk result (IsReadable forgetting.now terms) }
     ensures readable_lost { IsErrOf result RenewFault.Lost
@@ -84,13 +88,14 @@ fn take_new<D: Device>(log: &mut Log<D>) -> Result<(), RenewFault>
     requires settled { D.tells log.old.device → IsSettled D.seen D.may_leave log.old }
     requires making { D.tells log.old.device → IsMaking D.new_file log.old }
     requires lines { D.tells log.old.device → IsJoined (D.new_file log.old.device) }
-    ensures ok { OnOk result (D.tells log.old.device → TakesLines D.Device log.old log.new (logged
-        (D.new_file log.old.device))) }
-    ensures err { IfErr result (λ fault. D.tells log.old.device → FailsToRenew fault D.Device
-        log.old log.new (logged (D.new_file log.old.device))) }
-    ensures no_new { OnOk result (D.tells log.old.device → D.has_new log.new.device → ⊥) }
+    ensures ok { OnOk result (D.tells log.old.device
+        → TakesLines D.Device log.old log.new (logged (D.new_file log.old.device))) }
+    ensures err { IfErr result (λ fault. D.tells log.old.device
+        → FailsToRenew fault D.Device log.old log.new (logged (D.new_file log.old.device))) }
+    ensures no_new { OnOk result (D.tells log.old.device
+        → D.has_new_file log.new.device → ⊥) }
     ensures no_new_err { IfErr result (λ fault. D.tells log.old.device
-        → D.has_new log.new.device
+        → D.has_new_file log.new.device
         → D.failures log.old.device + failures_by fault < D.failures log.new.device) }
     ensures tells { D.tells log.old.device ↔ D.tells log.new.device }
 {
@@ -115,10 +120,11 @@ fn write_new<D: Device>(
     requires settled { D.tells log.old.device → IsSettled D.seen D.may_leave log.old }
     requires making { D.tells log.old.device → IsMaking D.new_file log.old }
     requires empty { D.tells log.old.device → D.new_file log.old.device ≡ [] }
-    ensures ok { OnOk result (D.tells log.old.device → IsWriting D.Device log.old log.new []
+    ensures ok { OnOk result (D.tells log.old.device
+        → IsWriting D.Device log.old log.new []
         (lines_of_database forgetting.now.db forgetting.now.numbering terms)) }
-    ensures err { IfErr result (λ fault. D.tells log.old.device → FailsToWrite fault D.Device
-        log.old log.new) }
+    ensures err { IfErr result (λ fault. D.tells log.old.device
+        → FailsToWrite fault D.Device log.old log.new) }
     ensures readable { OnOk result (IsReadable forgetting.now terms) }
     ensures tells { D.tells log.old.device ↔ D.tells log.new.device }
 {
@@ -168,13 +174,11 @@ fn push_slots<D: Device>(
     requires end { to ≤ length db.now.history }
     requires settled { D.tells log.old.device → IsSettled D.seen D.may_leave log.old }
     requires making { D.tells log.old.device → IsMaking D.new_file log.old }
-    ensures ok { OnOk result (D.tells log.old.device → (before : Log D) (all : List (List ℕ)) →
-        IsWriting D.Device before log.old lines.old all → IsWriting D.Device before log.new
-        lines.new (all ++ lines_of_entries is_ground db.now.catalog (take (to - from) (drop from
-        db.now.history)))) }
-    ensures err { IfErr result (λ fault. D.tells log.old.device → (before : Log D) (all : List (List
-        ℕ)) → IsWriting D.Device before log.old lines.old all → FailsToWrite fault D.Device before
-        log.new) }
+    ensures ok { OnOk result (D.tells log.old.device
+        → WritesOn D.Device log.old log.new lines.old lines.new (lines_of_entries is_ground
+        db.now.catalog (take (to - from) (drop from db.now.history)))) }
+    ensures err { IfErr result (λ fault. D.tells log.old.device
+        → FailsWriting fault D.Device log.old log.new lines.old) }
     ensures printable { OnOk result (All (IsPrintable is_ground)
         (take (to - from) (drop from db.now.history))) }
     ensures settled { OnOk result
@@ -209,7 +213,6 @@ fn print_slot(
         // A database that has just forgotten has actions alone.
         return Err(AllocError);
     };
-    read_action(action);
     if is_ground {
         return push_ground_line(text, catalog, action);
     }
@@ -224,12 +227,10 @@ fn print_slot(
 fn push_line<D: Device>(log: &mut Log<D>, lines: &mut Lines, line: &[u8]) -> Result<(), RenewFault>
     requires settled { D.tells log.old.device → IsSettled D.seen D.may_leave log.old }
     requires making { D.tells log.old.device → IsMaking D.new_file log.old }
-    ensures ok { OnOk result (D.tells log.old.device → (before : Log D) (all : List (List ℕ)) →
-        IsWriting D.Device before log.old lines.old all → IsWriting D.Device before log.new
-        lines.new (all ++ line.now ∷ [])) }
-    ensures err { IfErr result (λ fault. D.tells log.old.device → (before : Log D) (all : List (List
-        ℕ)) → IsWriting D.Device before log.old lines.old all → FailsToWrite fault D.Device before
-        log.new) }
+    ensures ok { OnOk result (D.tells log.old.device
+        → WritesOn D.Device log.old log.new lines.old lines.new (line.now ∷ [])) }
+    ensures err { IfErr result (λ fault. D.tells log.old.device
+        → FailsWriting fault D.Device log.old log.new lines.old) }
     ensures settled { OnOk result
         (D.tells log.new.device → IsSettled D.seen D.may_leave log.new) }
     ensures making { OnOk result (D.tells log.new.device → IsMaking D.new_file log.new) }
@@ -249,12 +250,11 @@ fn push_line<D: Device>(log: &mut Log<D>, lines: &mut Lines, line: &[u8]) -> Res
 fn write_pending<D: Device>(log: &mut Log<D>, lines: &mut Lines) -> Result<(), RenewFault>
     requires settled { D.tells log.old.device → IsSettled D.seen D.may_leave log.old }
     requires making { D.tells log.old.device → IsMaking D.new_file log.old }
-    ensures ok { OnOk result (D.tells log.old.device → (before : Log D) (all : List (List ℕ)) →
-        IsWriting D.Device before log.old lines.old all → IsWriting D.Device before log.new [] all) }
+    ensures ok { OnOk result (D.tells log.old.device
+        → WritesPending D.Device log.old log.new lines.old) }
     ensures lines { OnOk result (lines.new ≡ []) }
-    ensures err { IfErr result (λ fault. D.tells log.old.device → (before : Log D) (all : List (List
-        ℕ)) → IsWriting D.Device before log.old lines.old all → FailsToWrite fault D.Device before
-        log.new) }
+    ensures err { IfErr result (λ fault. D.tells log.old.device
+        → FailsWriting fault D.Device log.old log.new lines.old) }
     ensures settled { OnOk result
         (D.tells log.new.device → IsSettled D.seen D.may_leave log.new) }
     ensures making { OnOk result (D.tells log.new.device → IsMaking D.new_file log.new) }

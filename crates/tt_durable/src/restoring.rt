@@ -269,8 +269,8 @@ fn lay_line(
     }
 }
 
-/// Answers a line, which isn't passed over, in place, if it is a request. Returns whether it changes
-/// the database. Where it doesn't, or memory runs out, nothing is promised of the session.
+/// Answers a line, which isn't passed over, in place, if it is a request. Returns whether it
+/// changes the database. Where it doesn't, or memory runs out, nothing is promised of the session.
 fn repeat(
     session: &mut OpenSession,
     line: &[u8],

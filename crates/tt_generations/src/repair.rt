@@ -9,7 +9,7 @@ ghost use Rattle.tt_generations.specs.Limits.{max_slots};
 ghost use Rattle.tt_generations.specs.KeptSlots.{IsAccepted};
 ghost use Rattle.tt_generations.specs.EditsByNumber.{HasEdits};
 ghost use Rattle.tt_generations.specs.Reexecution.{ShowsFewBefore};
-ghost use Rattle.tt_generations.specs.Repair.{HasKeysIfAny, is_kept_affected, is_kept_due, undue_front, next_replacement, next_action, as_action, MayRepeat, with_rows_shown, HasDoneDueSlot, ReexecutesSlot, DoesSlot};
+ghost use Rattle.tt_generations.specs.Repair.{HasKeysIfAny, is_kept_affected, is_kept_due, undue_front, next_replacement, replaced_by, next_action, as_action, MayRepeat, with_rows_shown, HasDoneDueSlot, ReexecutesSlot, DoesSlot};
 
 use crate::affected::is_affected;
 use crate::edits::{Replacement, replacements_of};
@@ -162,10 +162,7 @@ impl Repair {
         requires { self.now.done < max_slots }
         ensures { IfOk result (λ action. action ≡ next_action self.now kept.now) }
     {
-        match self.next_replacement() {
-            Some(replacement) => copy_of(&replacement.action),
-            None => copy_of(&kept.slot.action),
-        }
+        replaced_action(self.next_replacement(), kept)
     }
 
     /// Does the next slot, which is this one in the current generation, if it isn't due. Returns
@@ -225,10 +222,14 @@ impl Repair {
         ensures step { IfOk result (λ due.
             DoesSlot self.old kept.now rows.old due self.new rows.new) }
     {
-        if self.pass(kept) {
+        let replacement = self.next_replacement();
+        let is_due = replacement.is_some() || self.is_affected(kept);
+        if !is_due {
+            self.done += 1;
             return Ok(false);
         }
-        self.reexecute(alloc, catalog, rows, kept)?;
+        let action = replaced_action(replacement, kept)?;
+        self.reexecute_as(action, alloc, catalog, rows, kept)?;
         Ok(true)
     }
 
@@ -252,10 +253,34 @@ impl Repair {
         ensures rows { OnOk result
             (ReexecutesSlot self.old kept.now rows.old self.new rows.new) }
     {
+        let action = self.next_action(kept)?;
+        self.reexecute_as(action, alloc, catalog, rows, kept)
+    }
+
+    /// As [`Repair::reexecute`], with the action that the repair gives the slot.
+    fn reexecute_as(
+        &mut self,
+        action: Option<Action>,
+        alloc: Global,
+        catalog: &Catalog,
+        rows: &mut Rows,
+        kept: &KeptSlot,
+    ) -> Result<(), AllocError>
+        requires room { self.old.done < max_slots }
+        requires few_reexecuted { self.old.reexecuted ≤ self.old.done }
+        requires there { self.old.done < length self.old.slots }
+        requires catalog { self.old.dirty.catalog ≡ catalog.now }
+        requires action { action ≡ next_action self.old kept.now }
+        requires touched { All (λ r. r.table < length catalog.now) kept.now.rows }
+        requires accepted { IsAccepted catalog.now (next_action self.old kept.now) }
+        requires few { ShowsFewBefore rows.old (self.old.done + 1) kept.now.rows }
+        ensures done { OnOk result (HasDoneDueSlot self.old self.new) }
+        ensures rows { OnOk result
+            (ReexecutesSlot self.old kept.now rows.old self.new rows.new) }
+    {
         // For the proof: each catalog is sound.
         let _ = catalog.len();
         let time = self.done + 1;
-        let action = self.next_action(kept)?;
         let (writes, whole) = (writes_of(&action), is_whole(&action));
         let touched = kept.rows.as_slice();
         let run = Reexecution::of_slot(alloc, catalog, rows, touched, writes, whole, time)?;
@@ -280,6 +305,20 @@ impl Repair {
         self.done += 1;
         self.reexecuted += 1;
         Ok(())
+    }
+}
+
+/// A copy of the action of a slot, unless it is replaced.
+fn replaced_action(
+    replacement: Option<&Replacement>,
+    kept: &KeptSlot,
+) -> Result<Option<Action>, AllocError>
+    ensures { IfOk result
+        (λ a. a ≡ replaced_by (option_copied replacement.entry) kept.now.slot.action) }
+{
+    match replacement {
+        Some(replacement) => copy_of(&replacement.action),
+        None => copy_of(&kept.slot.action),
     }
 }
 

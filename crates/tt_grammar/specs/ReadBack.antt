@@ -42,6 +42,19 @@ values_of_write (Insert table row) = row.values
 values_of_write (Update table changes equals) = map value_of_change changes ++ values_of_equals equals
 values_of_write (Delete table equals) = values_of_equals equals
 
+-- a change, a condition, a write and an action of which each value is storable
+abbrev pub IsStorableChange : Change → Type 0
+IsStorableChange change = IsStorable (value_of_change change)
+
+abbrev pub IsStorableEqual : Equal → Type 0
+IsStorableEqual equal = IsStorable equal.value
+
+abbrev pub IsStorableWrite : Write → Type 0
+IsStorableWrite w = All IsStorable (values_of_write w)
+
+abbrev pub IsStorableAction : Action → Type 0
+IsStorableAction action = All IsStorableWrite action.writes
+
 -- what a decoder reads from some bytes, as from a document or a line: a fault where they aren't JSON or name a member twice
 abbrev pub read_with : {T : Type 0} → (Data → Result T DocFault) → List ℕ → Result T DocFault
 read_with decode bytes = value_of_found (json_of_bytes bytes) >>= decode
@@ -49,15 +62,14 @@ read_with decode bytes = value_of_found (json_of_bytes bytes) >>= decode
 -- a write that can be carried out is printed as JSON that the newest version reads as the same write in an action, and as the action
 -- of this write where another action is to be replaced
 abbrev pub WritesAreReadBack : Type 0
-WritesAreReadBack = (tables : Tables) (w : Write) → IsCatalog tables → write_fault tables w ≡ None → All IsStorable (values_of_write w) →
+WritesAreReadBack = (tables : Tables) (w : Write) → IsCatalog tables → write_fault tables w ≡ None → IsStorableWrite w →
     (read_with (item_of_action newest_version tables) (write_text tables w) ≡ Ok w)
     × (read_with (replacement newest_version tables) (write_text tables w) ≡ Ok (action_of_one w))
 
 -- an action that can be carried out is printed as JSON that the newest version reads as the same: its writes as the same writes, and
 -- the object of its members as the same action, where another action is to be replaced
 abbrev pub ActionsAreReadBack : Type 0
-ActionsAreReadBack = (tables : Tables) (action : Action) → IsCatalog tables → action_fault tables action.writes ≡ None →
-    All (λ w. All IsStorable (values_of_write w)) action.writes →
+ActionsAreReadBack = (tables : Tables) (action : Action) → IsCatalog tables → action_fault tables action.writes ≡ None → IsStorableAction action →
     (read_with (writes newest_version tables) (writes_text tables action.writes) ≡ Ok action.writes)
     × (read_with (replacement newest_version tables) (object_text (action_members tables action)) ≡ Ok action)
 

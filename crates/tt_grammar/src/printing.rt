@@ -1,9 +1,10 @@
 //! Numbers, values and rows as they are printed. Where memory runs out, `out` may end with a prefix
 //! of a text.
-ghost use Rattle.std.specs.Prelude.{◌≡◌, ◌++◌, OnOk};
+ghost use Rattle.std.specs.Prelude.{◌≡◌, ◌++◌, All, OnOk};
 ghost use Rattle.std.specs.Fmt.{decimal, signed_decimal};
 ghost use Rattle.std.specs.List.{flat_map};
 ghost use Rattle.tt_grammar.specs.Printing.{value_text, further_value, values_text, row_text};
+ghost use Rattle.tt_grammar.specs.ReadBack.{IsStorable};
 
 use crate::quoting::push_quoted;
 use itoa::Buffer;
@@ -37,7 +38,8 @@ pub fn push_int(out: &mut Vec<u8>, number: i64) -> Result<(), AllocError>
 
 /// Pushes a value: an Int by its digits, a Text in quotes.
 pub fn push_value(out: &mut Vec<u8>, value: &Value) -> Result<(), AllocError>
-    ensures { OnOk result (out.new.items ≡ out.old.items ++ value_text value.now) }
+    ensures text { OnOk result (out.new.items ≡ out.old.items ++ value_text value.now) }
+    ensures storable { OnOk result (IsStorable value.now) }
 {
     match value {
         Value::Int(number) => push_int(out, *number)?,
@@ -47,7 +49,8 @@ pub fn push_value(out: &mut Vec<u8>, value: &Value) -> Result<(), AllocError>
 }
 
 fn push_values(out: &mut Vec<u8>, values: &[Value]) -> Result<(), AllocError>
-    ensures { OnOk result (out.new.items ≡ out.old.items ++ values_text values.now) }
+    ensures text { OnOk result (out.new.items ≡ out.old.items ++ values_text values.now) }
+    ensures storable { OnOk result (All IsStorable values.now) }
 {
     if let [first, further @ ..] = values {
         push_value(out, first)?;
@@ -57,7 +60,9 @@ fn push_values(out: &mut Vec<u8>, values: &[Value]) -> Result<(), AllocError>
 }
 
 fn push_further(out: &mut Vec<u8>, values: &[Value]) -> Result<(), AllocError>
-    ensures { OnOk result (out.new.items ≡ out.old.items ++ flat_map further_value values.now) }
+    ensures text { OnOk result (out.new.items
+        ≡ out.old.items ++ flat_map further_value values.now) }
+    ensures storable { OnOk result (All IsStorable values.now) }
 {
     for value in values {
         out.push(b',')?;
@@ -68,7 +73,8 @@ fn push_further(out: &mut Vec<u8>, values: &[Value]) -> Result<(), AllocError>
 
 /// Pushes a row: its values in brackets.
 pub fn push_row(out: &mut Vec<u8>, row: &Row) -> Result<(), AllocError>
-    ensures { OnOk result (out.new.items ≡ out.old.items ++ row_text row.now) }
+    ensures text { OnOk result (out.new.items ≡ out.old.items ++ row_text row.now) }
+    ensures storable { OnOk result (All IsStorable row.now.values) }
 {
     out.push(b'[')?;
     push_values(out, row.values.as_slice())?;

@@ -1,8 +1,9 @@
 //! Writes and actions as they are printed, as the grammar of documents writes them.
-ghost use Rattle.std.specs.Prelude.{◌≡◌, ◌++◌, map, codes, OnOk};
+ghost use Rattle.std.specs.Prelude.{◌≡◌, ◌++◌, map, codes, All, OnOk};
 ghost use Rattle.std.specs.List.{flat_map};
 ghost use Rattle.tt_grammar.specs.Quoting.{quoted};
 ghost use Rattle.tt_grammar.specs.JsonText.{further_item, array_text, member_text, members_text};
+ghost use Rattle.tt_grammar.specs.ReadBack.{IsStorable, IsStorableChange, IsStorableEqual, IsStorableWrite, IsStorableAction};
 ghost use Rattle.tt_grammar.specs.WriteText.{table_name, column_name, column_change_text, equal_text, write_text, writes_text, whole_members, named_action_members, action_members, action_members_or_null};
 
 use crate::comparisons::before_value;
@@ -65,8 +66,9 @@ fn push_column_name(
 /// Pushes an action as members of an object: its writes by the name `do`, and behind them the
 /// member `whole` where the action is whole.
 pub fn push_action(out: &mut Vec<u8>, catalog: &Catalog, action: &Action) -> Result<(), AllocError>
-    ensures { OnOk result (out.new.items
+    ensures text { OnOk result (out.new.items
         ≡ out.old.items ++ members_text (action_members catalog.now action.now)) }
+    ensures storable { OnOk result (IsStorableAction action.now) }
 {
     push_named_action(out, "do", "whole", catalog, action)
 }
@@ -94,8 +96,9 @@ pub fn push_named_action(
     catalog: &Catalog,
     action: &Action,
 ) -> Result<(), AllocError>
-    ensures { OnOk result (out.new.items ≡ out.old.items
+    ensures text { OnOk result (out.new.items ≡ out.old.items
         ++ members_text (named_action_members name.now whole_name.now catalog.now action.now)) }
+    ensures storable { OnOk result (IsStorableAction action.now) }
 {
     push_name(out, name)?;
     push_writes(out, catalog, action.writes.as_slice())?;
@@ -127,7 +130,9 @@ fn push_name(out: &mut Vec<u8>, name: &str) -> Result<(), AllocError>
 
 /// Pushes writes as an array.
 fn push_writes(out: &mut Vec<u8>, catalog: &Catalog, writes: &[Write]) -> Result<(), AllocError>
-    ensures { OnOk result (out.new.items ≡ out.old.items ++ writes_text catalog.now writes.now) }
+    ensures text { OnOk result (out.new.items
+        ≡ out.old.items ++ writes_text catalog.now writes.now) }
+    ensures storable { OnOk result (All IsStorableWrite writes.now) }
 {
     let [first, further @ ..] = writes else {
         return out.extend_from_slice(b"[]");
@@ -145,8 +150,9 @@ fn push_further_writes(
     catalog: &Catalog,
     writes: &[Write],
 ) -> Result<(), AllocError>
-    ensures { OnOk result (out.new.items
+    ensures text { OnOk result (out.new.items
         ≡ out.old.items ++ flat_map further_item (map (write_text catalog.now) writes.now)) }
+    ensures storable { OnOk result (All IsStorableWrite writes.now) }
 {
     for write in writes {
         out.push(b',')?;
@@ -157,7 +163,9 @@ fn push_further_writes(
 
 /// Pushes a write.
 fn push_write(out: &mut Vec<u8>, catalog: &Catalog, write: &Write) -> Result<(), AllocError>
-    ensures { OnOk result (out.new.items ≡ out.old.items ++ write_text catalog.now write.now) }
+    ensures text { OnOk result (out.new.items
+        ≡ out.old.items ++ write_text catalog.now write.now) }
+    ensures storable { OnOk result (IsStorableWrite write.now) }
 {
     match write {
         Write::Insert { table, row } => push_insert(out, catalog, *table, row),
@@ -177,8 +185,9 @@ fn push_insert(
     table: u16,
     row: &Row,
 ) -> Result<(), AllocError>
-    ensures { OnOk result (out.new.items
+    ensures text { OnOk result (out.new.items
         ≡ out.old.items ++ write_text catalog.now (Write.Insert table row.now)) }
+    ensures storable { OnOk result (All IsStorable row.now.values) }
 {
     push_table_name(out, b"{\"insert\":", catalog, table)?;
     out.extend_from_slice(b",\"row\":")?;
@@ -195,8 +204,9 @@ fn push_update(
     changes: &[Change],
     equals: &[Equal],
 ) -> Result<(), AllocError>
-    ensures { OnOk result (out.new.items ≡ out.old.items
+    ensures text { OnOk result (out.new.items ≡ out.old.items
         ++ write_text catalog.now (Write.Update table changes.now equals.now)) }
+    ensures storable { OnOk result (IsStorableWrite (Write.Update table changes.now equals.now)) }
 {
     push_table_name(out, b"{\"update\":", catalog, table)?;
     out.extend_from_slice(b",\"change\":")?;
@@ -214,8 +224,9 @@ fn push_delete(
     table: u16,
     equals: &[Equal],
 ) -> Result<(), AllocError>
-    ensures { OnOk result (out.new.items
+    ensures text { OnOk result (out.new.items
         ≡ out.old.items ++ write_text catalog.now (Write.Delete table equals.now)) }
+    ensures storable { OnOk result (IsStorableWrite (Write.Delete table equals.now)) }
 {
     push_table_name(out, b"{\"delete\":", catalog, table)?;
     out.extend_from_slice(b",\"where\":")?;
@@ -231,8 +242,9 @@ fn push_changes(
     table: u16,
     changes: &[Change],
 ) -> Result<(), AllocError>
-    ensures { OnOk result (out.new.items
+    ensures text { OnOk result (out.new.items
         ≡ out.old.items ++ array_text (map (column_change_text catalog.now table) changes.now)) }
+    ensures storable { OnOk result (All IsStorableChange changes.now) }
 {
     let [first, further @ ..] = changes else {
         return out.extend_from_slice(b"[]");
@@ -251,8 +263,9 @@ fn push_further_changes(
     table: u16,
     changes: &[Change],
 ) -> Result<(), AllocError>
-    ensures { OnOk result (out.new.items ≡ out.old.items
+    ensures text { OnOk result (out.new.items ≡ out.old.items
         ++ flat_map further_item (map (column_change_text catalog.now table) changes.now)) }
+    ensures storable { OnOk result (All IsStorableChange changes.now) }
 {
     for change in changes {
         out.push(b',')?;
@@ -268,8 +281,9 @@ fn push_change(
     table: u16,
     change: &Change,
 ) -> Result<(), AllocError>
-    ensures { OnOk result (out.new.items
+    ensures text { OnOk result (out.new.items
         ≡ out.old.items ++ column_change_text catalog.now table change.now) }
+    ensures storable { OnOk result (IsStorableChange change.now) }
 {
     match change {
         Change::Set { column, value } => push_set(out, catalog, table, *column, value),
@@ -285,8 +299,9 @@ fn push_set(
     column: u16,
     value: &Value,
 ) -> Result<(), AllocError>
-    ensures { OnOk result (out.new.items
+    ensures text { OnOk result (out.new.items
         ≡ out.old.items ++ column_change_text catalog.now table (Change.Set column value.now)) }
+    ensures storable { OnOk result (IsStorable value.now) }
 {
     push_column_name(out, b"[\"set\",", catalog, table, column)?;
     out.push(b',')?;
@@ -320,8 +335,9 @@ fn push_equals(
     table: u16,
     equals: &[Equal],
 ) -> Result<(), AllocError>
-    ensures { OnOk result (out.new.items
+    ensures text { OnOk result (out.new.items
         ≡ out.old.items ++ array_text (map (equal_text catalog.now table) equals.now)) }
+    ensures storable { OnOk result (All IsStorableEqual equals.now) }
 {
     let [first, further @ ..] = equals else {
         return out.extend_from_slice(b"[]");
@@ -340,8 +356,9 @@ fn push_further_equals(
     table: u16,
     equals: &[Equal],
 ) -> Result<(), AllocError>
-    ensures { OnOk result (out.new.items ≡ out.old.items
+    ensures text { OnOk result (out.new.items ≡ out.old.items
         ++ flat_map further_item (map (equal_text catalog.now table) equals.now)) }
+    ensures storable { OnOk result (All IsStorableEqual equals.now) }
 {
     for equal in equals {
         out.push(b',')?;
@@ -357,8 +374,9 @@ fn push_equal(
     table: u16,
     equal: &Equal,
 ) -> Result<(), AllocError>
-    ensures { OnOk result (out.new.items
+    ensures text { OnOk result (out.new.items
         ≡ out.old.items ++ equal_text catalog.now table equal.now) }
+    ensures storable { OnOk result (IsStorableEqual equal.now) }
 {
     push_column_name(out, b"[", catalog, table, equal.column)?;
     out.extend_from_slice(before_value(equal.how))?;

@@ -14,14 +14,14 @@ use Rattle.tt_session.specs.Feeds.{has_no_feed, joined}
 use Rattle.tt_requests.specs.LineValue.{value_of_line}
 use Rattle.tt_requests.specs.Opening.{max_records}
 use Rattle.tt_commands.specs.declared.terms.Terms.{Terms}
-use Rattle.tt_commands.specs.declared.commands.ForgetRequest.{ForgetRequest}
+use Rattle.tt_requests.specs.declared.asked.ForgetRequest.{ForgetRequest}
 use Rattle.tt_session.specs.declared.ready_to_forget.ReadyToForget.{ReadyToForget}
 use Rattle.tt_session.specs.declared.short_answer.ShortAnswer.TheVariants as shorts
 use Rattle.tt_session.specs.declared.lost_line.LostLine.TheVariants as losts
 use Rattle.tt_session.specs.ShortAnswers.{short_text}
 use Rattle.tt_commands.specs.Session.{OpenSession, Forgetting, terms_of, counted}
 use Rattle.tt_commands.specs.Changes.{forgotten_by}
-use Rattle.tt_commands.specs.Commands.{asks_to_forget}
+use Rattle.tt_requests.specs.Asked.{asks_to_forget}
 use Rattle.tt_commands.specs.Forgetting.{forgets_nothing}
 use Rattle.tt_lines.specs.Anew.{Forgets, IsReady}
 use Rattle.tt_session.specs.Run.{Turn, calls_of, turn_by_request, turn_by_value, turn_with_memory, turn_without_memory, turn_of_long_line}

@@ -2,7 +2,7 @@
 use Rattle.std.specs.Prelude.{◌≡◌, ℕ, true, false, List, [], ◌∷◌, ◌++◌, Option, Some}
 use Rattle.std.specs.List.{list_all}
 use Rattle.tt_requests.specs.Lines.{is_too_long}
-use Rattle.tt_commands.specs.declared.commands.ForgetRequest.{ForgetRequest}
+use Rattle.tt_requests.specs.declared.asked.ForgetRequest.{ForgetRequest}
 use Rattle.tt_session.specs.declared.session.Session.{Session}
 use Rattle.tt_lines.specs.declared.run.Run.{Run}
 use Rattle.tt_lines.specs.Lines.{HasBytes}

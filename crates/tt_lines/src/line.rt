@@ -68,8 +68,8 @@ impl Line {
 
     /// Keeps further first bytes, unless there is no memory for them.
     fn keep(&mut self, more: &[u8])
-        ensures kept { self.new.is_lost ≡ false
-            → (self.old.is_lost ≡ false) × (self.new.kept.items ≡ self.old.kept.items ++ more.now) }
+        ensures kept { self.new.is_lost ≡ false → (self.old.is_lost ≡ false)
+            × (self.new.kept.items ≡ self.old.kept.items ++ more.now) }
         ensures len { self.new.len ≡ self.old.len }
         ensures blank { self.new.is_blank ≡ self.old.is_blank }
     {

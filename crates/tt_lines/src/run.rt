@@ -18,7 +18,7 @@ use crate::line::Line;
 use crate::outlet::{Forgotten, Outlet, Renewal};
 use std::alloc::{AllocError, Global};
 use std::io::{Read, Write};
-use tt_commands::ForgetRequest;
+use tt_requests::ForgetRequest;
 use tt_session::{
     Extent, LostLine, MANY_BYTES, ReadyToForget, Session, ShortAnswer, Workspace, first_feed,
     is_much,

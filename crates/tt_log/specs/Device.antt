@@ -53,8 +53,8 @@ pub record CountsFailure {T E : Type 0} (before now : ℕ) (result : Result T E)
   pub failed : OnErr result (before < now)
 
 -- no new file is there that wasn't there before, or the device has failed more often than so many times
-abbrev pub RemovesNew : {D : Type 0} → (D → Type 0) → (D → ℕ) → ℕ → D → D → Type 0
-RemovesNew has_new failures count old new = has_new new → has_new old ⊎ (failures old + count < failures new)
+abbrev pub LeavesNoNewFile : {D : Type 0} → (D → Type 0) → (D → ℕ) → ℕ → D → D → Type 0
+LeavesNoNewFile has_new_file failures count old new = has_new_file new → has_new_file old ⊎ (failures old + count < failures new)
 
 -- Calls that leave the file as it is, with what was handed over, and what a crash may leave.
 pub record StaysOnDisk {D : Type 0} (seen shown : D → List ℕ) (may_leave : D → List ℕ → Type 0) (moment : D → ℕ) (left_since : D → ℕ → Left → Type 0) (failures : D → ℕ) (old new : D) : Type 0 where

@@ -20,7 +20,8 @@ pub(crate) fn end_file<D: Device>(device: &mut D, end: u64) -> Result<(), Device
     ensures shown { D.tells device.old → D.shown device.new ≡ D.shown device.old }
     ensures any_moment { D.tells device.old → LeavesOnly D.moment D.left_since
         device.old device.new (Keeps (logged (D.seen device.old)) (D.shown device.old)) }
-    ensures no_new { D.tells device.old → D.has_new device.new → D.has_new device.old }
+    ensures no_new { D.tells device.old
+        → D.has_new_file device.new → D.has_new_file device.old }
     ensures failures { D.tells device.old → D.failures device.old ≤ D.failures device.new }
     ensures failed { D.tells device.old → OnErr result
         (D.failures device.old < D.failures device.new) }

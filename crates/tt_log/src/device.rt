@@ -1,37 +1,16 @@
 //! What a log is kept on.
 ghost use Rattle.std.specs.Prelude.{◌≡◌, ◌⊎◌, ◌↔◌, ◌<◌, ◌≤◌, ◌+◌, ◌-◌, ◌++◌, [], List, ℕ, length, take, drop, IfOk, OnOk, OnErr, IsErrOf};
 ghost use Rattle.tt_log.specs.Crash.{written_over, MayBeWritten, MayBeLonger, MayBeCut, IsWritten, IsLonger, IsCut};
-ghost use Rattle.tt_log.specs.Device.{Left, Only, AllAsLong, NothingNew, Follows, Now, NowShowing, Elapses, CountsFailure, ShowsFirst, RemovesNew};
+ghost use Rattle.tt_log.specs.Device.{Left, Only, AllAsLong, NothingNew, Follows, Now, NowShowing, Elapses, CountsFailure, ShowsFirst, LeavesNoNewFile};
 ghost use Rattle.tt_log.specs.Lines.{zeros};
 
+use crate::RenewError;
 use thiserror::Error;
 
 /// A call of a device has failed. What it has done is unknown.
 #[derive(Clone, Copy, Debug, PartialEq, Eq, Error)]
 #[error("the device has failed")]
 pub struct DeviceError;
-
-/// A new file couldn't be given the name of the file.
-#[derive(Clone, Copy, Debug, PartialEq, Eq, Error)]
-pub enum RenameError {
-    /// The file surely has its name, or another file had it already. The file is as it was.
-    #[error("the new file has no name")]
-    Kept,
-    /// The file has its name, or the new one has it: nobody knows which.
-    #[error("one of two files has the name")]
-    Unknown,
-}
-
-// Where making the new file fails, the file has its name.
-impl From<DeviceError> for RenameError {
-    ghost use Rattle.tt_log.specs.declared.device.RenameError.TheVariants.{Kept};
-
-    ghost from_gives = { λ _ e. e ≡ Kept };
-
-    fn from(_error: DeviceError) -> RenameError {
-        RenameError::Kept
-    }
-}
 
 /// A file, and an output that answers are handed over to, under one clock: a crash leaves the file
 /// as it may be at that moment, and what had been handed over by then.
@@ -69,10 +48,10 @@ pub trait Device {
     ghost may_leave_named: { Self → List ℕ → Type 0 };
 
     /// That a new file which the device has made is there, beside the file.
-    ghost has_new: { Self → Type 0 };
+    ghost has_new_file: { Self → Type 0 };
 
     /// How often a new file may have been given the name of the file.
-    ghost renames: { Self → ℕ };
+    ghost rename_count: { Self → ℕ };
 
     /// That the file can't be read, or its length can't be told.
     ghost cannot_read: { Self → Type 0 };
@@ -114,8 +93,8 @@ pub trait Device {
             (may_leave self.old) (may_leave self.new) }
         ensures synced { tells self.old → OnOk result (Follows (IsWritten at bytes.now)
             (once_synced self.old) (once_synced self.new)) }
-        ensures no_new { tells self.old → has_new self.new → has_new self.old }
-        ensures renames { tells self.old → renames self.new ≡ renames self.old }
+        ensures no_new { tells self.old → has_new_file self.new → has_new_file self.old }
+        ensures renames { tells self.old → rename_count self.new ≡ rename_count self.old }
         ensures time { tells self.old → Elapses (moment self.old) (moment self.new)
             (left_since self.old) (left_since self.new)
             (Now (may_leave self.new) (shown self.old)) }
@@ -135,8 +114,8 @@ pub trait Device {
             (may_leave self.old) (may_leave self.new) }
         ensures synced { tells self.old → OnOk result (Follows (IsLonger len)
             (once_synced self.old) (once_synced self.new)) }
-        ensures no_new { tells self.old → has_new self.new → has_new self.old }
-        ensures renames { tells self.old → renames self.new ≡ renames self.old }
+        ensures no_new { tells self.old → has_new_file self.new → has_new_file self.old }
+        ensures renames { tells self.old → rename_count self.new ≡ rename_count self.old }
         ensures time { tells self.old → Elapses (moment self.old) (moment self.new)
             (left_since self.old) (left_since self.new)
             (Now (may_leave self.new) (shown self.old)) }
@@ -154,8 +133,8 @@ pub trait Device {
             (may_leave self.old) (may_leave self.new) }
         ensures synced { tells self.old → OnOk result (Follows (IsCut len)
             (once_synced self.old) (once_synced self.new)) }
-        ensures no_new { tells self.old → has_new self.new → has_new self.old }
-        ensures renames { tells self.old → renames self.new ≡ renames self.old }
+        ensures no_new { tells self.old → has_new_file self.new → has_new_file self.old }
+        ensures renames { tells self.old → rename_count self.new ≡ rename_count self.old }
         ensures time { tells self.old → Elapses (moment self.old) (moment self.new)
             (left_since self.old) (left_since self.new)
             (Now (may_leave self.new) (shown self.old)) }
@@ -173,8 +152,8 @@ pub trait Device {
         ensures seen { tells self.old → OnOk result (seen self.new ≡ seen self.old) }
         ensures shown { tells self.old → shown self.new ≡ shown self.old }
         ensures crash { tells self.old → NothingNew (may_leave self.old) (may_leave self.new) }
-        ensures no_new { tells self.old → has_new self.new → has_new self.old }
-        ensures renames { tells self.old → renames self.new ≡ renames self.old }
+        ensures no_new { tells self.old → has_new_file self.new → has_new_file self.old }
+        ensures renames { tells self.old → rename_count self.new ≡ rename_count self.old }
         ensures time { tells self.old → Elapses (moment self.old) (moment self.new)
             (left_since self.old) (left_since self.new)
             (Now (may_leave self.new) (shown self.old)) }
@@ -190,8 +169,8 @@ pub trait Device {
         ensures first { tells self.old → ShowsFirst (shown self.old) (shown self.new) bytes.now }
         ensures seen { tells self.old → seen self.new ≡ seen self.old }
         ensures crash { tells self.old → NothingNew (may_leave self.old) (may_leave self.new) }
-        ensures no_new { tells self.old → has_new self.new → has_new self.old }
-        ensures renames { tells self.old → renames self.new ≡ renames self.old }
+        ensures no_new { tells self.old → has_new_file self.new → has_new_file self.old }
+        ensures renames { tells self.old → rename_count self.new ≡ rename_count self.old }
         ensures time { tells self.old → Elapses (moment self.old) (moment self.new)
             (left_since self.old) (left_since self.new)
             (NowShowing (may_leave self.new) (shown self.old) bytes.now) }
@@ -199,18 +178,19 @@ pub trait Device {
             → CountsFailure (failures self.old) (failures self.new) result };
 
     /// Makes an empty new file beside the file, to be filled and then put in its place. Fails where
-    /// there is one. After an error the new file isn't there, unless removing it has failed, too.
-    /// Whatever comes of it, the file stays as it is. After an error of a call on the new file each
-    /// further one fails, until it is removed and made again.
+    /// there is one. Where an error leaves a new file that wasn't there, the device has failed at
+    /// least twice. Whatever comes of it, the file stays as it is. After an error of a call on the
+    /// new file each further one fails, until it is removed and made again.
     fn create_new(&mut self) -> Result<(), DeviceError>
         ensures tells { tells self.old ↔ tells self.new }
         ensures created { tells self.old → OnOk result (new_file self.new ≡ []) }
+        ensures there { tells self.old → OnOk result (has_new_file self.new) }
         ensures seen { tells self.old → seen self.new ≡ seen self.old }
         ensures shown { tells self.old → shown self.new ≡ shown self.old }
         ensures crash { tells self.old → NothingNew (may_leave self.old) (may_leave self.new) }
         ensures no_new { tells self.old → OnErr result
-            (RemovesNew has_new failures 1 self.old self.new) }
-        ensures renames { tells self.old → renames self.new ≡ renames self.old }
+            (LeavesNoNewFile has_new_file failures 1 self.old self.new) }
+        ensures renames { tells self.old → rename_count self.new ≡ rename_count self.old }
         ensures time { tells self.old → Elapses (moment self.old) (moment self.new)
             (left_since self.old) (left_since self.new)
             (Now (may_leave self.new) (shown self.old)) }
@@ -226,8 +206,8 @@ pub trait Device {
         ensures seen { tells self.old → seen self.new ≡ seen self.old }
         ensures shown { tells self.old → shown self.new ≡ shown self.old }
         ensures crash { tells self.old → NothingNew (may_leave self.old) (may_leave self.new) }
-        ensures no_new { tells self.old → has_new self.new → has_new self.old }
-        ensures renames { tells self.old → renames self.new ≡ renames self.old }
+        ensures no_new { tells self.old → has_new_file self.new → has_new_file self.old }
+        ensures renames { tells self.old → rename_count self.new ≡ rename_count self.old }
         ensures time { tells self.old → Elapses (moment self.old) (moment self.new)
             (left_since self.old) (left_since self.new)
             (Now (may_leave self.new) (shown self.old)) }
@@ -244,8 +224,8 @@ pub trait Device {
         ensures seen { tells self.old → seen self.new ≡ seen self.old }
         ensures shown { tells self.old → shown self.new ≡ shown self.old }
         ensures crash { tells self.old → NothingNew (may_leave self.old) (may_leave self.new) }
-        ensures no_new { tells self.old → has_new self.new → has_new self.old }
-        ensures renames { tells self.old → renames self.new ≡ renames self.old }
+        ensures no_new { tells self.old → has_new_file self.new → has_new_file self.old }
+        ensures renames { tells self.old → rename_count self.new ≡ rename_count self.old }
         ensures time { tells self.old → Elapses (moment self.old) (moment self.new)
             (left_since self.old) (left_since self.new)
             (Now (may_leave self.new) (shown self.old)) }
@@ -264,8 +244,8 @@ pub trait Device {
         ensures seen { tells self.old → seen self.new ≡ seen self.old }
         ensures shown { tells self.old → shown self.new ≡ shown self.old }
         ensures crash { tells self.old → NothingNew (may_leave self.old) (may_leave self.new) }
-        ensures no_new { tells self.old → has_new self.new → has_new self.old }
-        ensures renames { tells self.old → renames self.new ≡ renames self.old }
+        ensures no_new { tells self.old → has_new_file self.new → has_new_file self.old }
+        ensures renames { tells self.old → rename_count self.new ≡ rename_count self.old }
         ensures time { tells self.old → Elapses (moment self.old) (moment self.new)
             (left_since self.old) (left_since self.new)
             (Now (may_leave self.new) (shown self.old)) }
@@ -274,33 +254,35 @@ pub trait Device {
 
     /// Gives the new file the name of the file, in one step: it is the file that is read and
     /// written from then on, and the old one is let go. Until its folder is synced a crash leaves
-    /// the old file or the new one, and of the new one what it may leave of its bytes.
-    fn rename_new(&mut self) -> Result<(), RenameError>
+    /// the old file or the new one, and of the new one what it may leave of its bytes. After `Kept`
+    /// the file is as it was: it surely has its name, or another file had it already. After `Lost`
+    /// it has its name, or the new one has it: nobody knows which.
+    fn rename_new(&mut self) -> Result<(), RenewError>
         ensures tells { tells self.old ↔ tells self.new }
         ensures named { tells self.old → OnOk result (seen self.new ≡ new_file self.old) }
         ensures either { tells self.old → (c : List ℕ) → may_leave self.new c
             → may_leave self.old c ⊎ may_leave_new self.old c }
         ensures once_named { tells self.old → OnOk result
             (NothingNew (may_leave_new self.old) (may_leave_named self.new)) }
-        ensures seen { tells self.old → IsErrOf result RenameError.Kept
+        ensures seen { tells self.old → IsErrOf result RenewError.Kept
             → seen self.new ≡ seen self.old }
-        ensures crash { tells self.old → IsErrOf result RenameError.Kept
+        ensures crash { tells self.old → IsErrOf result RenewError.Kept
             → NothingNew (may_leave self.old) (may_leave self.new) }
         ensures shown { tells self.old → shown self.new ≡ shown self.old }
-        ensures no_new { tells self.old → OnOk result (has_new self.new → ⊥) }
-        ensures no_new_kept { tells self.old → IsErrOf result RenameError.Kept
-            → has_new self.new → has_new self.old }
+        ensures no_new { tells self.old → OnOk result (has_new_file self.new → ⊥) }
+        ensures no_new_kept { tells self.old → IsErrOf result RenewError.Kept
+            → has_new_file self.new → has_new_file self.old }
 
-        // Where the new file is still there, and still nobody knows which one has the name, that
-        // couldn't be looked up, either: the device has failed twice.
-        ensures no_new_unknown { tells self.old → IsErrOf result RenameError.Unknown
-            → has_new self.new → failures self.old + 1 < failures self.new }
+        // After `Lost` a new file is there only where the device has failed at least twice.
+        ensures no_new_lost { tells self.old → IsErrOf result RenewError.Lost
+            → has_new_file self.new → failures self.old + 1 < failures self.new }
 
-        ensures renames { tells self.old → OnOk result (renames self.old < renames self.new) }
-        ensures renames_kept { tells self.old → IsErrOf result RenameError.Kept
-            → renames self.new ≡ renames self.old }
-        ensures renames_unknown { tells self.old → IsErrOf result RenameError.Unknown
-            → renames self.old < renames self.new }
+        ensures renames { tells self.old
+            → OnOk result (rename_count self.old < rename_count self.new) }
+        ensures renames_kept { tells self.old → IsErrOf result RenewError.Kept
+            → rename_count self.new ≡ rename_count self.old }
+        ensures renames_lost { tells self.old → IsErrOf result RenewError.Lost
+            → rename_count self.old < rename_count self.new }
         ensures time { tells self.old → Elapses (moment self.old) (moment self.new)
             (left_since self.old) (left_since self.new)
             (Now (may_leave self.new) (shown self.old)) }
@@ -316,24 +298,24 @@ pub trait Device {
         ensures seen { tells self.old → seen self.new ≡ seen self.old }
         ensures shown { tells self.old → shown self.new ≡ shown self.old }
         ensures crash { tells self.old → NothingNew (may_leave self.old) (may_leave self.new) }
-        ensures no_new { tells self.old → has_new self.new → has_new self.old }
-        ensures renames { tells self.old → renames self.new ≡ renames self.old }
+        ensures no_new { tells self.old → has_new_file self.new → has_new_file self.old }
+        ensures renames { tells self.old → rename_count self.new ≡ rename_count self.old }
         ensures time { tells self.old → Elapses (moment self.old) (moment self.new)
             (left_since self.old) (left_since self.new)
             (Now (may_leave self.new) (shown self.old)) }
         ensures failed { tells self.old
             → CountsFailure (failures self.old) (failures self.new) result };
 
-    /// Removes the new file, if there is one. It is still there only where that has failed. The file
-    /// stays as it is.
+    /// Removes the new file, if there is one. It is still there only where the device has failed.
+    /// The file stays as it is.
     fn remove_new(&mut self)
         ensures tells { tells self.old ↔ tells self.new }
         ensures seen { tells self.old → seen self.new ≡ seen self.old }
         ensures shown { tells self.old → shown self.new ≡ shown self.old }
         ensures crash { tells self.old → NothingNew (may_leave self.old) (may_leave self.new) }
-        ensures no_new { tells self.old → has_new self.new
+        ensures no_new { tells self.old → has_new_file self.new
             → failures self.old < failures self.new }
-        ensures renames { tells self.old → renames self.new ≡ renames self.old }
+        ensures renames { tells self.old → rename_count self.new ≡ rename_count self.old }
         ensures read { tells self.old → cannot_read self.old → cannot_read self.new }
         ensures time { tells self.old → Elapses (moment self.old) (moment self.new)
             (left_since self.old) (left_since self.new)

@@ -1,7 +1,7 @@
 //! A real file.
 ghost use Rattle.std.specs.Prelude.{◌≡◌, []};
 
-use crate::{Device, DeviceError, FilePlace, RenameError};
+use crate::{Device, DeviceError, FilePlace, RenewError};
 use std::cell::Cell;
 use std::fs::{File, Files};
 use std::io::Write;
@@ -155,9 +155,9 @@ impl<'a, F: Files<File = File> + Eprint, W: Write> Device for FileDevice<'a, F, 
 
     ghost may_leave_named = { λ d c. ⊥ };
 
-    ghost has_new = { λ d. ⊥ };
+    ghost has_new_file = { λ d. ⊥ };
 
-    ghost renames = { λ d. 0 };
+    ghost rename_count = { λ d. 0 };
 
     ghost cannot_read = { λ d. ⊥ };
 
@@ -253,24 +253,24 @@ impl<'a, F: Files<File = File> + Eprint, W: Write> Device for FileDevice<'a, F, 
         self.keep_new_file(result)
     }
 
-    fn rename_new(&mut self) -> Result<(), RenameError> {
+    fn rename_new(&mut self) -> Result<(), RenewError> {
         let Some(place) = &self.place else {
-            return Err(RenameError::Kept);
+            return Err(RenewError::Kept);
         };
         let Ok(true) = self.reason.keep(place.is_of(self.files, &self.file)) else {
             self.tell_refusal();
-            return Err(RenameError::Kept);
+            return Err(RenewError::Kept);
         };
         let NewFile::Usable(new_file) = mem::replace(&mut self.new_file, NewFile::Failed) else {
-            return Err(RenameError::Kept);
+            return Err(RenewError::Kept);
         };
         if self.reason.keep(place.rename_new(self.files)).is_err() {
             return match place.is_surely_of(self.files, &self.file) {
                 true => {
                     self.tell_refusal();
-                    Err(RenameError::Kept)
+                    Err(RenewError::Kept)
                 }
-                false => Err(RenameError::Unknown),
+                false => Err(RenewError::Lost),
             };
         }
         self.file = new_file;

@@ -14,7 +14,7 @@ mod show;
 mod starting;
 mod unread_log;
 
-pub use device::{Device, DeviceError, RenameError};
+pub use device::{Device, DeviceError};
 pub use file_device::FileDevice;
 pub use file_place::FilePlace;
 pub use lines::{LineError, Lines};

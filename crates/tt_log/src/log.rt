@@ -1,7 +1,7 @@
 //! A log that is written.
 ghost use Rattle.std.specs.Prelude.{◌≡◌, ◌≢◌, ◌↔◌, ◌⊎◌, ◌+◌, ◌++◌, ◌<◌, ◌≤◌, ◌^◌, [], List, ℕ, length, IsOk, IfOk, IfErr, OnOk, OnErr, IsErrOf};
 ghost use Rattle.tt_log.specs.Lines.{logged, joined, IsJoined};
-ghost use Rattle.tt_log.specs.Device.{Only, LeavesOnly, ShowsFirst, RemovesNew};
+ghost use Rattle.tt_log.specs.Device.{Only, LeavesOnly, ShowsFirst, LeavesNoNewFile};
 
 use crate::closing::end_file;
 use crate::placing::{ROOM_UNIT, put_in_place};
@@ -77,9 +77,9 @@ impl<D: Device> Log<D> {
 
         // It makes no new file beside the log's own.
         ensures no_new { IfOk result (λ device. D.tells self.device
-            → D.has_new device → D.has_new self.device) }
+            → D.has_new_file device → D.has_new_file self.device) }
         ensures no_new_err { IfErr result (λ e. D.tells self.device
-            → D.has_new e.1 → D.has_new self.device) }
+            → D.has_new_file e.1 → D.has_new_file self.device) }
 
         ensures failures { IfOk result (λ device. D.tells self.device
             → D.failures self.device ≤ D.failures device) }
@@ -126,7 +126,7 @@ impl<D: Device> Log<D> {
 
         // It makes no new file beside the log's own.
         ensures no_new { D.tells self.old.device
-            → D.has_new self.new.device → D.has_new self.old.device }
+            → D.has_new_file self.new.device → D.has_new_file self.old.device }
 
         // It doesn't give up by itself.
         ensures failures { D.tells self.old.device
@@ -184,7 +184,7 @@ impl<D: Device> Log<D> {
         ensures all_logged { D.tells self.old.device → IsErrOf result LogError.HandOver
             → logged (D.seen self.new.device) ≡ logged (D.seen self.old.device) ++ lines.now }
         ensures no_new { D.tells self.old.device
-            → D.has_new self.new.device → D.has_new self.old.device }
+            → D.has_new_file self.new.device → D.has_new_file self.old.device }
         ensures failures { D.tells self.old.device
             → D.failures self.old.device ≤ D.failures self.new.device }
         ensures write { D.tells self.old.device → IsErrOf result LogError.Write
@@ -207,7 +207,7 @@ impl<D: Device> Log<D> {
 
     /// Begins to make the log anew: makes an empty new file beside that of the log, which stays as
     /// it is. Lines are then pushed into the new file, and it is taken or removed, before the log
-    /// is used further. After an error there is no new file to write lines into.
+    /// is used further. After an error no lines are to be pushed.
     pub fn begin_new(&mut self) -> Result<(), DeviceError>
         requires { D.tells self.old.device → IsSettled D.seen D.may_leave self.old }
         ensures tells { D.tells self.old.device ↔ D.tells self.new.device }
@@ -226,9 +226,9 @@ impl<D: Device> Log<D> {
             self.old.device self.new.device
             (Keeps (logged (D.seen self.old.device)) (D.shown self.old.device)) }
 
-        // After an error there is no new file, unless removing it has failed, too.
+        // Where an error leaves a new file that wasn't there, the device has failed at least twice.
         ensures no_new { D.tells self.old.device → OnErr result
-            (RemovesNew D.has_new D.failures 1 self.old.device self.new.device) }
+            (LeavesNoNewFile D.has_new_file D.failures 1 self.old.device self.new.device) }
 
         ensures failures { D.tells self.old.device
             → D.failures self.old.device ≤ D.failures self.new.device }
@@ -263,7 +263,7 @@ impl<D: Device> Log<D> {
             (Keeps (logged (D.seen self.old.device)) (D.shown self.old.device)) }
 
         ensures no_new { D.tells self.old.device
-            → D.has_new self.new.device → D.has_new self.old.device }
+            → D.has_new_file self.new.device → D.has_new_file self.old.device }
         ensures failures { D.tells self.old.device
             → D.failures self.old.device ≤ D.failures self.new.device }
         ensures write { D.tells self.old.device → IsErrOf result LogError.Write
@@ -322,21 +322,21 @@ impl<D: Device> Log<D> {
             → LeavesOnly D.moment D.left_since self.old.device self.new.device
             (Keeps (logged (D.seen self.old.device)) (D.shown self.old.device)) }
 
-        // The new file is beside the log's own no longer, or as it was before. Where it has got the
-        // name or not, it is still there only where the device has failed twice.
+        // After `Ok` no new file is there. After `Kept` none is there that wasn't. After `Lost` one
+        // is there only where the device has failed at least twice.
         ensures no_new { D.tells self.old.device
-            → OnOk result (D.has_new self.new.device → ⊥) }
+            → OnOk result (D.has_new_file self.new.device → ⊥) }
         ensures no_new_kept { D.tells self.old.device → IsErrOf result RenewError.Kept
-            → D.has_new self.new.device → D.has_new self.old.device }
+            → D.has_new_file self.new.device → D.has_new_file self.old.device }
         ensures no_new_lost { D.tells self.old.device → IsErrOf result RenewError.Lost
-            → D.has_new self.new.device
+            → D.has_new_file self.new.device
             → D.failures self.old.device + 1 < D.failures self.new.device }
 
-        // Only where the new file may have got the name, the log is `Lost`.
+        // It is `Lost` only where the new file may have got the name.
         ensures renames_kept { D.tells self.old.device → IsErrOf result RenewError.Kept
-            → D.renames self.new.device ≡ D.renames self.old.device }
+            → D.rename_count self.new.device ≡ D.rename_count self.old.device }
         ensures renames_lost { D.tells self.old.device → IsErrOf result RenewError.Lost
-            → D.renames self.old.device < D.renames self.new.device }
+            → D.rename_count self.old.device < D.rename_count self.new.device }
 
         // It doesn't give up by itself.
         ensures failures { D.tells self.old.device
@@ -365,8 +365,8 @@ impl<D: Device> Log<D> {
             self.old.device self.new.device
             (Keeps (logged (D.seen self.old.device)) (D.shown self.old.device)) }
 
-        // The new file is still there only where removing it has failed.
-        ensures no_new { D.tells self.old.device → D.has_new self.new.device
+        // A new file is still there only where the device has failed.
+        ensures no_new { D.tells self.old.device → D.has_new_file self.new.device
             → D.failures self.old.device < D.failures self.new.device }
 
         ensures failures { D.tells self.old.device
@@ -396,7 +396,7 @@ impl<D: Device> Log<D> {
         ensures unclean { D.tells self.old.device → LeavesOnly D.moment D.left_since
             self.old.device self.new.device LeavesUnclean }
         ensures no_new { D.tells self.old.device
-            → D.has_new self.new.device → D.has_new self.old.device }
+            → D.has_new_file self.new.device → D.has_new_file self.old.device }
         ensures failures { D.tells self.old.device
             → D.failures self.old.device ≤ D.failures self.new.device }
         ensures write { D.tells self.old.device → IsErrOf result LogError.Write

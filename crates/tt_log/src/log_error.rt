@@ -30,16 +30,28 @@ impl From<DeviceError> for LogError {
     }
 }
 
-/// Why a log isn't made anew.
+/// Why a new file doesn't take the place of a file.
 #[derive(Clone, Copy, Debug, PartialEq, Eq, Error)]
 pub enum RenewError {
-    /// The new file can't be finished, synced or named. The log goes on in its old file, which is
-    /// as it was.
+    /// The new file can't be finished, synced or named. The old file is as it was, and a log goes
+    /// on in it.
     #[error("cannot make the log anew")]
     Kept,
-    /// The new file has the name of the old one, but its folder can't be synced; or nobody knows
-    /// which of them has it. A crash leaves the old lines or the new ones. The log is not to be used
-    /// any more.
+    /// Nobody knows which of the two files has the name; or the new one has it, but its folder
+    /// can't be synced. A crash leaves the old file or the new one, and a log is not to be used any
+    /// more.
     #[error("cannot keep the log that was made anew")]
     Lost,
+}
+
+// Where making the new file fails, the file has its name.
+impl From<DeviceError> for RenewError {
+    ghost use Rattle.std.specs.Prelude.{◌≡◌};
+    ghost use Rattle.tt_log.specs.declared.log_error.RenewError.TheVariants.{Kept};
+
+    ghost from_gives = { λ _ e. e ≡ Kept };
+
+    fn from(_error: DeviceError) -> RenewError {
+        RenewError::Kept
+    }
 }

@@ -4,7 +4,7 @@ ghost use Rattle.tt_log.specs.Device.{Left, Only, Now, LeavesOnly, StaysOnDisk};
 ghost use Rattle.tt_log.specs.Lines.{logged, IsJoined};
 ghost use Rattle.tt_log.specs.Log.{AllUnclean, IsAtRest, KeepsOnceSynced, LeavesUnclean, length_with_room};
 
-use crate::{Device, RenameError, RenewError};
+use crate::{Device, RenewError};
 
 /// The length of a file is a multiple of this, so that writing lines seldom changes it.
 pub(crate) const ROOM_UNIT: u64 = 1 << 20;
@@ -39,25 +39,21 @@ pub(crate) fn put_in_place<D: Device>(device: &mut D, end: u64) -> Result<u64, R
     ensures kept { D.tells device.old → IsErrOf result RenewError.Kept
         → StaysOnDisk D.seen D.shown D.may_leave D.moment D.left_since D.failures
         device.old device.new }
-    ensures no_new { D.tells device.old → OnOk result (D.has_new device.new → ⊥) }
+    ensures no_new { D.tells device.old → OnOk result (D.has_new_file device.new → ⊥) }
     ensures no_new_kept { D.tells device.old → IsErrOf result RenewError.Kept
-        → D.has_new device.new → D.has_new device.old }
+        → D.has_new_file device.new → D.has_new_file device.old }
     ensures no_new_lost { D.tells device.old → IsErrOf result RenewError.Lost
-        → D.has_new device.new → D.failures device.old + 1 < D.failures device.new }
+        → D.has_new_file device.new → D.failures device.old + 1 < D.failures device.new }
     ensures renames_kept { D.tells device.old → IsErrOf result RenewError.Kept
-        → D.renames device.new ≡ D.renames device.old }
+        → D.rename_count device.new ≡ D.rename_count device.old }
     ensures renames_lost { D.tells device.old → IsErrOf result RenewError.Lost
-        → D.renames device.old < D.renames device.new }
+        → D.rename_count device.old < D.rename_count device.new }
     ensures failures { D.tells device.old → D.failures device.old ≤ D.failures device.new }
     ensures failed { D.tells device.old → OnErr result
         (D.failures device.old < D.failures device.new) }
 {
     let len = (end + 1).next_multiple_of(ROOM_UNIT);
-    match name_new(device, len) {
-        Ok(()) => {}
-        Err(RenameError::Kept) => return Err(RenewError::Kept),
-        Err(RenameError::Unknown) => return Err(RenewError::Lost),
-    }
+    name_new(device, len)?;
     let Ok(()) = device.sync_folder() else {
         return Err(RenewError::Lost);
     };
@@ -65,7 +61,7 @@ pub(crate) fn put_in_place<D: Device>(device: &mut D, end: u64) -> Result<u64, R
 }
 
 /// Makes the new file longer by bytes 0, syncs it, and gives it the name of the file.
-fn name_new<D: Device>(device: &mut D, len: u64) -> Result<(), RenameError>
+fn name_new<D: Device>(device: &mut D, len: u64) -> Result<(), RenewError>
     requires len { D.tells device.old → length (D.new_file device.old) < len }
     requires lines { D.tells device.old → IsJoined (D.new_file device.old) }
     ensures tells { D.tells device.old ↔ D.tells device.new }
@@ -85,20 +81,20 @@ fn name_new<D: Device>(device: &mut D, len: u64) -> Result<(), RenameError>
         (logged (D.new_file device.old)) (D.shown device.old)) }
     ensures unclean { D.tells device.old → AllUnclean (D.may_leave device.old)
         → LeavesOnly D.moment D.left_since device.old device.new LeavesUnclean }
-    ensures kept { D.tells device.old → IsErrOf result RenameError.Kept
+    ensures kept { D.tells device.old → IsErrOf result RenewError.Kept
         → StaysOnDisk D.seen D.shown D.may_leave D.moment D.left_since D.failures
         device.old device.new }
     ensures renames { D.tells device.old
-        → OnOk result (D.renames device.old < D.renames device.new) }
-    ensures no_new { D.tells device.old → OnOk result (D.has_new device.new → ⊥) }
-    ensures no_new_kept { D.tells device.old → IsErrOf result RenameError.Kept
-        → D.has_new device.new → D.has_new device.old }
-    ensures no_new_unknown { D.tells device.old → IsErrOf result RenameError.Unknown
-        → D.has_new device.new → D.failures device.old + 1 < D.failures device.new }
-    ensures renames_kept { D.tells device.old → IsErrOf result RenameError.Kept
-        → D.renames device.new ≡ D.renames device.old }
-    ensures renames_unknown { D.tells device.old → IsErrOf result RenameError.Unknown
-        → D.renames device.old < D.renames device.new }
+        → OnOk result (D.rename_count device.old < D.rename_count device.new) }
+    ensures no_new { D.tells device.old → OnOk result (D.has_new_file device.new → ⊥) }
+    ensures no_new_kept { D.tells device.old → IsErrOf result RenewError.Kept
+        → D.has_new_file device.new → D.has_new_file device.old }
+    ensures no_new_lost { D.tells device.old → IsErrOf result RenewError.Lost
+        → D.has_new_file device.new → D.failures device.old + 1 < D.failures device.new }
+    ensures renames_kept { D.tells device.old → IsErrOf result RenewError.Kept
+        → D.rename_count device.new ≡ D.rename_count device.old }
+    ensures renames_lost { D.tells device.old → IsErrOf result RenewError.Lost
+        → D.rename_count device.old < D.rename_count device.new }
     ensures failures { D.tells device.old → D.failures device.old ≤ D.failures device.new }
     ensures failed { D.tells device.old → OnErr result
         (D.failures device.old < D.failures device.new) }

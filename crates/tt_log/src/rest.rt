@@ -18,7 +18,8 @@ pub(crate) fn is_clear<D: Device>(
     ensures clear { D.tells device.now → IfOk result (λ b. IsTrue b
         → D.seen device.now ≡ written_over (D.seen device.now) from (zeros (len - from))) }
     ensures other { D.tells device.now → IfOk result (λ b. b ≡ false
-        → D.seen device.now ≡ written_over (D.seen device.now) from (zeros (len - from)) → ⊥) }
+        → D.seen device.now ≡ written_over (D.seen device.now) from (zeros (len - from))
+        → ⊥) }
     ensures some { 0 < length buffer.new }
     ensures read { IfErr result (λ e. e ≡ LogError.Read) }
     ensures cannot_read { D.tells device.now → OnErr result (D.cannot_read device.now) }

@@ -1,6 +1,6 @@
 //! How a log begins on a file that another process has left.
 ghost use Rattle.std.specs.Prelude.{◌≡◌, ◌⊎◌, ◌↔◌, ◌^◌, ◌+◌, ◌<◌, ◌≤◌, [], length, take, IfOk, IfErr, OnOk, OnErr, IsErrOf};
-ghost use Rattle.tt_log.specs.Device.{Only, LeavesOnly, StaysOnDisk, RemovesNew};
+ghost use Rattle.tt_log.specs.Device.{Only, LeavesOnly, StaysOnDisk, LeavesNoNewFile};
 ghost use Rattle.tt_log.specs.Lines.{logged, joined, IsJoined};
 ghost use Rattle.tt_log.specs.Log.{IsAtRest, KeepsOnceSynced};
 
@@ -28,7 +28,8 @@ pub(crate) fn add_room<D: Device>(device: &mut D, end: u64) -> Result<u64, LogEr
     ensures any_moment { D.tells device.old → LeavesOnly D.moment D.left_since
         device.old device.new (KeepsOnceSynced (D.may_leave device.old)
         (logged (D.seen device.old)) (D.shown device.old)) }
-    ensures no_new { D.tells device.old → D.has_new device.new → D.has_new device.old }
+    ensures no_new { D.tells device.old
+        → D.has_new_file device.new → D.has_new_file device.old }
     ensures failures { D.tells device.old → D.failures device.old ≤ D.failures device.new }
     ensures write { IfErr result (λ e. e ≡ LogError.Write) }
     ensures failed { D.tells device.old → OnErr result
@@ -64,12 +65,13 @@ pub(crate) fn make_anew<D: Device>(
         device.old device.new (KeepsOnceSynced (D.may_leave device.old)
         (logged (D.seen device.old)) (D.shown device.old)) }
 
-    // After an error there is no new file, unless removing it has failed, too.
-    ensures no_new { D.tells device.old → OnOk result (D.has_new device.new → ⊥) }
+    // Where an error leaves a new file that wasn't there, the device has failed: at least once
+    // where it is `Read`, and at least twice where it is `Write`.
+    ensures no_new { D.tells device.old → OnOk result (D.has_new_file device.new → ⊥) }
     ensures no_new_read { D.tells device.old → IsErrOf result LogError.Read
-        → RemovesNew D.has_new D.failures 0 device.old device.new }
+        → LeavesNoNewFile D.has_new_file D.failures 0 device.old device.new }
     ensures no_new_write { D.tells device.old → IsErrOf result LogError.Write
-        → RemovesNew D.has_new D.failures 1 device.old device.new }
+        → LeavesNoNewFile D.has_new_file D.failures 1 device.old device.new }
 
     ensures failures { D.tells device.old → D.failures device.old ≤ D.failures device.new }
     ensures err { IfErr result (λ e. (e ≡ LogError.Read) ⊎ (e ≡ LogError.Write)) }
@@ -108,8 +110,8 @@ fn take_place<D: Device>(device: &mut D, end: u64) -> Result<u64, LogError>
     ensures any_moment { D.tells device.old → LeavesOnly D.moment D.left_since
         device.old device.new (KeepsOnceSynced (D.may_leave device.old)
         (logged (D.new_file device.old)) (D.shown device.old)) }
-    ensures no_new { D.tells device.old → OnOk result (D.has_new device.new → ⊥) }
-    ensures no_new_err { D.tells device.old → OnErr result (D.has_new device.new
+    ensures no_new { D.tells device.old → OnOk result (D.has_new_file device.new → ⊥) }
+    ensures no_new_err { D.tells device.old → OnErr result (D.has_new_file device.new
         → D.failures device.old + 1 < D.failures device.new) }
     ensures failures { D.tells device.old → D.failures device.old ≤ D.failures device.new }
     ensures write { IfErr result (λ e. e ≡ LogError.Write) }

@@ -1,7 +1,7 @@
 //! A log whose lines are still to be read.
 ghost use Rattle.std.specs.Prelude.{◌≡◌, ◌⊎◌, ◌↔◌, ◌+◌, ◌<◌, ◌≤◌, ◌^◌, ◌++◌, [], true, false, length, take, IfOk, IfErr, OnErr};
 ghost use Rattle.tt_log.specs.Lines.{text, logged, joined, whole_lines_of, end_behind};
-ghost use Rattle.tt_log.specs.Device.{LeavesOnly, RemovesNew};
+ghost use Rattle.tt_log.specs.Device.{LeavesOnly, LeavesNoNewFile};
 
 use crate::log::MAX_LEN;
 use crate::rest::piece_len;
@@ -163,14 +163,15 @@ impl<D: Device> UnreadLog<D> {
         ensures seen_err { IfErr result (λ e. D.tells self.device → e.0 ≡ LogError.Read
             → D.seen e.1 ≡ D.seen self.device) }
 
-        // Where a new file was made, it has the name of the file, or was removed, unless removing it
-        // has failed, too.
+        // Where an error leaves a new file that wasn't there, the device has failed: at least once
+        // where it is `Read`, and at least twice where it is `Write`. After `Ok` none is there that
+        // wasn't.
         ensures no_new { IfOk result (λ log. D.tells self.device
-            → D.has_new log.device → D.has_new self.device) }
+            → D.has_new_file log.device → D.has_new_file self.device) }
         ensures no_new_read { IfErr result (λ e. D.tells self.device → e.0 ≡ LogError.Read
-            → RemovesNew D.has_new D.failures 0 self.device e.1) }
+            → LeavesNoNewFile D.has_new_file D.failures 0 self.device e.1) }
         ensures no_new_write { IfErr result (λ e. D.tells self.device → e.0 ≡ LogError.Write
-            → RemovesNew D.has_new D.failures 1 self.device e.1) }
+            → LeavesNoNewFile D.has_new_file D.failures 1 self.device e.1) }
 
         ensures failures { IfOk result (λ log. D.tells self.device
             → D.failures self.device ≤ D.failures log.device) }

@@ -4,7 +4,7 @@ ghost use Rattle.std.specs.Prelude.{◌≡◌, []};
 use std::alloc::Global;
 use std::mem;
 use std::process::Abort;
-use tt_log::{Device, DeviceError, RenameError};
+use tt_log::{Device, DeviceError, RenewError};
 
 /// Which of its calls fail, counted from 0. Reads aren't counted.
 #[derive(Clone, Copy)]
@@ -186,9 +186,9 @@ impl Device for Disk {
 
     ghost may_leave_named = { λ d c. ⊥ };
 
-    ghost has_new = { λ d. ⊥ };
+    ghost has_new_file = { λ d. ⊥ };
 
-    ghost renames = { λ d. 0 };
+    ghost rename_count = { λ d. 0 };
 
     ghost cannot_read = { λ d. ⊥ };
 
@@ -346,21 +346,17 @@ impl Device for Disk {
         if fails { Err(DeviceError) } else { Ok(()) }
     }
 
-    fn rename_new(&mut self) -> Result<(), RenameError> {
+    fn rename_new(&mut self) -> Result<(), RenewError> {
         let fails = self.fails();
         if self.old_file.is_some() || fails && !self.is_unsure {
-            return Err(RenameError::Kept);
+            return Err(RenewError::Kept);
         }
         let Some(file) = self.new_file.take() else {
-            return Err(RenameError::Kept);
+            return Err(RenewError::Kept);
         };
         self.renames = self.renames.saturating_add(1);
         self.place(file);
-        if fails {
-            Err(RenameError::Unknown)
-        } else {
-            Ok(())
-        }
+        if fails { Err(RenewError::Lost) } else { Ok(()) }
     }
 
     fn sync_folder(&mut self) -> Result<(), DeviceError> {

@@ -4,7 +4,7 @@ use crate::same::same;
 use std::alloc::Global;
 use std::fmt::Display;
 use std::process::Abort;
-use tt_log::{DeviceError, LineError, Lines, LogError, RenameError, RenewError};
+use tt_log::{DeviceError, LineError, Lines, LogError, RenewError};
 
 /// Asserts that lines have these bytes.
 fn are(rt: &impl Abort, lines: &Lines, bytes: &[u8]) {
@@ -72,7 +72,4 @@ fn texts_of_errors(rt: HostRuntime) {
     prints(&rt, alloc, &LineError::NotALine, "not a line of a log");
     prints(&rt, alloc, &LineError::Memory, "out of memory");
     prints(&rt, alloc, &DeviceError, "the device has failed");
-    prints(&rt, alloc, &RenameError::Kept, "the new file has no name");
-    let unknown = "one of two files has the name";
-    prints(&rt, alloc, &RenameError::Unknown, unknown);
 }

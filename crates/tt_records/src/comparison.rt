@@ -30,8 +30,9 @@ pub fn changes(alloc: Global, db: &Db, records: &[Record]) -> Result<Vec<Changed
     Ok(changes)
 }
 
-/// The change of one record, if its call is answered differently now.
-fn change_of(
+/// The change of one record, if its call is answered differently now: as [`changes`] tells it, for
+/// records that come one by one.
+pub fn change_of(
     alloc: Global,
     slots: &mut SlotsInOrder<'_>,
     earlier: &Record,

@@ -10,6 +10,7 @@ mod record;
 mod slots_in_order;
 
 pub use changed::{After, Changed};
-pub use comparison::changes;
-pub use next::changes_next;
+pub use comparison::{change_of, changes};
+pub use next::{changes_next, next_change_of};
 pub use record::{Record, What};
+pub use slots_in_order::SlotsInOrder;

@@ -48,8 +48,13 @@ fn next_changes(alloc: Global, db: &Db, records: &[Record]) -> Result<Vec<Change
     Ok(changes)
 }
 
-/// The change of one record, if its call is answered differently in the next generation.
-fn next_change_of(alloc: Global, db: &Db, earlier: &Record) -> Result<Option<Changed>, AllocError>
+/// The change of one record, if its call is answered differently in the next generation: as
+/// [`changes_next`] tells it, for records that come one by one while a repair is under way.
+pub fn next_change_of(
+    alloc: Global,
+    db: &Db,
+    earlier: &Record,
+) -> Result<Option<Changed>, AllocError>
     requires { is_repairing (state_of db.now).phase ≡ true }
     ensures { IfOk result
         (λ c. c ≡ next_change_of db.now.catalog (state_of db.now) earlier.now) }

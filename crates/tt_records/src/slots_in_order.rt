@@ -7,10 +7,12 @@ ghost use Rattle.tt_db.specs.Database.{state_of};
 use std::marker::Model;
 use tt_db::{Db, Slot, Slots};
 
-/// The slots of a database by their numbers. The slot behind the last one that was asked for is at
-/// hand, and any other has to be looked up.
+/// A database whose slots are asked for by their numbers, as [`change_of`](crate::change_of) does
+/// for the records of writes. The slot behind the last one that was asked for is at hand, and any
+/// other has to be looked up, so records are best compared in the order of their calls. Contracts
+/// see the database.
 #[derive(Drop)]
-pub(crate) struct SlotsInOrder<'a> {
+pub struct SlotsInOrder<'a> {
     db: &'a Db,
     /// How many slots lie before those that are left.
     passed: u64,
@@ -30,7 +32,7 @@ impl<'a> Model for SlotsInOrder<'a> {
 
 impl<'a> SlotsInOrder<'a> {
     /// The slots of a database, before the first one.
-    pub(crate) fn new(db: &'a Db) -> Self
+    pub fn new(db: &'a Db) -> Self
         ensures { result ≡ db.now }
     {
         SlotsInOrder {
@@ -41,7 +43,7 @@ impl<'a> SlotsInOrder<'a> {
     }
 
     /// The database.
-    pub(crate) fn db(&self) -> &'a Db
+    pub fn db(&self) -> &'a Db
         ensures { result.now ≡ self.now }
     {
         self.db

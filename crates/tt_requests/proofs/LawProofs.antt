@@ -19,8 +19,8 @@ use Rattle.tt_grammar.specs.Conditions.{table_named}
 use Rattle.tt_grammar.specs.Statements.{checked_statement, conditions, no_members_at, insert, update, delete}
 use Rattle.tt_grammar.specs.Actions.{action}
 use Rattle.tt_grammar.specs.Edits.{max_edits, replacement}
-use Rattle.tt_requests.specs.declared.kinds.Kind.{Kind}
-use Rattle.tt_requests.specs.declared.kinds.Kind.TheVariants as kinds
+use Rattle.tt_requests.specs.declared.kinds.RequestKind.{RequestKind}
+use Rattle.tt_requests.specs.declared.kinds.RequestKind.TheVariants as kinds
 use Rattle.tt_requests.specs.declared.request.Command.{Command}
 use Rattle.tt_requests.specs.declared.request.Command.TheVariants as commands
 use Rattle.tt_requests.specs.declared.request.Request.{Request}
@@ -200,7 +200,7 @@ changes-judged tables v asked e =
 
 -- ---- a command, by its kind
 
-command_of-judged : (version : Version) (tables : Tables) (kind : Kind) (v : Data) (asked : Command) → command_of version tables kind v ≡ Ok asked → IsJudged tables asked
+command_of-judged : (version : Version) (tables : Tables) (kind : RequestKind) (v : Data) (asked : Command) → command_of version tables kind v ≡ Ok asked → IsJudged tables asked
 command_of-judged version tables kinds.Insert v asked e = insert-judged tables v asked e
 command_of-judged version tables kinds.Update v asked e = update-judged version tables v asked e
 command_of-judged version tables kinds.Delete v asked e = delete-judged version tables v asked e

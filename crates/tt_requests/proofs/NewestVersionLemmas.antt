@@ -11,8 +11,8 @@ use Rattle.tt_grammar.specs.Edits.{max_edits, replacement}
 use Rattle.tt_grammar.specs.NewestVersion.{ReadsTheSame}
 use Rattle.tt_grammar.specs.Version.{newest_version}
 use Rattle.tt_grammar.proofs.NewestVersionLemmas.{then-same, made-same, with_path-same, if-same, member-same, each-same, conditions-same, update-same, delete-same, action-same, replacement-same}
-use Rattle.tt_requests.specs.declared.kinds.Kind.{Kind}
-use Rattle.tt_requests.specs.declared.kinds.Kind.TheVariants as kinds
+use Rattle.tt_requests.specs.declared.kinds.RequestKind.{RequestKind}
+use Rattle.tt_requests.specs.declared.kinds.RequestKind.TheVariants as kinds
 use Rattle.tt_requests.specs.Kinds.{kind_of}
 use Rattle.tt_requests.specs.Told.{named_time}
 use Rattle.tt_requests.specs.Edits.{replace, edit, edits}
@@ -63,7 +63,7 @@ begin-same version tables v =
     made-same _ _ _ (member-same (codes "begin") (edits version tables) (edits newest_version tables) v (edits-same version tables))
 
 -- of the kinds, the conditions, the actions and the edits depend on the version
-command_of-same : (version : Version) (tables : Tables) (kind : Kind) (v : Data) → ReadsTheSame (command_of version tables kind v) (command_of newest_version tables kind v)
+command_of-same : (version : Version) (tables : Tables) (kind : RequestKind) (v : Data) → ReadsTheSame (command_of version tables kind v) (command_of newest_version tables kind v)
 unfolding one_write
 command_of-same version tables kinds.Insert v = λ t e. e
 command_of-same version tables kinds.Update v = made-same _ _ _ (update-same version tables contexts.Request v)

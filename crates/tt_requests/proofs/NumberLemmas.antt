@@ -2,7 +2,7 @@
 use Rattle.std.proofs.Common.{◌≡◌, ℕ, ◌+◌, ◌-◌, ◌<◌, ◌≤◌, min, false, nat_lt, cond, None, Some, ap, ◌∙◌, arith}
 use Rattle.std.proofs.lemmas.Bool.Decides.{nat_tests}
 use Rattle.tt_requests.specs.Numbers.{number_limit, max_told}
-use Rattle.tt_requests.specs.ToldExactly.{IsToldExactly, NumbersAreToldExactly}
+use Rattle.tt_requests.specs.NumberLaws.{IsToldExactly, NumbersAreToldExactly}
 
 -- a sum of a number up to the limit and one below it isn't cut off
 exact : (own more : ℕ) → own ≤ number_limit → more < number_limit → min (own + more) max_told ≡ own + more

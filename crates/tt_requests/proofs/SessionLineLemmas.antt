@@ -18,8 +18,8 @@ use Rattle.tt_grammar.specs.Conditions.{value, table_named}
 use Rattle.tt_grammar.specs.Statements.{conditions, no_members_at, insert, update, delete}
 use Rattle.tt_grammar.specs.Actions.{writes, is_whole, members_of_action, action}
 use Rattle.tt_grammar.proofs.KnownLemmas.{are_known, not_there}
-use Rattle.tt_requests.specs.declared.kinds.Kind.{Kind}
-use Rattle.tt_requests.specs.declared.kinds.Kind.TheVariants as kinds
+use Rattle.tt_requests.specs.declared.kinds.RequestKind.{RequestKind}
+use Rattle.tt_requests.specs.declared.kinds.RequestKind.TheVariants as kinds
 use Rattle.tt_requests.specs.declared.request.Command.{Command}
 use Rattle.tt_requests.specs.declared.request.Command.TheVariants as commands
 use Rattle.tt_requests.specs.declared.request.Request.{Request}
@@ -185,7 +185,7 @@ changes-none v asked e =
 
 -- ---- a command, by its kind
 
-command_of-none : (version : Version) (tables : Tables) (kind : Kind) (v : Data) (asked : Command) → command_of version tables kind v ≡ Ok asked → has (codes "version") v ≡ false
+command_of-none : (version : Version) (tables : Tables) (kind : RequestKind) (v : Data) (asked : Command) → command_of version tables kind v ≡ Ok asked → has (codes "version") v ≡ false
 command_of-none version tables kinds.Insert v asked e = one_write-none (insert tables contexts.Request) (insert-none tables) v asked e
 command_of-none version tables kinds.Update v asked e = one_write-none (update version tables contexts.Request) (update-none version tables) v asked e
 command_of-none version tables kinds.Delete v asked e = one_write-none (delete version tables contexts.Request) (delete-none version tables) v asked e

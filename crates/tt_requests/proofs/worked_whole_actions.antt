@@ -133,9 +133,11 @@ beside_an_edit = (refl, refl)
 
 -- ---- the ground of a log
 
-ground : (ground_read (codes "{\"do\":[{\"delete\":\"acct\",\"where\":[]}],\"whole\":true}") ≡ Ok (delete_all true))
+-- it has no member whole
+ground : (ground_read (codes "{\"do\":[{\"delete\":\"acct\",\"where\":[]}],\"whole\":true}") ≡ refused (codes "$") (codes "unknown member \"whole\""))
+    × (ground_read (codes "{\"do\":[{\"delete\":\"acct\",\"where\":[]}],\"whole\":false}") ≡ refused (codes "$") (codes "unknown member \"whole\""))
     × (ground_read (codes "{\"do\":[{\"delete\":\"acct\",\"where\":[]}]}") ≡ Ok (delete_all false))
     × (ground_read (codes "{\"do\":[],\"whole\":1}") ≡ refused (codes "$.whole") (codes "wrong type"))
     × (ground_read (codes "{\"whole\":true}") ≡ refused (codes "$") (codes "missing member do"))
 unfolding lines_are_read condition statements.delete actions.write actions.item_of_action actions.action
-ground = (refl, refl, refl, refl)
+ground = (refl, refl, refl, refl, refl)

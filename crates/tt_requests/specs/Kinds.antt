@@ -4,11 +4,11 @@ use Rattle.serde_json.specs.Data.{Data}
 use Rattle.tt_grammar.specs.declared.fault.DocFault.{DocFault}
 use Rattle.tt_grammar.specs.Fault.{or_refuse}
 use Rattle.tt_grammar.specs.Decoder.{has}
-use Rattle.tt_requests.specs.declared.kinds.Kind.{Kind}
-use Rattle.tt_requests.specs.declared.kinds.Kind.TheVariants.{Insert, Update, Delete, Select, Preview, Do, Begin, Step, Finish, Abort, Status, Slots, Changes, Tables, Forget}
+use Rattle.tt_requests.specs.declared.kinds.RequestKind.{RequestKind}
+use Rattle.tt_requests.specs.declared.kinds.RequestKind.TheVariants.{Insert, Update, Delete, Select, Preview, Do, Begin, Step, Finish, Abort, Status, Slots, Changes, Tables, Forget}
 
 -- each kind with the member that names it, in the order in which they are looked for
-abbrev pub kinds : List (List ℕ × Kind)
+abbrev pub kinds : List (List ℕ × RequestKind)
 kinds =
     (codes "insert", Insert)
     ∷ (codes "update", Update)
@@ -37,14 +37,14 @@ abbrev pub no_kind : List ℕ
 no_kind = codes "missing one of " ++ listed (map (λ kind. kind.0) kinds)
 
 -- the first of some kinds whose member is there, by a test of names
-abbrev pub first_of : (List ℕ → Bool) → List (List ℕ × Kind) → Option Kind
+abbrev pub first_of : (List ℕ → Bool) → List (List ℕ × RequestKind) → Option RequestKind
 first_of is_there [] = None
 first_of is_there (kind ∷ others) = if is_there kind.0 then Some kind.1 else first_of is_there others
 
 -- the first kind that an object has a member of
-abbrev pub first_kind : Data → Option Kind
+abbrev pub first_kind : Data → Option RequestKind
 first_kind v = first_of (λ name. has name v) kinds
 
 -- the kind of an object, which must have one
-abbrev pub kind_of : Data → Result Kind DocFault
+abbrev pub kind_of : Data → Result RequestKind DocFault
 kind_of v = or_refuse no_kind (first_kind v)

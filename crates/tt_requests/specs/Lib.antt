@@ -2,7 +2,7 @@ pub mod Lines
 pub mod LineValue
 pub mod Opening
 pub mod Numbers
-pub mod ToldExactly
+pub mod NumberLaws
 pub mod Told
 pub mod Edits
 pub mod Reads
@@ -14,3 +14,5 @@ pub mod LogOpening
 pub mod GroundAction
 pub mod Judged
 pub mod NewestVersion
+pub mod Asked
+pub mod ToldEdits

@@ -12,8 +12,8 @@ use Rattle.tt_grammar.specs.Fault.{◌>>=◌, refuse, with_path, document_path}
 use Rattle.tt_grammar.specs.Decoder.{object, flag, count_within, member, optional}
 use Rattle.tt_grammar.specs.Statements.{no_members_at, insert, update, delete}
 use Rattle.tt_grammar.specs.Actions.{action_of_one, action}
-use Rattle.tt_requests.specs.declared.kinds.Kind.{Kind}
-use Rattle.tt_requests.specs.declared.kinds.Kind.TheVariants as kinds
+use Rattle.tt_requests.specs.declared.kinds.RequestKind.{RequestKind}
+use Rattle.tt_requests.specs.declared.kinds.RequestKind.TheVariants as kinds
 use Rattle.tt_requests.specs.declared.request.Command.{Command}
 use Rattle.tt_requests.specs.declared.request.Command.TheVariants as commands
 use Rattle.tt_requests.specs.declared.request.Request.{Request}
@@ -95,7 +95,7 @@ bare name command v = do
   Ok command
 
 -- the command of an object of this kind
-abbrev pub command_of : Version → Tables → Kind → Data → Result Command DocFault
+abbrev pub command_of : Version → Tables → RequestKind → Data → Result Command DocFault
 command_of version tables kinds.Insert v = one_write (insert tables contexts.Request v)
 command_of version tables kinds.Update v = one_write (update version tables contexts.Request v)
 command_of version tables kinds.Delete v = one_write (delete version tables contexts.Request v)

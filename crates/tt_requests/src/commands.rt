@@ -6,7 +6,7 @@ ghost use Rattle.tt_requests.specs.Requests.{one_write, several_writes, begin, s
 
 use crate::MAX_STEPS;
 use crate::edits::EditsDecoder;
-use crate::kinds::Kind;
+use crate::kinds::RequestKind;
 use crate::questions::{WORKER, changes, slots};
 use crate::reads::{preview, read};
 use crate::request::{Command, ToldEdits};
@@ -36,7 +36,7 @@ pub(crate) fn command(
     requires { IsValue tape.now }
     ensures { Gives result (command version catalog.now (value_at tape.now)) }
 {
-    let kind = Kind::of(alloc, tape)?;
+    let kind = RequestKind::of(alloc, tape)?;
     command_of(alloc, version, catalog, kind, &root(tape))
 }
 
@@ -46,36 +46,36 @@ fn command_of<V: JsonValue>(
     alloc: Global,
     version: Version,
     catalog: &Catalog,
-    kind: Kind,
+    kind: RequestKind,
     value: &V,
 ) -> Result<Command, DocFault>
     ensures { Gives result (command_of version catalog.now kind (V.json value.now)) }
 {
     match kind {
-        Kind::Insert => {
+        RequestKind::Insert => {
             let write = insert(alloc, catalog, Context::Request, value)?;
             one_write(alloc, write)
         }
-        Kind::Update => {
+        RequestKind::Update => {
             let write = update(alloc, version, catalog, Context::Request, value)?;
             one_write(alloc, write)
         }
-        Kind::Delete => {
+        RequestKind::Delete => {
             let write = delete(alloc, version, catalog, Context::Request, value)?;
             one_write(alloc, write)
         }
-        Kind::Select => read(alloc, version, catalog, value),
-        Kind::Preview => preview(alloc, version, catalog, value),
-        Kind::Do => several_writes(alloc, version, catalog, value),
-        Kind::Begin => begin(alloc, version, catalog, value),
-        Kind::Step => step(alloc, value),
-        Kind::Finish => finish(alloc, value),
-        Kind::Abort => abort(alloc, value),
-        Kind::Status => bare(alloc, "status", Command::Status, value),
-        Kind::Slots => slots(alloc, catalog, value),
-        Kind::Changes => changes(alloc, value),
-        Kind::Tables => bare(alloc, "tables", Command::Tables, value),
-        Kind::Forget => forget(alloc, value),
+        RequestKind::Select => read(alloc, version, catalog, value),
+        RequestKind::Preview => preview(alloc, version, catalog, value),
+        RequestKind::Do => several_writes(alloc, version, catalog, value),
+        RequestKind::Begin => begin(alloc, version, catalog, value),
+        RequestKind::Step => step(alloc, value),
+        RequestKind::Finish => finish(alloc, value),
+        RequestKind::Abort => abort(alloc, value),
+        RequestKind::Status => bare(alloc, "status", Command::Status, value),
+        RequestKind::Slots => slots(alloc, catalog, value),
+        RequestKind::Changes => changes(alloc, value),
+        RequestKind::Tables => bare(alloc, "tables", Command::Tables, value),
+        RequestKind::Forget => forget(alloc, value),
     }
 }
 

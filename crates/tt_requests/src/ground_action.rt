@@ -7,14 +7,15 @@ ghost use Rattle.tt_requests.specs.GroundAction.{members_of_ground_action, groun
 use crate::line_value::parse_line;
 use std::alloc::Global;
 use tt_grammar::DocFault;
-use tt_grammar::decoding::{Context, Version, action, object};
+use tt_grammar::decoding::{Context, Version, action, no_members_but, object};
 use tt_json::{JsonValue, Scratch, root};
 use tt_values::{Action, Catalog};
 
 /// The action of a slot of the ground that a line spells, for a database with these tables, or its
 /// first fault: that the line is too long; or else that it isn't JSON; or else that an object names
-/// a member twice; or else the one of its JSON value. It is read as of the newest version. Memory can run out before the fault is met. What `scratch` held doesn't
-/// matter. It grows to the longest line.
+/// a member twice; or else the one of its JSON value, which has the member `do` alone. It is read
+/// as of the newest version. Memory can run out before the fault is met. What `scratch` held
+/// doesn't matter. It grows to the longest line.
 pub fn ground_action_from_line(
     alloc: Global,
     catalog: &Catalog,
@@ -47,5 +48,7 @@ fn from_members<V: JsonValue>(
     ensures { Gives result (members_of_ground_action catalog.now (V.json value.now)) }
 {
     object(alloc, value)?;
-    action(alloc, Version::newest(), catalog, Context::Nested, value)
+    let action = action(alloc, Version::newest(), catalog, Context::Nested, value)?;
+    no_members_but(alloc, value, &["do"])?;
+    Ok(action)
 }

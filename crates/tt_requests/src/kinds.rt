@@ -7,27 +7,27 @@ const NO_KIND: &str =
     "missing one of insert, update, delete, select, preview, do, begin, step, finish, abort, status, slots, changes, tables, forget";
 
 /// Each kind with the member that names it, in the order in which they are looked for.
-const KINDS: [(&str, Kind); 15] = [
-    ("insert", Kind::Insert),
-    ("update", Kind::Update),
-    ("delete", Kind::Delete),
-    ("select", Kind::Select),
-    ("preview", Kind::Preview),
-    ("do", Kind::Do),
-    ("begin", Kind::Begin),
-    ("step", Kind::Step),
-    ("finish", Kind::Finish),
-    ("abort", Kind::Abort),
-    ("status", Kind::Status),
-    ("slots", Kind::Slots),
-    ("changes", Kind::Changes),
-    ("tables", Kind::Tables),
-    ("forget", Kind::Forget),
+static KINDS: [(&str, RequestKind); 15] = [
+    ("insert", RequestKind::Insert),
+    ("update", RequestKind::Update),
+    ("delete", RequestKind::Delete),
+    ("select", RequestKind::Select),
+    ("preview", RequestKind::Preview),
+    ("do", RequestKind::Do),
+    ("begin", RequestKind::Begin),
+    ("step", RequestKind::Step),
+    ("finish", RequestKind::Finish),
+    ("abort", RequestKind::Abort),
+    ("status", RequestKind::Status),
+    ("slots", RequestKind::Slots),
+    ("changes", RequestKind::Changes),
+    ("tables", RequestKind::Tables),
+    ("forget", RequestKind::Forget),
 ];
 
 /// The kind of a request.
 #[derive(Clone, Copy, Debug, PartialEq, Eq)]
-pub(crate) enum Kind {
+pub(crate) enum RequestKind {
     Insert,
     Update,
     Delete,
@@ -45,8 +45,8 @@ pub(crate) enum Kind {
     Forget,
 }
 
-impl Kind {
-    ghost use Rattle.std.specs.Prelude.{◌≡◌, ℕ, Bool, List, map, is_some, position};
+impl RequestKind {
+    ghost use Rattle.std.specs.Prelude.{◌≡◌, ◌≤◌, ℕ, Bool, List, length, map, take, is_some, position};
     ghost use Rattle.std.specs.Str.{bytes_eq};
     ghost use Rattle.std.specs.List.{position_or_len};
     ghost use Rattle.serde_json.specs.Data as serde;
@@ -55,28 +55,28 @@ impl Kind {
     ghost use Rattle.tt_grammar.specs.Fault.{Gives};
     ghost use Rattle.tt_requests.specs.Kinds.{kinds, first_of, first_kind, kind_of};
 
-    /// The first kind that an object has a member of, which must have one.
-    pub(crate) fn of(alloc: Global, tape: &Tape<'_>) -> Result<Kind, DocFault>
+    /// The first kind that an object has a member of. Where it has none, the fault lists all kinds.
+    pub(crate) fn of(alloc: Global, tape: &Tape<'_>) -> Result<RequestKind, DocFault>
         requires { IsValue tape.now }
         ensures { Gives result (kind_of (value_at tape.now)) }
     {
-        match Kind::first(tape) {
+        match RequestKind::find(tape) {
             Some(kind) => Ok(kind),
             None => Err(DocFault::here(alloc, NO_KIND)),
         }
     }
 
-    /// The first kind that an object has a member of. Its members are gone over once.
-    fn first(tape: &Tape<'_>) -> Option<Kind>
+    /// The first kind that an object has a member of. Its members are gone over at most once.
+    fn find(tape: &Tape<'_>) -> Option<RequestKind>
         requires { IsValue tape.now }
         ensures { result ≡ first_kind (value_at tape.now) }
     {
-        let place = Kind::first_place(tape.root().members()?);
-        Kind::at(&KINDS, place)
+        let place = RequestKind::first_place(tape.root().members()?);
+        RequestKind::kind_at(&KINDS, place)
     }
 
     /// The kind at a place of a table.
-    fn at(table: &[(&str, Kind)], place: usize) -> Option<Kind>
+    fn kind_at(table: &[(&str, RequestKind)], place: usize) -> Option<RequestKind>
         ensures { (is_there : List ℕ → Bool)
             → place ≡ position_or_len (λ kind. is_there kind.0.now) table.now
             → result ≡ first_of is_there (map (λ kind. (kind.0.now, kind.1)) table.now) }
@@ -86,6 +86,7 @@ impl Kind {
     }
 
     /// The place in the table of the first kind that is among these members, or else its length.
+    /// Each name is compared only with the kinds before the first one found.
     fn first_place(members: Members<'_, '_>) -> usize
         ensures { (ms : serde.Members) → AreMembers members.entry serde.no_members ms
             → result ≡ position_or_len (λ kind. is_some (get_member kind.0 ms)) kinds }
@@ -93,17 +94,20 @@ impl Kind {
         let mut members = members;
         let mut first = KINDS.len();
         while let Some((name, _)) = members.next() {
-            if let Some(place) = Kind::place_of(name) {
-                first = first.min(place);
+            match RequestKind::place_before(first, name) {
+                Some(0) => return 0,
+                Some(place) => first = place,
+                None => {}
             }
         }
         first
     }
 
-    /// The place in the table of the kind with this name.
-    fn place_of(name: &str) -> Option<usize>
-        ensures { result ≡ position (λ kind. bytes_eq name.now kind.0) kinds }
+    /// The place of the kind with this name, if it comes before the place `end` of the table.
+    fn place_before(end: usize, name: &str) -> Option<usize>
+        requires { end ≤ length kinds }
+        ensures { result ≡ position (λ kind. bytes_eq name.now kind.0) (take end kinds) }
     {
-        KINDS.iter().position(|kind| name == kind.0)
+        KINDS[..end].iter().position(|kind| name == kind.0)
     }
 }

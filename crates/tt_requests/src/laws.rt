@@ -3,7 +3,7 @@
 ghost use Rattle.tt_requests.specs.Judged.{RequestsAreJudged};
 ghost use Rattle.tt_requests.specs.NewestVersion.{RequestsReadTheSame};
 ghost use Rattle.tt_requests.specs.SessionLine.{RequestsAreNoOpenings};
-ghost use Rattle.tt_requests.specs.ToldExactly.{NumbersAreToldExactly};
+ghost use Rattle.tt_requests.specs.NumberLaws.{NumbersAreToldExactly};
 
 /// A request that is read, as of any version, has been judged by the tables that it is read with:
 /// its select, its action and the actions that are to replace others have no fault, and it begins a

@@ -2,6 +2,7 @@
 //! text on a line, or the line's first fault.
 #![tactic(auto)]
 
+mod asked;
 mod commands;
 mod edits;
 mod ground_action;
@@ -17,7 +18,9 @@ mod reads;
 mod request;
 mod session_line;
 mod told;
+mod told_edits;
 
+pub use asked::{ForgetRequest, asks_read_only, asks_to_forget, forget_request};
 pub use ground_action::ground_action_from_line;
 pub use lines::{is_blank, is_passed_over};
 pub use log_opening::LogOpening;
@@ -26,6 +29,7 @@ pub use opening::Opening;
 pub use request::{Command, Page, Request, ToldEdits};
 pub use session_line::SessionLine;
 pub use told::{ToldGeneration, ToldTime};
+pub use told_edits::{missing_slot, own_edits};
 
 /// The largest length of a line, in bytes, without its line feed.
 pub const MAX_LINE_BYTES: usize = 16_777_216;

@@ -87,6 +87,54 @@ pub enum Command {
     Forget(ToldTime),
 }
 
+impl Command {
+    ghost use Rattle.std.specs.Prelude.{◌≡◌};
+    ghost use Rattle.tt_requests.specs.Asked.{is_read_only, is_forget, repair_worker_told};
+
+    /// Whether it leaves the database as it is.
+    pub fn is_read_only(&self) -> bool
+        ensures { result ≡ is_read_only self.now }
+    {
+        match self {
+            Command::Write(_) => false,
+            Command::Begin(_) => false,
+            Command::Step { .. } => false,
+            Command::Finish { .. } => false,
+            Command::Abort { .. } => false,
+            Command::Forget(_) => false,
+            Command::Read { .. } => true,
+            Command::Preview { .. } => true,
+            Command::Status => true,
+            Command::Slots { .. } => true,
+            Command::Changes => true,
+            Command::NextChanges => true,
+            Command::Tables => true,
+        }
+    }
+
+    /// Whether it is to forget what lies before a time.
+    pub(crate) fn is_forget(&self) -> bool
+        ensures { result ≡ is_forget self.now }
+    {
+        match self {
+            Command::Forget(_) => true,
+            _ => false,
+        }
+    }
+
+    /// The worker for whose repair it is, if it tells one.
+    pub fn repair_worker_told(&self) -> Option<u32>
+        ensures { result ≡ repair_worker_told self.now }
+    {
+        match self {
+            Command::Step { of, .. } => *of,
+            Command::Finish { of } => *of,
+            Command::Abort { of } => *of,
+            _ => None,
+        }
+    }
+}
+
 /// Edits whose slots are numbered as they are told.
 #[derive(Debug, Drop)]
 pub struct ToldEdits {

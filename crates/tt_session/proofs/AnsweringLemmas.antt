@@ -12,8 +12,8 @@ use Rattle.tt_session.specs.Answering.{LineRead, forgets_by, turn_without_log, t
 use Rattle.tt_session.specs.Together.{kept_line, is_opening_lost, IsLostAs, lost_line, unlogged_line}
 use Rattle.tt_requests.specs.LineValue.{value_of_line}
 use Rattle.tt_session.specs.declared.session.Session.TheVariants.{Open}
-use Rattle.tt_commands.specs.declared.commands.ForgetRequest.{ForgetRequest}
-use Rattle.tt_commands.specs.ForgetRequests.{IsForgetRequest}
+use Rattle.tt_requests.specs.declared.asked.ForgetRequest.{ForgetRequest}
+use Rattle.tt_requests.specs.Asked.{IsForgetRequest}
 use Rattle.tt_commands.specs.Session.{OpenSession, counted, request_in}
 use Rattle.tt_session.specs.ForgetTurns.{AsksToForget, turn_of_forget}
 use Rattle.tt_session.specs.Run.{turn_by_request}

@@ -23,9 +23,11 @@ use Rattle.tt_answers.specs.declared.answer.Refusal.{Refusal}
 use Rattle.tt_answers.specs.declared.answer.Answer.TheVariants as answers
 use Rattle.tt_session.specs.declared.session.Session.TheVariants.{Open}
 use Rattle.tt_commands.specs.Answers.{Answered}
-use Rattle.tt_commands.specs.Commands.{asks_read_only, is_read_only, repair_worker_told, carried_out, moved_to, outcome_of_request, unless_moved}
+use Rattle.tt_commands.specs.Commands.{carried_out, moved_to, outcome_of_request, unless_moved}
+use Rattle.tt_requests.specs.Asked.{asks_read_only, is_read_only, repair_worker_told}
 use Rattle.tt_commands.specs.Reading.{read, previewed_by, selected_by}
-use Rattle.tt_commands.specs.ToldRequests.{forgotten_in, asks_for_forgotten, read_at, read_in, read_as_told, missing_if_idle, unless_missing, own_edit}
+use Rattle.tt_commands.specs.ToldRequests.{forgotten_in, asks_for_forgotten, read_at, read_in, read_as_told, missing_if_idle, unless_missing}
+use Rattle.tt_requests.specs.ToldEdits.{own_edit}
 use Rattle.tt_commands.specs.Changes.{forgotten_by}
 use Rattle.tt_commands.specs.Forgetting.{forgetting_of, forget_refusal, forgets_nothing, forgotten_answer, unless_forget_refused, forget}
 use Rattle.tt_commands.specs.Repairing.{entry_by, status_of, unless_refused, other_worker, unless_of_another, with_event, with_steps, with_all_steps}

@@ -14,15 +14,17 @@ use Rattle.tt_requests.specs.declared.request.Request.{Request}
 use Rattle.tt_requests.specs.declared.told.ToldTime.{ToldTime}
 use Rattle.tt_answers.specs.declared.answer.Refusal.{Refusal}
 use Rattle.tt_commands.specs.Answers.{Answered}
-use Rattle.tt_commands.specs.Commands.{carried_out, is_forget, asks_to_forget, moved_to, repair_worker_told, unless_moved}
+use Rattle.tt_commands.specs.Commands.{carried_out, moved_to, unless_moved}
+use Rattle.tt_requests.specs.Asked.{is_forget, asks_to_forget, repair_worker_told}
 use Rattle.tt_commands.specs.Repairing.{entry_by, unless_refused, other_worker, unless_of_another, with_event, with_steps, with_all_steps}
 use Rattle.tt_commands.specs.Room.{refusal_in_session}
 use Rattle.tt_commands.specs.Changes.{forgotten_by}
 use Rattle.tt_commands.specs.Invariants.{IsOpenSession}
 use Rattle.tt_commands.specs.Session.{OpenSession, Forgetting, counted, state_in, with_database}
-use Rattle.tt_commands.specs.ToldRequests.{missing_if_idle, unless_missing, own_edit}
+use Rattle.tt_commands.specs.ToldRequests.{missing_if_idle, unless_missing}
+use Rattle.tt_requests.specs.ToldEdits.{own_edit}
 use Rattle.tt_session.specs.declared.session.Session.TheVariants.{Open}
-use Rattle.tt_session.specs.Recovery.{with_entries, ComesFrom, recovered, IsRecoverable}
+use Rattle.tt_session.specs.Recovery.{with_entries, ComesFrom, recovered_session, IsRecoverable}
 use Rattle.tt_session.specs.Run.{turn_by_request}
 use Rattle.tt_session.proofs.BaseLemmas.{Base, base_of, outcome_base, request_base, carried-stays, request-next}
 use Rattle.tt_session.proofs.TogetherLemmas.{open-same}
@@ -119,7 +121,7 @@ next-carried db next all entries index e there is so_far =
 -- ---- a session whose database may be lost
 
 -- a session whose database is there is itself
-pub recovered_there : (session : OpenSession) (checkpoint : Option Database) (is_lost : Bool) → is_lost ≡ false → recovered session checkpoint is_lost ≡ session
+pub recovered_there : (session : OpenSession) (checkpoint : Option Database) (is_lost : Bool) → is_lost ≡ false → recovered_session session checkpoint is_lost ≡ session
 recovered_there session None is_lost there = refl
 recovered_there session (Some db) true there = cc
 recovered_there session (Some db) false there = refl
@@ -150,23 +152,23 @@ recoverable_calls session calls None is_lost is = is
 recoverable_calls session calls (Some db) true is = is
 recoverable_calls session calls (Some db) false is = is
 
-pub recovered_calls : (session : OpenSession) (calls : ℕ) (checkpoint : Option Database) (is_lost : Bool) → recovered (record session { calls = calls }) checkpoint is_lost ≡ record (recovered session checkpoint is_lost) { calls = calls }
+pub recovered_calls : (session : OpenSession) (calls : ℕ) (checkpoint : Option Database) (is_lost : Bool) → recovered_session (record session { calls = calls }) checkpoint is_lost ≡ record (recovered_session session checkpoint is_lost) { calls = calls }
 recovered_calls session calls None is_lost = refl
 recovered_calls session calls (Some db) true = refl
 recovered_calls session calls (Some db) false = refl
 
-pub calls_of_recovered : (session : OpenSession) (checkpoint : Option Database) (is_lost : Bool) → (recovered session checkpoint is_lost).calls ≡ session.calls
+pub calls_of_recovered : (session : OpenSession) (checkpoint : Option Database) (is_lost : Bool) → (recovered_session session checkpoint is_lost).calls ≡ session.calls
 calls_of_recovered session None is_lost = refl
 calls_of_recovered session (Some db) true = refl
 calls_of_recovered session (Some db) false = refl
 
-pub most_of_recovered : (session : OpenSession) (checkpoint : Option Database) (is_lost : Bool) → (recovered session checkpoint is_lost).most_records ≡ session.most_records
+pub most_of_recovered : (session : OpenSession) (checkpoint : Option Database) (is_lost : Bool) → (recovered_session session checkpoint is_lost).most_records ≡ session.most_records
 most_of_recovered session None is_lost = refl
 most_of_recovered session (Some db) true = refl
 most_of_recovered session (Some db) false = refl
 
 -- what goes on behind a time has another database
-pub forgotten_recovered : (session : OpenSession) (f : Forgetting) (checkpoint : Option Database) (is_lost : Bool) → forgotten_by (recovered session checkpoint is_lost) f ≡ forgotten_by session f
+pub forgotten_recovered : (session : OpenSession) (f : Forgetting) (checkpoint : Option Database) (is_lost : Bool) → forgotten_by (recovered_session session checkpoint is_lost) f ≡ forgotten_by session f
 forgotten_recovered session f None is_lost = refl
 forgotten_recovered session f (Some db) true = refl
 forgotten_recovered session f (Some db) false = refl

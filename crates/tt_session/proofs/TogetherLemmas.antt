@@ -21,7 +21,7 @@ use Rattle.tt_session.specs.declared.session.Session.TheVariants.{Open}
 use Rattle.tt_session.specs.Answering.{LineRead, turn_of_read, turns_of}
 use Rattle.tt_requests.specs.Lines.{is_passed_over}
 use Rattle.tt_session.specs.ForgetTurns.{AnswersPlain}
-use Rattle.tt_commands.specs.Commands.{asks_to_forget}
+use Rattle.tt_requests.specs.Asked.{asks_to_forget}
 use Rattle.tt_session.specs.Feeds.{joined, has_no_feed}
 use Rattle.tt_session.specs.Logged.{logged_by, logged_of, ArePlain, with_lines}
 use Rattle.tt_session.specs.Run.{Turn, turn_by_reopening, turn_by_request, turn_with_memory}

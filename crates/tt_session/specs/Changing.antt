@@ -4,7 +4,7 @@ use Rattle.tt_requests.specs.LineValue.{value_of_line}
 use Rattle.tt_commands.specs.Session.{request_in}
 use Rattle.tt_session.specs.declared.session.Session.{Session}
 use Rattle.tt_session.specs.declared.session.Session.TheVariants as sessions
-use Rattle.tt_commands.specs.Commands.{asks_to_forget}
+use Rattle.tt_requests.specs.Asked.{asks_to_forget}
 
 -- how many entries a session has made, its opening among them
 abbrev pub entries_of : Session → ℕ

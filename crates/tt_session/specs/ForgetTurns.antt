@@ -2,7 +2,7 @@
 use Rattle.std.specs.Prelude.{◌≡◌, ℕ, false, List, ◌++◌, Option, None, Some}
 use Rattle.tt_requests.specs.Lines.{is_too_long, is_passed_over}
 use Rattle.tt_requests.specs.LineValue.{value_of_line}
-use Rattle.tt_commands.specs.declared.commands.ForgetRequest.{ForgetRequest}
+use Rattle.tt_requests.specs.declared.asked.ForgetRequest.{ForgetRequest}
 use Rattle.tt_session.specs.declared.ready_to_forget.ReadyToForget.{ReadyToForget}
 use Rattle.tt_session.specs.declared.session.Session.{Session}
 use Rattle.tt_session.specs.declared.session.Session.TheVariants as sessions
@@ -12,7 +12,8 @@ use Rattle.tt_commands.specs.Forgetting.{forgets_nothing}
 use Rattle.tt_session.specs.Run.{Turn, turn_by_outcome, turn_with_memory}
 use Rattle.tt_session.specs.Logged.{logged_by, IsPlain, with_lines}
 use Rattle.tt_session.specs.Together.{kept_line}
-use Rattle.tt_commands.specs.ForgetRequests.{IsForgetRequest, outcome_of_forget}
+use Rattle.tt_commands.specs.ForgetRequests.{outcome_of_forget}
+use Rattle.tt_requests.specs.Asked.{IsForgetRequest}
 
 -- what is printed for it, and the session after it
 abbrev pub turn_of_forget : OpenSession → ForgetRequest → Turn

@@ -14,12 +14,12 @@ abbrev pub ComesFrom : Database → Database → Type 0
 ComesFrom earlier db = (more : List Entry) × (db ≡ with_entries earlier more)
 
 -- a session. Where its database is lost, it has the one that its checkpoint leads to
-abbrev pub recovered : OpenSession → Option Database → Bool → OpenSession
-recovered session (Some db) true = with_database session db
-recovered session (Some db) false = session
-recovered session None is_lost = session
+abbrev pub recovered_session : OpenSession → Option Database → Bool → OpenSession
+recovered_session session (Some db) true = with_database session db
+recovered_session session (Some db) false = session
+recovered_session session None is_lost = session
 
--- a checkpoint leads to an earlier database of the session; or the database is lost, and the session is sound with the one that the checkpoint leads to
+-- a checkpoint leads to an earlier database of the session; or the database is lost, and the session is sound with the one that the checkpoint leads to; or there is no checkpoint, and the database is there
 abbrev pub IsRecoverable : OpenSession → Option Database → Bool → Type 0
 IsRecoverable session (Some db) true = IsOpenSession (with_database session db)
 IsRecoverable session (Some db) false = ComesFrom db session.database

@@ -4,7 +4,7 @@ ghost use Rattle.tt_commands.specs.Changes.{with_change};
 ghost use Rattle.tt_answers.specs.AnswerText.{call_text};
 ghost use Rattle.tt_session.specs.declared.session.Session.TheVariants.{Open};
 ghost use Rattle.tt_commands.specs.Session.{counted, with_database};
-ghost use Rattle.tt_commands.specs.Commands.{asks_read_only};
+ghost use Rattle.tt_requests.specs.Asked.{asks_read_only};
 ghost use Rattle.tt_session.specs.Run.{turn_by_request, turn_of_answer};
 
 use crate::workspace::append;
@@ -172,8 +172,8 @@ pub(crate) fn push_answer(
     text: &mut Vec<u8>,
     answer: &Answer,
 ) -> Result<(), AllocError>
-    ensures { OnOk result (text.new.items ≡ text.old.items
-        ++ call_text session.now.database.catalog session.now.numbering session.now.calls answer.now) }
+    ensures { OnOk result (text.new.items ≡ text.old.items ++ call_text
+        session.now.database.catalog session.now.numbering session.now.calls answer.now) }
 {
     push_call(
         text,

@@ -47,9 +47,9 @@ impl Checkpoint {
         ensures part { ComesFrom self.new db.now }
     {
         let count = db.events();
-        let known = self.db.events() + self.entries.len() as u64;
+        let known_count = self.db.events() + self.entries.len() as u64;
         if count - self.db.events() <= MAX_ENTRIES {
-            return push_entries(&mut self.entries, db, known);
+            return push_entries(&mut self.entries, db, known_count);
         }
         *self = Checkpoint::of(alloc, db)?;
         Ok(())
@@ -65,16 +65,16 @@ impl Checkpoint {
     }
 }
 
-/// Adds the entries of a database behind the first `known`. Where memory runs out, some of the
-/// first ones may be added.
-fn push_entries(entries: &mut Vec<Entry>, db: &Db, known: u64) -> Result<(), AllocError>
-    requires { known ≤ length db.now.history }
+/// Adds the entries of a database behind the first `known_count`. Where memory runs out, some of
+/// the first ones may be added.
+fn push_entries(entries: &mut Vec<Entry>, db: &Db, known_count: u64) -> Result<(), AllocError>
+    requires { known_count ≤ length db.now.history }
     ensures ok { OnOk result
-        (entries.new.items ≡ entries.old.items ++ drop known db.now.history) }
+        (entries.new.items ≡ entries.old.items ++ drop known_count db.now.history) }
     ensures part { (rest : List Entry)
-        × (entries.new.items ++ rest ≡ entries.old.items ++ drop known db.now.history) }
+        × (entries.new.items ++ rest ≡ entries.old.items ++ drop known_count db.now.history) }
 {
-    for place in known..db.events() {
+    for place in known_count..db.events() {
         let Some(entry) = db.entry(place + 1) else {
             unreachable!();
         };

@@ -77,7 +77,8 @@ impl PendingLines {
         requires { (kept : Option (List (List ℕ))) × (more : List (List ℕ))
             × (self.old ≡ with_lines kept more) × (byte_len ≡ bytes_of kept) }
         ensures { (kept : Option (List (List ℕ))) (more : List (List ℕ))
-            → self.old ≡ with_lines kept more → byte_len ≡ bytes_of kept → self.new ≡ kept }
+            → self.old ≡ with_lines kept more → byte_len ≡ bytes_of kept
+            → self.new ≡ kept }
     {
         if self.has_log {
             self.lines.truncate(byte_len);

@@ -9,7 +9,8 @@ use crate::recoverable_session::RecoverableSession;
 use crate::workspace::append;
 use std::alloc::AllocError;
 use tt_answers::{Answer, push_call};
-use tt_commands::{BoxedForgetting, Failure, ForgetRequest, OpenSession, outcome_of_forget};
+use tt_commands::{BoxedForgetting, Failure, OpenSession, outcome_of_forget};
+use tt_requests::ForgetRequest;
 
 /// How a session goes on that forgets what lies before a time, and the text of its answer.
 #[derive(Drop)]

@@ -7,11 +7,11 @@ ghost use Rattle.tt_grammar.specs.Version.{newest_version};
 ghost use Rattle.tt_commands.specs.Session.{counted, terms_of};
 ghost use Rattle.tt_commands.specs.Changes.{forgotten_by};
 ghost use Rattle.tt_commands.specs.Invariants.{IsOpenSession};
-ghost use Rattle.tt_commands.specs.Commands.{asks_to_forget};
+ghost use Rattle.tt_requests.specs.Asked.{asks_to_forget};
 ghost use Rattle.tt_session.specs.declared.session.Session.TheVariants.{Open};
 ghost use Rattle.tt_session.specs.ForgetTurns.{Prepares};
 ghost use Rattle.tt_session.specs.Logged.{logged_by, with_lines};
-ghost use Rattle.tt_session.specs.Recovery.{ComesFrom, recovered, IsRecoverable};
+ghost use Rattle.tt_session.specs.Recovery.{ComesFrom, recovered_session, IsRecoverable};
 ghost use Rattle.tt_session.specs.Run.{turn_by_request, turn_by_reopening};
 
 use crate::answering::answer_call;
@@ -23,11 +23,11 @@ use crate::reopening::reopen;
 use crate::workspace::Workspace;
 use std::alloc::{AllocError, Global};
 use std::marker::Model;
-use tt_commands::{BoxedForgetting, ForgetRequest, OpenSession, Terms, asks_read_only};
+use tt_commands::{BoxedForgetting, OpenSession, Terms};
 use tt_db::Db;
 use tt_grammar::DocFault;
 use tt_json::Scratch;
-use tt_requests::{Request, SessionLine};
+use tt_requests::{ForgetRequest, Request, SessionLine, asks_read_only};
 
 /// An open session that outlives a change for which there is no memory. Requests change its
 /// database in place. Where memory runs out in the midst of that, the database is lost, and made
@@ -55,11 +55,11 @@ impl Drop for RecoverableSession {
 
 impl Model for RecoverableSession {
     ghost use Rattle.tt_commands.specs.Session.{OpenSession};
-    ghost use Rattle.tt_session.specs.Recovery.{recovered, IsRecoverable};
+    ghost use Rattle.tt_session.specs.Recovery.{recovered_session, IsRecoverable};
 
     ghost Value = { OpenSession };
 
-    ghost view = { λ r. recovered r.parts.session r.parts.checkpoint r.parts.is_lost };
+    ghost view = { λ r. recovered_session r.parts.session r.parts.checkpoint r.parts.is_lost };
 
     ghost invariant = { λ r.
         IsRecoverable r.parts.session r.parts.checkpoint r.parts.is_lost };
@@ -201,12 +201,12 @@ impl RecoverableSession {
 }
 
 impl Parts {
-    /// Makes the database again, if it is lost. Where memory runs out, it is lost as before.
+    /// Makes the database again, if it is lost. Where memory runs out, it stays lost.
     fn recover(&mut self) -> Result<(), AllocError>
         requires { IsRecoverable self.old.session self.old.checkpoint self.old.is_lost }
         ensures there { OnOk result (self.new.is_lost ≡ false) }
         ensures session { OnOk result (self.new.session
-            ≡ recovered self.old.session self.old.checkpoint self.old.is_lost) }
+            ≡ recovered_session self.old.session self.old.checkpoint self.old.is_lost) }
         ensures recoverable { IsRecoverable self.new.session self.new.checkpoint self.new.is_lost }
         ensures stays { OnErr result (self.new ≡ self.old) }
     {
@@ -258,7 +258,7 @@ impl Parts {
             (logged_by (Open self.old.session) (Open self.new.session) line.now)) }
         ensures there { OnOk result (self.new.is_lost ≡ false) }
         ensures text_stays { OnErr result (out.new.items ≡ out.old.items) }
-        ensures session_stays { OnErr result (recovered self.new.session self.new.checkpoint
+        ensures session_stays { OnErr result (recovered_session self.new.session self.new.checkpoint
             self.new.is_lost ≡ self.old.session) }
         ensures lines_stay { OnErr result (workspace.new.lines ≡ workspace.old.lines) }
         ensures recoverable { IsRecoverable self.new.session self.new.checkpoint self.new.is_lost }

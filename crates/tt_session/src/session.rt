@@ -13,9 +13,9 @@ use crate::together::{self, Extent};
 use crate::workspace::{Workspace, append};
 use std::alloc::{AllocError, Global};
 use tt_answers::{Answer, push_opening};
-use tt_commands::{BoxedForgetting, ForgetRequest, OpenSession, Terms, status_of};
+use tt_commands::{BoxedForgetting, OpenSession, Terms, status_of};
 use tt_grammar::DocFault;
-use tt_requests::{Numbering, Opening, is_passed_over};
+use tt_requests::{ForgetRequest, Numbering, Opening, is_passed_over};
 
 /// A session: a database that is opened by a line, and answers each further line.
 #[derive(Drop)]

@@ -13,9 +13,8 @@ use crate::lost_line::LostLine;
 use crate::recoverable_session::RecoverableSession;
 use crate::workspace::{Workspace, is_much};
 use std::alloc::AllocError;
-use tt_commands::{ForgetRequest, asks_to_forget, forget_request};
 use tt_grammar::DocFault;
-use tt_requests::{Request, SessionLine};
+use tt_requests::{ForgetRequest, Request, SessionLine, asks_to_forget, forget_request};
 
 /// How far the lines that some bytes begin with were answered together.
 #[derive(Clone, Copy)]

@@ -12,8 +12,9 @@ returns c =
     let older = c.parts.result.0.now in
     let newer = c.parts.result.1.now in
     let change_in = change_at c.args.moment session.database.catalog (state_of session.database) in
-    let first = rw c.db-db.ensures.value at c.in_ok-push_entries.ensures in
-    let second = rw c.db-db.ensures.value at c.in_ok-push_entries-2.ensures in
+    let opened : c.new-slots.result ≡ session.database = c.new-slots.ensures ∙ c.db.ensures.value in
+    let first = rw opened at c.in_ok-push_entries.ensures.entries in
+    let second = rw (c.push_entries.ensures.database ∙ opened) at c.in_ok-push_entries-2.ensures.entries in
     let begun : c.push_entries.new.entries.items ≡ entries_of_changes change_in older =
     first ∙ ap (λ es. es ++ entries_of_changes change_in older) c.new-entries.ensures.items in
     let both : c.push_entries-2.new.entries.items ≡ entries_of_changes change_in session.records =

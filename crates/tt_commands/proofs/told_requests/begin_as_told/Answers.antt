@@ -3,7 +3,8 @@ use Rattle.std.proofs.Common.{◌≡◌, map, None, Result, sym, ap, subst, ◌�
 use Rattle.tt_answers.specs.declared.answer.Refusal.{Refusal}
 use Rattle.tt_commands.specs.Answers.{Answered, Becomes}
 use Rattle.tt_commands.specs.Repairing.{begin}
-use Rattle.tt_commands.specs.ToldRequests.{missing_if_idle, own_edit, unless_missing, begin_as_told}
+use Rattle.tt_commands.specs.ToldRequests.{missing_if_idle, unless_missing, begin_as_told}
+use Rattle.tt_requests.specs.ToldEdits.{own_edit}
 use Rattle.tt_commands.proofs.told_requests.begin_as_told.Goals as goal
 
 pub returns-clause-becomes : goal.returns-clause-becomes

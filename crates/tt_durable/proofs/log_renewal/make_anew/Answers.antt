@@ -1,5 +1,5 @@
 -- What is written beside the log is put in its place.
-use Rattle.std.proofs.Common.{◌+◌, ◌<◌, List, ℕ, inr, subst, arith}
+use Rattle.std.proofs.Common.{List, ℕ, inr, subst, arith}
 use Rattle.tt_session.specs.LogLines.{lines_of_database}
 use Rattle.tt_durable.specs.Renewing.{KeepsLog, TakesLines, FailsToRenew}
 use Rattle.tt_commands.proofs.ResultLemmas.{on_ok}

@@ -2,8 +2,7 @@
 use Rattle.std.proofs.Common.{◌↔◌, ◌-◌, All, take, drop}
 use Rattle.tt_log.specs.Log.{IsSettled, IsMaking}
 use Rattle.tt_session.specs.LogLines.{lines_of_entries}
-use Rattle.tt_durable.specs.Renewing.{IsPrintable}
-use Rattle.tt_durable.proofs.RenewingLemmas.{WritesOn}
+use Rattle.tt_durable.specs.Renewing.{IsPrintable, WritesOn}
 use Rattle.tt_durable.proofs.log_renewal.push_slots.Given as goal
 
 abbrev pub invariant-loop-place : goal.invariant-loop-place

@@ -1,16 +1,25 @@
 -- The pieces of the object, one after another.
 use Rattle.std.proofs.Common.{map, codes}
+use Rattle.std.proofs.lemmas.List.Elements.{All-append, All-map}
+use Rattle.tt_values.specs.declared.statement.Equal.{Equal}
 use Rattle.tt_grammar.specs.Quoting.{quoted}
 use Rattle.tt_grammar.specs.JsonText.{array_text}
+use Rattle.tt_grammar.specs.ReadBack.{IsStorable, value_of_change, values_of_equals}
 use Rattle.tt_grammar.specs.WriteText.{table_name, column_change_text, equal_text}
 use Rattle.tt_grammar.proofs.PieceLemmas.{three-members}
 use Rattle.tt_grammar.proofs.write_text.push_update.Goals as goal
 
-pub returns : goal.returns
-returns c =
+pub returns-clause-text : goal.returns-clause-text
+returns-clause-text c =
     three-members c.args.out.now.items c.push_table_name.new.out.items c.extend_from_slice.new.self.items c.push_changes.new.out.items c.extend_from_slice-2.new.self.items
     c.push_equals.new.out.items c.push.new.self.items
     (codes "{\"update\":") (quoted (table_name c.args.catalog.now c.args.table)) (codes ",\"change\":") (array_text (map (column_change_text c.args.catalog.now c.args.table) c.args.changes.now))
     (codes ",\"where\":") (array_text (map (equal_text c.args.catalog.now c.args.table) c.args.equals.now)) (codes "}")
-    c.in_ok-push_table_name.ensures c.in_ok-extend_from_slice.ensures.items c.in_ok-push_changes.ensures c.in_ok-extend_from_slice-2.ensures.items c.in_ok-push_equals.ensures
+    c.in_ok-push_table_name.ensures c.in_ok-extend_from_slice.ensures.items c.in_ok-push_changes.ensures.text c.in_ok-extend_from_slice-2.ensures.items c.in_ok-push_equals.ensures.text
     c.in_ok-push.ensures.items
+
+pub returns-clause-storable : goal.returns-clause-storable
+returns-clause-storable c =
+    All-append IsStorable (map value_of_change c.args.changes.now) (values_of_equals c.args.equals.now)
+    (All-map IsStorable value_of_change c.args.changes.now c.in_ok-push_changes.ensures.storable)
+    (All-map IsStorable (λ (q : Equal). q.value) c.args.equals.now c.in_ok-push_equals.ensures.storable)

@@ -3,4 +3,4 @@ use Rattle.std.proofs.Common.{◌≡◌, ◌++◌, drop}
 use Rattle.tt_session.proofs.checkpoint.push_entries.Given as goal
 
 abbrev pub invariant-loop-place : goal.invariant-loop-place
-invariant-loop-place l = l.entries.items ++ drop l.place l.db.history ≡ l.initial.entries.items ++ drop l.known l.db.history
+invariant-loop-place l = l.entries.items ++ drop l.place l.db.history ≡ l.initial.entries.items ++ drop l.known_count l.db.history

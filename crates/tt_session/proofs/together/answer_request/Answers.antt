@@ -4,7 +4,7 @@ use Rattle.tt_requests.proofs.LineLemmas.{value_of_line-long}
 use Rattle.tt_requests.specs.declared.request.Request.{Request}
 use Rattle.tt_requests.specs.Lines.{is_too_long}
 use Rattle.tt_requests.specs.LineValue.{value_of_line}
-use Rattle.tt_commands.specs.ForgetRequests.{IsForgetRequest}
+use Rattle.tt_requests.specs.Asked.{IsForgetRequest}
 use Rattle.tt_commands.specs.Session.{OpenSession, request_in}
 use Rattle.tt_session.proofs.TogetherLemmas.{line-plain}
 use Rattle.tt_session.proofs.together.answer_request.Goals as goal

@@ -54,7 +54,7 @@ returns-clause-renames g c = λ told.
     let copy = c.in_ok-bytes.bytes in
     let same = copied c.copy_of.result copy bytes c.in_ok-bytes.ensures.ok c.copy_of.ensures in
     let is = outcomes-shown events bytes copy same new c.in_ok-record.ensures.ok in
-    ap (λ (o : Outcomes). o.renames) is
+    ap (λ (o : Outcomes). o.rename_count) is
 
 pub returns-clause-first : goal.returns-clause-first
 returns-clause-first g c = λ told.

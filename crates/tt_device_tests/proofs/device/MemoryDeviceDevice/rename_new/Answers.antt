@@ -53,7 +53,7 @@ returns-in-Ok-clause-renames g c = λ told.
     let copy = c.in_ok-bytes.bytes in
     let same = copied c.copy_of.result copy c.deref.result.now c.in_ok-bytes.ensures.ok c.copy_of.ensures ∙ c.deref.ensures.value in
     let is = outcomes-placed events d.new_file.items copy same new is_on_disk c.in_ok-record.ensures.ok in
-    omega (arith, ap (λ (o : Outcomes). o.renames) is)
+    omega (arith, ap (λ (o : Outcomes). o.rename_count) is)
 
 pub returns-in-Ok-clause-time : goal.returns-in-Ok-clause-time
 returns-in-Ok-clause-time g c = λ told.
@@ -91,8 +91,8 @@ returns-in-Err-clause-shown g c = λ told.
     let is = outcomes-placed events d.new_file.items copy same new is_on_disk c.in_ok-record.ensures.ok in
     ap (λ (o : Outcomes). o.shown) is
 
-pub returns-in-Err-clause-renames_unknown : goal.returns-in-Err-clause-renames_unknown
-returns-in-Err-clause-renames_unknown g c = λ told unknown.
+pub returns-in-Err-clause-renames_lost : goal.returns-in-Err-clause-renames_lost
+returns-in-Err-clause-renames_lost g c = λ told unknown.
     let d = c.args.self.now in
     let events = d.events.items in
     let new = c.record.new.events.items in
@@ -100,7 +100,7 @@ returns-in-Err-clause-renames_unknown g c = λ told unknown.
     let copy = c.in_ok-bytes.bytes in
     let same = copied c.copy_of.result copy c.deref.result.now c.in_ok-bytes.ensures.ok c.copy_of.ensures ∙ c.deref.ensures.value in
     let is = outcomes-placed events d.new_file.items copy same new is_on_disk c.in_ok-record.ensures.ok in
-    omega (arith, ap (λ (o : Outcomes). o.renames) is)
+    omega (arith, ap (λ (o : Outcomes). o.rename_count) is)
 
 pub returns-in-Err-clause-time : goal.returns-in-Err-clause-time
 returns-in-Err-clause-time g c = λ told.

@@ -40,7 +40,7 @@ returns-in-Err-clause-renames g c = λ told.
     let d = c.args.self.now in
     let events = d.events.items in
     let new = c.record.new.events.items in
-    ap (λ (o : Outcomes). o.renames) (outcomes-more events SyncFailed new c.in_ok-record.ensures.ok)
+    ap (λ (o : Outcomes). o.rename_count) (outcomes-more events SyncFailed new c.in_ok-record.ensures.ok)
 
 pub returns-in-Err-clause-crash : goal.returns-in-Err-clause-crash
 returns-in-Err-clause-crash g c = λ told left was.
@@ -100,7 +100,7 @@ returns-clause-renames g c = λ told.
     let d = c.args.self.now in
     let events = d.events.items in
     let new = c.record-2.new.events.items in
-    ap (λ (o : Outcomes). o.renames) (outcomes-more events Synced new c.in_ok-record-2.ensures.ok)
+    ap (λ (o : Outcomes). o.rename_count) (outcomes-more events Synced new c.in_ok-record-2.ensures.ok)
 
 pub returns-clause-crash : goal.returns-clause-crash
 returns-clause-crash g c = λ told left was.

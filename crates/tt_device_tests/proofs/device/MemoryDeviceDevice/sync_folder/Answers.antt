@@ -42,7 +42,7 @@ returns-clause-renames g c = λ told.
     let d = c.args.self.now in
     let events = d.events.items in
     let new = c.record.new.events.items in
-    ap (λ (o : Outcomes). o.renames) (outcomes-more events NameSynced new c.in_ok-record.ensures.ok)
+    ap (λ (o : Outcomes). o.rename_count) (outcomes-more events NameSynced new c.in_ok-record.ensures.ok)
 
 pub returns-clause-crash : goal.returns-clause-crash
 returns-clause-crash g c = λ told left was.

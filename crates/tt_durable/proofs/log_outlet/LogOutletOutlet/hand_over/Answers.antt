@@ -1,6 +1,6 @@
 -- The lines are logged behind those that are there, and then the text is handed over.
-use Rattle.std.proofs.Common.{◌≡◌, ◌≢◌, ◌⊎◌, ◌+◌, ◌<◌, ◌++◌, Some, inl, inr, ⊎_elim, refl, sym, subst, ◌∙◌, arith}
-use Rattle.tt_log.specs.Device.{RemovesNew}
+use Rattle.std.proofs.Common.{◌≡◌, ◌≢◌, ◌+◌, ◌<◌, ◌++◌, Some, inl, inr, ⊎_elim, refl, sym, subst, ◌∙◌, arith}
+use Rattle.tt_log.specs.Device.{LeavesNoNewFile}
 use Rattle.tt_log.specs.Lines.{logged}
 use Rattle.tt_log.specs.declared.log_error.LogError.{LogError}
 use Rattle.tt_log.specs.declared.log_error.LogError.TheVariants as errors
@@ -39,7 +39,7 @@ returns-in-Ok-clause-handed g c = λ first start over kept so_far is told.
       new_logs = new-append start over kept h.new_logs (new-plain (turns_of start over).session kept is.plain);
       failures = omega (arith, h.failures, done.failures h.tells, unlogged-kept start over kept is.plain);
       no_new =
-          subst (λ n. RemovesNew D.has_new D.failures n begun new) (sym (unlogged-kept start over kept is.plain))
+          subst (λ n. LeavesNoNewFile D.has_new_file D.failures n begun new) (sym (unlogged-kept start over kept is.plain))
           (no-new-then D begun old new (unlogged_count over) h.no_new (done.no_new h.tells) (done.failures h.tells));
     }
 
@@ -64,7 +64,7 @@ returns-in-Err-clause-stopped g c = λ first start over kept more so_far is told
     let new_logs = new-append start over kept h.new_logs (new-plain (turns_of start over).session kept is.plain) in
     let unlogged = unlogged-kept start over kept is.plain in
     let no_new = no-new-then D begun old new (unlogged_count over) h.no_new (done.no_new h.tells) (done.failures h.tells) in
-    let no_new_failed : (D.failures old < D.failures new) → RemovesNew D.has_new D.failures (unlogged_count (over ++ kept) + 1) begun new = λ failed now. ⊎_elim (λ was. inl was) (λ more_failed. inr (omega (arith, more_failed, failed, unlogged))) (h.no_new (done.no_new h.tells now)) in
+    let no_new_failed : (D.failures old < D.failures new) → LeavesNoNewFile D.has_new_file D.failures (unlogged_count (over ++ kept) + 1) begun new = λ failed now. ⊎_elim (λ was. inl was) (λ more_failed. inr (omega (arith, more_failed, failed, unlogged))) (h.no_new (done.no_new h.tells now)) in
     let in_log : D.shown new ≡ D.shown old → CannotWrite D begun new (unlogged_count (over ++ kept)) (log_after lines start (over ++ kept)) → StoppedInLog of begun new start ((over ++ kept) ++ more) = λ unshown why. record {
       answered = over;
       pending = kept;
@@ -92,5 +92,5 @@ returns-in-Err-clause-stopped g c = λ first start over kept more so_far is told
     })
     (λ e. in_log (at_err unless_output c.hand_over.result errors.Full e (done.unshown h.tells) (λ same. cc)) (inr (
       full-stopped start lines (over ++ kept) now c.args.lines.now c.args.self.now.log.end all (c.requires h.tells).end (done.full e),
-      subst (λ n. RemovesNew D.has_new D.failures n begun new) (sym unlogged) no_new,
+      subst (λ n. LeavesNoNewFile D.has_new_file D.failures n begun new) (sym unlogged) no_new,
     ))) done.no_read

@@ -1,6 +1,6 @@
 -- The log is made anew, and then the answer is handed over; or it goes on as it was, and the refusal is handed over or nothing.
 use Rattle.std.proofs.Common.{List, ℕ, Err, inl, refl, ap, arith, ◌∙◌, subst}
-use Rattle.tt_log.specs.Device.{RemovesNew}
+use Rattle.tt_log.specs.Device.{LeavesNoNewFile}
 use Rattle.tt_log.specs.Lines.{logged}
 use Rattle.tt_log.specs.Log.{Keeps, KeepsEither}
 use Rattle.tt_log.proofs.MomentLemmas as moments
@@ -56,7 +56,7 @@ returns-in_err-hand_over_alone-in-Err-Kept-clause-stopped g c =
           c.hand_over_alone-in-Err-Kept.new.self.log
           (moments.weaker D.moment D.left_since old.device mid.device (Keeps lines (D.shown old.device)) (KeepsEither lines new (D.shown old.device)) keeps.any_moment (λ left q. inl q))
           (ap logged keeps.seen ∙ h.lines_are) keeps.shown (omega (arith, kept.1))
-          (subst (λ fault. RemovesNew D.has_new D.failures (failures_by fault) old.device mid.device) c.in-Err-Kept.field-0-is (c.in-Err-Kept.ensures.no_new_err h.tells)) c.hand_over_alone-in-Err-Kept.new.self.error more (c.in_err-hand_over_alone-in-Err-Kept.ensures.err keeps.tells),
+          (subst (λ fault. LeavesNoNewFile D.has_new_file D.failures (failures_by fault) old.device mid.device) c.in-Err-Kept.field-0-is (c.in-Err-Kept.ensures.no_new_err h.tells)) c.hand_over_alone-in-Err-Kept.new.self.error more (c.in_err-hand_over_alone-in-Err-Kept.ensures.err keeps.tells),
     ))
 
 pub returns-in_ok-hand_over_alone-in-Ok-clause-renewed : goal.returns-in_ok-hand_over_alone-in-Ok-clause-renewed
@@ -95,7 +95,7 @@ returns-in_ok-hand_over_alone-in-Err-Kept-clause-renewed g c = λ first start ov
     c.hand_over_alone-in-Err-Kept.new.self.log
     (moments.weaker D.moment D.left_since old.device mid.device (Keeps lines (D.shown old.device)) (KeepsEither lines new (D.shown old.device)) keeps.any_moment (λ left q. inl q))
     (ap logged keeps.seen ∙ h.lines_are) keeps.shown (omega (arith, kept.1))
-    (subst (λ fault. RemovesNew D.has_new D.failures (failures_by fault) old.device mid.device) c.in-Err-Kept.field-0-is (c.in-Err-Kept.ensures.no_new_err h.tells)) (c.in_ok-hand_over_alone-in-Err-Kept.ensures.ok keeps.tells)
+    (subst (λ fault. LeavesNoNewFile D.has_new_file D.failures (failures_by fault) old.device mid.device) c.in-Err-Kept.field-0-is (c.in-Err-Kept.ensures.no_new_err h.tells)) (c.in_ok-hand_over_alone-in-Err-Kept.ensures.ok keeps.tells)
 
 pub returns-in-Err-Memory-clause-renewed : goal.returns-in-Err-Memory-clause-renewed
 returns-in-Err-Memory-clause-renewed g c = λ first start over line so_far p told.
@@ -108,7 +108,7 @@ returns-in-Err-Memory-clause-renewed g c = λ first start over line so_far p tol
     let h = so_far told in
     handed-kept of first.log.device start over old after h
     (subst (λ fault. FailsToRenew fault of old after (lines_of_database f.db f.numbering terms)) c.in-Err-Memory.field-0-is (c.in-Err-Memory.ensures.err h.tells))
-    (subst (λ fault. RemovesNew D.has_new D.failures (failures_by fault) old.device after.device) c.in-Err-Memory.field-0-is (c.in-Err-Memory.ensures.no_new_err h.tells))
+    (subst (λ fault. LeavesNoNewFile D.has_new_file D.failures (failures_by fault) old.device after.device) c.in-Err-Memory.field-0-is (c.in-Err-Memory.ensures.no_new_err h.tells))
 
 pub returns-in-Err-Lost-clause-stopped : goal.returns-in-Err-Lost-clause-stopped
 returns-in-Err-Lost-clause-stopped g c = λ first start over line so_far p. (
@@ -127,5 +127,5 @@ returns-in-Err-Lost-clause-stopped g c = λ first start over line so_far p. (
       (step-anew of first.log.device start over line f terms text refusal p (c.make_anew.ensures.readable_lost (c.in-Err-Lost.is ∙ ap Err c.in-Err-Lost.field-0-is))) old
       c.make_anew.new.log more refl refl
       (subst (λ fault. FailsToRenew fault of old c.make_anew.new.log (lines_of_database f.db f.numbering terms)) c.in-Err-Lost.field-0-is (c.in-Err-Lost.ensures.err h.tells))
-      (subst (λ fault. RemovesNew D.has_new D.failures (failures_by fault) old.device c.make_anew.new.log.device) c.in-Err-Lost.field-0-is (c.in-Err-Lost.ensures.no_new_err h.tells)),
+      (subst (λ fault. LeavesNoNewFile D.has_new_file D.failures (failures_by fault) old.device c.make_anew.new.log.device) c.in-Err-Lost.field-0-is (c.in-Err-Lost.ensures.no_new_err h.tells)),
 )

@@ -1,7 +1,7 @@
 -- The request that the line asks is one to forget.
 use Rattle.std.proofs.Common.{Ok, ap, ◌∙◌}
 use Rattle.tt_requests.specs.declared.request.Command.{Command}
-use Rattle.tt_commands.proofs.commands.forget_request.Goals as goal
+use Rattle.tt_requests.proofs.asked.forget_request.Goals as goal
 
 pub returns-in-Forget : goal.returns-in-Forget
 returns-in-Forget c =

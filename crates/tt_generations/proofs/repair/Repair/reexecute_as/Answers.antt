@@ -1,4 +1,4 @@
--- The next action is re-executed on the rows, and what it re-executes gets dirty.
+-- The action is re-executed on the rows, and what it re-executes gets dirty.
 use Rattle.std.proofs.Common.{◌+◌, ◌<◌, Option, List, length, subst, sym, ap, ◌∙◌, arith}
 use Rattle.std.specs.List.{All}
 use Rattle.tt_values.specs.declared.statement.Write.{Write}
@@ -12,17 +12,17 @@ use Rattle.tt_generations.specs.Replies.{replies_if}
 use Rattle.tt_generations.specs.Reexecution.{reexecution_on, Reexecutes, ShowsFewBefore}
 use Rattle.tt_generations.specs.Repair.{next_action, as_action, with_rows_shown, ReexecutesSlot}
 use Rattle.tt_generations.proofs.RepairLemmas.{few_writes-accepted, keyed-accepted, tables-of_run, ReexecutesSlot-done}
-use Rattle.tt_generations.proofs.repair.Repair.reexecute.Goals as goal
+use Rattle.tt_generations.proofs.repair.Repair.reexecute_as.Goals as goal
 
 pub of_slot-requires-clause-keyed : goal.of_slot-requires-clause-keyed
 of_slot-requires-clause-keyed c =
-    let writes = c.writes_of-writes.ensures ∙ ap (λ (s : Option Action). (as_action s).writes) c.in_ok-action.ensures in
+    let writes = c.writes_of-writes.ensures ∙ ap (λ (s : Option Action). (as_action s).writes) c.requires.action in
     subst (λ (ws : List Write). All HasKey ws) (sym writes)
     (keyed-accepted c.args.catalog.now (next_action c.args.self.now c.args.kept.now) c.len.ensures.sound c.requires.accepted)
 
 pub of_slot-requires-clause-short : goal.of_slot-requires-clause-short
 of_slot-requires-clause-short c =
-    let writes = c.writes_of-writes.ensures ∙ ap (λ (s : Option Action). (as_action s).writes) c.in_ok-action.ensures in
+    let writes = c.writes_of-writes.ensures ∙ ap (λ (s : Option Action). (as_action s).writes) c.requires.action in
     omega (arith, few_writes-accepted c.args.catalog.now (next_action c.args.self.now c.args.kept.now) c.requires.accepted, ap length writes)
 
 pub of_slot-requires-clause-few : goal.of_slot-requires-clause-few
@@ -36,8 +36,8 @@ add_rows_shown-requires-clause-tables c =
     let run = reexecution_on c.of_slot.new.rows c.in_ok-run.run' in
     let time = before.done + 1 in
     let touched = c.args.kept.now.rows in
-    let writes = c.writes_of-writes.ensures ∙ ap (λ (s : Option Action). (as_action s).writes) c.in_ok-action.ensures in
-    let whole = c.is_whole-whole.ensures ∙ ap (λ (s : Option Action). (as_action s).whole) c.in_ok-action.ensures in
+    let writes = c.writes_of-writes.ensures ∙ ap (λ (s : Option Action). (as_action s).writes) c.requires.action in
+    let whole = c.is_whole-whole.ensures ∙ ap (λ (s : Option Action). (as_action s).whole) c.requires.action in
     let reexecutes : Reexecutes time touched (as_action (next_action before c.args.kept.now)) c.args.rows.now run =
     subst (λ (a : Action). Reexecutes time touched a c.args.rows.now run) (λ i. record { writes = writes i; whole = whole i })
     (subst (λ (rs : List RowId). Reexecutes time rs (record { writes = c.writes_of-writes.result.now; whole = c.is_whole-whole.result }) c.args.rows.now run) c.as_slice-touched.ensures c.in_ok-run.ensures) in
@@ -64,12 +64,12 @@ returns-clause-rows c =
     let run = reexecution_on c.of_slot.new.rows c.in_ok-run.run' in
     let time = before.done + 1 in
     let touched = c.args.kept.now.rows in
-    let writes = c.writes_of-writes.ensures ∙ ap (λ (s : Option Action). (as_action s).writes) c.in_ok-action.ensures in
-    let whole = c.is_whole-whole.ensures ∙ ap (λ (s : Option Action). (as_action s).whole) c.in_ok-action.ensures in
+    let writes = c.writes_of-writes.ensures ∙ ap (λ (s : Option Action). (as_action s).writes) c.requires.action in
+    let whole = c.is_whole-whole.ensures ∙ ap (λ (s : Option Action). (as_action s).whole) c.requires.action in
     let reexecutes : Reexecutes time touched (as_action (next_action before c.args.kept.now)) c.args.rows.now run =
     subst (λ (a : Action). Reexecutes time touched a c.args.rows.now run) (λ i. record { writes = writes i; whole = whole i })
     (subst (λ (rs : List RowId). Reexecutes time rs (record { writes = c.writes_of-writes.result.now; whole = c.is_whole-whole.result }) c.args.rows.now run) c.as_slice-touched.ensures c.in_ok-run.ensures) in
-    let action = c.in_ok-action.ensures in
+    let action = c.requires.action in
     let new = c.in_ok-slot.ensures in
     let put = c.in_ok-put_slot.ensures in
     let replies = new.replies ∙ ap (λ a. replies_if a run.replies) action in

@@ -1,7 +1,7 @@
 -- The kind at the first place whose member is there, if the place is one of the table.
 use Rattle.std.proofs.Common.{sym, ◌∙◌}
 use Rattle.tt_requests.proofs.KindLemmas.{chosen, none-chosen}
-use Rattle.tt_requests.proofs.kinds.Kind.at.Goals as goal
+use Rattle.tt_requests.proofs.kinds.RequestKind.kind_at.Goals as goal
 
 pub returns-in_err-kind : goal.returns-in_err-kind
 returns-in_err-kind c is_there place =
