@@ -44,8 +44,9 @@ PROMISED = {
                  'Write::delete '
                  'check check_select matches changed',
     'tt_versions': 'Table::at Table::is_split Table::rows_at Table::written Table::split_back '
-                   'Table::next_written Table::switched Table::aborted',
-    'tt_parts': 'parts_of reads_of Dirty::with_row Dirty::has_row Dirty::clear_of',
+                   'Table::next_written Table::switched Table::aborted Table::differences',
+    'tt_parts': 'parts_of reads_of Dirty::with_row Dirty::has_row Dirty::row_since '
+                'Dirty::partition_since Dirty::table_since Dirty::clear_of',
     'tt_db': 'Limits::usual Limits::fits Db::apply Db::begin Db::step Db::abort Db::select Db::select_at Db::preview '
              'Db::catalog Db::now Db::generation Db::events Db::entry Db::slot Db::repair '
              'Db::versions',

@@ -4,7 +4,8 @@
 PROOFS: dict[str, tuple[float, float]] = {
     'tt_streams': (0.8, 0), 'tt_log': (3.2, 0), 'tt_pages': (7.4, 0), 'tt_values': (6.3, 0),
     'tt_versions': (5.3, 0), 'tt_parts': (3.2, 0), 'tt_repair_laws': (0.7, 0),
-    'tt_generations': (8.3, 0), 'tt_db': (4.8, 0), 'tt_records': (1.7, 0), 'tt_store': (7.5, 0),
+    'tt_causes': (0.6, 0), 'tt_generations': (8.3, 0), 'tt_db': (4.8, 0), 'tt_records': (1.7, 0),
+    'tt_store': (7.5, 0),
     'tt_json': (2.2, 0), 'tt_grammar': (6.9, 0), 'tt_document': (2.5, 0), 'tt_repair': (1.3, 0),
     'tt_workload': (5.0, 0), 'tt_answers': (2.5, 0), 'tt_requests': (2.5, 0),
     'tt_commands': (5.0, 0), 'tt_session': (3.0, 0), 'tt_lines': (2.0, 0), 'tt_durable': (3.0, 0),

@@ -255,6 +255,21 @@ fn many_rows_are_switched(rt: HostRuntime) {
     expect_many(&rt, &table);
 }
 
+#[test]
+fn rows_that_differ_are_told(rt: HostRuntime) {
+    let table = many_rows(&rt, rt.alloc());
+    let before = table.differences(1, None, 3).expect(&rt, "memory");
+    assert!(rt; before.is_empty());
+    let differences = table.differences(2, Some(0), 3).expect(&rt, "memory");
+    same(&rt, &differences.len(), &3);
+    for (difference, key) in differences.iter().zip([3, 6, 9]) {
+        let tags = (tag(difference.current), tag(difference.next));
+        same(&rt, &(difference.key, tags), &(key, (B, C)));
+    }
+    let again = table.differences(2, Some(0), 3).expect(&rt, "memory");
+    same(&rt, &again, &differences);
+}
+
 /// Keys with both bounds, by rising key, and their tags.
 const TAGGED: [(i64, i64); 8] = [
     (i64::MIN, A),

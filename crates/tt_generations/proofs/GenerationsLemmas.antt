@@ -22,6 +22,7 @@ use Rattle.tt_values.proofs.LawProofs.{rows_rise, past_stays, last_content_stays
 use Rattle.tt_versions.specs.declared.side.Side.{Side}
 use Rattle.tt_versions.specs.declared.side.Side.TheVariants.{Current, Next}
 use Rattle.tt_versions.specs.Sides.{LineagesByKey, side_of, current_of, next_of, ListsRows}
+use Rattle.tt_parts.specs.Dirty.{NumbersAgree}
 use Rattle.tt_repair_laws.specs.declared.edit.Edit.{Edit}
 use Rattle.tt_repair_laws.specs.Edits.{slot_number, edited_slots, HasNoFault}
 use Rattle.tt_repair_laws.specs.Due.{content_after, is_due, reexecuted_count, slot_rows_touched}
@@ -42,7 +43,7 @@ use Rattle.tt_generations.proofs.FewRowsLemmas.{HasFewRows-agree}
 use Rattle.tt_generations.proofs.KeptSlotsLemmas.{AreKept-push, kept_slot-append, kept_slot-last, actions-push, actions-kept, AreKept-all_done, AreAccepted-at, AreAccepted-push, AreAccepted-edited}
 use Rattle.tt_generations.proofs.BothSidesLemmas.{HaveBothSides-empty, HaveBothSides-idle, HaveBothSides-slot, HaveBothSides-begin, HaveBothSides-undue, HaveBothSides-switch, HaveBothSides-abort, ShowsContentBefore-next}
 use Rattle.tt_generations.proofs.RepairLemmas.{first_fault-accepted, first_fault-tried, table-faultless}
-use Rattle.tt_generations.proofs.RepairStepsLemmas.{length-content, IsRepair-slot, IsNewRepair, IsRepair-new, IsRepair-undue, IsRepair-due, is_due-kept, rows-kept, HaveBothSides-reexecuted, ShowsFewBefore-next, next_action-accepted}
+use Rattle.tt_generations.proofs.RepairStepsLemmas.{length-content, IsRepair-slot, numbers-repair, IsNewRepair, IsRepair-new, IsRepair-undue, IsRepair-due, is_due-kept, rows-kept, HaveBothSides-reexecuted, ShowsFewBefore-next, next_action-accepted}
 
 pub AreGenerations-empty : (tables : Tables) → IsCatalog tables → AreGenerations tables [] [] None
 AreGenerations-empty tables catalog = record {
@@ -227,6 +228,7 @@ pub record IsAtSlot (tables : Tables) (kept : List KeptSlot) (versions : TablesB
   pub few : r.reexecuted ≤ r.done
   pub there : r.done < length r.slots
   pub catalog : r.dirty.catalog ≡ tables
+  pub numbers : NumbersAgree r.dirty.dirty r.dirty.since
   pub keyed : HasKeysIfAny k.slot.action
   pub touched : All (λ (row : RowId). row.table < length tables) k.rows
   pub accepted : IsAccepted tables (next_action r k)
@@ -251,6 +253,7 @@ IsAtSlot-next tables kept versions r k are found inside =
       few = omega (arith, repair.reexecuted, reexecuted-within tables W r.edits r.done);
       there = omega (arith, left, repair.slots.as_many);
       catalog = repair.catalog;
+      numbers = numbers-repair tables W r repair;
       keyed = subst (λ (j : KeptSlot). HasKeysIfAny j.slot.action) (sym is) (keys-if_any tables (slot_after W r.done) are.catalog (AreAccepted-at tables W are.accepted r.done));
       touched = subst (λ (j : KeptSlot). All (IsInCatalog tables) j.rows) (sym is) (tables-slot tables (slot_after W r.done) (content_of W r.done) (AreAccepted-at tables W are.accepted r.done));
       accepted = subst (λ (j : KeptSlot). IsAccepted tables (next_action r j)) (sym is) (next_action-accepted tables W r repair left are.accepted);

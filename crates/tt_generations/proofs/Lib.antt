@@ -8,6 +8,7 @@ pub mod SplitRowsLemmas
 pub mod UnsplitLemmas
 pub mod ReexecutionLemmas
 pub mod EditsLemmas
+pub mod NumbersLemmas
 pub mod RepairLemmas
 pub mod KeptSlotsLemmas
 pub mod SlotsLemmas

@@ -32,6 +32,7 @@ use Rattle.tt_parts.specs.declared.partition.Partition.{Partition}
 use Rattle.tt_parts.specs.Partitions.{key_partition, is_same_partition}
 use Rattle.tt_parts.specs.Dirty.{DirtySet, DirtyTables, SameMembers, columns_in, is_row_in, parts_if, with_row, with_row_in}
 use Rattle.tt_parts.proofs.LawProofs.{same_members_with_row}
+use Rattle.tt_causes.specs.Numbers.{GotDirtyAt}
 use Rattle.tt_repair_laws.specs.Due.{rows_matched, rows_matched_by, slot_rows_matched, with_row_of, slot_rows_touched}
 use Rattle.tt_values.specs.declared.row_id.RowId.{RowId}
 use Rattle.tt_generations.specs.declared.slot.KeptSlot.{KeptSlot}
@@ -291,8 +292,8 @@ shown-step before after versions rows n none table key first last time room cata
 
 pub ReexecutesSlot-done : (r after : Repair) (kept new : KeptSlot) (before : TablesByPosition) (run : ReexecutionOnRows) → Reexecutes (r.done + 1) kept.rows (as_action (next_action r kept)) before run
     → new.slot.action ≡ next_action r kept → new.slot.replies ≡ replies_if (next_action r kept) run.replies → new.rows ≡ run.rows_touched → after.slots ≡ slice_set r.slots r.done new
-    → SameMembers after.dirty.dirty (with_rows_shown r.dirty run.rows run.reexecuted (r.done + 1)) → ReexecutesSlot r kept before after run.rows
-ReexecutesSlot-done r after kept new before run reexecutes action replies rows slots dirty X start =
+    → SameMembers after.dirty.dirty (with_rows_shown r.dirty run.rows run.reexecuted (r.done + 1)) → GotDirtyAt r.dirty.since (r.done + 1) after.dirty.dirty after.dirty.since → ReexecutesSlot r kept before after run.rows
+ReexecutesSlot-done r after kept new before run reexecutes action replies rows slots dirty since X start =
     let next = next_action r kept in
     let Y = content_after_action (as_action next) X in
     let touched = kept.rows in
@@ -307,6 +308,7 @@ ReexecutesSlot-done r after kept new before run reexecutes action replies rows s
       slots = slots ∙ (λ i. slice_set r.slots r.done (record { slot = record { action = action i; replies = answers i }; rows = touched_now i }));
       dirty = subst (SameMembers after.dirty.dirty)
           (dirty-shown r.dirty before run.rows (r.done + 1) X Y touched (touched ++ slot_rows_matched next X) run.reexecuted (omega arith) start all reexecuted) dirty;
+      since = since;
     }
 
 -- the tables of the rows that it re-executes are there

@@ -14,7 +14,9 @@ use Rattle.tt_values.specs.Action.{rows_touched, content_after_action}
 use Rattle.tt_values.specs.ActionLaws.{IsByRisingKey}
 use Rattle.tt_values.specs.RowWrites.{Slots, slot_after, slot_writes, slot_replies, row_writes, content_of}
 use Rattle.tt_values.proofs.LawProofs.{rows_rise, next_content, action_leaves_its_last_content}
-use Rattle.tt_parts.specs.Dirty.{DirtySet, DirtyTables, SameMembers, nothing_dirty, has_row}
+use Rattle.tt_parts.specs.Dirty.{DirtySet, DirtyTables, SameMembers, NumbersAgree, nothing_dirty, nothing_since, has_row}
+use Rattle.tt_causes.specs.Numbers.{TellsSince, GotDirtyAt}
+use Rattle.tt_causes.proofs.LawProofs.{numbers_tell_what_is_dirty, no_numbers_at_first, numbers_stay_undue, numbers_grow, later_slots_change_no_number}
 use Rattle.tt_repair_laws.specs.declared.edit.Edit.{Edit}
 use Rattle.tt_repair_laws.specs.Edits.{edit_of, edited_slots, slot_with_edit, replacement_of, HasNoFault}
 use Rattle.tt_repair_laws.specs.Due.{content_after, is_due, is_slot_affected, dirty_after, reexecuted_count, rows_reexecuted, slot_rows_touched, slot_rows_matched, may_read_dirty, with_row_of}
@@ -33,6 +35,7 @@ use Rattle.tt_generations.specs.Repair.{is_kept_affected, is_kept_due, next_repl
 use Rattle.tt_generations.specs.TwoGenerations.{NamesSlot, Repairing}
 use Rattle.tt_generations.specs.Generations.{next_kept_slot, IsRepair, HaveBothSides}
 use Rattle.tt_generations.proofs.FewRowsLemmas.{length-after_action}
+use Rattle.tt_generations.proofs.NumbersLemmas.{same_table, GotDirtyAt-same}
 use Rattle.tt_generations.proofs.KeptSlotsLemmas.{AreKept-same, AreKept-push, AreKept-set, kept_slot-is, next_kept_slot-append, next_kept_slot-last, next_kept_slot-first, next_kept_slot-other, next_kept_slot-done, next_kept_slot-left, kept_slot-undue, named-append, AreAccepted-at, AreAccepted-edited}
 use Rattle.tt_generations.proofs.BothSidesLemmas.{HaveBothSides-due, ShowsContentBefore-next}
 
@@ -51,6 +54,7 @@ IsRepair-slot tables W s r after k is last new = subst (IsRepair tables V) (sym 
   reexecuted = is.reexecuted ∙ sym same.reexecuted;
   catalog = is.catalog;
   dirty = subst (SameMembers r.dirty.dirty) (sym same.dirty) is.dirty;
+  since = later_slots_change_no_number tables W (s ∷ []) r.edits r.done r.dirty.since is.done is.since;
   slots = subst (AreKept (r.slots ++ k ∷ []) (next_kept_slot V E n)) (sym many)
       (AreKept-push r.slots (next_kept_slot W E n) (next_kept_slot V E n) (length W) k is.slots (λ i h. next_kept_slot-append W s E n i is.named h) (last ∙ next_kept_slot-last W s E n is.done));
 })
@@ -79,6 +83,7 @@ pub record IsNewRepair (tables : Tables) (E : List Edit) (kept : List KeptSlot) 
   pub reexecuted : r.reexecuted ≡ 0
   pub catalog : r.dirty.catalog ≡ tables
   pub dirty : SameMembers r.dirty.dirty nothing_dirty
+  pub since : r.dirty.since ≡ nothing_since
   pub slots : r.slots ≡ kept
 
 pub IsRepair-new : (tables : Tables) (W : Slots) (E : List Edit) (kept : List KeptSlot) (r : Repair) → All (NamesSlot W) E → All (HasNoFault tables) E → AreKept kept (kept_slot W) (length W) → IsNewRepair tables E kept r → IsRepair tables W r
@@ -90,6 +95,7 @@ IsRepair-new tables W E kept r named accepted are new = record {
   reexecuted = new.reexecuted ∙ sym (no_slot_is_reexecuted_at_first tables W r.edits) ∙ ap (reexecuted_count tables W r.edits) (sym new.done);
   catalog = new.catalog;
   dirty = subst (λ n. SameMembers r.dirty.dirty (dirty_after tables W r.edits n)) (sym new.done) (subst (SameMembers r.dirty.dirty) (sym (nothing_is_dirty_at_first tables W r.edits)) new.dirty);
+  since = subst (λ n. TellsSince tables W r.edits n r.dirty.since) (sym new.done) (subst (TellsSince tables W r.edits 0) (sym new.since) (no_numbers_at_first tables W r.edits nothing_since (record { rows = λ table key. refl; partitions = λ p. refl; tables = λ table. refl })));
   slots = subst (λ n. AreKept r.slots (next_kept_slot W r.edits n) (length W)) (sym new.done)
       (subst (λ (slots : List KeptSlot). AreKept slots (next_kept_slot W r.edits 0) (length W)) (sym new.slots)
       (AreKept-same kept (kept_slot W) (next_kept_slot W r.edits 0) (length W) are (λ i h. next_kept_slot-first W r.edits i)));
@@ -106,6 +112,7 @@ IsRepair-undue tables W r after is room undue new = subst (IsRepair tables W) (s
   reexecuted = is.reexecuted ∙ sym (undue_slots_are_not_reexecuted tables W E n undue) ∙ ap (reexecuted_count tables W E) next;
   catalog = is.catalog;
   dirty = subst (λ m. SameMembers r.dirty.dirty (dirty_after tables W E m)) next (subst (SameMembers r.dirty.dirty) (sym (undue_slots_dirty_nothing tables W E n undue)) is.dirty);
+  since = subst (λ m. TellsSince tables W E m r.dirty.since) next (numbers_stay_undue tables W E n r.dirty.since undue is.since);
   slots = subst (λ m. AreKept r.slots (next_kept_slot W E m) (length W)) next (AreKept-same r.slots (next_kept_slot W E n) (next_kept_slot W E (suc n)) (length W) is.slots (λ i h. each i (i == n) refl));
 })
   where
@@ -123,6 +130,18 @@ IsRepair-undue tables W r after is room undue new = subst (IsRepair tables W) (s
         let here : i ≡ n = grind (arith, nat_tests) in
         ap (next_kept_slot W E n) here ∙ next_kept_slot-left W E n ∙ kept_slot-undue tables W E n room undue ∙ next_kept_slot-done W E n ∙ ap (next_kept_slot W E (suc n)) (sym here)
     each i false e = next_kept_slot-other W E n i e
+
+-- ---- the numbers of what is dirty
+
+pub numbers-repair : (tables : Tables) (W : Slots) (r : Repair) → IsRepair tables W r → NumbersAgree r.dirty.dirty r.dirty.since
+numbers-repair tables W r is =
+    let D = dirty_after tables W r.edits r.done in
+    let agree : NumbersAgree D r.dirty.since = numbers_tell_what_is_dirty tables W r.edits r.done r.dirty.since is.since in
+    record {
+      rows = λ table key. agree.rows table key ∙ sym (is.dirty.rows table key);
+      partitions = λ p. agree.partitions p ∙ sym (is.dirty.partitions p);
+      tables = λ table. agree.tables table ∙ sym (same_table r.dirty.dirty D table is.dirty);
+    }
 
 -- ---- whether a slot is due
 
@@ -222,6 +241,7 @@ IsRepair-due tables W r after before left is room due done reexecuted = record {
   reexecuted = done.reexecuted ∙ ap (λ m. m + 1) is.reexecuted ∙ next_number (reexecuted_count tables W E n) ∙ sym (due_slots_are_reexecuted tables W E n due) ∙ (λ i. reexecuted_count tables W (sym done.edits i) (now i));
   catalog = done.catalog ∙ is.catalog;
   dirty = subst (λ (D : DirtySet). SameMembers after.dirty.dirty D) dirty_now (SameMembers-trans reexecuted.dirty (dirty_rows_depend_on_members r.dirty.catalog X Y rows r.dirty.dirty (dirty_after tables W E n) is.dirty));
+  since = subst (λ (F : List Edit). TellsSince tables W F after.done after.dirty.since) (sym done.edits) (subst (λ m. TellsSince tables W E m after.dirty.since) now since_now);
   slots = subst (λ m. AreKept after.slots (next_kept_slot W after.edits m) (length W)) now
       (subst (λ (F : List Edit). AreKept after.slots (next_kept_slot W F (suc n)) (length W)) (sym done.edits)
       (subst (λ (slots : List KeptSlot). AreKept slots (next_kept_slot W E (suc n)) (length W)) (sym reexecuted.slots)
@@ -257,6 +277,14 @@ IsRepair-due tables W r after before left is room due done reexecuted = record {
         (λ i. fold (with_row_of (is.catalog i) X ((ap (λ s. content_after_action (as_action s) X) action ∙ sym (content-after_slot V n)) i)) (dirty_after tables W E n) (rows-kept W n (omega (arith, room)) i ++ slot_rows_matched (action i) X))
         ∙ sym (due_slots_dirty_reexecuted_rows tables W E n due)
         ∙ (λ i. dirty_after tables W (sym done.edits i) (now i))
+
+    dirty_then : SameMembers after.dirty.dirty (dirty_after tables W E (suc n))
+    dirty_then = subst (λ (F : List Edit). SameMembers after.dirty.dirty (dirty_after tables W F (suc n))) done.edits (subst (λ m. SameMembers after.dirty.dirty (dirty_after tables W after.edits m)) (sym now)
+        (subst (λ (D : DirtySet). SameMembers after.dirty.dirty D) dirty_now (SameMembers-trans reexecuted.dirty (dirty_rows_depend_on_members r.dirty.catalog X Y rows r.dirty.dirty (dirty_after tables W E n) is.dirty))))
+
+    since_now : TellsSince tables W E (suc n) after.dirty.since
+    since_now = numbers_grow tables W E n r.dirty.since after.dirty.since is.since
+        (GotDirtyAt-same r.dirty.since (suc n) after.dirty.dirty (dirty_after tables W E (suc n)) after.dirty.since dirty_then (subst (λ m. GotDirtyAt r.dirty.since m after.dirty.dirty after.dirty.since) (next_number n) reexecuted.since))
 
     new : KeptSlot
     new = record { slot = record { action = next_action r (kept_slot W n); replies = slot_replies (next_action r (kept_slot W n)) X }; rows = slot_rows_touched (next_action r (kept_slot W n)) X }

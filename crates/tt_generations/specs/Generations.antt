@@ -9,6 +9,7 @@ use Rattle.tt_repair_laws.specs.declared.edit.Edit.{Edit}
 use Rattle.tt_repair_laws.specs.Edits.{edited_slots, HasNoFault}
 use Rattle.tt_repair_laws.specs.Due.{dirty_after, reexecuted_count}
 use Rattle.tt_repair_laws.specs.NextSide.{current_side}
+use Rattle.tt_causes.specs.Numbers.{TellsSince}
 use Rattle.tt_generations.specs.declared.slot.KeptSlot.{KeptSlot}
 use Rattle.tt_generations.specs.declared.repair.Repair.{Repair}
 use Rattle.tt_generations.specs.Limits.{max_slots}
@@ -36,6 +37,7 @@ pub record IsRepair (tables : Tables) (W : Slots) (r : Repair) : Type 0 where
   pub reexecuted : r.reexecuted ≡ reexecuted_count tables W r.edits r.done
   pub catalog : r.dirty.catalog ≡ tables
   pub dirty : SameMembers r.dirty.dirty (dirty_after tables W r.edits r.done)
+  pub since : TellsSince tables W r.edits r.done r.dirty.since
   pub slots : AreKept r.slots (next_kept_slot W r.edits r.done) (length W)
 
 -- the repair that is under way, if one is

@@ -12,6 +12,7 @@ use Rattle.tt_values.specs.RowWrites.{slot_replies}
 use Rattle.tt_versions.specs.Sides.{next_of}
 use Rattle.tt_parts.specs.Dirty.{DirtySet, DirtyTables, SameMembers, columns_in, has_row, with_row}
 use Rattle.tt_repair_laws.specs.Due.{may_read_dirty, slot_rows_touched, slot_rows_matched, with_row_of}
+use Rattle.tt_causes.specs.Numbers.{GotDirtyAt}
 use Rattle.tt_generations.specs.declared.slot.KeptSlot.{KeptSlot}
 use Rattle.tt_generations.specs.declared.edits.Replacement.{Replacement}
 use Rattle.tt_generations.specs.declared.repair.Repair.{Repair}
@@ -78,6 +79,7 @@ pub record HasReexecutedSlot (r : Repair) (kept : KeptSlot) (versions : TablesBy
   })
   pub dirty : SameMembers after.dirty.dirty
       (fold (with_row_of r.dirty.catalog X (content_after_action (as_action (next_action r kept)) X)) r.dirty.dirty (kept.rows ++ slot_rows_matched (next_action r kept) X))
+  pub since : GotDirtyAt r.dirty.since (r.done + 1) after.dirty.dirty after.dirty.since
 
 abbrev pub ReexecutesSlot : Repair → KeptSlot → TablesByPosition → Repair → TablesByPosition → Type 0
 ReexecutesSlot r kept versions after left = (X : Content) → ShowsContentBefore versions (r.done + 1) X kept.rows → HasReexecutedSlot r kept versions after left X

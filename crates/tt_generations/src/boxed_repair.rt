@@ -1,5 +1,6 @@
 ghost use Rattle.std.specs.Prelude.{◌≡◌, ◌<◌, ◌≤◌, ◌+◌, ◌∷◌, [], ◌++◌, length, IfOk, OnOk};
 ghost use Rattle.std.specs.List.{All};
+ghost use Rattle.tt_parts.specs.Dirty.{NumbersAgree};
 ghost use Rattle.tt_generations.specs.Limits.{max_slots};
 ghost use Rattle.tt_generations.specs.KeptSlots.{IsAccepted};
 ghost use Rattle.tt_generations.specs.Reexecution.{ShowsFewBefore};
@@ -87,6 +88,7 @@ impl BoxedRepair {
         requires few_reexecuted { self.old.reexecuted ≤ self.old.done }
         requires there { self.old.done < length self.old.slots }
         requires catalog { self.old.dirty.catalog ≡ catalog.now }
+        requires numbers { NumbersAgree self.old.dirty.dirty self.old.dirty.since }
         requires keyed { HasKeysIfAny kept.now.slot.action }
         requires touched { All (λ r. r.table < length catalog.now) kept.now.rows }
         requires accepted { IsAccepted catalog.now (next_action self.old kept.now) }
@@ -110,6 +112,7 @@ impl BoxedRepair {
         requires few_reexecuted { self.old.reexecuted ≤ self.old.done }
         requires there { self.old.done < length self.old.slots }
         requires catalog { self.old.dirty.catalog ≡ catalog.now }
+        requires numbers { NumbersAgree self.old.dirty.dirty self.old.dirty.since }
         requires touched { All (λ r. r.table < length catalog.now) kept.now.rows }
         requires accepted { IsAccepted catalog.now (next_action self.old kept.now) }
         requires few { ShowsFewBefore rows.old (self.old.done + 1) kept.now.rows }

@@ -3,8 +3,9 @@
 ghost use Rattle.std.specs.Prelude.{◌≡◌, ◌<◌, ◌≤◌, ◌+◌, [], ◌∷◌, ◌++◌, length, slice_set, not, IsTrue, IsFalse, IfOk, OnOk};
 ghost use Rattle.std.specs.List.{All};
 ghost use Rattle.std.specs.Option.{option_copied};
-ghost use Rattle.tt_parts.specs.Dirty.{SameMembers, nothing_dirty};
+ghost use Rattle.tt_parts.specs.Dirty.{SameMembers, NumbersAgree, nothing_dirty, nothing_since};
 ghost use Rattle.tt_repair_laws.specs.Edits.{slot_number};
+ghost use Rattle.tt_causes.specs.Numbers.{GotDirtyAt};
 ghost use Rattle.tt_generations.specs.Limits.{max_slots};
 ghost use Rattle.tt_generations.specs.KeptSlots.{IsAccepted};
 ghost use Rattle.tt_generations.specs.EditsByNumber.{HasEdits};
@@ -67,6 +68,7 @@ impl Repair {
         ensures reexecuted { IfOk result (λ r. r.reexecuted ≡ 0) }
         ensures catalog { IfOk result (λ r. r.dirty.catalog ≡ catalog.now) }
         ensures dirty { IfOk result (λ r. SameMembers r.dirty.dirty nothing_dirty) }
+        ensures since { IfOk result (λ r. r.dirty.since ≡ nothing_since) }
         ensures slots { IfOk result (λ r. r.slots ≡ slots.now) }
     {
         let replacements = replacements_of(alloc, edits.as_slice())?;
@@ -214,6 +216,7 @@ impl Repair {
         requires few_reexecuted { self.old.reexecuted ≤ self.old.done }
         requires there { self.old.done < length self.old.slots }
         requires catalog { self.old.dirty.catalog ≡ catalog.now }
+        requires numbers { NumbersAgree self.old.dirty.dirty self.old.dirty.since }
         requires keyed { HasKeysIfAny kept.now.slot.action }
         requires touched { All (λ r. r.table < length catalog.now) kept.now.rows }
         requires accepted { IsAccepted catalog.now (next_action self.old kept.now) }
@@ -246,6 +249,7 @@ impl Repair {
         requires few_reexecuted { self.old.reexecuted ≤ self.old.done }
         requires there { self.old.done < length self.old.slots }
         requires catalog { self.old.dirty.catalog ≡ catalog.now }
+        requires numbers { NumbersAgree self.old.dirty.dirty self.old.dirty.since }
         requires touched { All (λ r. r.table < length catalog.now) kept.now.rows }
         requires accepted { IsAccepted catalog.now (next_action self.old kept.now) }
         requires few { ShowsFewBefore rows.old (self.old.done + 1) kept.now.rows }
@@ -270,6 +274,7 @@ impl Repair {
         requires few_reexecuted { self.old.reexecuted ≤ self.old.done }
         requires there { self.old.done < length self.old.slots }
         requires catalog { self.old.dirty.catalog ≡ catalog.now }
+        requires numbers { NumbersAgree self.old.dirty.dirty self.old.dirty.since }
         requires action { action ≡ next_action self.old kept.now }
         requires touched { All (λ r. r.table < length catalog.now) kept.now.rows }
         requires accepted { IsAccepted catalog.now (next_action self.old kept.now) }
@@ -356,7 +361,7 @@ fn is_whole(action: &Option<Action>) -> bool
 }
 
 /// Makes the rows dirty that were re-executed at a time, by what the tables show on the next side
-/// just before it and at it.
+/// just before it and at it. The time is the number that they get dirty with.
 fn add_rows_shown(
     dirty: &mut Dirty,
     rows: &Rows,
@@ -365,9 +370,12 @@ fn add_rows_shown(
 ) -> Result<(), AllocError>
     requires room { 0 < time }
     requires tables { All (λ r. r.table < length dirty.old.catalog) reexecuted.now }
+    requires numbers { NumbersAgree dirty.old.dirty dirty.old.since }
     ensures catalog { OnOk result (dirty.new.catalog ≡ dirty.old.catalog) }
     ensures dirty { OnOk result
         (SameMembers dirty.new.dirty (with_rows_shown dirty.old rows.now reexecuted.now time)) }
+    ensures since { OnOk result
+        (GotDirtyAt dirty.old.since time dirty.new.dirty dirty.new.since) }
 {
     add_each_row_shown(dirty, rows, without_repeat(reexecuted), time)?;
     Ok(())
@@ -391,14 +399,17 @@ fn add_each_row_shown(
 ) -> Result<(), AllocError>
     requires room { 0 < time }
     requires tables { All (λ r. r.table < length dirty.old.catalog) reexecuted.now }
+    requires numbers { NumbersAgree dirty.old.dirty dirty.old.since }
     ensures catalog { OnOk result (dirty.new.catalog ≡ dirty.old.catalog) }
     ensures dirty { OnOk result
         (SameMembers dirty.new.dirty (with_rows_shown dirty.old rows.now reexecuted.now time)) }
+    ensures since { OnOk result
+        (GotDirtyAt dirty.old.since time dirty.new.dirty dirty.new.since) }
 {
     for row in reexecuted {
         let table = rows.table(row.table);
         let (before, after) = table.around(row.key, time, Side::Next);
-        dirty.add_row(row.table, row.key, before, after)?;
+        dirty.add_row(row.table, row.key, time, before, after)?;
     }
     Ok(())
 }

@@ -1,5 +1,5 @@
 -- Dirty sets by their members.
-use Rattle.std.proofs.Common.{◌≡◌, ℕ, ℤ, Bool, true, false, not, ◌||◌, ◌&&◌, ◌==◌, List, [], ◌∷◌, ◌++◌, map, filter, if◌then◌else◌, refl, sym, ap, ◌∙◌, arith}
+use Rattle.std.proofs.Common.{◌≡◌, ℕ, ℤ, Bool, true, false, not, ◌||◌, ◌&&◌, ◌==◌, List, [], ◌∷◌, ◌++◌, map, filter, if◌then◌else◌, refl, sym, ap, ◌∙◌}
 use Rattle.std.specs.List.{list_any}
 use Rattle.std.specs.Ordering.{int_eq}
 use Rattle.std.proofs.lemmas.Bool.Decides.{Decides-int_eq}
@@ -12,24 +12,6 @@ use Rattle.tt_values.specs.declared.statement.Equal.{Equal}
 use Rattle.tt_parts.specs.Partitions.{key_partition, equates_partition, partition_of, equated_partitions, is_same_partition, is_partition_in}
 use Rattle.tt_parts.specs.Dirty.{DirtySet, is_row_in, is_table_in, has_row_of, has_other_partition, is_clear, SameRows, SamePartitions, parts_if}
 use Rattle.tt_parts.specs.Laws.{SameMembersWithRow, ClearDependsOnMembers, ReadsDecideClear}
-
--- a partition and two lists that are put before a list, one after another
-pub SamePartitions-three : (k : Partition) (bs cs ds one two three : List Partition) → SamePartitions one (k ∷ ds) → SamePartitions two (bs ++ one) → SamePartitions three (cs ++ two) → SamePartitions three (k ∷ bs ++ cs ++ ds)
-SamePartitions-three k bs cs ds one two three h i j p =
-    let same = is_same_partition p in
-    grind (arith, list_any-append same cs two, list_any-append same bs one, list_any-append same (bs ++ cs) ds, list_any-append same bs cs, h p, i p, j p)
-
--- partitions that were put before a list may be put before what came of it again
-pub SamePartitions-again : (ps before after : List Partition) → SamePartitions after (ps ++ before) → SamePartitions after (ps ++ after)
-SamePartitions-again ps before after h p =
-    let same = is_same_partition p in
-    grind (arith, list_any-append same ps before, list_any-append same ps after, h p)
-
--- partitions that are put before a list instead of being left for later
-pub SamePartitions-moved : (ps rest members after all : List Partition) → SamePartitions after (ps ++ members) → SamePartitions ((ps ++ rest) ++ members) all → SamePartitions (rest ++ after) all
-SamePartitions-moved ps rest members after all h g p =
-    let same = is_same_partition p in
-    grind (arith, list_any-append same rest after, list_any-append same ps members, list_any-append same (ps ++ rest) members, list_any-append same ps rest, h p, g p)
 
 pub same_members_with_row : SameMembersWithRow
 same_members_with_row D E table columns key before after h = record {

@@ -1,5 +1,5 @@
 -- Entries by rising key.
-use Rattle.std.proofs.Common.{◌≡◌, ℤ, List, [], Option, None, Some, sym, ap, ◌∙◌}
+use Rattle.std.proofs.Common.{◌≡◌, ℤ, List, Option, None, Some, sym, ap, ◌∙◌}
 use Rattle.std.specs.Borrow.{Bor}
 use Rattle.std.specs.Option.{unwrap_or, option_copied}
 use Rattle.std.specs.Ordering.{int_cmp}
@@ -11,9 +11,9 @@ pub changed_there : {X : Type 0} (key : ℤ) (change : X → X) (empty x : X) (b
     → after ≡ sorted.put int_cmp key (change (unwrap_or (sorted.find int_cmp key before) empty)) before
 changed_there key change empty x before after found changes = changes x found ∙ ap (λ o. sorted.put int_cmp key (change (unwrap_or o empty)) before) (sym found)
 
--- what is said of the list that a search finds, or of the empty one
-pub test_found : {X Y : Type 0} (test : List X → Y) (o : Option (Bor (List X))) (xs : Bor (List X)) (found : Option (List X)) → o ≡ Some xs → option_copied o ≡ found → test xs.now ≡ test (unwrap_or found [])
-test_found test o xs found is same = ap (λ o. test (unwrap_or (option_copied o) [])) (sym is) ∙ ap (λ o. test (unwrap_or o [])) same
+-- what is said of the value that a search finds, or of another one
+pub test_found : {X Y : Type 0} (test : X → Y) (other : X) (o : Option (Bor X)) (x : Bor X) (found : Option X) → o ≡ Some x → option_copied o ≡ found → test x.now ≡ test (unwrap_or found other)
+test_found test other o x found is same = ap (λ o. test (unwrap_or (option_copied o) other)) (sym is) ∙ ap (λ o. test (unwrap_or o other)) same
 
-pub test_missing : {X Y : Type 0} (test : List X → Y) (o : Option (Bor (List X))) (found : Option (List X)) → o ≡ None → option_copied o ≡ found → test [] ≡ test (unwrap_or found [])
-test_missing test o found is same = ap (λ o. test (unwrap_or (option_copied o) [])) (sym is) ∙ ap (λ o. test (unwrap_or o [])) same
+pub test_missing : {X Y : Type 0} (test : X → Y) (other : X) (o : Option (Bor X)) (found : Option X) → o ≡ None → option_copied o ≡ found → test other ≡ test (unwrap_or found other)
+test_missing test other o found is same = ap (λ o. test (unwrap_or (option_copied o) other)) (sym is) ∙ ap (λ o. test (unwrap_or o other)) same

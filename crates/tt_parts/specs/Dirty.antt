@@ -1,7 +1,7 @@
 -- A set of dirty rows and partitions, and when a statement is clear of it.
-use Rattle.std.specs.Prelude.{◌≡◌, ℕ, ℤ, Bool, true, not, ◌&&◌, ◌==◌, List, [], ◌∷◌, ◌++◌, Option, None, Some}
+use Rattle.std.specs.Prelude.{◌≡◌, ℕ, ℤ, Bool, true, not, ◌&&◌, ◌==◌, List, [], ◌∷◌, ◌++◌, Option, None, Some, is_some, if◌then◌else◌}
 use Rattle.std.specs.List.{list_any}
-use Rattle.std.specs.Option.{unwrap_or}
+use Rattle.std.specs.Option.{unwrap_or, option_or}
 use Rattle.std.specs.Ordering.{int_eq}
 use Rattle.tt_values.specs.declared.row.Row.{Row}
 use Rattle.tt_values.specs.declared.row_id.RowId.{RowId}
@@ -10,21 +10,32 @@ use Rattle.tt_values.specs.Tables.{Tables, columns_at}
 use Rattle.tt_parts.specs.declared.partition.Partition.{Partition}
 use Rattle.tt_parts.specs.declared.partition.Reads.{Reads}
 use Rattle.tt_parts.specs.declared.partition.Reads.TheVariants.{All, Equated}
-use Rattle.tt_parts.specs.Partitions.{parts_of, key_partition, is_partition_in}
+use Rattle.tt_parts.specs.Partitions.{parts_of, key_partition, is_same_partition, is_partition_in}
 
 -- a set of dirty rows and of dirty partitions
 pub record DirtySet : Type 0 where
   pub rows : List RowId
   pub partitions : List Partition
 
--- the tables of a catalog, and what is dirty in them
+-- the numbers with which members got dirty first: the rows, the partitions, and the tables that have a dirty row
+pub record DirtySince : Type 0 where
+  pub rows : List (RowId × ℕ)
+  pub partitions : List (Partition × ℕ)
+  pub tables : List (ℕ × ℕ)
+
+-- the tables of a catalog, what is dirty in them, and since which number
 pub record DirtyTables : Type 0 where
   pub catalog : Tables
   pub dirty : DirtySet
+  pub since : DirtySince
 
 -- nothing is dirty
 abbrev pub nothing_dirty : DirtySet
 nothing_dirty = record { rows = []; partitions = [] }
+
+-- nothing has a number
+abbrev pub nothing_since : DirtySince
+nothing_since = record { rows = []; partitions = []; tables = [] }
 
 -- whether a list of rows has the one with a key of a table
 abbrev pub is_row_in : List RowId → ℕ → ℤ → Bool
@@ -63,6 +74,29 @@ pub record SameMembers (D E : DirtySet) : Type 0 where
   pub rows : SameRows D.rows E.rows
   pub partitions : SamePartitions D.partitions E.partitions
 
+-- the number of the first item of a list that passes a test
+abbrev pub number_of : {X : Type 0} → (X → Bool) → List (X × ℕ) → Option ℕ
+number_of is_it [] = None
+number_of is_it (e ∷ es) = if is_it e.0 then Some e.1 else number_of is_it es
+
+-- the number with which the row with a key of a table got dirty first, none where it isn't dirty
+abbrev pub row_since : DirtySince → ℕ → ℤ → Option ℕ
+row_since since table key = number_of (λ r. (table == r.table) && int_eq key r.key) since.rows
+
+-- the same of a partition
+abbrev pub partition_since : DirtySince → Partition → Option ℕ
+partition_since since p = number_of (is_same_partition p) since.partitions
+
+-- the number with which the first row of a table got dirty, none where no row of it is dirty
+abbrev pub table_since : DirtySince → ℕ → Option ℕ
+table_since since table = number_of (λ t. table == t) since.tables
+
+-- the members are those that have a number
+pub record NumbersAgree (D : DirtySet) (since : DirtySince) : Type 0 where
+  pub rows : (table : ℕ) (key : ℤ) → is_some (row_since since table key) ≡ has_row D table key
+  pub partitions : (p : Partition) → is_some (partition_since since p) ≡ has_partition D p
+  pub tables : (table : ℕ) → is_some (table_since since table) ≡ has_row_of D table
+
 -- the columns of a table of a catalog
 abbrev pub columns_in : Tables → ℕ → List Column
 columns_in tables table = unwrap_or (columns_at tables table) []
@@ -82,6 +116,20 @@ with_row D table columns key before after = record {
 -- the set after a row of a table of the catalog gets dirty
 abbrev pub with_row_in : DirtyTables → ℕ → ℤ → Option Row → Option Row → DirtySet
 with_row_in d table key before after = with_row d.dirty table (columns_in d.catalog table) key before after
+
+-- the partitions that get dirty with a row
+abbrev pub partitions_with_row : ℕ → List Column → ℤ → Option Row → Option Row → List Partition
+partitions_with_row table columns key before after = key_partition table key ∷ parts_if table columns before ++ parts_if table columns after
+
+-- the number of a member that may get dirty with another number: it keeps the one that it has
+abbrev pub since_or : Option ℕ → Bool → ℕ → Option ℕ
+since_or old is_added number = option_or old (if is_added then Some number else None)
+
+-- numbers after a row got dirty with a number: what had one keeps it
+pub record IsSinceWithRow (old : DirtySince) (table : ℕ) (columns : List Column) (key : ℤ) (before after : Option Row) (number : ℕ) (new : DirtySince) : Type 0 where
+  pub rows : (t : ℕ) (k : ℤ) → row_since new t k ≡ since_or (row_since old t k) ((t == table) && int_eq k key) number
+  pub partitions : (p : Partition) → partition_since new p ≡ since_or (partition_since old p) (is_partition_in (partitions_with_row table columns key before after) p) number
+  pub tables : (t : ℕ) → table_since new t ≡ since_or (table_since old t) (t == table) number
 
 -- whether some partition of qs is not in ps
 abbrev pub has_other_partition : List Partition → List Partition → Bool

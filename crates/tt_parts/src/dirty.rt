@@ -1,9 +1,10 @@
-ghost use Rattle.std.specs.Prelude.{◌≡◌, ◌<◌, ◌≤◌, ◌^◌, ◌∷◌, ◌++◌, length, IfOk, OnOk};
+ghost use Rattle.std.specs.Prelude.{◌≡◌, ◌<◌, ◌≤◌, ◌^◌, [], ◌∷◌, length, is_some, IfOk, OnOk};
 ghost use Rattle.std.specs.Option.{option_copied};
 ghost use Rattle.tt_values.specs.Check.{HasKey};
 ghost use Rattle.tt_values.specs.Effect.{table_of};
 ghost use Rattle.tt_parts.specs.Partitions.{key_partition, equated_partitions, partitions_read};
-ghost use Rattle.tt_parts.specs.Dirty.{columns_in, parts_if, SameRows, SamePartitions, HaveKeyPartitions};
+ghost use Rattle.tt_parts.specs.Dirty.{columns_in, partitions_with_row, HaveKeyPartitions};
+ghost use Rattle.tt_parts.specs.Sets.{rows_found, partitions_found, AddsRow, AddsPartitions};
 
 use crate::dirty_partitions::DirtyPartitions;
 use crate::dirty_rows::DirtyRows;
@@ -16,11 +17,11 @@ use std::marker::Model;
 use std::sync::Arc;
 use tt_values::{Catalog, Column, Equal, Row, RowId, Shared, TableDef, Value, Write};
 
-/// A set of dirty rows and partitions, of the tables of one catalog. Contracts speak only of its
-/// members. Sets that come from one another share pages.
+/// A set of dirty rows and partitions, of the tables of one catalog. A member has the number with
+/// which it got dirty first, and so does a table with a dirty row. Contracts speak only of the
+/// members and their numbers. Sets that come from one another share pages.
 #[derive(Debug)]
 pub struct Dirty {
-    alloc: Global,
     catalog: Shared<Catalog>,
     rows: DirtyRows,
     partitions: DirtyPartitions,
@@ -30,7 +31,6 @@ pub struct Dirty {
 impl Drop for Dirty {
     fn drop(self) {
         let Dirty {
-            alloc: _,
             catalog: _,
             rows: _,
             partitions: _,
@@ -40,28 +40,31 @@ impl Drop for Dirty {
 
 impl Model for Dirty {
     ghost use Rattle.tt_parts.specs.Dirty.{DirtyTables, HaveKeyPartitions};
+    ghost use Rattle.tt_parts.specs.Sets.{rows_found, partitions_found, dirty_found, since_found};
 
     ghost Value = { DirtyTables };
 
     ghost view = { λ d. record {
       catalog = d.catalog;
-      dirty = record { rows = d.rows; partitions = d.partitions };
+      dirty = dirty_found d.rows d.partitions;
+      since = since_found d.rows d.partitions;
     } };
 
-    ghost invariant = { λ d. HaveKeyPartitions d.rows d.partitions };
+    ghost invariant = { λ d.
+        HaveKeyPartitions (rows_found d.rows) (partitions_found d.partitions) };
 }
 
 impl Dirty {
-    ghost use Rattle.tt_parts.specs.Dirty.{SameMembers, nothing_dirty, has_row, is_clear, is_clear_of, with_row_in};
+    ghost use Rattle.tt_parts.specs.Dirty.{SameMembers, NumbersAgree, IsSinceWithRow, nothing_dirty, nothing_since, row_since, partition_since, table_since, has_row, has_row_of, has_partition, is_clear, is_clear_of, with_row_in};
 
     /// A set without members, for the tables of the catalog. Allocates nothing; this allocator is
     /// for `with_row` and `add_row`.
     pub fn new(alloc: Global, catalog: Arc<Catalog>) -> Dirty
         ensures catalog { result.catalog ≡ catalog.value }
         ensures nothing_dirty { SameMembers result.dirty nothing_dirty }
+        ensures nothing_since { result.since ≡ nothing_since }
     {
         Dirty {
-            alloc,
             catalog: Shared::from_arc(catalog),
             rows: DirtyRows::new(alloc),
             partitions: DirtyPartitions::new(alloc),
@@ -76,20 +79,20 @@ impl Dirty {
         let rows = self.rows.share()?;
         let partitions = self.partitions.share()?;
         Ok(Dirty {
-            alloc: self.alloc,
             catalog,
             rows,
             partitions,
         })
     }
 
-    /// Makes a row dirty in this set, as [`with_row`](Dirty::with_row) does in a new one. Sets that
-    /// share pages with this one stay as they are. Without memory nothing is promised of the
-    /// members.
+    /// Makes a row dirty in this set with a number, as [`with_row`](Dirty::with_row) does in a new
+    /// one. Sets that share pages with this one stay as they are. Without memory nothing is promised
+    /// of the members.
     pub fn add_row(
         &mut self,
         table: u16,
         key: i64,
+        number: u64,
         before: Option<&Row>,
         after: Option<&Row>,
     ) -> Result<(), AllocError>
@@ -97,21 +100,26 @@ impl Dirty {
         ensures catalog { self.new.catalog ≡ self.old.catalog }
         ensures dirty { OnOk result (SameMembers self.new.dirty (with_row_in self.old table key
             (option_copied before.entry) (option_copied after.entry))) }
+        ensures since { OnOk result (IsSinceWithRow self.old.since table
+            (columns_in self.old.catalog table) key
+            (option_copied before.entry) (option_copied after.entry) number self.new.since) }
+        ensures agree { NumbersAgree self.new.dirty self.new.since }
     {
-        let alloc = self.alloc;
         let def = table_in(self.catalog.get(), table);
         let row = DirtyRow {
             id: RowId { table, key },
+            number,
             before,
             after,
         };
-        let (rows, partitions) = (&mut self.rows, &mut self.partitions);
-        let added = add_row_to(alloc, rows, partitions, def, &row);
-        if added.is_err() {
-            // A row must not stay without the partition of its key.
-            self.rows = DirtyRows::new(alloc);
+        match add_row_to(&mut self.rows, &mut self.partitions, def, &row) {
+            Ok(()) => Ok(()),
+            Err(error) => {
+                // A row must not stay without the partition of its key.
+                self.rows.clear();
+                Err(error)
+            }
         }
-        added
     }
 
     /// Whether the row with the key is dirty. Allocates nothing.
@@ -119,6 +127,35 @@ impl Dirty {
         ensures { result ≡ has_row self.now.dirty table key }
     {
         self.rows.has(RowId { table, key })
+    }
+
+    /// The number with which the row with the key got dirty first, none if it isn't dirty.
+    /// Allocates nothing.
+    pub fn row_since(&self, table: u16, key: i64) -> Option<u64>
+        ensures since { result ≡ row_since self.now.since table key }
+        ensures member { is_some result ≡ has_row self.now.dirty table key }
+    {
+        self.rows.since(RowId { table, key })
+    }
+
+    /// The number with which the partition of a value in a column of a table got dirty first, none
+    /// if it isn't dirty. Allocates nothing.
+    pub fn partition_since(&self, table: u16, column: u16, value: &Value) -> Option<u64>
+        ensures since { result ≡ partition_since self.now.since
+            (record { table = table; column = column; value = value.now }) }
+        ensures member { is_some result ≡ has_partition self.now.dirty
+            (record { table = table; column = column; value = value.now }) }
+    {
+        self.partitions.since(table, column, value)
+    }
+
+    /// The number with which the first row of a table got dirty, none if no row of it is dirty.
+    /// Allocates nothing.
+    pub fn table_since(&self, table: u16) -> Option<u64>
+        ensures since { result ≡ table_since self.now.since table }
+        ensures member { is_some result ≡ has_row_of self.now.dirty table }
+    {
+        self.rows.table_since(table)
     }
 
     /// Whether a statement that reads this is clear: one of its partitions isn't dirty, or, if it
@@ -166,10 +203,11 @@ impl Dirty {
     }
 }
 
-/// A row that gets dirty, with its contents before and after, where it has any.
+/// A row that gets dirty with a number, and its contents before and after, where it has any.
 #[derive(Clone, Copy)]
 struct DirtyRow<'a> {
     id: RowId,
+    number: u64,
     before: Option<&'a Row>,
     after: Option<&'a Row>,
 }
@@ -177,45 +215,45 @@ struct DirtyRow<'a> {
 /// Adds a row of this table, the partition of its key, and the partitions that it lies in by its
 /// contents.
 fn add_row_to(
-    alloc: Global,
     rows: &mut DirtyRows,
     partitions: &mut DirtyPartitions,
     def: &TableDef,
     row: &DirtyRow<'_>,
 ) -> Result<(), AllocError>
     requires few { length def.now.columns ≤ 2 ^ 16 }
-    requires keys { HaveKeyPartitions rows.old partitions.old }
-    ensures rows { OnOk result (SameRows rows.new (row.now.id ∷ rows.old)) }
-    ensures partitions { OnOk result (SamePartitions partitions.new
-        (key_partition row.now.id.table row.now.id.key
-        ∷ parts_if row.now.id.table def.now.columns (option_copied row.now.before)
-        ++ parts_if row.now.id.table def.now.columns (option_copied row.now.after)
-        ++ partitions.old)) }
+    requires keys { HaveKeyPartitions (rows_found rows.old) (partitions_found partitions.old) }
+    ensures rows { OnOk result
+        (AddsRow rows.old row.now.id.table row.now.id.key row.now.number rows.new) }
+    ensures partitions { OnOk result (AddsPartitions partitions.old
+        (partitions_with_row row.now.id.table def.now.columns row.now.id.key
+        (option_copied row.now.before) (option_copied row.now.after))
+        row.now.number partitions.new) }
 {
-    add_row_and_key(alloc, rows, partitions, row.id)?;
-    add_parts(alloc, partitions, row.id, def, row.before)?;
-    add_changed_parts(alloc, partitions, row.id, def, row.before, row.after)?;
+    add_row_and_key(rows, partitions, row.id, row.number)?;
+    add_parts(partitions, row.id, def, row.before, row.number)?;
+    add_changed_parts(partitions, row.id, def, row.before, row.after, row.number)?;
     Ok(())
 }
 
 /// Adds a row and the partition of its key, which is there already where the row is.
-#[tactic(auto, using(crate::proofs::SearchLemmas::adds_partition))]
+#[tactic(auto, using(crate::proofs::SearchLemmas::adds_members))]
 fn add_row_and_key(
-    alloc: Global,
     rows: &mut DirtyRows,
     partitions: &mut DirtyPartitions,
     row: RowId,
+    number: u64,
 ) -> Result<(), AllocError>
-    requires { HaveKeyPartitions rows.old partitions.old }
-    ensures rows { OnOk result (SameRows rows.new (row ∷ rows.old)) }
-    ensures partitions { OnOk result
-        (SamePartitions partitions.new (key_partition row.table row.key ∷ partitions.old)) }
+    requires { HaveKeyPartitions (rows_found rows.old) (partitions_found partitions.old) }
+    ensures rows { OnOk result (AddsRow rows.old row.table row.key number rows.new) }
+    ensures partitions { OnOk result (AddsPartitions partitions.old
+        (key_partition row.table row.key ∷ []) number partitions.new) }
 {
     if rows.has(row) {
         return Ok(());
     }
-    add_key(alloc, partitions, row.table, row.key)?;
-    rows.add(alloc, row)
+    add_key(partitions, row.table, row.key, number)?;
+    rows.put(row, number)?;
+    Ok(())
 }
 
 /// The table at a position.

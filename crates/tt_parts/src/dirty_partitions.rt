@@ -1,14 +1,14 @@
-ghost use Rattle.std.specs.Prelude.{◌≡◌, [], ◌∷◌, ◌++◌, IfOk, OnOk, IsTrue};
+ghost use Rattle.std.specs.Prelude.{◌≡◌, [], ◌∷◌, ◌++◌, is_some, IfOk, OnOk, IsTrue};
 ghost use Rattle.std.specs.Option.{option_copied};
 ghost use Rattle.std.specs.Ordering.{int_cmp};
 ghost use Rattle.std.specs.FinMap.Entries.{find};
 ghost use Rattle.tt_values.specs.Digest.{digest_of};
 ghost use Rattle.tt_parts.specs.Partitions.{is_same_partition};
-ghost use Rattle.tt_parts.specs.Sets.{under, finds_value, finds_in_column, finds_partition, with_value, AddsPartition};
+ghost use Rattle.tt_parts.specs.Sets.{under, value_since, since_in_column, partition_since_in, partitions_found, with_value, AddsPartitions};
 
 use crate::by_position::{change_at, value_at};
 use crate::partition::Partition;
-use crate::same_digest::SameDigest;
+use crate::same_digest::{DirtyValue, SameDigest};
 use std::alloc::{AllocError, Global};
 use std::marker::Model;
 use tt_pages::{Modify, PagedMap};
@@ -20,9 +20,10 @@ type Values = PagedMap<SameDigest>;
 /// The values of partitions, by column.
 type Columns = PagedMap<Values>;
 
-/// The set of dirty partitions. Contracts see them as a list.
+/// The set of dirty partitions, with their numbers. Contracts see the values of each table.
 #[derive(Debug, Drop)]
 pub(crate) struct DirtyPartitions {
+    alloc: Global,
     /// The values of the partitions, by table.
     tables: PagedMap<Columns>,
     /// The member that was remembered last: the next row often lies in it too.
@@ -30,14 +31,13 @@ pub(crate) struct DirtyPartitions {
 }
 
 impl Model for DirtyPartitions {
-    ghost use Rattle.std.specs.Prelude.{List, IfSome, IsTrue};
-    ghost use Rattle.tt_parts.specs.declared.partition.Partition.{Partition};
+    ghost use Rattle.std.specs.Prelude.{IfSome, IsTrue};
     ghost use Rattle.tt_parts.specs.Partitions.{is_partition_in};
-    ghost use Rattle.tt_parts.specs.Sets.{partitions_found};
+    ghost use Rattle.tt_parts.specs.Sets.{ValuesByTable, partitions_found};
 
-    ghost Value = { List Partition };
+    ghost Value = { ValuesByTable };
 
-    ghost view = { λ p. partitions_found p.tables };
+    ghost view = { λ p. p.tables };
 
     ghost invariant = { λ p.
         IfSome p.last (λ last. IsTrue (is_partition_in (partitions_found p.tables) last)) };
@@ -45,12 +45,12 @@ impl Model for DirtyPartitions {
 
 impl DirtyPartitions {
     ghost use Rattle.tt_parts.specs.Partitions.{is_partition_in};
-    ghost use Rattle.tt_parts.specs.Dirty.{SamePartitions};
 
     pub(crate) fn new(alloc: Global) -> DirtyPartitions
         ensures { result ≡ [] }
     {
         DirtyPartitions {
+            alloc,
             tables: PagedMap::new(alloc),
             last: None,
         }
@@ -61,11 +61,15 @@ impl DirtyPartitions {
         ensures { IfOk result (λ partitions. partitions ≡ self.now) }
     {
         let tables = self.tables.share()?;
-        Ok(DirtyPartitions { tables, last: None })
+        Ok(DirtyPartitions {
+            alloc: self.alloc,
+            tables,
+            last: None,
+        })
     }
 
     pub(crate) fn has(&self, partition: &Partition) -> bool
-        ensures { result ≡ is_partition_in self.now partition.now }
+        ensures { result ≡ is_partition_in (partitions_found self.now) partition.now }
     {
         self.has_value_in(partition.table, partition.column, &partition.value)
     }
@@ -73,18 +77,27 @@ impl DirtyPartitions {
     /// Whether it has the partition of a value in a column of a table.
     #[tactic(auto, using(crate::proofs::SearchLemmas::partitions_found_are))]
     pub(crate) fn has_value_in(&self, table: u16, column: u16, value: &Value) -> bool
-        ensures { result ≡ is_partition_in self.now
+        ensures { result ≡ is_partition_in (partitions_found self.now)
             (record { table = table; column = column; value = value.now }) }
     {
-        has_partition(&self.tables, table, column, value)
+        partition_since(&self.tables, table, column, value).is_some()
     }
 
-    pub(crate) fn add(&mut self, alloc: Global, partition: Partition) -> Result<(), AllocError>
-        ensures { OnOk result (SamePartitions self.new (partition ∷ self.old)) }
+    /// The number of the partition of a value in a column of a table.
+    pub(crate) fn since(&self, table: u16, column: u16, value: &Value) -> Option<u64>
+        ensures { result ≡ partition_since_in self.now
+            (record { table = table; column = column; value = value.now }) }
+    {
+        partition_since(&self.tables, table, column, value)
+    }
+
+    /// Adds a partition with this number.
+    pub(crate) fn add(&mut self, partition: Partition, number: u64) -> Result<(), AllocError>
+        ensures { OnOk result (AddsPartitions self.old (partition ∷ []) number self.new) }
     {
         // Without memory it may not stay a member.
         let last = self.last.take();
-        add_partition(alloc, &mut self.tables, partition)?;
+        add_partition(self.alloc, &mut self.tables, partition, number)?;
         self.last = last;
         Ok(())
     }
@@ -96,7 +109,7 @@ impl DirtyPartitions {
         column: u16,
         value: &Value,
     ) -> Result<(), AllocError>
-        requires { IsTrue (is_partition_in self.old
+        requires { IsTrue (is_partition_in (partitions_found self.old)
             (record { table = table; column = column; value = value.now })) }
         ensures { self.new ≡ self.old }
     {
@@ -111,7 +124,7 @@ impl DirtyPartitions {
 
     /// Whether this is the partition that was remembered last, and so a member. Searches nothing.
     pub(crate) fn is_last(&self, table: u16, column: u16, value: &Value) -> bool
-        ensures { IsTrue result → IsTrue (is_partition_in self.now
+        ensures { IsTrue result → IsTrue (is_partition_in (partitions_found self.now)
             (record { table = table; column = column; value = value.now })) }
     {
         match &self.last {
@@ -129,50 +142,57 @@ fn is_of(partition: &Partition, table: u16, column: u16, value: &Value) -> bool
     partition.table == table && partition.column == column && partition.value.is_same(value)
 }
 
-fn has_partition(tables: &PagedMap<Columns>, table: u16, column: u16, value: &Value) -> bool
-    ensures { result ≡ finds_partition tables.now
+fn partition_since(
+    tables: &PagedMap<Columns>,
+    table: u16,
+    column: u16,
+    value: &Value,
+) -> Option<u64>
+    ensures { result ≡ partition_since_in tables.now
         (record { table = table; column = column; value = value.now }) }
 {
     match value_at(tables, table) {
-        Some(columns) => has_in_column(columns, column, value),
-        None => false,
+        Some(columns) => since_in_column(columns, column, value),
+        None => None,
     }
 }
 
-fn has_in_column(columns: &Columns, column: u16, value: &Value) -> bool
-    ensures { result ≡ finds_in_column columns.now column value.now }
+fn since_in_column(columns: &Columns, column: u16, value: &Value) -> Option<u64>
+    ensures { result ≡ since_in_column columns.now column value.now }
 {
     match value_at(columns, column) {
-        Some(values) => has_value(values, value),
-        None => false,
+        Some(values) => value_since(values, value),
+        None => None,
     }
 }
 
-fn has_value(values: &Values, value: &Value) -> bool
-    ensures { result ≡ finds_value values.now value.now }
+fn value_since(values: &Values, value: &Value) -> Option<u64>
+    ensures { result ≡ value_since values.now value.now }
 {
     match same_digest(values, value) {
-        Some(others) => others.has(value),
-        None => false,
+        Some(others) => others.since(value),
+        None => None,
     }
 }
 
-/// Adds a partition, unless it is there already.
+/// Adds a partition. Where it is there already, it keeps the number that it has.
 fn add_partition(
     alloc: Global,
     tables: &mut PagedMap<Columns>,
     partition: Partition,
+    number: u64,
 ) -> Result<(), AllocError>
-    ensures { OnOk result (AddsPartition tables.old partition tables.new) }
+    ensures { OnOk result (AddsPartitions tables.old (partition ∷ []) number tables.new) }
 {
     let Partition {
         table,
         column,
         value,
     } = partition;
-    if has_partition(tables, table, column, &value) {
-        return Ok(());
-    }
+    let value = DirtyValue {
+        value,
+        since: number,
+    };
     let change = AddInColumn {
         alloc,
         column,
@@ -187,7 +207,7 @@ fn add_partition(
 struct AddInColumn {
     alloc: Global,
     column: u16,
-    value: Value,
+    value: DirtyValue,
 }
 
 impl Modify<Columns> for AddInColumn {
@@ -211,7 +231,7 @@ impl Modify<Columns> for AddInColumn {
 #[derive(Drop)]
 struct AddValue {
     alloc: Global,
-    value: Value,
+    value: DirtyValue,
 }
 
 impl Modify<Values> for AddValue {
@@ -220,24 +240,30 @@ impl Modify<Values> for AddValue {
     ghost after = { λ change. with_value change.value };
 
     fn apply(self, values: &mut Values) -> Result<(), AllocError> {
-        add_value(self.alloc, values, &self.value)
+        let AddValue { alloc, value } = self;
+        add_value(alloc, values, value)
     }
 }
 
-fn add_value(alloc: Global, values: &mut Values, value: &Value) -> Result<(), AllocError>
-    ensures { OnOk result (values.new ≡ with_value value.now values.old) }
+fn add_value(alloc: Global, values: &mut Values, value: DirtyValue) -> Result<(), AllocError>
+    ensures { OnOk result (values.new ≡ with_value value values.old) }
 {
+    let digest = digest(&value.value);
     let same_digest = same_digest_with(alloc, values, value)?;
-    values.put(digest(value), same_digest)?;
+    values.put(digest, same_digest)?;
     Ok(())
 }
 
 /// The values with the digest of this one, and this one.
-fn same_digest_with(alloc: Global, values: &Values, value: &Value) -> Result<SameDigest, AllocError>
+fn same_digest_with(
+    alloc: Global,
+    values: &Values,
+    value: DirtyValue,
+) -> Result<SameDigest, AllocError>
     ensures { IfOk result
-        (λ vs. vs ≡ under (digest_of value.now) values.now ++ value.now ∷ []) }
+        (λ vs. vs ≡ under (digest_of value.value) values.now ++ value ∷ []) }
 {
-    match same_digest(values, value) {
+    match same_digest(values, &value.value) {
         Some(others) => others.with(alloc, value),
         None => SameDigest::of(alloc, value),
     }

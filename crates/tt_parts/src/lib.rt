@@ -4,6 +4,7 @@
 
 mod by_position;
 mod dirty;
+mod dirty_keys;
 mod dirty_partitions;
 mod dirty_rows;
 pub mod laws;

@@ -1,52 +1,55 @@
 //! Partitions of rows and of equalities as members of the set of dirty partitions.
-ghost use Rattle.std.specs.Prelude.{◌≡◌, ℕ, ◌≤◌, ◌^◌, ◌&&◌, not, ◌∷◌, ◌++◌, Some, length, OnOk, IsTrue};
+ghost use Rattle.std.specs.Prelude.{◌≡◌, ℕ, ◌≤◌, ◌^◌, ◌&&◌, not, [], ◌∷◌, Some, length, OnOk, IsTrue};
 ghost use Rattle.std.specs.List.{list_any};
 ghost use Rattle.std.specs.Option.{option_copied};
 ghost use Rattle.tt_values.specs.Row.{first_int};
 ghost use Rattle.tt_parts.specs.Partitions.{key_partition, part_at, parts_of, equates_partition, partition_of, is_partition_in};
-ghost use Rattle.tt_parts.specs.Dirty.{has_other_partition, parts_if, SamePartitions};
+ghost use Rattle.tt_parts.specs.Dirty.{has_other_partition, parts_if};
+ghost use Rattle.tt_parts.specs.Sets.{partitions_found, AddsPartitions};
 
 use crate::dirty_partitions::DirtyPartitions;
 use crate::partition::Partition;
 use crate::parts::is_partition_column;
 use crate::statement_reads::equates_partition;
-use std::alloc::{AllocError, Global};
+use std::alloc::AllocError;
 use tt_values::{Column, Equal, Row, RowId, Same, TableDef, Value};
 
 /// Whether one of the partitions isn't a member.
 pub(crate) fn has_other_partition(members: &DirtyPartitions, partitions: &[Partition]) -> bool
-    ensures { result ≡ has_other_partition members.now partitions.now }
+    ensures { result ≡ has_other_partition (partitions_found members.now) partitions.now }
 {
     partitions.iter().any(|partition| !members.has(partition))
 }
 
 /// Adds the partition of a key.
 pub(crate) fn add_key(
-    alloc: Global,
     members: &mut DirtyPartitions,
     table: u16,
     key: i64,
+    number: u64,
 ) -> Result<(), AllocError>
-    ensures { OnOk result (SamePartitions members.new (key_partition table key ∷ members.old)) }
+    ensures { OnOk result
+        (AddsPartitions members.old (key_partition table key ∷ []) number members.new) }
 {
-    ensure_member(alloc, members, table, 0, &Value::Int(key))
+    ensure_member(members, table, 0, &Value::Int(key), number)
 }
 
 /// Adds the partitions that a row lies in, if there is a row. That of its key is a member.
 pub(crate) fn add_parts(
-    alloc: Global,
     members: &mut DirtyPartitions,
     id: RowId,
     def: &TableDef,
     row: Option<&Row>,
+    number: u64,
 ) -> Result<(), AllocError>
     requires few { length def.now.columns ≤ 2 ^ 16 }
-    requires key { IsTrue (is_partition_in members.old (key_partition id.table id.key)) }
-    ensures { OnOk result (SamePartitions members.new
-        (parts_if id.table def.now.columns (option_copied row.entry) ++ members.old)) }
+    requires key { IsTrue (is_partition_in (partitions_found members.old)
+        (key_partition id.table id.key)) }
+    ensures { OnOk result (AddsPartitions members.old
+        (parts_if id.table def.now.columns (option_copied row.entry)) number members.new) }
 {
     match row {
-        Some(row) => add_parts_of(alloc, members, id, def.columns.as_slice(), row),
+        Some(row) => add_parts_of(members, id, def.columns.as_slice(), row, number),
         None => Ok(()),
     }
 }
@@ -55,24 +58,25 @@ pub(crate) fn add_parts(
 /// before are members, as that of its key is, so nothing is left to do where it lies in the same
 /// ones.
 pub(crate) fn add_changed_parts(
-    alloc: Global,
     members: &mut DirtyPartitions,
     id: RowId,
     def: &TableDef,
     before: Option<&Row>,
     after: Option<&Row>,
+    number: u64,
 ) -> Result<(), AllocError>
     requires few { length def.now.columns ≤ 2 ^ 16 }
-    requires key { IsTrue (is_partition_in members.old (key_partition id.table id.key)) }
-    requires before { SamePartitions members.old
-        (parts_if id.table def.now.columns (option_copied before) ++ members.old) }
-    ensures { OnOk result (SamePartitions members.new
-        (parts_if id.table def.now.columns (option_copied after.entry) ++ members.old)) }
+    requires key { IsTrue (is_partition_in (partitions_found members.old)
+        (key_partition id.table id.key)) }
+    requires before { AddsPartitions members.old
+        (parts_if id.table def.now.columns (option_copied before)) number members.old }
+    ensures { OnOk result (AddsPartitions members.old
+        (parts_if id.table def.now.columns (option_copied after.entry)) number members.new) }
 {
     if lies_in_same(def.columns.as_slice(), before, after) {
         return Ok(());
     }
-    add_parts(alloc, members, id, def, after)
+    add_parts(members, id, def, after, number)
 }
 
 /// Whether a row lies in the same partitions before and after a change, if it's there both times.
@@ -133,26 +137,27 @@ fn is_same_part(
 /// Adds the partitions that a row lies in. That of its key is a member, so the first column is left
 /// out where it holds the key.
 fn add_parts_of(
-    alloc: Global,
     members: &mut DirtyPartitions,
     id: RowId,
     columns: &[Column],
     row: &Row,
+    number: u64,
 ) -> Result<(), AllocError>
     requires few { length columns.now ≤ 2 ^ 16 }
-    requires key { IsTrue (is_partition_in members.old (key_partition id.table id.key)) }
-    ensures { OnOk result (SamePartitions members.new
-        (parts_of id.table columns.now row.now ++ members.old)) }
+    requires key { IsTrue (is_partition_in (partitions_found members.old)
+        (key_partition id.table id.key)) }
+    ensures { OnOk result (AddsPartitions members.old
+        (parts_of id.table columns.now row.now) number members.new) }
 {
     let first = if begins_with(row, id.key) { 1 } else { 0 };
     for i in first..columns.len() {
         add_part(
-            alloc,
             members,
             id.table,
             i as u16,
             &columns[i],
             row.values.get(i),
+            number,
         )?;
     }
     Ok(())
@@ -171,56 +176,56 @@ fn begins_with(row: &Row, key: i64) -> bool
 /// Adds the partition of the value in a column, if there is a value and the column is a partition
 /// column.
 fn add_part(
-    alloc: Global,
     members: &mut DirtyPartitions,
     table: u16,
     position: u16,
     column: &Column,
     value: Option<&Value>,
+    number: u64,
 ) -> Result<(), AllocError>
-    ensures { OnOk result (SamePartitions members.new
-        (part_at table position column.now (option_copied value.entry) ++ members.old)) }
+    ensures { OnOk result (AddsPartitions members.old
+        (part_at table position column.now (option_copied value.entry)) number members.new) }
 {
     let Some(value) = value else {
         return Ok(());
     };
     if is_partition_column(position, column) {
-        ensure_last_member(alloc, members, table, position, value)?;
+        ensure_last_member(members, table, position, value, number)?;
     }
     Ok(())
 }
 
 /// Makes the partition of a value in a column a member, and remembers it: the rows of a slot mostly
 /// lie in one partition of a column, so the set is seldom searched.
-#[tactic(auto, using(crate::proofs::SearchLemmas::adds_partition))]
+#[tactic(auto, using(crate::proofs::SearchLemmas::adds_members))]
 fn ensure_last_member(
-    alloc: Global,
     members: &mut DirtyPartitions,
     table: u16,
     column: u16,
     value: &Value,
+    number: u64,
 ) -> Result<(), AllocError>
-    ensures { OnOk result (SamePartitions members.new
-        (record { table = table; column = column; value = value.now } ∷ members.old)) }
+    ensures { OnOk result (AddsPartitions members.old
+        (record { table = table; column = column; value = value.now } ∷ []) number members.new) }
 {
     if members.is_last(table, column, value) {
         return Ok(());
     }
-    ensure_member(alloc, members, table, column, value)?;
+    ensure_member(members, table, column, value, number)?;
     members.remember(table, column, value)
 }
 
 /// Makes the partition of a value in a column a member. Takes no memory where it is one already.
-#[tactic(auto, using(crate::proofs::SearchLemmas::adds_partition))]
+#[tactic(auto, using(crate::proofs::SearchLemmas::adds_members))]
 fn ensure_member(
-    alloc: Global,
     members: &mut DirtyPartitions,
     table: u16,
     column: u16,
     value: &Value,
+    number: u64,
 ) -> Result<(), AllocError>
-    ensures { OnOk result (SamePartitions members.new
-        (record { table = table; column = column; value = value.now } ∷ members.old)) }
+    ensures { OnOk result (AddsPartitions members.old
+        (record { table = table; column = column; value = value.now } ∷ []) number members.new) }
 {
     if members.has_value_in(table, column, value) {
         return Ok(());
@@ -230,7 +235,7 @@ fn ensure_member(
         column,
         value: value.copy()?,
     };
-    members.add(alloc, partition)
+    members.add(partition, number)
 }
 
 /// Whether one of the conditions is an equality on a partition column.
@@ -248,7 +253,7 @@ pub(crate) fn has_other_equated(
     equals: &[Equal],
 ) -> bool
     ensures { result ≡ list_any (λ q. equates_partition columns.now q
-        && not (is_partition_in members.now (partition_of table q))) equals.now }
+        && not (is_partition_in (partitions_found members.now) (partition_of table q))) equals.now }
 {
     equals.iter().any(|equal| {
         equates_partition(columns, equal)

@@ -1,55 +1,77 @@
 ghost use Rattle.std.specs.Prelude.{◌≡◌, [], ◌∷◌, ◌++◌, IfOk};
-ghost use Rattle.std.specs.List.{list_any};
-ghost use Rattle.tt_values.specs.Value.{is_same};
 
 use std::alloc::{AllocError, Global};
 use std::marker::Model;
 use tt_pages::Kept;
 use tt_values::{Few, Items, Same, Value};
 
+/// The value of a dirty partition, and the number with which the partition got dirty first.
+#[derive(Debug, Drop)]
+pub(crate) struct DirtyValue {
+    pub(crate) value: Value,
+    pub(crate) since: u64,
+}
+
+impl DirtyValue {
+    fn copy(&self) -> Result<DirtyValue, AllocError>
+        ensures { IfOk result (λ copy. copy ≡ self.now) }
+    {
+        let value = self.value.copy()?;
+        Ok(DirtyValue {
+            value,
+            since: self.since,
+        })
+    }
+}
+
 /// Values with one digest, mostly a single one. Owners share them.
 #[derive(Debug, Drop)]
 pub(crate) struct SameDigest {
-    values: Items<Value>,
+    values: Items<DirtyValue>,
 }
 
 impl Model for SameDigest {
     ghost use Rattle.std.specs.Prelude.{List};
-    ghost use Rattle.tt_values.specs.declared.value.Value.{Value as AnyValue};
+    ghost use Rattle.tt_parts.specs.declared.same_digest.DirtyValue.{DirtyValue};
 
-    ghost Value = { List AnyValue };
+    ghost Value = { List DirtyValue };
 
     ghost view = { λ s. s.values };
 }
 
 impl SameDigest {
-    pub(crate) fn of(alloc: Global, value: &Value) -> Result<SameDigest, AllocError>
-        ensures { IfOk result (λ values. values ≡ value.now ∷ []) }
+    ghost use Rattle.tt_parts.specs.Sets.{since_among};
+
+    pub(crate) fn of(alloc: Global, value: DirtyValue) -> Result<SameDigest, AllocError>
+        ensures { IfOk result (λ values. values ≡ value ∷ []) }
     {
-        let values = Items::of(alloc, [value.copy()?])?;
+        let values = Items::of(alloc, [value])?;
         Ok(SameDigest { values })
     }
 
     /// These values and one more.
-    pub(crate) fn with(&self, alloc: Global, value: &Value) -> Result<SameDigest, AllocError>
-        ensures { IfOk result (λ values. values ≡ self.now ++ value.now ∷ []) }
+    pub(crate) fn with(&self, alloc: Global, value: DirtyValue) -> Result<SameDigest, AllocError>
+        ensures { IfOk result (λ values. values ≡ self.now ++ value ∷ []) }
     {
         let mut values = Few::new(alloc);
         for other in self.values.as_slice() {
             values.push(other.copy()?)?;
         }
-        values.push(value.copy()?)?;
+        values.push(value)?;
         let values = values.into_items()?;
         Ok(SameDigest { values })
     }
 
-    pub(crate) fn has(&self, value: &Value) -> bool
-        ensures { result ≡ list_any (is_same value.now) self.now }
+    /// The number of a value, if it is there.
+    pub(crate) fn since(&self, value: &Value) -> Option<u64>
+        ensures { result ≡ since_among self.now value.now }
     {
-        self.values
-            .as_slice()
-            .iter()
-            .any(|other| value.is_same(other))
+        for other in self.values.as_slice() {
+            if value.is_same(&other.value) {
+                return Some(other.since);
+            }
+        }
+        None
     }
 }
 

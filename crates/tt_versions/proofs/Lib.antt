@@ -1,11 +1,13 @@
 pub mod EntriesLemmas
 pub mod VersionsLemmas
 pub mod SidesLemmas
+pub mod EntriesByLemmas
 pub mod RowsByWritesLemmas
 pub mod RowsAtLemmas
 pub mod UnsplitLemmas
 pub mod MatchingLemmas
 pub mod PageLemmas
+pub mod DifferencesLemmas
 pub mod KeysLemmas
 pub mod StartLemmas
 pub mod MoveLemmas

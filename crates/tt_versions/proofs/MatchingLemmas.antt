@@ -1,6 +1,7 @@
 -- The rows that match, found by one key, by a set of keys, or among all.
 use Rattle.std.proofs.Common.{◌≡◌, ℕ, ℤ, Bool, true, false, cond, List, [], ◌∷◌, Option, None, Some, IsTrue, T, is_some, if◌then◌else◌, refl, sym, ap, subst, ◌∙◌}
 use Rattle.std.proofs.lemmas.Bool.Decides.{Decides-int_eq}
+use Rattle.std.specs.Option.{option_and_then}
 use Rattle.std.specs.Ordering.{int_cmp, int_eq}
 use Rattle.std.specs.Cmp.{int_cmp_total}
 use Rattle.std.specs.FinMap.{int_cmp-IsAntisymmetric}
@@ -15,10 +16,11 @@ use Rattle.tt_versions.specs.Versions.{visible_row}
 use Rattle.tt_versions.specs.Lineage.{chain_on}
 use Rattle.tt_versions.specs.Sides.{LineagesByKey, RowsOverTime, side_of, ListsRows}
 use Rattle.tt_versions.specs.Matching.{if_matching, ListsMatches, ListsMatchingRows}
-use Rattle.tt_versions.specs.Index.{KeySet, has_key, HaveKeysIn, HaveKey}
+use Rattle.tt_versions.specs.Index.{KeySet, HaveKeysIn, HaveKey}
 use Rattle.tt_versions.proofs.EntriesLemmas.{both, first, second, find-below}
 use Rattle.tt_versions.proofs.SidesLemmas.{same_key}
-use Rattle.tt_versions.proofs.RowsAtLemmas.{with_first, with_first-other, with_first-same, rows_of, lists_rows}
+use Rattle.tt_versions.proofs.EntriesByLemmas.{with_first, entries_by, find-other, find-same, is_sorted-entries_by, find-entries_by}
+use Rattle.tt_versions.proofs.RowsAtLemmas.{rows_of, lists_rows}
 
 -- ---- the rows of a list that match
 
@@ -64,8 +66,7 @@ lists_matches-of_rows equals es rows time l = record {
 
 -- the matching rows of all entries, one after another
 abbrev pub matching_of : List Equal → ℕ → Side → LineagesByKey → RowsByKey
-matching_of equals time side [] = []
-matching_of equals time side (e ∷ es) = with_first e.0 (if_matching equals (visible_row time (chain_on side e.1))) (matching_of equals time side es)
+matching_of equals time side t = entries_by (λ key l. if_matching equals (visible_row time (chain_on side l))) t
 
 matching_of-first : (equals : List Equal) (key : ℤ) (o : Option Row) (some all : RowsByKey) → some ≡ matching_rows equals all
     → with_first key (if_matching equals o) some ≡ matching_rows equals (with_first key o all)
@@ -99,55 +100,18 @@ no_match equals (Some row) never = by (matches equals row) refl
 
 -- the matching rows of a list of keys, one after another
 abbrev pub matching_among : List Equal → (ℤ → Option Row) → KeySet → RowsByKey
-matching_among equals rows [] = []
-matching_among equals rows (k ∷ ks) = with_first k.0 (if_matching equals (rows k.0)) (matching_among equals rows ks)
-
-below_all-among : (equals : List Equal) (rows : ℤ → Option Row) (k : ℤ) (ks : KeySet) → sorted.below_all int_cmp k ks ≡ true → sorted.below_all int_cmp k (matching_among equals rows ks) ≡ true
-below_all-among equals rows k [] h = refl
-below_all-among equals rows k (e ∷ es) h = by (if_matching equals (rows e.0)) (below_all-among equals rows k es (second _ _ h))
-  where
-    by : (o : Option Row) → sorted.below_all int_cmp k (matching_among equals rows es) ≡ true → sorted.below_all int_cmp k (with_first e.0 o (matching_among equals rows es)) ≡ true
-    by None rest = rest
-    by (Some row) rest = both _ _ (first _ _ h) rest
-
-is_sorted-among : (equals : List Equal) (rows : ℤ → Option Row) (ks : KeySet) → sorted.is_sorted int_cmp ks ≡ true → sorted.is_sorted int_cmp (matching_among equals rows ks) ≡ true
-is_sorted-among equals rows [] h = refl
-is_sorted-among equals rows (e ∷ es) h = by (if_matching equals (rows e.0)) (is_sorted-among equals rows es (second _ _ h))
-  where
-    by : (o : Option Row) → sorted.is_sorted int_cmp (matching_among equals rows es) ≡ true → sorted.is_sorted int_cmp (with_first e.0 o (matching_among equals rows es)) ≡ true
-    by None rest = rest
-    by (Some row) rest = both _ _ (below_all-among equals rows e.0 es (first _ _ h)) rest
-
--- at each key of the set stands its row, if it matches, and no row at any other key
-row_at-among : (equals : List Equal) (rows : ℤ → Option Row) (ks : KeySet) (q : ℤ) → sorted.is_sorted int_cmp ks ≡ true
-    → row_at (matching_among equals rows ks) q ≡ (if has_key ks q then if_matching equals (rows q) else None)
-row_at-among equals rows [] q h = refl
-row_at-among equals rows (e ∷ es) q h = by (int_eq q e.0) refl (row_at-among equals rows es q (second _ _ h))
-  where
-    o : Option Row
-    o = if_matching equals (rows e.0)
-
-    rest : RowsByKey
-    rest = matching_among equals rows es
-
-    by : (b : Bool) → int_eq q e.0 ≡ b → row_at rest q ≡ (if has_key es q then if_matching equals (rows q) else None)
-        → row_at (with_first e.0 o rest) q ≡ (if is_some (cond b (Some e.1) (sorted.find int_cmp q es)) then if_matching equals (rows q) else None)
-    by true is h' =
-        let missing = ap (λ k. sorted.find int_cmp k es) (same_key q e.0 is) ∙ find-below e.0 es (first _ _ h) in
-        with_first-same e.0 o rest q is (h' ∙ ap (λ f. if is_some f then if_matching equals (rows q) else None) missing)
-        ∙ ap (λ k. if_matching equals (rows k)) (sym (same_key q e.0 is))
-    by false is h' = with_first-other e.0 o rest q is ∙ h'
+matching_among equals rows keys = entries_by (λ key u. if_matching equals (rows key)) keys
 
 pub lists_matches-among : (equals : List Equal) (es : RowsByKey) (t : LineagesByKey) (keys : KeySet) (time : ℕ) (side : Side) → HaveKeysIn t side time keys equals → IsTrue (sorted.is_sorted int_cmp keys)
     → es ≡ matching_among equals (λ k. side_of t side k time) keys → ListsMatches es equals (side_of t side) time
 lists_matches-among equals es t keys time side have h is = subst (λ rows. ListsMatches rows equals (side_of t side) time) (sym is) (record {
-  sorted = is_sorted-among equals (λ k. side_of t side k time) keys h;
-  finds = λ q. row_at-among equals (λ k. side_of t side k time) keys q h ∙ by q (has_key keys q) refl;
+  sorted = is_sorted-entries_by (λ key u. if_matching equals (side_of t side key time)) keys h;
+  finds = λ q. find-entries_by (λ key u. if_matching equals (side_of t side key time)) keys q h ∙ by q (sorted.find int_cmp q keys) refl;
 })
   where
-    by : (q : ℤ) (b : Bool) → has_key keys q ≡ b → (if b then if_matching equals (side_of t side q time) else None) ≡ if_matching equals (side_of t side q time)
-    by q true e = refl
-    by q false e = sym (no_match equals (side_of t side q time) (λ row shown m. let clash = sym e ∙ have q row shown m in cc))
+    by : (q : ℤ) (o : Option (Unit {0})) → sorted.find int_cmp q keys ≡ o → option_and_then (λ u. if_matching equals (side_of t side q time)) o ≡ if_matching equals (side_of t side q time)
+    by q None none = sym (no_match equals (side_of t side q time) (λ row shown m. let clash = sym (ap is_some none) ∙ have q row shown m in cc))
+    by q (Some u) found = refl
 
 -- the row of the one key
 pub lists_matches-of_key : (equals : List Equal) (es : RowsByKey) (t : LineagesByKey) (key : ℤ) (time : ℕ) (side : Side) → HaveKey t key equals
@@ -168,9 +132,9 @@ lists_matches-of_key equals es t key time side only is = subst (λ rows. ListsMa
     itself k = (Decides-int_eq k k).1 refl
 
     by : (q : ℤ) (b : Bool) → int_eq q key ≡ b → row_at (with_first key o []) q ≡ if_matching equals (side_of t side q time)
-    by q true e = with_first-same key o [] q e refl ∙ ap (λ k. if_matching equals (side_of t side k time)) (sym (same_key q key e))
+    by q true e = find-same key o [] q e refl ∙ ap (λ k. if_matching equals (side_of t side k time)) (sym (same_key q key e))
     by q false e =
-        with_first-other key o [] q e
+        find-other key o [] q e
         ∙ sym (no_match equals (side_of t side q time) (λ row shown m. let clash = sym e ∙ ap (λ k. int_eq k key) (only side q time row shown m) ∙ itself key in cc))
 
 -- ---- and what they are of a content

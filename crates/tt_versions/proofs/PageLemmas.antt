@@ -16,7 +16,7 @@ use Rattle.tt_versions.specs.Sides.{LineagesByKey, RowsOverTime, side_of}
 use Rattle.tt_versions.specs.Matching.{if_matching}
 use Rattle.tt_versions.specs.Index.{KeySet, HaveKeysIn, HaveKey}
 use Rattle.tt_versions.specs.Pages.{is_after, those_after, IsPage, ListsPage, ListsMatchingPage}
-use Rattle.tt_versions.proofs.RowsAtLemmas.{with_first}
+use Rattle.tt_versions.proofs.EntriesByLemmas.{with_first, after-first, entries_by-after}
 use Rattle.tt_versions.proofs.MatchingLemmas.{matching_of, matching_among, lists_matches-of_all, lists_matches-among, lists_matches-of_key, lists_matching_rows-of}
 
 -- ---- a walk from a key on
@@ -42,54 +42,13 @@ pub ruleset walks = (walk-after, walk-all)
 
 -- ---- the matching rows of what comes after a key are those after it of the matching rows
 
-after-first : (low : Option ℤ) (key : ℤ) (o : Option Row) (rest : RowsByKey)
-    → those_after low (with_first key o rest) ≡ cond (is_after low key) (with_first key o (those_after low rest)) (those_after low rest)
-after-first low key None rest = by (is_after low key)
-  where
-    by : (b : Bool) → those_after low rest ≡ cond b (those_after low rest) (those_after low rest)
-    by true = refl
-    by false = refl
-after-first low key (Some row) rest = refl
-
 pub matching_of-after : (low : Option ℤ) (equals : List Equality) (time : ℕ) (side : Side) (t : LineagesByKey)
     → matching_of equals time side (those_after low t) ≡ those_after low (matching_of equals time side t)
-matching_of-after low equals time side [] = refl
-matching_of-after low equals time side (e ∷ es) = by (is_after low e.0) refl (matching_of-after low equals time side es)
-  where
-    o : Option Row
-    o = if_matching equals (visible_row time (chain_on side e.1))
-
-    rest : RowsByKey
-    rest = matching_of equals time side es
-
-    by : (b : Bool) → is_after low e.0 ≡ b → matching_of equals time side (those_after low es) ≡ those_after low rest
-        → matching_of equals time side (cond (is_after low e.0) (e ∷ those_after low es) (those_after low es)) ≡ those_after low (with_first e.0 o rest)
-    by true is h =
-        ap (λ b. matching_of equals time side (cond b (e ∷ those_after low es) (those_after low es))) is ∙ ap (with_first e.0 o) h
-        ∙ sym (after-first low e.0 o rest ∙ ap (λ b. cond b (with_first e.0 o (those_after low rest)) (those_after low rest)) is)
-    by false is h =
-        ap (λ b. matching_of equals time side (cond b (e ∷ those_after low es) (those_after low es))) is ∙ h
-        ∙ sym (after-first low e.0 o rest ∙ ap (λ b. cond b (with_first e.0 o (those_after low rest)) (those_after low rest)) is)
+matching_of-after low equals time side t = entries_by-after (λ key l. if_matching equals (visible_row time (chain_on side l))) low t
 
 matching_among-after : (low : Option ℤ) (equals : List Equality) (rows : ℤ → Option Row) (ks : KeySet)
     → matching_among equals rows (those_after low ks) ≡ those_after low (matching_among equals rows ks)
-matching_among-after low equals rows [] = refl
-matching_among-after low equals rows (k ∷ ks) = by (is_after low k.0) refl (matching_among-after low equals rows ks)
-  where
-    o : Option Row
-    o = if_matching equals (rows k.0)
-
-    rest : RowsByKey
-    rest = matching_among equals rows ks
-
-    by : (b : Bool) → is_after low k.0 ≡ b → matching_among equals rows (those_after low ks) ≡ those_after low rest
-        → matching_among equals rows (cond (is_after low k.0) (k ∷ those_after low ks) (those_after low ks)) ≡ those_after low (with_first k.0 o rest)
-    by true is h =
-        ap (λ b. matching_among equals rows (cond b (k ∷ those_after low ks) (those_after low ks))) is ∙ ap (with_first k.0 o) h
-        ∙ sym (after-first low k.0 o rest ∙ ap (λ b. cond b (with_first k.0 o (those_after low rest)) (those_after low rest)) is)
-    by false is h =
-        ap (λ b. matching_among equals rows (cond b (k ∷ those_after low ks) (those_after low ks))) is ∙ h
-        ∙ sym (after-first low k.0 o rest ∙ ap (λ b. cond b (with_first k.0 o (those_after low rest)) (those_after low rest)) is)
+matching_among-after low equals rows ks = entries_by-after (λ key u. if_matching equals (rows key)) low ks
 
 -- ---- pages
 

@@ -25,7 +25,7 @@ use Rattle.tt_versions.specs.KeyRange.{is_before, is_within, leaves_key, IsNarro
 use Rattle.tt_versions.proofs.EntriesLemmas.{both, first, second, find-below}
 use Rattle.tt_versions.proofs.SidesLemmas.{same_key, visible_row-unwritten}
 use Rattle.tt_versions.proofs.IndexLemmas.{shown, visible_row-has}
-use Rattle.tt_versions.proofs.RowsAtLemmas.{with_first}
+use Rattle.tt_versions.proofs.EntriesByLemmas.{with_first}
 use Rattle.tt_versions.proofs.MatchingLemmas.{matching_of, lists_matches-of_all}
 use Rattle.tt_versions.proofs.PageLemmas.{is_lt-int, walk-all, matching_of-after, of_all-more}
 

@@ -5,6 +5,7 @@ pub mod Sides
 pub mod RowsByWrites
 pub mod Matching
 pub mod Pages
+pub mod Differences
 pub mod RowChange
 pub mod Index
 pub mod Keys

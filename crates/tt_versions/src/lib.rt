@@ -26,4 +26,4 @@ mod version_log;
 mod walk;
 
 pub use side::Side;
-pub use table::Table;
+pub use table::{RowDifference, Table};

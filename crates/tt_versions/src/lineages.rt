@@ -9,7 +9,7 @@ ghost use Rattle.tt_versions.specs.Keys.{all_of};
 ghost use Rattle.tt_versions.specs.Index.{HasNoKeys, ListsCurrent, MovesUnsplit, StartsBy, IsIndexed, HaveKey, HaveKeysIn};
 ghost use Rattle.tt_versions.specs.KeyRange.{HaveKeysWithin};
 ghost use Rattle.tt_versions.specs.Pages.{those_after};
-ghost use Rattle.tt_versions.specs.Sides.{lineage_at, is_split, with_writes, StaysSplit, MarksKey, UnsplitsRow};
+ghost use Rattle.tt_versions.specs.Sides.{lineage_at, is_split, with_writes, StaysSplit, HasSplitKeys, MarksKey, UnsplitsRow};
 
 use crate::index::Index;
 use crate::indexed_column::{IndexedColumn, KeySet};
@@ -102,6 +102,13 @@ impl Lineages {
         ensures sorted { IsTrue (is_sorted int_cmp self.now) }
     {
         iter_after(&self.indexed.entries, after)
+    }
+
+    /// The keys of the split rows.
+    pub(crate) fn split_keys(&self) -> &KeySet
+        ensures { HasSplitKeys result.now self.now }
+    {
+        &self.indexed.split_keys
     }
 
     /// Another owner of the same pages.

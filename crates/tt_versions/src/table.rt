@@ -2,6 +2,7 @@ ghost use Rattle.std.specs.Prelude.{◌≡◌, true, false, IfOk, OnOk};
 ghost use Rattle.std.specs.List.{All};
 ghost use Rattle.std.specs.Option.{option_copied, unwrap_or};
 
+mod differences;
 mod page;
 mod persistent;
 
@@ -11,6 +12,7 @@ use crate::keys::Keys;
 use crate::lineage::Lineage;
 use crate::lineages::Lineages;
 use crate::side::Side;
+pub use differences::RowDifference;
 use std::alloc::{AllocError, Global};
 use std::marker::Model;
 use tt_values::{Equal, Few, Row, matches};

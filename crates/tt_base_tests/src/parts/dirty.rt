@@ -3,7 +3,7 @@ ghost use Rattle.std.specs.Prelude.{◌≡◌, length};
 use super::Plain::{self, Number, Words};
 use super::{
     ANN, NO_EQUALITIES, PlainPartition, delete, delete_by, done, insert, nothing_dirty,
-    partition_reads, row,
+    partition_reads, row, value,
 };
 use crate::same::same;
 use std::alloc::Global;
@@ -12,6 +12,9 @@ use tt_parts::{Dirty, Reads};
 
 /// The row (1, "eve", 10) of `acct`.
 const EVE: &[Plain] = &[Number(1), Words("eve"), Number(10)];
+
+/// The row (1, "bob", 10) of `acct`.
+const BOB: &[Plain] = &[Number(1), Words("bob"), Number(10)];
 
 /// Partitions that a statement reads, and whether it is clear.
 type Clear = &'static [(&'static [PlainPartition], bool)];
@@ -38,7 +41,7 @@ fn a_row_gets_dirty_with_its_partitions(rt: HostRuntime) {
     let alloc = rt.alloc();
     let nothing = nothing_dirty(&rt, alloc);
     let (ann, eve) = (row(&rt, alloc, ANN), row(&rt, alloc, EVE));
-    let dirty = nothing.with_row(0, 1, Some(&ann), Some(&eve));
+    let dirty = nothing.with_row(0, 1, 4, Some(&ann), Some(&eve));
     let dirty = dirty.expect(&rt, "memory");
     assert!(rt; dirty.has_row(0, 1) && !dirty.has_row(0, 2) && !dirty.has_row(1, 1));
     check_clear(&rt, alloc, &dirty, BY_ANN_AND_EVE);
@@ -64,14 +67,52 @@ fn a_row_may_have_one_content_or_none(rt: HostRuntime) {
     let lowest = row(&rt, alloc, &[Number(i64::MIN), Words("ann"), Number(0)]);
     let highest = row(&rt, alloc, &[Number(i64::MAX), Words("eve"), Number(0)]);
     let mut dirty = nothing_dirty(&rt, alloc);
-    let added = dirty.add_row(0, i64::MIN, Some(&lowest), None);
+    let added = dirty.add_row(0, i64::MIN, 1, Some(&lowest), None);
     added.expect(&rt, "memory");
-    let added = dirty.add_row(0, i64::MAX, None, Some(&highest));
+    let added = dirty.add_row(0, i64::MAX, 2, None, Some(&highest));
     added.expect(&rt, "memory");
-    dirty.add_row(0, 0, None, None).expect(&rt, "memory");
+    dirty.add_row(0, 0, 3, None, None).expect(&rt, "memory");
     assert!(rt; dirty.has_row(0, i64::MIN) && dirty.has_row(0, i64::MAX) && dirty.has_row(0, 0));
     assert!(rt; !dirty.has_row(0, -1));
     check_clear(&rt, alloc, &dirty, BY_THREE_KEYS);
+    done(dirty);
+}
+
+/// The numbers of partitions.
+type Since = &'static [(PlainPartition, Option<u64>)];
+
+fn check_since(rt: &impl Abort, alloc: Global, dirty: &Dirty, cases: Since) {
+    for ((table, column, plain), want) in cases {
+        let value = value(rt, alloc, *plain);
+        let since = dirty.partition_since(*table, *column, &value);
+        assert_eq!(rt; since, *want, "{plain:?}");
+    }
+}
+
+const FROM_ANN_TO_EVE_TO_BOB: Since = &[
+    ((0, 0, Number(1)), Some(4)),
+    ((0, 1, Words("ann")), Some(4)),
+    ((0, 1, Words("eve")), Some(4)),
+    ((0, 1, Words("bob")), Some(7)),
+    ((0, 1, Words("dan")), None),
+    ((1, 1, Words("ann")), None),
+];
+
+#[test]
+fn a_member_keeps_its_first_number(rt: HostRuntime) {
+    let alloc = rt.alloc();
+    let mut dirty = ann_to_eve(&rt, alloc);
+    let (eve, bob) = (row(&rt, alloc, EVE), row(&rt, alloc, BOB));
+    let added = dirty.add_row(0, 1, 7, Some(&eve), Some(&bob));
+    added.expect(&rt, "memory");
+    let added = dirty.add_row(0, 2, 9, None, None);
+    added.expect(&rt, "memory");
+    check_since(&rt, alloc, &dirty, FROM_ANN_TO_EVE_TO_BOB);
+    assert_eq!(rt; dirty.row_since(0, 1), Some(4));
+    assert_eq!(rt; dirty.row_since(0, 2), Some(9));
+    assert!(rt; dirty.row_since(0, 3).is_none() && dirty.row_since(1, 1).is_none());
+    assert_eq!(rt; dirty.table_since(0), Some(4));
+    assert!(rt; dirty.table_since(1).is_none());
     done(dirty);
 }
 
@@ -93,10 +134,10 @@ fn values_with_one_digest_are_told_apart(rt: HostRuntime) {
     let first = row(&rt, alloc, &[Number(1), Words("a"), Number(0)]);
     let second = row(&rt, alloc, &[Number(2), Words("\0a"), Number(0)]);
     let mut dirty = nothing_dirty(&rt, alloc);
-    let added = dirty.add_row(0, 1, Some(&first), None);
+    let added = dirty.add_row(0, 1, 1, Some(&first), None);
     added.expect(&rt, "memory");
     let before = dirty.share().expect(&rt, "memory");
-    let added = dirty.add_row(0, 2, None, Some(&second));
+    let added = dirty.add_row(0, 2, 2, None, Some(&second));
     added.expect(&rt, "memory");
     check_clear(&rt, alloc, &before, A_IS_DIRTY);
     check_clear(&rt, alloc, &dirty, BOTH_ARE_DIRTY);
@@ -122,7 +163,7 @@ fn ann_to_eve(rt: &impl Abort, alloc: Global) -> Dirty
 {
     let (ann, eve) = (row(rt, alloc, ANN), row(rt, alloc, EVE));
     let mut dirty = nothing_dirty(rt, alloc);
-    let added = dirty.add_row(0, 1, Some(&ann), Some(&eve));
+    let added = dirty.add_row(0, 1, 4, Some(&ann), Some(&eve));
     added.expect(rt, "memory");
     dirty
 }

@@ -30,6 +30,17 @@ fn has_rows(rt: &impl Abort, alloc: Global, dirty: &Dirty, keys: [bool; 3]) {
     quiet(alloc);
 }
 
+/// The numbers of the rows of keys 1 and 2, of the partition of key 2 and of the table.
+fn has_numbers(rt: &impl Abort, alloc: Global, dirty: &Dirty, wants: [Option<u64>; 4]) {
+    quiet(alloc);
+    let [first, second, partition, table] = wants;
+    same(rt, &dirty.row_since(0, 1), &first);
+    same(rt, &dirty.row_since(0, 2), &second);
+    same(rt, &dirty.partition_since(0, 0, &Value::Int(2)), &partition);
+    same(rt, &dirty.table_since(0), &table);
+    quiet(alloc);
+}
+
 /// The set in which the row of key 1 is dirty, and the old set as it was.
 fn with_one(rt: &impl Abort, alloc: Global) -> Dirty
     ensures { 0 < length result.catalog }
@@ -37,13 +48,13 @@ fn with_one(rt: &impl Abort, alloc: Global) -> Dirty
     let old = nothing_dirty(rt, alloc);
     let ann = row(rt, alloc, 1, "ann", 5);
     mark(alloc);
-    let dirty = old.with_row(0, 1, None, Some(&ann));
+    let dirty = old.with_row(0, 1, 4, None, Some(&ann));
     mark(alloc);
     has_rows(rt, alloc, &old, [false, false, false]);
     match dirty {
         Ok(dirty) => dirty,
         Err(AllocError) => {
-            let dirty = old.with_row(0, 1, None, Some(&ann));
+            let dirty = old.with_row(0, 1, 4, None, Some(&ann));
             dirty.expect(rt, "a second call")
         }
     }
@@ -67,13 +78,13 @@ fn with_two(rt: &impl Abort, alloc: Global, old: &Dirty) -> Dirty
     let bob = row(rt, alloc, 2, "bob", 6);
     let mut dirty = shared(rt, alloc, old);
     mark(alloc);
-    let added = dirty.add_row(0, 2, Some(&bob), None);
+    let added = dirty.add_row(0, 2, 7, Some(&bob), None);
     mark(alloc);
     if added.is_ok() {
         return dirty;
     }
     let mut dirty = shared(rt, alloc, old);
-    let added = dirty.add_row(0, 2, Some(&bob), None);
+    let added = dirty.add_row(0, 2, 7, Some(&bob), None);
     added.expect(rt, "a second call");
     dirty
 }
@@ -87,6 +98,8 @@ fn dirty_rows(rt: HostRuntime) {
     let dirty = with_two(&rt, alloc, &old);
     has_rows(&rt, alloc, &dirty, [false, true, true]);
     has_rows(&rt, alloc, &old, [false, true, false]);
+    has_numbers(&rt, alloc, &dirty, [Some(4), Some(7), Some(7), Some(4)]);
+    has_numbers(&rt, alloc, &old, [Some(4), None, None, Some(4)]);
     is_clear(&rt, alloc, &dirty);
 }
 

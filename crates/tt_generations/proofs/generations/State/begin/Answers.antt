@@ -22,6 +22,7 @@ returns-clause-parts c =
       reexecuted = new.reexecuted;
       catalog = new.catalog;
       dirty = new.dirty;
+      since = new.since;
       slots = new.slots;
     }))
 

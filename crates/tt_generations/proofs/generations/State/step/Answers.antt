@@ -24,6 +24,12 @@ step-requires-clause-keyed c =
     let at = IsAtSlot-found g.catalog g.slots g.rows g.repair c.in-Some.repair c.in-Some-get.kept.now c.requires.parts c.in-Some.is (subst (λ (r : Repair). slice_get g.slots r.done ≡ Some c.in-Some-get.kept.now) c.deref.ensures (sym c.get.ensures ∙ ap option_copied c.in-Some-get.is)) in
     at.keyed
 
+pub step-requires-clause-numbers : goal.step-requires-clause-numbers
+step-requires-clause-numbers c =
+    let g = c.args.self.now in
+    let at = IsAtSlot-found g.catalog g.slots g.rows g.repair c.in-Some.repair c.in-Some-get.kept.now c.requires.parts c.in-Some.is (subst (λ (r : Repair). slice_get g.slots r.done ≡ Some c.in-Some-get.kept.now) c.deref.ensures (sym c.get.ensures ∙ ap option_copied c.in-Some-get.is)) in
+    at.numbers
+
 pub step-requires-clause-touched : goal.step-requires-clause-touched
 step-requires-clause-touched c =
     let g = c.args.self.now in

@@ -18,6 +18,12 @@ reexecute-requires-clause-few_reexecuted c =
     let at = IsAtSlot-found g.catalog g.slots g.rows g.repair c.in-Some.repair c.in-Some-get.kept.now c.requires.parts c.in-Some.is (subst (λ (r : Repair). slice_get g.slots r.done ≡ Some c.in-Some-get.kept.now) c.deref.ensures (sym c.get.ensures ∙ ap option_copied c.in-Some-get.is)) in
     at.few
 
+pub reexecute-requires-clause-numbers : goal.reexecute-requires-clause-numbers
+reexecute-requires-clause-numbers c =
+    let g = c.args.self.now in
+    let at = IsAtSlot-found g.catalog g.slots g.rows g.repair c.in-Some.repair c.in-Some-get.kept.now c.requires.parts c.in-Some.is (subst (λ (r : Repair). slice_get g.slots r.done ≡ Some c.in-Some-get.kept.now) c.deref.ensures (sym c.get.ensures ∙ ap option_copied c.in-Some-get.is)) in
+    at.numbers
+
 pub reexecute-requires-clause-touched : goal.reexecute-requires-clause-touched
 reexecute-requires-clause-touched c =
     let g = c.args.self.now in

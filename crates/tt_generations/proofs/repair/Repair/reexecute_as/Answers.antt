@@ -6,6 +6,7 @@ use Rattle.tt_values.specs.declared.action.Action.{Action}
 use Rattle.tt_values.specs.Tables.{Tables}
 use Rattle.tt_values.specs.Check.{HasKey}
 use Rattle.tt_parts.specs.Dirty.{SameMembers}
+use Rattle.tt_causes.specs.Numbers.{GotDirtyAt}
 use Rattle.tt_values.specs.declared.row_id.RowId.{RowId}
 use Rattle.tt_generations.specs.declared.repair.Repair.{Repair}
 use Rattle.tt_generations.specs.Replies.{replies_if}
@@ -75,4 +76,5 @@ returns-clause-rows c =
     let replies = new.replies ∙ ap (λ a. replies_if a run.replies) action in
     let shown = subst (λ (rs : List RowId). SameMembers c.add_rows_shown.new.dirty.dirty (with_rows_shown before.dirty run.rows rs (before.done + 1))) c.deref.ensures.value c.in_ok-add_rows_shown.ensures.dirty in
     let dirty = subst (λ (r : Repair). SameMembers r.dirty.dirty (with_rows_shown before.dirty run.rows run.reexecuted (before.done + 1))) (sym put) shown in
-    ReexecutesSlot-done before after kept c.in_ok-slot.slot c.args.rows.now run reexecutes (new.action ∙ action) replies new.rows_touched (ap (λ (r : Repair). r.slots) put) dirty
+    let since = subst (λ (r : Repair). GotDirtyAt before.dirty.since (before.done + 1) r.dirty.dirty r.dirty.since) (sym put) c.in_ok-add_rows_shown.ensures.since in
+    ReexecutesSlot-done before after kept c.in_ok-slot.slot c.args.rows.now run reexecutes (new.action ∙ action) replies new.rows_touched (ap (λ (r : Repair). r.slots) put) dirty since

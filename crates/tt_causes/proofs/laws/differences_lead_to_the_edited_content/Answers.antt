@@ -1,0 +1,5 @@
+use Rattle.tt_causes.proofs.LawProofs.{differences_lead_to_the_edited_content}
+use Rattle.tt_causes.proofs.laws.differences_lead_to_the_edited_content.Goals as goal
+
+pub returns : goal.returns
+returns c = differences_lead_to_the_edited_content

@@ -1,0 +1,5 @@
+use Rattle.tt_causes.proofs.LawProofs.{later_slots_change_no_number}
+use Rattle.tt_causes.proofs.laws.later_slots_change_no_number.Goals as goal
+
+pub returns : goal.returns
+returns c = later_slots_change_no_number

@@ -1,0 +1,3 @@
+mod Causes
+mod WholeActions
+mod Differences

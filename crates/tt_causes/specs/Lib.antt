@@ -1,0 +1,4 @@
+pub mod Causes
+pub mod Differences
+pub mod Numbers
+pub mod Laws
