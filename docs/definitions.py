@@ -77,7 +77,7 @@ PARTS = [
          ' done_of left_of reexecuted_of is_due_in next_content_at',
          'Whether a repair is under way, how far it is, and the content that it leaves.'
          ' Which slots are due comes in the next table'),
-        ('tt_db', 'State', 'ClosedGeneration State start now_of current_at next_at oldest_of'
+        ('tt_db', 'State', 'ClosedGeneration State start edits_of now_of current_at next_at oldest_of'
          ' slots_in slots_left',
          'A state of the sequential table, and the contents that it has'),
         ('tt_db', 'State', 'edits_fault missing_slot slot_edited_twice first_refusal refused_if'
@@ -97,7 +97,7 @@ PARTS = [
         ('tt_db', 'History', 'is_write write_places', 'At which places of the history the slots were made'),
     ]),
     ('What a repair re-executes. `Db::apply` and `advance` carry the law, and tell of each step '
-     'whether its slot was due.', [
+     'whether its slot was due; `cause` and `cause_in` tell why, `diff` and `diff_in` what differs.', [
         ('tt_parts', 'Partitions', 'is_partition_column parts_from parts_of key_partition'
          ' is_partition_position partition_of equates_partition equated_partitions partitions_read'
          ' is_same_partition'
@@ -114,6 +114,20 @@ PARTS = [
         ('tt_repair_laws', 'Laws', 'IsSameSlot NoAffectedSlotIsMissed',
          'A slot that isn\'t due does the same in both generations'),
         ('tt_db', 'Database', 'IsDueOrSame MissesNoSlot', 'The same, as the contract of a step says it'),
+        ('tt_causes', 'Causes', 'Cause slot_action_writes write_reads is_affected_after affected_since'
+         ' first_dirty_row row_of_key row_named_by first_row_named reads_dirty_partitions'
+         ' first_partition_read scans_dirty_table first_table_scanned cause_by cause_since cause',
+         'Why a slot is re-executed'),
+        ('tt_generations', 'SlotCauses', 'cause_told cause_at', 'The same of the slots that a repair has done'),
+        ('tt_db', 'Causes', 'cause_of cause_of_closed cause_in_of',
+         'The same of the repair under way, and of one that closed a generation'),
+        ('tt_causes', 'Differences', 'RowChange is_unchanged keys_of_both row_change_at row_changes differences',
+         'Which rows differ'),
+        ('tt_generations', 'RowChanges', 'change_told differences_in changes_after',
+         'The same after the slots that a repair has done'),
+        ('tt_db', 'Differences', 'unless_no_table unless_none_under_way right_diff no_generation_in'
+         ' diff_of_closed right_diff_in TellsDiff ArePage TellsDiffPage',
+         'The same of the repair under way, and of one that closed a generation'),
     ]),
     ('Threads. `Worker::read` and the other reads of `tt_store` answer as `AnswersRightly` says, '
      '`Store::write`, `begin`, `abort`, `step` and `finish` as `Wrote`, `Placed`, `Stepped` and '

@@ -157,8 +157,9 @@ TABLE = Chapter('The sequential table of two generations', [
                 ' way'),
         Meaning('tt_db', 'State', 'now_of current_at', 'the time of the last slot; the content of the slots at a'
                 ' time'),
-        Meaning('tt_db', 'State', 'ClosedGeneration with_closed', 'a number, and the slots at the switch; the closed'
-                ' generations with one more, of which the last `limits.keep` stay'),
+        Meaning('tt_db', 'State', 'ClosedGeneration edits_of with_closed', 'a number, the slots at the switch, and the'
+                ' edits of the repair; the edits of what is under way; the closed generations with one more, of which'
+                ' the last `limits.keep` stay'),
         Meaning('tt_generations', 'TwoGenerations', 'is_repairing done_of phase_after_step',
                 'whether a repair is under way; how many slots it has done; one more is done'),
         Meaning('tt_db', 'State', 'slots_left', 'how many slots it has left to do'),

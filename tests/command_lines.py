@@ -88,6 +88,11 @@ def faulty_runs(command: str) -> Iterator[Case]:
                  f'{command} --closed')
     yield faulty(f'{command} --closed --closed', f"the argument '--closed' {ONCE}", usage)
     yield early(f'--closed {command}', '--closed', command)
+    yield unexpected(f'{command} --why now', 'now', usage)
+    yield faulty(f'{command} --why=true', "unexpected value 'true' for '--why' found; no more were expected",
+                 f'{command} --why')
+    yield faulty(f'{command} --why --why', f"the argument '--why' {ONCE}", usage)
+    yield early(f'--why {command}', '--why', command)
 
 
 def faulty_rounds() -> Iterator[Case]:
@@ -99,7 +104,7 @@ def faulty_rounds() -> Iterator[Case]:
 
 def faulty_sessions() -> Iterator[Case]:
     usage = 'session [OPTIONS]'
-    for word in '--quick', 'now', '--batch', '--rounds', '--closed', '--version', 'session', 'replay':
+    for word in '--quick', 'now', '--batch', '--rounds', '--closed', '--why', '--version', 'session', 'replay':
         yield unexpected(f'session {word}', word, usage)
     yield unexpected('session --batch 16', '--batch', usage)
     yield unexpected('session --rounds 8', '--rounds', usage)

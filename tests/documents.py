@@ -4,7 +4,7 @@ memory they take.
   tests/reports/, examples/   NAME.json with the report that it has, NAME.report. Options of the command
                               line stand in NAME.options. A document whose report is the same in every
                               order is run in threads, too; NAME.run has a line of options for each
-                              further run in threads
+                              further run in threads. NAME.why is the report with `--why`
   tests/refused/              faults, each with the document that has it, or a part of it
 """
 import resource
@@ -56,6 +56,9 @@ def documents() -> Iterator[Case]:
                 yield reported(document, report, 'run', *options)
             for words in options_of(f'{name}.run'):
                 yield reported(document, report, 'run', words)
+            if (ROOT / f'{name}.why').exists():
+                for command in COMMANDS if has_one_order(document) else ['replay']:
+                    yield reported(document, f'{name}.why', command, [*options[0], '--why'])
 
 
 def options() -> Iterator[Case]:

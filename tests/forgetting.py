@@ -20,7 +20,8 @@ SESSIONS, LINES, FORGETS = int(os.environ.get('FORGETTING_SESSIONS', 200)), 300,
 OF_THE_MODEL = 20  # sessions that the model answers, too
 STATUS = {'status': True}
 STEPS = 10_000  # that a line may ask for
-REFUSALS = {'select': ('no generation', 'forgotten'), 'begin': ('repairing', 'no slot')}  # of what is gone
+REFUSALS = {'select': ('no generation', 'forgotten'), 'why': ('no generation',),
+            'begin': ('repairing', 'no slot')}  # of what is gone
 Answer = dict[str, Any]
 Session: Any = session_model.Session
 Random: Any = session_model.Random
@@ -141,7 +142,7 @@ class Both:
 
     def is_gone(self, kind: str, line: Any) -> bool:
         """Whether a line is about what lies before the horizon."""
-        if kind == 'select':
+        if kind in ('select', 'why'):
             return bool(line.get('at', self.horizon) < self.horizon
                         or line.get('in', self.generation) < self.generation)
         return kind == 'begin' and any(0 < slot <= self.horizon for slot in slots_edited(line))

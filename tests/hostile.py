@@ -38,6 +38,7 @@ RUN = ['examples/first', 'examples/transfer', 'examples/two_workers', 'examples/
        'examples/intruder', 'examples/branches', 'tests/reports/closed_generation',
        'tests/reports/closed_generation_of_one_worker',
        'tests/reports/closed_without_a_repair', 'tests/reports/rows_that_compare',
+       'tests/reports/causes_of_each_kind',
        'tests/reports/comparison_fixes_no_key',
        'tests/reports/whole_action_takes_two_updates_back',
        'tests/reports/whole_actions_during_a_repair']
@@ -47,7 +48,7 @@ HELD = ['tests/sessions/incident_in_short', 'tests/sessions/repairs', 'tests/ses
         'tests/sessions/closed_generations', 'tests/sessions/texts_and_numbers',
         'tests/sessions/comparisons', 'tests/sessions/whole_actions',
         'tests/sessions/openings_at_any_time', 'tests/sessions/whose_repair',
-        'tests/sessions/forgetting', 'tests/sessions/forgetting_many_rows']
+        'tests/sessions/forgetting', 'tests/sessions/forgetting_many_rows', 'tests/sessions/why_pages']
 
 # Those that are held with a log, too, and in about how many ways each.
 ON_A_LOG, WAYS = ['tests/sessions/forgetting', 'tests/sessions/forgetting_many_rows'], 150

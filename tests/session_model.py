@@ -13,6 +13,7 @@ import operator
 import random
 import re
 import sys
+from typing import NamedTuple
 
 LONGEST = 16_777_216
 VERSIONS = 2, 4  # of openings; all lines are read as of the last one
@@ -20,7 +21,7 @@ DEEPEST = 127
 BLANK = re.compile(rb'[\t\r ]*\Z')
 WRITES = ['insert', 'update', 'delete']
 KINDS = ['insert', 'update', 'delete', 'select', 'preview', 'do', 'begin', 'step', 'finish',
-         'abort', 'status', 'slots', 'changes', 'tables', 'forget']
+         'abort', 'status', 'slots', 'changes', 'tables', 'why', 'forget']
 OF_REPAIRS = ['step', 'finish', 'abort']  # they may say whose repair they are for
 MOST_WRITES = 16  # of an action
 NOTHING = {'do': []}
@@ -146,6 +147,10 @@ def a_count(path, value, low=0, high=2 ** 64 - 1):
 
 def a_worker(path, value):
     return a_count(path, value, 1, 2 ** 32 - 1)
+
+
+def a_page(path, value):
+    return a_count(path, value, 1, 100_000)
 
 
 def a_text(path, value):
@@ -382,8 +387,7 @@ class Grammar:
                 asked['at'] = members.perhaps('at', a_count)
                 asked['in'] = members.perhaps('in', a_count)
             asked['after'] = members.perhaps('after', an_int)
-            asked['most'] = members.perhaps(
-                'most', lambda path, value: a_count(path, value, 1, 100_000))
+            asked['most'] = members.perhaps('most', a_page)
 
             def judge():
                 self.judge('$', table, {'where': asked['where']})
@@ -410,6 +414,11 @@ class Grammar:
             asked['changes'] = members.take('changes', a_text)
             if asked['changes'] not in ('now', 'next'):
                 raise out_of_range('$.changes')
+        elif kind == 'why':
+            members.take('why', true)
+            asked['in'] = members.perhaps('in', a_count)
+            asked['after'] = members.perhaps('after', a_count)
+            asked['most'] = members.perhaps('most', a_page)
         elif kind == 'forget':
             asked['forget'] = members.take('forget', a_count)
         else:
@@ -426,10 +435,12 @@ class Grammar:
 # action is the member `do` that it is printed as, and where it is whole the member `whole`.
 
 class Generation:
-    """Slots with their contents: contents[t] is {(table, key): row} after slot t."""
+    """Slots with their contents: contents[t] is {(table, key): row} after slot t. The repair that has
+    closed it, if it is closed."""
 
     def __init__(self, tables, slots=()):
         self.tables, self.slots, self.replies, self.contents = tables, [], [], [{}]
+        self.repair = None
         for action in slots:
             self.push(action)
 
@@ -517,63 +528,117 @@ def changed(table, changes, row):
     return row
 
 
+class Dirty(NamedTuple):
+    """The rows (table, key) and the partitions (table, column, value) that are dirty."""
+    rows: frozenset
+    parts: frozenset
+
+
 class Repair:
+    """A repair under way, or one that has closed a generation: dirty[m] is what is dirty after slot m."""
+
     def __init__(self, current, edits, worker):
         self.current, self.edits, self.worker = current, dict(edits), worker
         self.next = Generation(current.tables)
-        self.rows, self.parts, self.rerun = set(), set(), 0
+        self.dirty, self.rerun = [Dirty(frozenset(), frozenset())], 0
 
     def done(self):
-        return len(self.next.slots)
+        return len(self.dirty) - 1
 
     def left(self):
         return len(self.current.slots) - self.done()
 
     def step(self):
         at, tables = self.done(), self.current.tables
-        old, action = self.current.slots[at], self.current.slots[at]
-        if at + 1 in self.edits:
-            action = self.edits[at + 1]
-        touched = carried_out(tables, old or NOTHING, self.current.contents[at])[2]
+        action = self.edits.get(at + 1, self.current.slots[at])
         before = self.next.contents[-1]
         self.next.push(action)
-        if not self.is_due(at + 1, old, touched):
-            return
-        self.rerun += 1
-        for key in touched | carried_out(tables, action or NOTHING, before)[3]:
-            self.rows.add(key)
-            table = next(table for table in tables if table['name'] == key[0])
-            self.parts.add((key[0], table['columns'][0]['name'], key[1]))
-            for rows in before, self.next.contents[-1]:
-                if key in rows:
-                    self.parts |= parts_of(table, rows[key])
+        dirty = self.dirty[-1]
+        if at + 1 in self.edits or self.is_affected(at + 1, dirty):
+            self.rerun += 1
+            keys = self.touched(at + 1) | carried_out(tables, action or NOTHING, before)[3]
+            parts = {part for key in keys for part in self.parts_with(key, before, self.next.contents[-1])}
+            dirty = Dirty(dirty.rows | keys, dirty.parts | parts)
+        self.dirty.append(dirty)
 
-    def is_due(self, slot, action, touched):
-        if slot in self.edits:
-            return True
+    def parts_with(self, key, *contents):
+        """The partitions that get dirty with a row: that of its key, and those of what it is in some contents."""
+        table = next(table for table in self.current.tables if table['name'] == key[0])
+        yield key[0], table['columns'][0]['name'], key[1]
+        for rows in contents:
+            if key in rows:
+                yield from parts_of(table, rows[key])
+
+    def touched(self, slot):
+        action = self.current.slots[slot - 1]
+        return carried_out(self.current.tables, action or NOTHING, self.current.contents[slot - 1])[2]
+
+    def is_affected(self, slot, dirty):
+        """Whether a slot may be affected by what is dirty: a cancelled one isn't."""
+        action = self.current.slots[slot - 1]
         if action is None:
             return False
-        return bool(touched & self.rows) or any(self.meets(write) for write in action['do'])
+        return bool(self.touched(slot) & dirty.rows) or any(
+            self.row_named(write, dirty) is not None or not self.is_clear(write, dirty) for write in action['do'])
 
-    def meets(self, write):
+    def row_named(self, write, dirty):
+        """The first dirty row whose key a write inserts, or has an equality with."""
         table = table_of(self.current.tables, write)
-        first, name = table['columns'][0]['name'], table['name']
-        split = {first} | {column['name'] for column in table['columns'] if column['partition']}
-        if 'insert' in write:
-            reads = [(name, first, write['row'][0])]
-        else:
-            equalities = [condition for condition in write['where'] if len(condition) == 2]
-            reads = [(name, column, value) for column, value in equalities if column in split]
-        if any(column == first and (name, value) in self.rows for _, column, value in reads):
-            return True
-        if not reads:
-            return any(key[0] == name for key in self.rows)
-        return all(read in self.parts for read in reads)
+        keys = [value for column, value in equated(table, write) if column == table['columns'][0]['name']]
+        return next(((table['name'], key) for key in keys if (table['name'], key) in dirty.rows), None)
+
+    def reads(self, write):
+        """The partitions that a write reads, in the order of its equalities."""
+        table = table_of(self.current.tables, write)
+        return [(table['name'], column, value) for column, value in equated(table, write)
+                if column in partition_columns(table)]
+
+    def is_clear(self, write, dirty):
+        reads, name = self.reads(write), table_of(self.current.tables, write)['name']
+        if reads:
+            return any(read not in dirty.parts for read in reads)
+        return all(key[0] != name for key in dirty.rows)
+
+    # Causes
+
+    def cause(self, slot):
+        """Why a slot that is done was re-executed, or None where it wasn't: the members of an answer."""
+        if slot in self.edits:
+            return {'because': 'edited'}
+        for since in range(1, slot):
+            if self.dirty[since] is not self.dirty[since - 1] and self.is_affected(slot, self.dirty[since]):
+                return {**self.cause_since(slot, since), 'since': since}
+        return None
+
+    def cause_since(self, slot, since):
+        """The first of the causes that there are since a slot."""
+        before, dirty = self.dirty[since - 1:since + 1]
+        writes, names = self.current.slots[slot - 1]['do'], [table['name'] for table in self.current.tables]
+        for name, key in sorted(self.touched(slot) & dirty.rows, key=lambda row: (names.index(row[0]), row[1])):
+            return {'because': 'wrote', 'table': name, 'key': key}
+        for name, key in filter(None, [self.row_named(write, dirty) for write in writes]):
+            return {'because': 'names', 'table': name, 'key': key}
+        unclear = [write for write in writes if not self.is_clear(write, dirty)]
+        for reads in filter(None, map(self.reads, unclear)):
+            name, column, value = next(read for read in reads if read not in before.parts)
+            return {'because': 'reads', 'table': name, 'column': column, 'value': value}
+        return {'because': 'scans', 'table': table_of(self.current.tables, unclear[0])['name']}
+
+
+def equated(table, write):
+    """The columns that a write equates with a value, each with it. An insert does so with its key."""
+    if 'insert' in write:
+        return [(table['columns'][0]['name'], write['row'][0])]
+    return [condition for condition in write['where'] if len(condition) == 2]
+
+
+def partition_columns(table):
+    return [column['name'] for at, column in enumerate(table['columns']) if at == 0 or column['partition']]
 
 
 def parts_of(table, row):
-    return {(table['name'], column['name'], row[at]) for at, column in enumerate(table['columns'])
-            if at == 0 or column['partition']}
+    names = [column['name'] for column in table['columns']]
+    return {(table['name'], name, row[names.index(name)]) for name in partition_columns(table)}
 
 
 # The session
@@ -721,12 +786,15 @@ class Session:
             return {'rows': rows}
         return {'rows': rows[:asked['most']], 'more': len(rows) > asked['most']}
 
+    def generation(self, number, last):
+        """The generation of a number, of those that are kept up to a last one."""
+        if not self.oldest() <= number <= last:
+            raise Refusal('no generation', oldest=self.oldest(), newest=self.newest())
+        return self.generations[number - self.before]
+
     def do_select(self, asked):
         newest = self.newest()
-        number = newest if asked['in'] is None else asked['in']
-        if not self.oldest() <= number <= newest:
-            raise Refusal('no generation', oldest=self.oldest(), newest=newest)
-        generation = self.generations[number - self.before]
+        generation = self.generation(newest if asked['in'] is None else asked['in'], newest)
         last = self.last(generation)
         time = last if asked['at'] is None else asked['at']
         if time > last:
@@ -772,6 +840,7 @@ class Session:
         repair = self.repairing(asked['of'])
         self.steps(repair.left())
         self.entries += 1
+        self.current().repair = repair
         self.generations.append(repair.next)
         self.repair = None
         return {'generation': self.newest(), 'slots': self.now(), 'rerun': repair.rerun}
@@ -848,6 +917,19 @@ class Session:
                                 'before': record['before'], 'after': after})
         first = self.records[0]['call'] if self.records else self.calls
         return {'from': first, 'changed': changes}
+
+
+    def do_why(self, asked):
+        closed = asked['in'] is not None
+        repair = self.generation(asked['in'], self.newest() - 1).repair if closed else self.repairing()
+        causes = [(self.told(slot), repair.cause(slot)) for slot in range(1, repair.done() + 1)]
+        redone = [{'slot': slot, **self.told_cause(cause)} for slot, cause in causes
+                  if cause is not None and slot > (asked['after'] or 0)]
+        told = {'done': self.told(repair.done()), 'redone': redone[:asked['most']]}
+        return told if asked['most'] is None else {**told, 'more': len(redone) > asked['most']}
+
+    def told_cause(self, cause):
+        return cause if 'since' not in cause else {**cause, 'since': self.told(cause['since'])}
 
 
 # Random sessions
@@ -991,10 +1073,19 @@ class Random:
         return {**self.one_of({}, {}, {'after': self.key() - 1}),
                 **self.one_of({}, {}, {'most': self.one_of(1, 2, 9)})}
 
+    def why(self):
+        """Mostly without a fault, of the repair under way or of one that closed a generation."""
+        asked = {'why': True, **self.one_of({}, {'in': self.random.randint(0, 6)}),
+                 **self.one_of({}, {}, {'after': self.some_time()}),
+                 **self.one_of({}, {}, {'most': self.one_of(1, 2, 9)})}
+        return self.one_of(*[asked] * 15, {**asked, **self.one_of(
+            {'why': False}, {'why': 1}, {'in': -1}, {'after': -1}, {'after': None}, {'most': 0}, {'most': 100_001},
+            {'of': 1}, {'at': 1})})
+
     def request(self):
         kind = self.one_of(*['write'] * 6, 'select', 'select', 'preview', 'begin', 'begin',
                            *['step'] * 3, 'finish', 'finish', 'abort', 'status', 'slots', 'slots',
-                           'changes', 'changes', 'tables', 'opening', 'fault',
+                           'changes', 'changes', 'why', 'why', 'why', 'tables', 'opening', 'fault',
                            *['forget'] * self.forgets)
         table, where = 'acct', self.where()
         if self.one_of(*[False] * 5, True):
@@ -1022,6 +1113,7 @@ class Random:
                       **self.one_of({}, {'of': self.one_of(1, 2)}),
                       **self.one_of({}, {'row': ['acct', self.key()]})},
             'changes': {'changes': self.one_of('now', 'next')},
+            'why': self.why(),
             'tables': {'tables': True},
             'fault': self.one_of({'step': 0}, {'insert': 'acct', 'row': [1]}, {}, [], {'x': 1},
                                  {'forget': -1}, self.faulty_whole(), self.faulty_whole()),

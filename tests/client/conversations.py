@@ -11,10 +11,10 @@ from tests.support.client_package import PACKAGE, session_command
 from tests.support.fixtures import program
 from tests.support.stand_in import ACCT, ACCT_LINE, OPENING, ClientCase, StandInCase, told
 from timetravel import (
-    ChangedSelect, ChangedWrite, Changes, EditedTwice, Fault, Forgotten, Later, Moved, NoGeneration, NoSlot,
-    NotRepairing, Previewed, Repair, RepairOfAnother, Repairing, Reply, Row, Selected, Session, Slot, Slots,
-    Status, Stepped, Switched, Tables, Written, above, at_least, at_most, below, cancel, delete, do, insert,
-    is_not, replace, update)
+    Causes, ChangedSelect, ChangedWrite, Changes, EditedTwice, Fault, Forgotten, Later, Moved, NoGeneration,
+    NoSlot, NotRepairing, Previewed, Redone, Repair, RepairOfAnother, Repairing, Reply, Row, Selected, Session,
+    Slot, Slots, Status, Stepped, Switched, Tables, Written, above, at_least, at_most, below, cancel, delete, do,
+    insert, is_not, replace, update)
 
 # The requests of one conversation: a call of a session, its line, its answer as a line and decoded.
 CONVERSATION: list[tuple[Any, str, str, Any]] = [
@@ -105,7 +105,7 @@ CONVERSATION: list[tuple[Any, str, str, Any]] = [
     (lambda s: s.send({"x": 1}).result(),
      '{"x":1}',
      '{"call":24,"fault":{"path":"$","cause":"missing one of insert, update, delete, select, preview, do, '
-     'begin, step, finish, abort, status, slots, changes, tables, forget"}}',
+     'begin, step, finish, abort, status, slots, changes, tables, why, forget"}}',
      (Fault, {"path": "$", "call": 24})),
     # A second repair, with replaced slots, and the members that the requests above leave out.
     (lambda s: s.do([insert("acct", [2, "bøb", -5]), insert("acct", [2, "eve", 0])], worker=3, if_time=4),
@@ -284,6 +284,63 @@ CONVERSATION: list[tuple[Any, str, str, Any]] = [
     (lambda s: s.send({"finish": True, "of": 0}).result(),
      '{"finish":true,"of":0}', '{"call":68,"fault":{"path":"$.of","cause":"out of range"}}',
      (Fault, {"path": "$.of"})),
+    # Why slots were re-executed, for each of the causes.
+    (lambda s: s.why(2),
+     '{"why":true,"in":2}',
+     '{"call":69,"done":11,"redone":[{"slot":8,"because":"edited"}]}', Causes(69, 11, [Redone(8, "edited")])),
+    (lambda s: s.why(),
+     '{"why":true}', '{"call":70,"refused":"not repairing"}', (NotRepairing, {"call": 70})),
+    (lambda s: s.why(3, after=8, most=2, worker=9, if_time=11),
+     '{"worker":9,"if":11,"why":true,"in":3,"after":8,"most":2}',
+     '{"call":71,"refused":"no generation","oldest":1,"newest":3}', (NoGeneration, {"oldest": 1, "newest": 3})),
+    (lambda s: s.insert("acct", [5, "eve", 8]),
+     '{"insert":"acct","row":[5,"eve",8]}',
+     '{"call":72,"slot":12,"replies":["inserted"]}', Written(72, 12, [Reply("inserted")])),
+    (lambda s: s.update("acct", where={"id": 5}, set={"owner": "bøb"}),
+     '{"update":"acct","change":[["set","owner","bøb"]],"where":[["id",5]]}',
+     '{"call":73,"slot":13,"replies":[{"updated":1}]}', Written(73, 13, [Reply("updated", 1)])),
+    (lambda s: s.do([insert("acct", [5, "ann", 0]), update("acct", where={"owner": "eve"}, add={"bal": 1}),
+                     delete("acct", {"bal": 7})]),
+     '{"do":[{"insert":"acct","row":[5,"ann",0]},{"update":"acct","change":[["add","bal",1]],'
+     '"where":[["owner","eve"]]},{"delete":"acct","where":[["bal",7]]}]}',
+     '{"call":74,"slot":14,"replies":["duplicate",{"updated":0},{"deleted":0}]}',
+     Written(74, 14, [Reply("duplicate"), Reply("updated", 0), Reply("deleted", 0)])),
+    (lambda s: s.update("acct", where={"owner": "eve"}, add={"bal": 1}),
+     '{"update":"acct","change":[["add","bal",1]],"where":[["owner","eve"]]}',
+     '{"call":75,"slot":15,"replies":[{"updated":0}]}', Written(75, 15, [Reply("updated", 0)])),
+    (lambda s: s.delete("acct", {"bal": 7}),
+     '{"delete":"acct","where":[["bal",7]]}',
+     '{"call":76,"slot":16,"replies":[{"deleted":0}]}', Written(76, 16, [Reply("deleted", 0)])),
+    (lambda s: s.delete("acct", {"owner": "bøb"}),
+     '{"delete":"acct","where":[["owner","bøb"]]}',
+     '{"call":77,"slot":17,"replies":[{"deleted":1}]}', Written(77, 17, [Reply("deleted", 1)])),
+    (lambda s: s.begin([cancel(13)]),
+     '{"begin":[{"cancel":13}]}',
+     '{"call":78,"done":2,"left":15,"rerun":0}', Stepped(2, 15, 0, 78)),
+    (lambda s: s.step(14),
+     '{"step":14,"of":1}', '{"call":79,"done":16,"left":1,"rerun":4}', Stepped(16, 1, 4, 79)),
+    (lambda s: s.why(),
+     '{"why":true}',
+     '{"call":80,"done":16,"redone":[{"slot":13,"because":"edited"},'
+     '{"slot":14,"because":"names","table":"acct","key":5,"since":13},'
+     '{"slot":15,"because":"reads","table":"acct","column":"owner","value":"eve","since":13},'
+     '{"slot":16,"because":"scans","table":"acct","since":13}]}',
+     Causes(80, 16, [Redone(13, "edited"), Redone(14, "names", "acct", 5, since=13),
+                     Redone(15, "reads", "acct", None, "owner", "eve", 13),
+                     Redone(16, "scans", "acct", since=13)])),
+    (lambda s: s.why(after=13, most=1),
+     '{"why":true,"after":13,"most":1}',
+     '{"call":81,"done":16,"redone":[{"slot":14,"because":"names","table":"acct","key":5,"since":13}],"more":true}',
+     Causes(81, 16, [Redone(14, "names", "acct", 5, since=13)], True)),
+    (lambda s: s.finish(),
+     '{"finish":true,"of":1}', '{"call":82,"generation":4,"slots":17,"rerun":5}', Switched(82, 4, 17, 5)),
+    (lambda s: s.why(3, after=16, most=9, worker=9, if_time=17),
+     '{"worker":9,"if":17,"why":true,"in":3,"after":16,"most":9}',
+     '{"call":83,"done":17,"redone":[{"slot":17,"because":"wrote","table":"acct","key":5,"since":13}],"more":false}',
+     Causes(83, 17, [Redone(17, "wrote", "acct", 5, since=13)], False)),
+    (lambda s: s.send({"why": False}).result(),
+     '{"why":false}', '{"call":84,"fault":{"path":"$.why","cause":"out of range"}}',
+     (Fault, {"path": "$.why", "cause": "out of range"})),
 ]
 
 

@@ -9,7 +9,7 @@ import socket
 
 from tests.support.client_package import needs_etcd
 from tests.support.clusters import ALL, OPENING, ReplicaProcess, WithEtcd, insert
-from timetravel import Column, Moved, Session, Table
+from timetravel import Column, Moved, NotRepairing, Session, Table
 from timetravel.following import encoded
 
 setUpModule = needs_etcd
@@ -93,7 +93,8 @@ class Requests(WithEtcd):
         with Session.connect(replica.socket, tables, reads="replica") as session:
             entries = len(self.cluster.lines())
             self.assertEqual(session.select("acct").rows, [[1, 7]])
-            self.assertEqual(len(self.cluster.lines()), entries)    # The select isn't in the log.
+            self.assertRaises(NotRepairing, session.why)
+            self.assertEqual(len(self.cluster.lines()), entries)    # Neither is in the log.
             session.update("acct", {"id": 1}, add={"bal": 1})
             self.assertEqual(session.select("acct").rows[0]["bal"], 8)
 

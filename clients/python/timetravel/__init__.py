@@ -28,8 +28,8 @@ asyncio. docs/SESSION.md is the manual.
 
 from . import aio
 from .answers import (
-    Answer, ChangedSelect, ChangedWrite, Changes, Previewed, Progress, Repair, Reply, Selected, Slot, Slots,
-    Status, Stepped, Switched, Tables, Written)
+    Answer, Causes, ChangedSelect, ChangedWrite, Changes, Previewed, Progress, Redone, Repair, Reply, Selected,
+    Slot, Slots, Status, Stepped, Switched, Tables, Written)
 from .errors import (
     AnotherOpening, Closed, Disconnected, EditedTwice, Ended, Error, Fault, Forgotten, Forked, Full, Later,
     LogFailed, Lost, Moved, NoAnswer, NoGeneration, NoSlot, NotConnected, NotRepairing, NotStarted,
@@ -43,10 +43,10 @@ from .tables import Column, Row, Table, Value
 __version__ = "0.1.0"
 
 __all__ = [
-    "AnotherOpening", "Answer", "Change", "ChangedSelect", "ChangedWrite", "Changes", "Closed", "Column",
-    "Compared", "Disconnected", "Edit", "EditedTwice", "Ended", "Error", "Fault", "Forgotten", "Forked",
-    "Full", "Later", "LogFailed", "Lost", "Moved", "NewRow", "NoAnswer", "NoGeneration", "NoSlot",
-    "NotConnected", "NotRepairing", "NotStarted", "OutOfMemory", "Previewed", "Progress", "Refused",
+    "AnotherOpening", "Answer", "Causes", "Change", "ChangedSelect", "ChangedWrite", "Changes", "Closed",
+    "Column", "Compared", "Disconnected", "Edit", "EditedTwice", "Ended", "Error", "Fault", "Forgotten",
+    "Forked", "Full", "Later", "LogFailed", "Lost", "Moved", "NewRow", "NoAnswer", "NoGeneration", "NoSlot",
+    "NotConnected", "NotRepairing", "NotStarted", "OutOfMemory", "Previewed", "Progress", "Redone", "Refused",
     "Repair", "RepairOfAnother", "Repairing", "Reply", "Row", "Selected", "Session", "Slot", "Slots",
     "Status", "Stepped", "Switched", "Table", "Tables", "Value", "Vanished", "Where", "Write", "Written",
     "above", "aio", "at_least", "at_most", "below", "cancel", "delete", "do", "insert", "is_not", "preview",

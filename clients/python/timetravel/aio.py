@@ -21,7 +21,7 @@ from typing import Any, Literal, TypeVar, cast, overload
 
 from . import answers, program, requests
 from .answers import (
-    Changes, Decode, Previewed, Progress, Selected, Slots, Status, Stepped, Switched, Tables, Written)
+    Causes, Changes, Decode, Previewed, Progress, Selected, Slots, Status, Stepped, Switched, Tables, Written)
 from .errors import (
     Closed, Disconnected, Ended, Error, Forked, Lost, NoAnswer, NotConnected, NotRepairing, Refused,
     RepairOfAnother)
@@ -591,6 +591,18 @@ class Session:
         """
         return await self._ask({"changes": which}, answers.changes, worker, if_time, timeout)
 
+    async def why(self, generation: int | None = None, *, after: int | None = None, most: int | None = None,
+                  worker: int | None = None, if_time: int | None = None,
+                  timeout: float | None = None) -> Causes:
+        """Why the repair under way has re-executed slots, or the one that closed a generation that is kept:
+        of the slots behind `after`, the first `most`.
+
+        Raises `NotRepairing`, `NoGeneration` with a generation that isn't kept or is the current one, and
+        what any request does.
+        """
+        request = requests.why(generation, after, most)
+        return await self._ask(request, answers.causes, worker, if_time, timeout)
+
     async def tables(self, *, worker: int | None = None, if_time: int | None = None,
                      timeout: float | None = None) -> Tables:
         """What the session was opened with.
@@ -650,6 +662,11 @@ class Session:
     async def send(self, request: requests.ChangesRequest, *, worker: int | None = None,
                    if_time: int | None = None, timeout: float | None = None
                    ) -> asyncio.Future[Changes]: ...
+
+    @overload
+    async def send(self, request: requests.WhyRequest, *, worker: int | None = None,
+                   if_time: int | None = None, timeout: float | None = None
+                   ) -> asyncio.Future[Causes]: ...
 
     @overload
     async def send(self, request: requests.TablesRequest, *, worker: int | None = None,

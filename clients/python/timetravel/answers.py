@@ -9,11 +9,11 @@ from __future__ import annotations
 import json
 from collections.abc import Callable, Mapping
 from dataclasses import dataclass
-from typing import Any, TypeVar, Union
+from typing import Any, Literal, TypeVar, Union
 
 from .errors import REFUSALS, Error, Fault, Lost, Refused
 from .requests import Write
-from .tables import Column, Row, Table
+from .tables import Column, Row, Table, Value
 
 
 @dataclass(frozen=True)
@@ -158,6 +158,31 @@ class Changes:
 
 
 @dataclass(frozen=True)
+class Redone:
+    """A slot that a repair has re-executed, and why: "edited"; "wrote", since it touched a row; "names",
+    since one of its writes names the key of a row; "reads", since one reads the rows with a value in a
+    column; "scans", since one reads all of a table. What is named got dirty with the slot `since`, which
+    was re-executed, too. What a cause doesn't name is None."""
+    slot: int
+    because: Literal["edited", "wrote", "names", "reads", "scans"]
+    table: str | None = None
+    key: int | None = None
+    column: str | None = None
+    value: Value | None = None
+    since: int | None = None
+
+
+@dataclass(frozen=True)
+class Causes:
+    """The re-executed slots of a repair by rising number, of the `done` slots that it has done. `more` is
+    None where no `most` was given."""
+    call: int
+    done: int
+    redone: list[Redone]
+    more: bool | None = None
+
+
+@dataclass(frozen=True)
 class Tables:
     """The opening of this session, with every member."""
     call: int
@@ -167,7 +192,7 @@ class Tables:
     records: int
 
 
-Answer = Union[Written, Selected, Previewed, Stepped, Switched, Status, Slots, Changes, Tables]
+Answer = Union[Written, Selected, Previewed, Stepped, Switched, Status, Slots, Changes, Tables, Causes]
 
 # Lines
 
@@ -276,6 +301,16 @@ def _changed(found: Members) -> ChangedWrite | ChangedSelect:
                              list(map(Row, found["after"])))
     after = None if found["after"] == "cancelled" else _replies(found["after"])
     return ChangedWrite(found["call"], found["slot"], _replies(found["before"]), after)
+
+
+def causes(found: Members) -> Causes:
+    return Causes(found["call"], found["done"], [_redone(each) for each in found["redone"]],
+                  found.get("more"))
+
+
+def _redone(found: Members) -> Redone:
+    return Redone(found["slot"], found["because"], found.get("table"), found.get("key"), found.get("column"),
+                  found.get("value"), found.get("since"))
 
 
 def tables(found: Members) -> Tables:

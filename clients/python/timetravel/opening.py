@@ -135,4 +135,5 @@ _DECODE: dict[str, Decode[Any]] = {
     "select": _plainly_selected, "preview": _plainly_previewed, "do": answers.written,
     "begin": answers.stepped, "step": answers.stepped, "finish": answers.switched,
     "abort": answers.status, "status": answers.status, "slots": partial(answers.slots, {}),
-    "changes": answers.changes, "tables": answers.tables, "forget": answers.status}
+    "changes": answers.changes, "tables": answers.tables, "why": answers.causes,
+    "forget": answers.status}

@@ -129,6 +129,18 @@ class ChangesRequest(TypedDict):
     changes: Literal["now", "next"]
 
 
+class _WhyRequest(TypedDict):
+    why: Literal[True]
+
+
+# Of which repair it is asked, and of which slots.
+_WhyBounds = TypedDict("_WhyBounds", {"in": int, "after": int, "most": int}, total=False)
+
+
+class WhyRequest(_WhyRequest, _WhyBounds):
+    """Why a repair has re-executed its slots."""
+
+
 class TablesRequest(TypedDict):
     """The opening of the session."""
     tables: Literal[True]
@@ -315,6 +327,18 @@ def slots(first: int, last: int, of: int | None, row: tuple[str, int] | None) ->
         request["of"] = of
     if row is not None:
         request["row"] = list(row)
+    return request
+
+
+def why(generation: int | None, after: int | None, most: int | None) -> WhyRequest:
+    """Why the repair under way, or the one that closed a generation, has re-executed its slots."""
+    request: WhyRequest = {"why": True}
+    if generation is not None:
+        request["in"] = generation
+    if after is not None:
+        request["after"] = after
+    if most is not None:
+        request["most"] = most
     return request
 
 

@@ -11,7 +11,7 @@ from typing import Any, Literal, TypeVar, overload
 
 from . import answers, requests
 from .answers import (
-    Changes, Decode, Previewed, Progress, Selected, Slots, Status, Stepped, Switched, Tables, Written)
+    Causes, Changes, Decode, Previewed, Progress, Selected, Slots, Status, Stepped, Switched, Tables, Written)
 from .channel import Channel
 from .connection import Connection
 from .errors import Closed, Error, Forked, NoAnswer, NotRepairing, Refused, RepairOfAnother
@@ -392,6 +392,16 @@ class Session:
         """
         return self._ask({"changes": which}, answers.changes, worker, if_time, timeout)
 
+    def why(self, generation: int | None = None, *, after: int | None = None, most: int | None = None,
+            worker: int | None = None, if_time: int | None = None, timeout: float | None = None) -> Causes:
+        """Why the repair under way has re-executed slots, or the one that closed a generation that is kept:
+        of the slots behind `after`, the first `most`.
+
+        Raises `NotRepairing`, `NoGeneration` with a generation that isn't kept or is the current one, and
+        what any request does.
+        """
+        return self._ask(requests.why(generation, after, most), answers.causes, worker, if_time, timeout)
+
     def tables(self, *, worker: int | None = None, if_time: int | None = None,
                timeout: float | None = None) -> Tables:
         """What the session was opened with.
@@ -444,6 +454,10 @@ class Session:
     @overload
     def send(self, request: requests.ChangesRequest, *, worker: int | None = None,
              if_time: int | None = None, timeout: float | None = None) -> Future[Changes]: ...
+
+    @overload
+    def send(self, request: requests.WhyRequest, *, worker: int | None = None,
+             if_time: int | None = None, timeout: float | None = None) -> Future[Causes]: ...
 
     @overload
     def send(self, request: requests.TablesRequest, *, worker: int | None = None,

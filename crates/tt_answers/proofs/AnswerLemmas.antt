@@ -23,6 +23,7 @@ further-members tables numbering (answers.Repairing progress) = refl
 further-members tables numbering (answers.Finished generation slots rerun) = refl
 further-members tables numbering (answers.Slots time entries) = refl
 further-members tables numbering (answers.Changes first entries) = refl
+further-members tables numbering (answers.Causes done entries more) = refl
 further-members tables numbering (answers.Declared keep records) = refl
 further-members tables numbering (answers.Faulty (faults.At path cause)) = refl
 further-members tables numbering (answers.Faulty faults.Memory) = refl

@@ -85,6 +85,14 @@ pub value-number : (out first second third all label value comma name colon numb
 value-number out first second third all label value comma name colon number p q r s =
     s ∙ ap (λ o. o ++ number) (r ∙ ap (λ o. o ++ colon) (q ∙ ap (λ o. o ++ (comma ++ name)) p)) ∙ simp (append_assoc, append-nil)
 
+-- members: three values, and another one
+pub three-values : (out first second label third all name_1 value_1 name_2 value_2 name_3 value_3 last : List ℕ) → first ≡ out ++ (name_1 ++ value_1)
+    → second ≡ first ++ (name_2 ++ value_2) → label ≡ second ++ name_3 → third ≡ label ++ value_3 → all ≡ third ++ last
+    → all ≡ out ++ (name_1 ++ (value_1 ++ (name_2 ++ (value_2 ++ (name_3 ++ (value_3 ++ last))))))
+three-values out first second label third all name_1 value_1 name_2 value_2 name_3 value_3 last p q r s t =
+    t ∙ ap (λ o. o ++ last) (s ∙ ap (λ o. o ++ value_3) (r ∙ ap (λ o. o ++ name_3) (q ∙ ap (λ o. o ++ (name_2 ++ value_2)) p)))
+    ∙ simp append_assoc
+
 -- the line of a call: its number, further members, and the end
 pub call-pieces : (out first second third all label number comma members further close feed : List ℕ) → further ≡ comma ++ members → first ≡ out ++ (label ++ number)
     → second ≡ first ++ comma → third ≡ second ++ members → all ≡ third ++ (close ++ feed) → all ≡ out ++ (label ++ (((number ++ further) ++ close) ++ feed))

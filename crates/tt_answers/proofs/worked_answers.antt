@@ -1,5 +1,6 @@
 mod Writing
 mod Repairing
+mod Explaining
 mod Telling
 mod Refusing
 mod Forgetting

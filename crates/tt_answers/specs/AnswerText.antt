@@ -24,9 +24,11 @@ use Rattle.tt_answers.specs.declared.answer.SlotEntry.{SlotEntry}
 use Rattle.tt_answers.specs.declared.answer.Place.{Place}
 use Rattle.tt_answers.specs.declared.answer.Place.TheVariants as places
 use Rattle.tt_answers.specs.declared.answer.ChangeEntry.{ChangeEntry}
+use Rattle.tt_answers.specs.declared.answer.CauseEntry.{CauseEntry}
 use Rattle.tt_answers.specs.declared.answer.Answer.{Answer}
 use Rattle.tt_answers.specs.declared.answer.Answer.TheVariants as answers
 use Rattle.tt_answers.specs.ToldText.{time_member, generation_member}
+use Rattle.tt_answers.specs.CauseText.{cause_text}
 use Rattle.tt_answers.specs.RefusalText.{out_of_memory, refusal_members, fault_members}
 
 -- a reply as items of an array: rows are one item each, and any other reply is one item
@@ -71,7 +73,7 @@ status_members numbering status =
     ∷ (codes "repair", text_or_null (option_map (repair_text numbering) status.repair))
     ∷ horizon_members numbering
 
--- whether more rows follow, if that is told
+-- whether more follow, if that is told
 abbrev pub more_members : Option Bool → List Member
 more_members None = []
 more_members (Some more) = (codes "more", flag_text more) ∷ []
@@ -160,6 +162,11 @@ abbrev pub changes_members : Numbering → ℕ → List ChangeEntry → List Mem
 changes_members numbering first entries =
     number_member (codes "from") first ∷ (codes "changed", array_text (map (change_text numbering) entries)) ∷ []
 
+-- how many slots a repair has done, those of them that it re-executed, and whether more follow, if that is told
+abbrev pub causes_members : Tables → Numbering → ℕ → List CauseEntry → Option Bool → List Member
+causes_members tables numbering done entries more =
+    time_member numbering (codes "done") done ∷ (codes "redone", array_text (map (cause_text tables numbering) entries)) ∷ more_members more
+
 -- the members of an answer, without its call. The tables are those of the database, whose numbers are told by the numbering
 abbrev pub answer_members : Tables → Numbering → Answer → List Member
 answer_members tables numbering (answers.Standing status) = status_members numbering status
@@ -170,6 +177,7 @@ answer_members tables numbering (answers.Repairing progress) = progress_members 
 answer_members tables numbering (answers.Finished generation slots rerun) = finished_members numbering generation slots rerun
 answer_members tables numbering (answers.Slots time entries) = slots_members tables numbering time entries
 answer_members tables numbering (answers.Changes first entries) = changes_members numbering first entries
+answer_members tables numbering (answers.Causes done entries more) = causes_members tables numbering done entries more
 answer_members tables numbering (answers.Declared keep records) = declared_members tables keep records
 answer_members tables numbering (answers.Faulty fault) = fault_members fault
 answer_members tables numbering (answers.Refused refusal) = refusal_members numbering refusal

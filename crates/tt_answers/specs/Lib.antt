@@ -1,4 +1,5 @@
 pub mod ToldText
 pub mod RefusalText
+pub mod CauseText
 pub mod AnswerText
 pub mod LogText

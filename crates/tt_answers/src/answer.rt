@@ -1,11 +1,13 @@
 //! What is answered, before it is printed.
-ghost use Rattle.std.specs.Prelude.{◌≡◌};
+ghost use Rattle.std.specs.Prelude.{◌≡◌, IfOk};
 
+use std::alloc::AllocError;
 use tt_db::{DbError, Progress, ReadError, Slot};
+use tt_generations::Cause;
 use tt_grammar::DocFault;
 use tt_records::{Changed, What};
 use tt_requests::ToldTime;
-use tt_values::{Action, Items, Reply, Row};
+use tt_values::{Action, Items, Reply, Row, RowId, Value};
 
 /// Why a request is refused.
 #[derive(Clone, Copy, Debug, PartialEq, Eq)]
@@ -90,6 +92,44 @@ pub struct ChangeEntry {
     pub change: Changed,
 }
 
+/// Why a slot was re-executed. All but the first name what got dirty, and the slot that it got
+/// dirty with. Tables and columns go by position, from 0.
+#[derive(Debug, PartialEq, Drop)]
+pub enum SlotCause {
+    /// The repair edits the slot.
+    Edited,
+    /// The slot touched this row.
+    Wrote {
+        row: RowId,
+        since: u64,
+    },
+    /// One of its writes inserts the key of this row, or has an equality with it.
+    Names {
+        row: RowId,
+        since: u64,
+    },
+    /// One of its writes reads the rows that have this value in the column.
+    Reads {
+        table: u16,
+        column: u16,
+        value: Value,
+        since: u64,
+    },
+    /// One of its writes reads all of this table.
+    Scans {
+        table: u16,
+        since: u64,
+    },
+}
+
+/// What is told of a re-executed slot.
+#[derive(Debug, PartialEq, Drop)]
+pub struct CauseEntry {
+    /// The number of the slot.
+    pub slot: u64,
+    pub cause: SlotCause,
+}
+
 /// An answer. What it holds is shared with the database, and not copied. Its slots, times and
 /// generations are the database's own numbers, and its text tells them by a numbering.
 #[derive(Debug, PartialEq, Drop)]
@@ -130,6 +170,13 @@ pub enum Answer {
         from: u64,
         changes: Items<ChangeEntry>,
     },
+    /// How many slots the repair has done, and those of them that it re-executed.
+    Causes {
+        done: u64,
+        redone: Items<CauseEntry>,
+        /// Whether more follow, if a page was asked for.
+        more: Option<bool>,
+    },
     /// The tables of the database, how many closed generations it keeps, and how many records are
     /// kept.
     Declared {
@@ -155,6 +202,43 @@ impl Place {
             What::Write { slot, .. } => Some(Place::Slot(*slot)),
             What::Read { time, .. } => Some(Place::Time(*time)),
             What::Preview { .. } | What::Later { .. } | What::NotRepairing => None,
+        }
+    }
+}
+
+impl SlotCause {
+    ghost use Rattle.tt_generations.specs.SlotCauses.{cause_told};
+    ghost use Rattle.tt_answers.specs.CauseText.{slot_cause};
+
+    /// A cause that is lent, with a copy of its value, which shares its text.
+    pub fn of(cause: Cause<'_>) -> Result<SlotCause, AllocError>
+        ensures { IfOk result (λ copy. copy ≡ slot_cause (cause_told cause.entry)) }
+    {
+        match cause {
+            Cause::Edited => Ok(SlotCause::Edited),
+            Cause::Wrote { table, key, since } => {
+                let row = RowId { table, key };
+                Ok(SlotCause::Wrote { row, since })
+            }
+            Cause::Names { table, key, since } => {
+                let row = RowId { table, key };
+                Ok(SlotCause::Names { row, since })
+            }
+            Cause::Reads {
+                table,
+                column,
+                value,
+                since,
+            } => {
+                let value = value.copy()?;
+                Ok(SlotCause::Reads {
+                    table,
+                    column,
+                    value,
+                    since,
+                })
+            }
+            Cause::Scans { table, since } => Ok(SlotCause::Scans { table, since }),
         }
     }
 }

@@ -4,9 +4,10 @@ ghost use Rattle.std.specs.List.{flat_map};
 ghost use Rattle.std.specs.Option.{option_map};
 ghost use Rattle.std.specs.Fmt.{decimal};
 ghost use Rattle.tt_grammar.specs.JsonText.{further_item, member_text, members_text, text_or_null};
-ghost use Rattle.tt_answers.specs.AnswerText.{progress_members, repair_text, horizon_members, status_members, more_members, page_members, written_members, finished_members, slots_members, changes_members, declared_members, answer_members, opening_text, call_text};
+ghost use Rattle.tt_answers.specs.AnswerText.{progress_members, repair_text, horizon_members, status_members, more_members, page_members, written_members, finished_members, slots_members, changes_members, causes_members, declared_members, answer_members, opening_text, call_text};
 
-use crate::answer::{Answer, ChangeEntry, RepairStatus, RowPage, SlotEntry, Status};
+use crate::answer::{Answer, CauseEntry, ChangeEntry, RepairStatus, RowPage, SlotEntry, Status};
+use crate::cause_text::push_causes;
 use crate::fault_text::{push_fault, push_out_of_memory};
 use crate::refusal_text::push_refusal;
 use crate::reply_text::{push_replies, push_rows};
@@ -87,6 +88,9 @@ fn push_answer(
         }
         Answer::Changes { from, changes } => {
             push_changes_from(out, numbering, *from, changes.as_slice())
+        }
+        Answer::Causes { done, redone, more } => {
+            push_causes_of(out, catalog, numbering, *done, redone.as_slice(), *more)
         }
         Answer::Declared { keep, records } => push_declared(out, catalog, *keep, *records),
         Answer::Faulty(fault) => push_fault(out, fault),
@@ -197,7 +201,7 @@ fn push_page(
     Ok(())
 }
 
-/// Pushes whether more rows follow, if that is told.
+/// Pushes whether more follow, if that is told.
 fn push_more(out: &mut Vec<u8>, more: Option<bool>) -> Result<(), AllocError>
     ensures { OnOk result (out.new.items
         ≡ out.old.items ++ flat_map further_item (map member_text (more_members more))) }
@@ -261,6 +265,25 @@ fn push_changes_from(
     push_labelled(out, b"\"from\":", from)?;
     out.extend_from_slice(b",\"changed\":")?;
     push_changes(out, numbering, changes)?;
+    Ok(())
+}
+
+/// Pushes how many slots a repair has done, and those of them that it re-executed.
+fn push_causes_of(
+    out: &mut Vec<u8>,
+    catalog: &Catalog,
+    numbering: Numbering,
+    done: u64,
+    redone: &[CauseEntry],
+    more: Option<bool>,
+) -> Result<(), AllocError>
+    ensures { OnOk result (out.new.items ≡ out.old.items
+        ++ members_text (causes_members catalog.now numbering done redone.now more)) }
+{
+    push_told_time(out, b"\"done\":", numbering.told_time(done))?;
+    out.extend_from_slice(b",\"redone\":")?;
+    push_causes(out, catalog, numbering, redone)?;
+    push_more(out, more)?;
     Ok(())
 }
 

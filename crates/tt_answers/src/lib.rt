@@ -3,6 +3,7 @@
 
 mod answer;
 mod answer_text;
+mod cause_text;
 mod fault_text;
 mod log_text;
 mod refusal_text;
@@ -10,6 +11,9 @@ mod reply_text;
 mod slot_text;
 mod told_text;
 
-pub use answer::{Answer, ChangeEntry, Place, Refusal, RepairStatus, RowPage, SlotEntry, Status};
+pub use answer::{
+    Answer, CauseEntry, ChangeEntry, Place, Refusal, RepairStatus, RowPage, SlotCause, SlotEntry,
+    Status,
+};
 pub use answer_text::{push_call, push_opening};
 pub use log_text::{push_ground_line, push_log_opening, push_slot_line};

@@ -14,7 +14,7 @@ use Rattle.clap.specs.declared.error.kind.ErrorKind.{ErrorKind}
 use Rattle.clap.specs.declared.error.kind.ErrorKind.TheVariants as kind
 use Rattle.clap.specs.declared.parser.matches.ValueSource.TheVariants.{CommandLine}
 use Rattle.clap.specs.Takes.{is_given}
-use Rattle.tt_cli.specs.CommandLine.{batch, closed, command_line, existing, log_argument, log_option, rounds}
+use Rattle.tt_cli.specs.CommandLine.{batch, closed, command_line, existing, log_argument, log_option, rounds, why}
 use Rattle.tt_cli.proofs.RowLemmas.{AllFit, Fits, HasRow, default_has, default_keeps, default_stays, new_row, none_has, use_keeps}
 use Rattle.tt_cli.proofs.WalkLemmas.{Keeps, StopsAt, none_of, settles, walk_keeps, walk_stops}
 
@@ -32,6 +32,14 @@ rounds_rule = record rounds { range = Some (record { start_inclusive = 1; end_in
 
 abbrev closed_rule : Rule
 closed_rule = record closed {
+  defaults = codes "false" ∷ [];
+  missing = codes "true" ∷ [];
+  parser = Some parser.Bool;
+  range = Some (record { start_inclusive = 0; end_inclusive = 0 });
+}
+
+abbrev why_rule : Rule
+why_rule = record why {
   defaults = codes "false" ∷ [];
   missing = codes "true" ∷ [];
   parser = Some parser.Bool;
@@ -83,10 +91,10 @@ session_leaf = third_shape (built command_line).subs
 abbrev log_leaf : Shape
 log_leaf = fourth_shape (built command_line).subs
 
-replay_rules : replay_leaf.rules ≡ batch_rule ∷ closed_rule ∷ help_rule ∷ []
+replay_rules : replay_leaf.rules ≡ batch_rule ∷ closed_rule ∷ why_rule ∷ help_rule ∷ []
 replay_rules = refl
 
-run_rules : run_leaf.rules ≡ batch_rule ∷ rounds_rule ∷ closed_rule ∷ help_rule ∷ []
+run_rules : run_leaf.rules ≡ batch_rule ∷ rounds_rule ∷ closed_rule ∷ why_rule ∷ help_rule ∷ []
 run_rules = refl
 
 session_rules : session_leaf.rules ≡ log_rule ∷ existing_rule ∷ help_rule ∷ []
@@ -160,6 +168,16 @@ module _ (id : Text) (how : Reading) (Passes : Text → Type 0) where
       let none = no_value (length (v ∷ rest)) parts.0 in
       absurd (omega arith)
 
+  abbrev WhyFits : Type 0
+  WhyFits = Fits id how Passes (new_row (codes "why") AsWritten CommandLine (codes "true" ∷ []))
+
+  why_keeps : WhyFits → Keeps false (AllFit id how Passes) why_rule
+  why_keeps fits [] rows p e = use_keeps id how Passes (codes "why") AsWritten CommandLine (codes "true" ∷ []) fits rows p
+  why_keeps fits (v ∷ rest) rows p e =
+      let parts = none_of (range_kinds 0 0 (length (v ∷ rest))) _ e in
+      let none = no_value (length (v ∷ rest)) parts.0 in
+      absurd (omega arith)
+
   -- a path is any text
   abbrev PathFits : Text → Type 0
   PathFits name = (v : Text) → Fits id how Passes (new_row name AsWritten CommandLine (v ∷ []))
@@ -196,12 +214,12 @@ module _ (id : Text) (how : Reading) (Passes : Text → Type 0) where
       let bad : kind.DisplayHelp ∷ [] ≡ [] = parts.1 in
       absurd (cc)
 
-  replay_uses : BatchFits → ClosedFits → Each (Keeps false (AllFit id how Passes)) replay_leaf.rules
-  replay_uses batch_fits closed_fits = (batch_keeps batch_fits, (closed_keeps closed_fits, (help_keeps, tt)))
+  replay_uses : BatchFits → ClosedFits → WhyFits → Each (Keeps false (AllFit id how Passes)) replay_leaf.rules
+  replay_uses batch_fits closed_fits why_fits = (batch_keeps batch_fits, (closed_keeps closed_fits, (why_keeps why_fits, (help_keeps, tt))))
 
-  run_uses : BatchFits → RoundsFit → ClosedFits → Each (Keeps false (AllFit id how Passes)) run_leaf.rules
-  run_uses batch_fits rounds_fit closed_fits =
-      (batch_keeps batch_fits, (rounds_keep rounds_fit, (closed_keeps closed_fits, (help_keeps, tt))))
+  run_uses : BatchFits → RoundsFit → ClosedFits → WhyFits → Each (Keeps false (AllFit id how Passes)) run_leaf.rules
+  run_uses batch_fits rounds_fit closed_fits why_fits =
+      (batch_keeps batch_fits, (rounds_keep rounds_fit, (closed_keeps closed_fits, (why_keeps why_fits, (help_keeps, tt)))))
 
   session_uses : PathFits (codes "log") → ExistingFits → Each (Keeps false (AllFit id how Passes)) session_leaf.rules
   session_uses log_fits existing_fits = (log_keeps log_fits, (existing_keeps existing_fits, (help_keeps, tt)))
@@ -238,6 +256,10 @@ HasNoRounds rows = find (λ x. bytes_eq x.id (codes "rounds")) rows ≡ None
 abbrev pub HasClosed : List Row → Type 0
 HasClosed = HasRow (codes "closed") AsWritten IsTrueText (codes "false")
 
+-- the same of `--why`
+abbrev pub HasWhy : List Row → Type 0
+HasWhy = HasRow (codes "why") AsWritten IsTrueText (codes "false")
+
 -- the same of `--existing`
 abbrev pub HasExisting : List Row → Type 0
 HasExisting = HasRow (codes "existing") AsWritten IsTrueText (codes "false")
@@ -254,6 +276,9 @@ FitNoRounds = AllFit (codes "rounds") WithoutMinus (λ _. ⊥)
 abbrev FitClosed : List Row → Type 0
 FitClosed = AllFit (codes "closed") AsWritten IsTrueText
 
+abbrev FitWhy : List Row → Type 0
+FitWhy = AllFit (codes "why") AsWritten IsTrueText
+
 abbrev FitExisting : List Row → Type 0
 FitExisting = AllFit (codes "existing") AsWritten IsTrueText
 
@@ -267,23 +292,33 @@ Uses s P = Each (Keeps false P) s.rules
 
 batch_uses : Uses replay_leaf FitBatch × Uses run_leaf FitBatch
 batch_uses = (
-  replay_uses (codes "batch") WithoutMinus (IsInRange 1 10000) (λ v passed same. (v, refl, refl, refl, passed)) (λ same. absurd (cc)),
+  replay_uses (codes "batch") WithoutMinus (IsInRange 1 10000) (λ v passed same. (v, refl, refl, refl, passed))
+      (λ same. absurd (cc)) (λ same. absurd (cc)),
   run_uses (codes "batch") WithoutMinus (IsInRange 1 10000) (λ v passed same. (v, refl, refl, refl, passed))
-      (λ v passed same. absurd (cc)) (λ same. absurd (cc)),
+      (λ v passed same. absurd (cc)) (λ same. absurd (cc)) (λ same. absurd (cc)),
 )
 
 rounds_uses : Uses replay_leaf FitNoRounds × Uses run_leaf FitRounds
 rounds_uses = (
-  replay_uses (codes "rounds") WithoutMinus (λ _. ⊥) (λ v passed same. absurd (cc)) (λ same. absurd (cc)),
+  replay_uses (codes "rounds") WithoutMinus (λ _. ⊥) (λ v passed same. absurd (cc)) (λ same. absurd (cc)) (λ same. absurd (cc)),
   run_uses (codes "rounds") WithoutMinus (IsInRange 0 1000) (λ v passed same. absurd (cc))
-      (λ v passed same. (v, refl, refl, refl, passed)) (λ same. absurd (cc)),
+      (λ v passed same. (v, refl, refl, refl, passed)) (λ same. absurd (cc)) (λ same. absurd (cc)),
 )
 
 closed_uses : Uses replay_leaf FitClosed × Uses run_leaf FitClosed
 closed_uses = (
-  replay_uses (codes "closed") AsWritten IsTrueText (λ v passed same. absurd (cc)) (λ same. (codes "true", refl, refl, refl, refl)),
+  replay_uses (codes "closed") AsWritten IsTrueText (λ v passed same. absurd (cc))
+      (λ same. (codes "true", refl, refl, refl, refl)) (λ same. absurd (cc)),
   run_uses (codes "closed") AsWritten IsTrueText (λ v passed same. absurd (cc))
-      (λ v passed same. absurd (cc)) (λ same. (codes "true", refl, refl, refl, refl)),
+      (λ v passed same. absurd (cc)) (λ same. (codes "true", refl, refl, refl, refl)) (λ same. absurd (cc)),
+)
+
+why_uses : Uses replay_leaf FitWhy × Uses run_leaf FitWhy
+why_uses = (
+  replay_uses (codes "why") AsWritten IsTrueText (λ v passed same. absurd (cc))
+      (λ same. absurd (cc)) (λ same. (codes "true", refl, refl, refl, refl)),
+  run_uses (codes "why") AsWritten IsTrueText (λ v passed same. absurd (cc))
+      (λ v passed same. absurd (cc)) (λ same. absurd (cc)) (λ same. (codes "true", refl, refl, refl, refl)),
 )
 
 path_uses : Uses session_leaf (FitPath (codes "log")) × Uses log_leaf (FitPath (codes "file"))
@@ -310,6 +345,9 @@ has_rounds = default_has (codes "rounds") WithoutMinus (IsInRange 0 1000) (codes
 has_closed : (rows : List Row) → FitClosed rows → HasClosed (with_default rows closed_rule)
 has_closed = default_has (codes "closed") AsWritten IsTrueText (codes "false") refl
 
+has_why : (rows : List Row) → FitWhy rows → HasWhy (with_default rows why_rule)
+has_why = default_has (codes "why") AsWritten IsTrueText (codes "false") refl
+
 has_existing : (rows : List Row) → FitExisting rows → HasExisting (with_default rows existing_rule)
 has_existing = default_has (codes "existing") AsWritten IsTrueText (codes "false") refl
 
@@ -317,11 +355,11 @@ has_existing = default_has (codes "existing") AsWritten IsTrueText (codes "false
 
 -- `replay` was entered, and has a row for each of its options
 abbrev pub HasReplay : Text → List Row → Type 0
-HasReplay name rows = (name ≡ codes "replay") × HasBatch rows × HasClosed rows × HasNoRounds rows
+HasReplay name rows = (name ≡ codes "replay") × HasBatch rows × HasClosed rows × HasWhy rows × HasNoRounds rows
 
 -- `run` was entered, and has a row for each of its options
 abbrev pub HasRun : Text → List Row → Type 0
-HasRun name rows = (name ≡ codes "run") × HasBatch rows × HasClosed rows × HasRounds rows
+HasRun name rows = (name ≡ codes "run") × HasBatch rows × HasClosed rows × HasWhy rows × HasRounds rows
 
 -- `replay` or `run` was entered, and has a row for each of its options
 abbrev pub HasOptions : Text → List Row → Type 0
@@ -345,41 +383,58 @@ batch_of name rows has = elim has [ inl replay ↦ replay.1 | inr run ↦ run.1 
 pub closed_of : (name : Text) (rows : List Row) → HasOptions name rows → HasClosed rows
 closed_of name rows has = elim has [ inl replay ↦ replay.2 | inr run ↦ run.2 ]
 
+pub why_of : (name : Text) (rows : List Row) → HasOptions name rows → HasWhy rows
+why_of name rows has = elim has [ inl replay ↦ replay.3 | inr run ↦ run.3 ]
+
 pub rounds_of : (name : Text) (rows : List Row) → HasOptions name rows → HasRounds rows ⊎ HasNoRounds rows
-rounds_of name rows has = elim has [ inl replay ↦ inr replay.3 | inr run ↦ inl run.3 ]
+rounds_of name rows has = elim has [ inl replay ↦ inr replay.4 | inr run ↦ inl run.4 ]
 
-replay_has : (rows : List Row) → FitBatch rows → FitClosed rows → FitNoRounds rows
-    → HasReplay (codes "replay") (with_default (with_default rows batch_rule) closed_rule)
-replay_has rows batch_fit closed_fit none_fit =
+replay_has : (rows : List Row) → FitBatch rows → FitClosed rows → FitWhy rows → FitNoRounds rows
+    → HasReplay (codes "replay") (with_default (with_default (with_default rows batch_rule) closed_rule) why_rule)
+replay_has rows batch_fit closed_fit why_fit none_fit =
     let first = with_default rows batch_rule in
-    let last = with_default first closed_rule in
-    let batch_row = default_stays (codes "batch") WithoutMinus (IsInRange 1 10000) (codes "16") (codes "closed") AsWritten (codes "false" ∷ []) first (has_batch rows batch_fit) in
+    let second = with_default first closed_rule in
+    let last = with_default second why_rule in
+    let batch_second = default_stays (codes "batch") WithoutMinus (IsInRange 1 10000) (codes "16") (codes "closed") AsWritten (codes "false" ∷ []) first (has_batch rows batch_fit) in
+    let batch_row = default_stays (codes "batch") WithoutMinus (IsInRange 1 10000) (codes "16") (codes "why") AsWritten (codes "false" ∷ []) second batch_second in
     let closed_first = default_keeps (codes "closed") AsWritten IsTrueText (codes "batch") WithoutMinus (codes "16" ∷ []) (λ same. absurd (cc)) rows closed_fit in
+    let closed_row = default_stays (codes "closed") AsWritten IsTrueText (codes "false") (codes "why") AsWritten (codes "false" ∷ []) second (has_closed first closed_first) in
+    let why_first = default_keeps (codes "why") AsWritten IsTrueText (codes "batch") WithoutMinus (codes "16" ∷ []) (λ same. absurd (cc)) rows why_fit in
+    let why_second = default_keeps (codes "why") AsWritten IsTrueText (codes "closed") AsWritten (codes "false" ∷ []) (λ same. absurd (cc)) first why_first in
     let none_first = default_keeps (codes "rounds") WithoutMinus (λ _. ⊥) (codes "batch") WithoutMinus (codes "16" ∷ []) (λ same. absurd (cc)) rows none_fit in
-    let none_last = default_keeps (codes "rounds") WithoutMinus (λ _. ⊥) (codes "closed") AsWritten (codes "false" ∷ []) (λ same. absurd (cc)) first none_first in
-    (refl, batch_row, has_closed first closed_first, none_has (codes "rounds") WithoutMinus last none_last)
+    let none_second = default_keeps (codes "rounds") WithoutMinus (λ _. ⊥) (codes "closed") AsWritten (codes "false" ∷ []) (λ same. absurd (cc)) first none_first in
+    let none_last = default_keeps (codes "rounds") WithoutMinus (λ _. ⊥) (codes "why") AsWritten (codes "false" ∷ []) (λ same. absurd (cc)) second none_second in
+    (refl, batch_row, closed_row, has_why second why_second, none_has (codes "rounds") WithoutMinus last none_last)
 
-run_has : (rows : List Row) → FitBatch rows → FitRounds rows → FitClosed rows
-    → HasRun (codes "run") (with_default (with_default (with_default rows batch_rule) rounds_rule) closed_rule)
-run_has rows batch_fit rounds_fit closed_fit =
+run_has : (rows : List Row) → FitBatch rows → FitRounds rows → FitClosed rows → FitWhy rows
+    → HasRun (codes "run") (with_default (with_default (with_default (with_default rows batch_rule) rounds_rule) closed_rule) why_rule)
+run_has rows batch_fit rounds_fit closed_fit why_fit =
     let first = with_default rows batch_rule in
     let second = with_default first rounds_rule in
+    let third = with_default second closed_rule in
     let batch_second = default_stays (codes "batch") WithoutMinus (IsInRange 1 10000) (codes "16") (codes "rounds") WithoutMinus (codes "8" ∷ []) first (has_batch rows batch_fit) in
-    let batch_row = default_stays (codes "batch") WithoutMinus (IsInRange 1 10000) (codes "16") (codes "closed") AsWritten (codes "false" ∷ []) second batch_second in
+    let batch_third = default_stays (codes "batch") WithoutMinus (IsInRange 1 10000) (codes "16") (codes "closed") AsWritten (codes "false" ∷ []) second batch_second in
+    let batch_row = default_stays (codes "batch") WithoutMinus (IsInRange 1 10000) (codes "16") (codes "why") AsWritten (codes "false" ∷ []) third batch_third in
     let rounds_first = default_keeps (codes "rounds") WithoutMinus (IsInRange 0 1000) (codes "batch") WithoutMinus (codes "16" ∷ []) (λ same. absurd (cc)) rows rounds_fit in
-    let rounds_row = default_stays (codes "rounds") WithoutMinus (IsInRange 0 1000) (codes "8") (codes "closed") AsWritten (codes "false" ∷ []) second (has_rounds first rounds_first) in
+    let rounds_third = default_stays (codes "rounds") WithoutMinus (IsInRange 0 1000) (codes "8") (codes "closed") AsWritten (codes "false" ∷ []) second (has_rounds first rounds_first) in
+    let rounds_row = default_stays (codes "rounds") WithoutMinus (IsInRange 0 1000) (codes "8") (codes "why") AsWritten (codes "false" ∷ []) third rounds_third in
     let closed_first = default_keeps (codes "closed") AsWritten IsTrueText (codes "batch") WithoutMinus (codes "16" ∷ []) (λ same. absurd (cc)) rows closed_fit in
     let closed_second = default_keeps (codes "closed") AsWritten IsTrueText (codes "rounds") WithoutMinus (codes "8" ∷ []) (λ same. absurd (cc)) first closed_first in
-    (refl, batch_row, has_closed second closed_second, rounds_row)
+    let closed_row = default_stays (codes "closed") AsWritten IsTrueText (codes "false") (codes "why") AsWritten (codes "false" ∷ []) third (has_closed second closed_second) in
+    let why_first = default_keeps (codes "why") AsWritten IsTrueText (codes "batch") WithoutMinus (codes "16" ∷ []) (λ same. absurd (cc)) rows why_fit in
+    let why_second = default_keeps (codes "why") AsWritten IsTrueText (codes "rounds") WithoutMinus (codes "8" ∷ []) (λ same. absurd (cc)) first why_first in
+    let why_third = default_keeps (codes "why") AsWritten IsTrueText (codes "closed") AsWritten (codes "false" ∷ []) (λ same. absurd (cc)) second why_second in
+    (refl, batch_row, closed_row, has_why third why_third, rounds_row)
 
 at_replay : (words : List Text) → level_fault replay_leaf [] nothing_held words false [] ≡ [] → HasOptions (codes "replay") (rows_after replay_leaf.rules [] words)
 at_replay words e =
     let rows = rows_of replay_leaf words in
     let batch_fit = words_fit replay_leaf FitBatch batch_uses.0 tt words e in
     let closed_fit = words_fit replay_leaf FitClosed closed_uses.0 tt words e in
+    let why_fit = words_fit replay_leaf FitWhy why_uses.0 tt words e in
     let none_fit = words_fit replay_leaf FitNoRounds rounds_uses.0 tt words e in
-    let last = with_default (with_default rows batch_rule) closed_rule in
-    same_rows (HasOptions (codes "replay")) (has_row (codes "help") last) last (inl (replay_has rows batch_fit closed_fit none_fit))
+    let last = with_default (with_default (with_default rows batch_rule) closed_rule) why_rule in
+    same_rows (HasOptions (codes "replay")) (has_row (codes "help") last) last (inl (replay_has rows batch_fit closed_fit why_fit none_fit))
 
 at_run : (words : List Text) → level_fault run_leaf [] nothing_held words false [] ≡ [] → HasOptions (codes "run") (rows_after run_leaf.rules [] words)
 at_run words e =
@@ -387,8 +442,9 @@ at_run words e =
     let batch_fit = words_fit run_leaf FitBatch batch_uses.1 tt words e in
     let rounds_fit = words_fit run_leaf FitRounds rounds_uses.1 tt words e in
     let closed_fit = words_fit run_leaf FitClosed closed_uses.1 tt words e in
-    let last = with_default (with_default (with_default rows batch_rule) rounds_rule) closed_rule in
-    same_rows (HasOptions (codes "run")) (has_row (codes "help") last) last (inr (run_has rows batch_fit rounds_fit closed_fit))
+    let why_fit = words_fit run_leaf FitWhy why_uses.1 tt words e in
+    let last = with_default (with_default (with_default (with_default rows batch_rule) rounds_rule) closed_rule) why_rule in
+    same_rows (HasOptions (codes "run")) (has_row (codes "help") last) last (inr (run_has rows batch_fit rounds_fit closed_fit why_fit))
 
 at_session : (words : List Text) → level_fault session_leaf [] nothing_held words false [] ≡ [] → HasSession (codes "session") (rows_after session_leaf.rules [] words)
 at_session words e =

@@ -8,7 +8,7 @@ use Rattle.tt_cli.specs.declared.command_line.Cli.{Cli}
 use Rattle.tt_cli.specs.declared.command_line.Cli.TheVariants as commands
 use Rattle.tt_cli.specs.declared.ending.Ending.{Ending}
 use Rattle.tt_cli.specs.declared.ending.Ending.TheVariants as endings
-use Rattle.tt_cli.specs.CommandLine.{fault_of_words, options_of, IsCommandOf, IsBatchOf, IsRoundsOf, IsClosedOf}
+use Rattle.tt_cli.specs.CommandLine.{fault_of_words, options_of, IsCommandOf, IsBatchOf, IsRoundsOf, IsClosedOf, IsWhyOf}
 use Rattle.tt_cli.specs.Ending.{IsEndingOfUsage}
 use Rattle.tt_cli.specs.Status.{has_text}
 use Rattle.tt_cli.specs.Logging.{IsEndingOfSession, IsEndingOfLook}
@@ -21,6 +21,7 @@ pub record AskFor (words : List Text) (cli : Cli) : Type 0 where
   pub batch : IfSome (options_of cli) (λ options. IsBatchOf words options.batch)
   pub rounds : IfSome (options_of cli) (λ options. IsRoundsOf words options.rounds)
   pub closed : IfSome (options_of cli) (λ options. IsClosedOf words options.closed)
+  pub why : IfSome (options_of cli) (λ options. IsWhyOf words options.why)
 
 -- what a command asks for has failed, and there was no memory for the line of its fault
 pub record EndsWithoutLine (cli : Cli) (unread left old new : Option (List ℕ)) : Type 0 where

@@ -1,5 +1,5 @@
--- The command line: `timetravel`, with its version and four subcommands. `replay` takes `--batch` and
--- `--closed`; `run` takes `--rounds`, too; `session` takes `--log`, and `--existing` beside it; `log` takes a file.
+-- The command line: `timetravel`, with its version and four subcommands. `replay` takes `--batch`,
+-- `--closed` and `--why`; `run` takes `--rounds`, too; `session` takes `--log`, and `--existing` beside it; `log` takes a file.
 use Rattle.std.specs.Prelude.{◌≡◌, ℕ, ◌∷◌, [], List, Option, Some, None, Ok, IsSomeAnd, codes, pos}
 use Rattle.std.specs.Prelude.{Bool, if◌then◌else◌, true, false, not, ◌&&◌}
 use Rattle.std.specs.Option.{option_map_or}
@@ -48,6 +48,10 @@ rounds = record (new_rule (codes "rounds")) {
 abbrev pub closed : Rule
 closed = record (new_rule (codes "closed")) { long = Some (codes "closed"); action = Some SetTrue }
 
+-- `--why`, which takes no value
+abbrev pub why : Rule
+why = record (new_rule (codes "why")) { long = Some (codes "why"); action = Some SetTrue }
+
 -- `--log FILE`
 abbrev pub log_option : Rule
 log_option = record (new_rule (codes "log")) { long = Some (codes "log"); action = Some Set; value_names = 1 }
@@ -61,10 +65,10 @@ abbrev pub log_argument : Rule
 log_argument = record (new_rule (codes "file")) { action = Some Set; value_names = 1; required = true }
 
 abbrev pub replay : App
-replay = with_rule (with_rule (new_app (codes "replay")) batch) closed
+replay = with_rule (with_rule (with_rule (new_app (codes "replay")) batch) closed) why
 
 abbrev pub run : App
-run = with_rule (with_rule (with_rule (new_app (codes "run")) batch) rounds) closed
+run = with_rule (with_rule (with_rule (with_rule (new_app (codes "run")) batch) rounds) closed) why
 
 abbrev pub session : App
 session = with_rule (with_rule (new_app (codes "session")) log_option) existing
@@ -139,3 +143,8 @@ IsRoundsOf words n = IsSomeAnd (subcommand_of command_line words) (λ sub.
 unfoldable pub IsClosedOf : List Text → Bool → Type 0
 IsClosedOf words given = IsSomeAnd (subcommand_of command_line words) (λ sub.
     given ≡ is_given (codes "closed") sub.1)
+
+-- whether the words give `--why`
+unfoldable pub IsWhyOf : List Text → Bool → Type 0
+IsWhyOf words given = IsSomeAnd (subcommand_of command_line words) (λ sub.
+    given ≡ is_given (codes "why") sub.1)

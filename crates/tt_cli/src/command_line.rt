@@ -2,8 +2,8 @@
 ghost use Rattle.std.specs.Prelude.{◌≡◌, IfOk, IfSome, map, string_bytes};
 ghost use Rattle.clap.specs.Words.{FailsBy, app_of, kind_of, rule_of};
 ghost use Rattle.clap.specs.declared.error.kind.ErrorKind.TheVariants.{MissingRequiredArgument};
-ghost use Rattle.tt_cli.specs.CommandLine.{IsCommandOf, IsBatchOf, IsRoundsOf, IsClosedOf};
-ghost use Rattle.tt_cli.specs.CommandLine.{batch, rounds, closed, replay, run};
+ghost use Rattle.tt_cli.specs.CommandLine.{IsCommandOf, IsBatchOf, IsRoundsOf, IsClosedOf, IsWhyOf};
+ghost use Rattle.tt_cli.specs.CommandLine.{batch, rounds, closed, why, replay, run};
 ghost use Rattle.tt_cli.specs.CommandLine.{log_option, existing, log_argument, session, log};
 ghost use Rattle.tt_cli.specs.CommandLine.{program, command_line, fault_of_words, options_of};
 ghost use Rattle.tt_workload.specs.Options.{AreWithin};
@@ -49,8 +49,9 @@ The repair has one edit, which cancels call 2, the update. An edit is {"cancel":
 `run` makes the calls of each worker in a thread of its own, in the worker's order, and then the
 repair beside the calls of its member "meanwhile".
 The report goes to standard output: a line for each call, one for the repair and for each reply
-that it has changed, one for each table, and a last line. With --closed, one for each table of each
-closed generation that is kept follows the changed replies: its rows at that generation's last
+that it has changed, one for each table, and a last line. With --why, one for each slot that the
+repair has redone, with its cause, follows the repair's own. With --closed, one for each table of
+each closed generation that is kept follows the changed replies: its rows at that generation's last
 time.
 `session` reads no such document, but requests: see `timetravel session --help`. `log` reads the log
 of a session."#;
@@ -74,7 +75,8 @@ request, and is answered by one line on standard output before another is waited
 The members of a write or a select are those of a document. A write is answered with the number of
 its slot, and edits name slots: here the repair cancels slot 2, the update, and `changes` then lists
 the answers that would be others now. There are also requests of the kinds delete, do, abort, slots,
-tables and forget, which makes room again: see docs/SESSION.md.
+tables, why, which tells why a repair re-executed slots, and forget, which makes room again: see
+docs/SESSION.md.
 The database ends with the input. With --log FILE it is kept in FILE, which is made where there is
 none: a request that changes it is on the disk before it is answered, so the next session on FILE
 has all that was answered, after a crash, too. It is open from its start, and an opening with the
@@ -118,6 +120,8 @@ pub fn command_of<'a>(alloc: Global, words: &'a [String]) -> Result<Cli<'a>, Err
         IsBatchOf (map string_bytes words.entry.now) options.batch)) }
     ensures closed { IfOk result (λ cli. IfSome (options_of cli) (λ options.
         IsClosedOf (map string_bytes words.entry.now) options.closed)) }
+    ensures why { IfOk result (λ cli. IfSome (options_of cli) (λ options.
+        IsWhyOf (map string_bytes words.entry.now) options.why)) }
     ensures rounds { IfOk result (λ cli. IfSome (options_of cli) (λ options.
         IsRoundsOf (map string_bytes words.entry.now) options.rounds)) }
 {
@@ -149,10 +153,12 @@ pub fn command_of<'a>(alloc: Global, words: &'a [String]) -> Result<Cli<'a>, Err
         .get_one::<u32>("rounds")
         .unwrap_or(Options::usual().rounds);
     let closed = given.get_flag("closed");
+    let why = given.get_flag("why");
     let options = Options {
         batch,
         rounds,
         closed,
+        why,
     };
     if name == "run" {
         return Ok(Cli::Run(options));
@@ -204,7 +210,8 @@ fn replay<'a>(alloc: Global) -> Result<Command<'a>, AllocError>
         .about("Runs the calls one after another, in one thread")
         .after_help(DOCUMENT)
         .arg(batch(alloc))?
-        .arg(closed(alloc))
+        .arg(closed(alloc))?
+        .arg(why(alloc))
 }
 
 /// The subcommand that runs the calls of each worker in a thread of its own.
@@ -216,7 +223,8 @@ fn run<'a>(alloc: Global) -> Result<Command<'a>, AllocError>
         .after_help(DOCUMENT)
         .arg(batch(alloc))?
         .arg(rounds(alloc))?
-        .arg(closed(alloc))
+        .arg(closed(alloc))?
+        .arg(why(alloc))
 }
 
 /// The subcommand that answers line by line.
@@ -306,4 +314,14 @@ fn closed<'a>(alloc: Global) -> Arg<'a>
         .long("closed")
         .action(ArgAction::SetTrue)
         .help("Prints, for each closed generation that is kept, every table at its last time")
+}
+
+/// The option `--why`.
+fn why<'a>(alloc: Global) -> Arg<'a>
+    ensures { rule_of result ≡ why }
+{
+    Arg::new(alloc, "why")
+        .long("why")
+        .action(ArgAction::SetTrue)
+        .help("Prints, for each slot that the repair has redone, what has caused that")
 }

@@ -32,9 +32,9 @@ pub fn run_in_threads<R: Read, W: Write>(
 
     // Of a reader and a writer whose bytes are known.
     ensures ok { OnOk result (IfSome (R.remaining reader.old) (λ xs.
-        WritesSomeReport options.now.closed xs (W.contents writer.old) (W.contents writer.new))) }
+        WritesSomeReport options.now xs (W.contents writer.old) (W.contents writer.new))) }
     ensures err { IfErr result (λ e. IfSome (R.remaining reader.old) (λ xs.
-        EndsRunEarly options.now.closed e xs (W.contents writer.old) (W.contents writer.new))) }
+        EndsRunEarly options.now e xs (W.contents writer.old) (W.contents writer.new))) }
     ensures unchanged { IfErr result (λ e.
         e ≢ RunFault.Write → Keeps (W.contents writer.old) (W.contents writer.new)) }
     ensures limit { ConsumesAtMost max_bytes_read
@@ -58,11 +58,11 @@ fn text_of_run(
     requires valid { IsValidDocument document.now }
     requires options { AreWithin options.now }
     ensures text { IfOk result (λ text.
-        IsTextOfRun options.now.closed document.now text.items) }
+        IsTextOfRun options.now document.now text.items) }
     ensures fault { IfErr result IsStoreFault }
 {
     let report = run_workers(rt, alloc, document, options, NoGate)?;
-    text_of_report(alloc, &report, options.closed)
+    text_of_report(alloc, &report, options)
 }
 
 /// Runs the document of a reader in one thread, and writes its report.

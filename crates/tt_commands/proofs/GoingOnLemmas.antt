@@ -41,6 +41,8 @@ use Rattle.tt_commands.specs.Sound.{IsSound}
 use Rattle.tt_commands.specs.Repairing.{status_of, entry_by, with_event, with_steps, with_all_steps, unless_refused, other_worker, unless_of_another, progress_answer, status_answer, after_switch, begin, step, finish, abort}
 use Rattle.tt_commands.specs.Reading.{read, selected_by, previewed_by, latest_if, asks_for_all}
 use Rattle.tt_commands.specs.ChangeEntries.{changes_answer, next_changes}
+use Rattle.tt_commands.specs.AskedRepairs.{asked_repair, answer_of}
+use Rattle.tt_commands.specs.CauseEntries.{causes_answer}
 use Rattle.tt_commands.specs.ToldRequests.{forgotten_in, asks_for_forgotten, read_at, read_in, read_as_told, missing_if_idle, unless_missing, begin_as_told}
 use Rattle.tt_requests.specs.ToldEdits.{own_edit}
 use Rattle.tt_commands.specs.Changes.{forgotten_by}
@@ -301,6 +303,10 @@ next_changes-on session sound b is =
     let parts = from_unless (unless_repairing S.phase) told b is in
     to session told b parts.1 (same session sound)
 
+answer-on : {X : Type 0} (session : OpenSession) (answer : X → Answer) (asked : Result X Refusal) → IsOpenSession session → AnswersOn session (answer_of session answer asked)
+answer-on session answer (Ok x) sound = told session (answer x) sound
+answer-on session answer (Err refusal) sound = λ b is. cc
+
 -- ---- requests by the numbers that are told
 
 missing-none : (missing : Option ToldTime) (outcome : Result Answered Refusal) (b : Answered) → unless_missing missing outcome ≡ Ok b → outcome ≡ Ok b
@@ -355,6 +361,7 @@ carried_out-on session worker (commands.Slots from to by row) sound = told sessi
 carried_out-on session worker commands.Changes sound = told session _ sound
 carried_out-on session worker commands.NextChanges sound = next_changes-on session sound
 carried_out-on session worker commands.Tables sound = told session _ sound
+carried_out-on session worker (commands.Why generation page) sound = answer-on session (causes_answer session page) (asked_repair session generation) sound
 carried_out-on session worker (commands.Forget time) sound = forget-on session time sound
 
 -- whatever a session is asked, it goes on as one

@@ -1,3 +1,4 @@
+pub mod CauseLemmas
 pub mod ChangeLemmas
 pub mod ForgettingLemmas
 pub mod GoingOnLemmas

@@ -1,5 +1,5 @@
 -- The errors of the database that answer no line of a session.
-use Rattle.std.proofs.Common.{◌≡◌, ℕ, Bool, true, false, cond, nat_lt, List, [], ◌∷◌, map, length, is_none, Option, None, Some, Result, Ok, Err, refl, sym, ap, subst, ◌∙◌, arith}
+use Rattle.std.proofs.Common.{◌≡◌, ℕ, ◌==◌, ◌||◌, Bool, true, false, cond, nat_lt, List, [], ◌∷◌, map, length, is_none, Option, None, Some, Result, Ok, Err, refl, sym, ap, subst, ◌∙◌, arith}
 use Rattle.std.specs.List.{All}
 use Rattle.std.specs.Option.{option_map, option_or, unwrap_or}
 use Rattle.std.proofs.lemmas.List.{length-map}
@@ -31,6 +31,11 @@ use Rattle.tt_requests.specs.Judged.{IsJudged}
 use Rattle.tt_requests.proofs.LawProofs.{requests_are_judged}
 use Rattle.tt_answers.specs.declared.answer.Refusal.{Refusal}
 use Rattle.tt_answers.specs.declared.answer.Refusal.TheVariants as refusals
+use Rattle.tt_answers.specs.declared.answer.Answer.{Answer}
+use Rattle.tt_commands.specs.declared.asked_repair.AskedRepair.{AskedRepair}
+use Rattle.tt_commands.specs.declared.asked_repair.AskedRepair.TheVariants.{UnderWay, Closing}
+use Rattle.tt_commands.specs.AskedRepairs.{closing_in, asked_repair, answer_of}
+use Rattle.tt_commands.specs.CauseEntries.{causes_answer}
 use Rattle.tt_commands.specs.Session.{OpenSession, state_in}
 use Rattle.tt_commands.specs.Answers.{Answered}
 use Rattle.tt_commands.specs.Room.{refusal_in_session}
@@ -141,6 +146,28 @@ read-as-told-error : (session : OpenSession) (worker : ℕ) (q : Select) (genera
 read-as-told-error session worker q None at page error is = read-at-error session worker q None at page error is
 read-as-told-error session worker q (Some generation) at page error is = read-in-error session worker q (own_generation session.numbering generation) at page error is
 
+asked-is : {X : Type 0} (session : OpenSession) (answer : X → Answer) (asked : Result X Refusal) (error : DbError)
+    → answer_of session answer asked ≡ Err (refusals.Event error) → asked ≡ Err (refusals.Event error)
+asked-is session answer (Ok x) error is = cc
+asked-is session answer (Err refusal) error is = cc
+
+-- a repair that isn't there is refused as no read of it
+closing-error : (session : OpenSession) (number : Option ℕ) (error : DbError) → closing_in session number ≡ Err (refusals.Event error) → answers_lines error ≡ true
+closing-error session None error = λ is. cc
+closing-error session (Some number) error = go ((number == (state_in session).generation) || is_none (slots_in (state_in session) number))
+  where
+    go : (gone : Bool) → ◌≡◌ {A = Result AskedRepair Refusal} (cond gone (Err (no_generation session)) (Ok (Closing number))) (Err (refusals.Event error)) → answers_lines error ≡ true
+    go true is = cc
+    go false is = cc
+
+repair-error : (session : OpenSession) (generation : Option ToldGeneration) (error : DbError) → asked_repair session generation ≡ Err (refusals.Event error) → answers_lines error ≡ true
+repair-error session None error = go (is_repairing (state_in session).phase)
+  where
+    go : (repairing : Bool) → ◌≡◌ {A = Result AskedRepair Refusal} (cond repairing (Ok UnderWay) (Err (refusals.Read read_errors.NotRepairing))) (Err (refusals.Event error)) → answers_lines error ≡ true
+    go true is = cc
+    go false is = cc
+repair-error session (Some generation) error = closing-error session (own_generation session.numbering generation) error
+
 forget-error : (repairing later forgotten full : Bool) (now : ℕ) (a : Answered) (error : DbError)
     → unless_forget_refused (cond repairing (Some (refusals.Event errors.Repairing)) (cond later (Some (refusals.Read (read_errors.Later now))) (cond forgotten (Some refusals.Forgotten)
     (cond full (Some (refusals.Event (errors.Full number_limit))) None)))) a ≡ Err (refusals.Event error)
@@ -184,6 +211,8 @@ error-of session worker commands.Status error sound judged is = cc
 error-of session worker (commands.Slots from to by row) error sound judged is = cc
 error-of session worker commands.Changes error sound judged is = cc
 error-of session worker commands.Tables error sound judged is = cc
+error-of session worker (commands.Why generation page) error sound judged is =
+    repair-error session generation error (asked-is session (causes_answer session page) (asked_repair session generation) error is)
 error-of session worker (commands.Forget time) error sound judged is = forget-error (is_repairing (state_in session).phase) _ _ _ _ _ error is
 
 pub other_errors_answer_no_line : OtherErrorsAnswerNoLine

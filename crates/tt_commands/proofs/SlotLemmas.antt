@@ -129,8 +129,8 @@ entries-end db number to worker row past = by (nat_lt to number) refl
     by true is = let none : to < number = grind (arith, nat_tests, is) in entries-none db number to worker row none
     by false is = let some : number ≤ to = grind (arith, nat_tests, is) in entries-past db number to worker row (omega (arith, past, some))
 
--- the slots so far, with those of one number more
-pub entries-push : (entries whole rest : List SlotEntry) (o : Option SlotEntry) → entries ++ cons_option o rest ≡ whole → (entries ++ option_to_list o) ++ rest ≡ whole
+-- the entries so far, with that of one number more
+pub entries-push : {X : Type 0} (entries whole rest : List X) (o : Option X) → entries ++ cons_option o rest ≡ whole → (entries ++ option_to_list o) ++ rest ≡ whole
 entries-push entries whole rest None is = ap (λ es. es ++ rest) (append-nil entries) ∙ is
 entries-push entries whole rest (Some e) is = append_assoc entries (e ∷ []) rest ∙ is
 

@@ -25,6 +25,7 @@ use Rattle.tt_commands.specs.ToldRequests.{read_as_told, begin_as_told, first_sl
 use Rattle.tt_commands.specs.Forgetting.{forget}
 use Rattle.tt_commands.specs.SlotEntries.{slot_entries}
 use Rattle.tt_commands.specs.ChangeEntries.{changes, next_changes}
+use Rattle.tt_commands.specs.CauseEntries.{why}
 
 -- an action takes the next slot: its replies are told, and recorded
 abbrev pub written : OpenSession → ℕ → Action → Answered
@@ -77,6 +78,7 @@ carried_out session worker (commands.Slots from to by row) = slots session from 
 carried_out session worker commands.Changes = changes session
 carried_out session worker commands.NextChanges = next_changes session
 carried_out session worker commands.Tables = declared_tables session
+carried_out session worker (commands.Why generation page) = why session generation page
 carried_out session worker (commands.Forget time) = forget session time
 
 -- the current time, if a request expects another one

@@ -11,6 +11,8 @@ pub mod Changes
 pub mod Forgetting
 pub mod ToldRequests
 pub mod SlotEntries
+pub mod AskedRepairs
+pub mod CauseEntries
 pub mod Moments
 pub mod ChangeEntries
 pub mod Commands

@@ -5,6 +5,7 @@ ghost use Rattle.tt_commands.specs.Session.{with_database};
 ghost use Rattle.tt_commands.specs.Commands.{status, declared_tables, carried_out, moved_to, outcome_of_request};
 ghost use Rattle.tt_requests.specs.Asked.{is_read_only};
 
+use crate::cause_entries::why;
 use crate::change_entries::{changes, next_changes};
 use crate::failure::Failure;
 use crate::forgetting::forget;
@@ -70,6 +71,7 @@ fn carried_out(
         Command::Changes => changes(session),
         Command::NextChanges => next_changes(session),
         Command::Tables => declared_tables(session),
+        Command::Why { generation, page } => why(session, generation, page),
         Command::Forget(time) => forget(session, time),
     }
 }

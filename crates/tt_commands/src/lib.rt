@@ -1,6 +1,8 @@
 //! Requests of an open session: what each of them answers, and what becomes of the session with it.
 #![tactic(auto)]
 
+mod asked_repair;
+mod cause_entries;
 mod change_entries;
 mod commands;
 mod failure;

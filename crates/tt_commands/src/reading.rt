@@ -32,7 +32,7 @@ pub(crate) struct Reading {
 }
 
 /// The last time of a generation, and 0 of one that can't be read.
-fn last_time_in(db: &Db, number: u64) -> u64
+pub(crate) fn last_time_in(db: &Db, number: u64) -> u64
     ensures { result ≡ last_time_in (state_of db.now) number }
 {
     match db.last_time(number) {

@@ -18,7 +18,7 @@ use tt_requests::{Numbering, Page, ToldEdits, ToldGeneration, ToldTime, missing_
 use tt_values::{RowId, Select};
 
 /// A generation can't be read.
-fn no_generation(session: &OpenSession) -> Refusal
+pub(crate) fn no_generation(session: &OpenSession) -> Refusal
     ensures { result ≡ no_generation session.now }
 {
     let db = session.db();

@@ -3,11 +3,12 @@ use Rattle.std.proofs.Common.{◌≡◌, ℕ, zero, suc, ◌+◌, ◌-◌, ◌�
 use Rattle.std.proofs.lemmas.List.{drop_more, length-drop}
 use Rattle.std.proofs.lemmas.Option.{slice_get_within, get_or_from_slice_get}
 use Rattle.tt_values.specs.RowWrites.{Slots}
+use Rattle.tt_repair_laws.specs.declared.edit.Edit.{Edit}
 use Rattle.tt_db.specs.declared.limits.Limits.{Limits}
 use Rattle.tt_db.specs.declared.event.Event.{Event}
 use Rattle.tt_db.specs.declared.event.Event.TheVariants as events
 use Rattle.tt_db.specs.declared.event.Entry.{Entry}
-use Rattle.tt_db.specs.State.{State, ClosedGeneration, start, next_state, last_items, oldest_of}
+use Rattle.tt_db.specs.State.{State, ClosedGeneration, start, next_state, edits_of, last_items, oldest_of}
 use Rattle.tt_db.specs.Laws.{AreNumbered, KeepsLastGenerations}
 
 -- from the position of an item on, a list begins with it
@@ -25,10 +26,10 @@ pub find-fails : {X : Type 0} (test : X → Bool) (xs : List X) (i : ℕ) (x : X
 find-fails test xs i x at fails = find_at_item test xs i x at ∙ ap (λ b. cond b (Some x) (find test (drop (i + 1) xs))) fails
 
 -- where the current generation is closed, the numbers go on
-AreNumbered-push : (number current : ℕ) (closed : List ClosedGeneration) (W : Slots) → AreNumbered number current closed
-    → AreNumbered number (current + 1) (closed ++ record { number = current; slots = W } ∷ [])
-AreNumbered-push number current [] W h = (sym h, omega arith)
-AreNumbered-push number current (c ∷ closed) W h = (h.0, AreNumbered-push (suc number) current closed W h.1)
+AreNumbered-push : (number current : ℕ) (closed : List ClosedGeneration) (W : Slots) (E : List Edit) → AreNumbered number current closed
+    → AreNumbered number (current + 1) (closed ++ record { number = current; slots = W; edits = E } ∷ [])
+AreNumbered-push number current [] W E h = (sym h, omega arith)
+AreNumbered-push number current (c ∷ closed) W E h = (h.0, AreNumbered-push (suc number) current closed W E h.1)
 
 -- where the first ones are dropped, the others have their numbers
 AreNumbered-drop : (n number current : ℕ) (closed : List ClosedGeneration) → AreNumbered number current closed → (first : ℕ) × AreNumbered first current (drop n closed)
@@ -54,8 +55,8 @@ KeepsLastGenerations-next limits S (events.Begin edits) h = record { numbered = 
 KeepsLastGenerations-next limits S events.Step h = record { numbered = h.numbered; few = h.few }
 KeepsLastGenerations-next limits S events.Abort h = record { numbered = h.numbered; few = h.few }
 KeepsLastGenerations-next limits S events.Switch h =
-    let all = S.closed ++ record { number = S.generation; slots = S.slots } ∷ [] in
-    let numbered = AreNumbered-push (oldest_of S.closed S.generation) S.generation S.closed S.slots h.numbered in
+    let all = S.closed ++ record { number = S.generation; slots = S.slots; edits = edits_of S.phase } ∷ [] in
+    let numbered = AreNumbered-push (oldest_of S.closed S.generation) S.generation S.closed S.slots (edits_of S.phase) h.numbered in
     let left = AreNumbered-drop (length all - limits.keep) (oldest_of S.closed S.generation) (S.generation + 1) all numbered in record {
       numbered = AreNumbered-oldest left.0 (S.generation + 1) (last_items limits.keep all) left.1;
       few = length-last_items limits.keep all;

@@ -39,7 +39,7 @@ use Rattle.tt_repair_laws.specs.declared.edit.Edit.TheVariants.{Cancel, Replace}
 use Rattle.tt_repair_laws.specs.Edits.{edit_of, slot_with_edit, edited_slots_from, edited_slots}
 use Rattle.tt_generations.specs.KeptSlots.{IsAccepted}
 use Rattle.tt_generations.specs.TwoGenerations.{Phase, Idle, Repairing, phase_after_step, slots_edited_by, done_of, next_content_at}
-use Rattle.tt_db.specs.State.{State, ClosedGeneration, start, after, current_at, next_at, slots_in, next_state, with_closed, edits_fault, refusal, IsLegal, IsLegalFrom}
+use Rattle.tt_db.specs.State.{State, ClosedGeneration, start, after, current_at, next_at, slots_in, next_state, edits_of, with_closed, edits_fault, refusal, IsLegal, IsLegalFrom}
 use Rattle.tt_db.specs.RightAnswers.{RowsHaveRisingKeys}
 use Rattle.tt_db.proofs.RefusalLemmas.{accepted_action, accepted_begin}
 
@@ -271,7 +271,7 @@ IsAcceptedState-next tables limits S events.Step accepted h = record { slots = h
 IsAcceptedState-next tables limits S events.Switch accepted h = record {
   slots = slots-switch tables S.phase S.slots h.edits h.slots;
   edits = tt;
-  closed = AllClosedAccepted-with tables limits.keep S.closed (record { number = S.generation; slots = S.slots }) h.closed h.slots;
+  closed = AllClosedAccepted-with tables limits.keep S.closed (record { number = S.generation; slots = S.slots; edits = edits_of S.phase }) h.closed h.slots;
 }
 IsAcceptedState-next tables limits S events.Abort accepted h = record { slots = h.slots; edits = tt; closed = h.closed }
 

@@ -1,6 +1,7 @@
 pub mod RefusalLemmas
 pub mod EntryLemmas
 pub mod ClosedLemmas
+pub mod KeptLemmas
 pub mod DatabaseLemmas
 pub mod HistoryLemmas
 pub mod BeginnerLemmas

@@ -133,7 +133,7 @@ has_room_for_entry tables limits S event h within = below S.events limits.events
 pub has_room_for_slot : (tables : Tables) (limits : Limits) (S : State) (action : Action) → refusal tables limits S (events.Write action) ≡ None → now_of S ≤ limits.slots → now_of S < limits.slots
 has_room_for_slot tables limits S action h within = below (now_of S) limits.slots (accepted_action tables limits S action h).room within
 
--- a step finds a slot, and a switch none
+-- a step finds a slot, and a switch a repair without any
 pub step_finds_slot : (tables : Tables) (limits : Limits) (S : State) → refusal tables limits S events.Step ≡ None → 0 < slots_left S
 step_finds_slot tables limits S h =
     let left = (accepted_in_repair limits S (refused_if (slots_left S == 0) errors.NothingLeft) h).left in
@@ -145,6 +145,9 @@ switch_finds_none tables limits S h =
     let left = (accepted_in_repair limits S (unless_caught_up (slots_left S)) h).left in
     let none : nat_lt 0 (slots_left S) ≡ false = not_refused (nat_lt 0 (slots_left S)) (errors.NotCaughtUp (slots_left S)) left in
     grind (arith, nat_tests)
+
+pub switch_finds_repair : (tables : Tables) (limits : Limits) (S : State) → refusal tables limits S events.Switch ≡ None → is_repairing S.phase ≡ true
+switch_finds_repair tables limits S h = (accepted_in_repair limits S (unless_caught_up (slots_left S)) h).repairing
 
 -- where no repair is under way
 pub is_idle : (phase : Phase) → is_repairing phase ≡ false → phase ≡ Idle

@@ -13,7 +13,8 @@ use Rattle.tt_db.specs.declared.errors.DbError.TheVariants as errors
 use Rattle.tt_db.specs.declared.outcome.Outcome.TheVariants.{Stepped}
 use Rattle.tt_db.specs.declared.event.Entry.{Entry}
 use Rattle.tt_db.specs.declared.event.Event.TheVariants as events
-use Rattle.tt_db.specs.State.{State, ClosedGeneration, after, slots_left, current_at, first_refusal, refused_if, refusal}
+use Rattle.tt_db.specs.State.{State, after, slots_left, current_at, first_refusal, refused_if, refusal}
+use Rattle.tt_db.specs.ClosedGenerations.{KeptGeneration}
 use Rattle.tt_db.specs.Database.{Database, state_of, current_slots, with_entry, refusal_of, HasSlots, IsConsistent}
 use Rattle.tt_db.specs.Steps.{step_by, with_steps_by, steps_made, last_step, last_outcome}
 use Rattle.tt_db.proofs.EntryLemmas.{after-push, full_at-below}
@@ -152,7 +153,7 @@ entries-push history n e = append_assoc history (replicate n e) (e ∷ []) ∙ a
 length-entries : (history : List Entry) (n : ℕ) (e : Entry) → length (history ++ replicate n e) ≡ length history + n
 length-entries history n e = omega (arith, length-append history (replicate n e), length-replicate n e)
 
-pub slots_left-consistent : (limits : Limits) (history : List Entry) (G : TwoGenerations) (number : ℕ) (kept : List ClosedGeneration) → IsConsistent limits history G number kept
+pub slots_left-consistent : (limits : Limits) (history : List Entry) (G : TwoGenerations) (number : ℕ) (kept : List KeptGeneration) → IsConsistent limits history G number kept
     → left_of G.phase G.slots ≡ slots_left (after limits history)
 slots_left-consistent limits history G number kept is = λ i. left_of (is.phase i) (is.slots i)
 
@@ -161,13 +162,13 @@ pub record HasRoomFor (limits : Limits) (history : List Entry) (G : TwoGeneratio
   pub left : n ≤ left_of G.phase G.slots
   pub room : length history + n ≤ limits.events
 
-pub has_room : (limits : Limits) (history : List Entry) (G : TwoGenerations) (number : ℕ) (kept : List ClosedGeneration) (n : ℕ) → IsConsistent limits history G number kept
+pub has_room : (limits : Limits) (history : List Entry) (G : TwoGenerations) (number : ℕ) (kept : List KeptGeneration) (n : ℕ) → IsConsistent limits history G number kept
     → n ≤ slots_left (after limits history) → (after limits history).events + n ≤ limits.events → HasRoomFor limits history G n
 has_room limits history G number kept n is left room =
     let same = slots_left-consistent limits history G number kept is in
     record { left = omega (arith, left, same); room = omega (arith, room, is.events) }
 
-pub IsConsistent-steps : (limits : Limits) (history : List Entry) (G : TwoGenerations) (number : ℕ) (kept : List ClosedGeneration) (worker n : ℕ) → IsConsistent limits history G number kept
+pub IsConsistent-steps : (limits : Limits) (history : List Entry) (G : TwoGenerations) (number : ℕ) (kept : List KeptGeneration) (worker n : ℕ) → IsConsistent limits history G number kept
     → HasRoomFor limits history G n → IsConsistent limits (history ++ replicate n (step_by worker)) (after_steps n G) number kept
 IsConsistent-steps limits history G number kept worker zero is has = subst (λ (h : List Entry). IsConsistent limits h G number kept) (sym (append-nil history)) is
 IsConsistent-steps limits history G number kept worker (suc n) is has =
@@ -185,7 +186,7 @@ done-step : (p : Phase) (W : Slots) → 0 < left_of p W → done_of (phase_after
 done-step Idle W some = absurd (omega (arith, some))
 done-step (Repairing edits n) W some = omega arith
 
-pub last_outcome-is : (limits : Limits) (history : List Entry) (G : TwoGenerations) (number : ℕ) (kept : List ClosedGeneration) (worker n : ℕ) (rerun : Bool)
+pub last_outcome-is : (limits : Limits) (history : List Entry) (G : TwoGenerations) (number : ℕ) (kept : List KeptGeneration) (worker n : ℕ) (rerun : Bool)
     → IsConsistent limits history G number kept → HasRoomFor limits history G n → rerun ≡ is_last_due n G
     → last_step n (done_of (after limits (history ++ replicate n (step_by worker))).phase) rerun ≡ last_outcome worker (record { catalog = G.catalog; limits = limits; history = history }) n
 last_outcome-is limits history G number kept worker zero rerun is has due = refl

@@ -1,3 +1,5 @@
 mod Histories
 mod Repairs
 mod ClosedGenerations
+mod Causes
+mod Differences

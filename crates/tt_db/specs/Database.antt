@@ -1,5 +1,6 @@
 -- A database as contracts see it: what it refuses, what it answers and what it becomes.
-use Rattle.std.specs.Prelude.{◌≡◌, ℕ, zero, suc, ◌≤◌, ℤ, Bool, false, List, [], ◌∷◌, ◌++◌, length, nat_lt, slice_get, Option, None, Some, Result, if◌then◌else◌}
+use Rattle.std.specs.Prelude.{◌≡◌, ℕ, zero, suc, ◌≤◌, ◌==◌, ℤ, Bool, false, List, [], ◌∷◌, ◌++◌, map, length, find, nat_lt, slice_get, Option, None, Some, Result, if◌then◌else◌}
+use Rattle.std.specs.Option.{option_map}
 use Rattle.tt_values.specs.declared.row.Row.{Row}
 use Rattle.tt_values.specs.declared.row_id.RowId.{RowId}
 use Rattle.tt_values.specs.declared.statement.Select.{Select}
@@ -24,7 +25,8 @@ use Rattle.tt_db.specs.declared.outcome.Outcome.{Outcome}
 use Rattle.tt_db.specs.declared.errors.DbError.{DbError}
 use Rattle.tt_db.specs.declared.errors.ReadError.{ReadError}
 use Rattle.tt_db.specs.Limits.{Fits}
-use Rattle.tt_db.specs.State.{State, ClosedGeneration, after, now_of, current_at, next_at, oldest_of, refusal, outcome_of, IsLegal}
+use Rattle.tt_db.specs.State.{State, after, now_of, current_at, next_at, oldest_of, refusal, outcome_of, IsLegal}
+use Rattle.tt_db.specs.ClosedGenerations.{KeptGeneration, before_switch, kept_generation}
 use Rattle.tt_db.specs.History.{write_places, last_beginner}
 use Rattle.tt_db.specs.RightAnswers.{right_select, right_select_at, right_select_in, right_preview, right_preview_at}
 
@@ -49,6 +51,12 @@ oldest_in db = oldest_of (state_of db).closed (state_of db).generation
 -- the tables of two generations in a state
 abbrev pub generations_in : Tables → State → TwoGenerations
 generations_in tables S = record { catalog = tables; slots = S.slots; phase = S.phase }
+
+-- the tables of two generations of which one that can be read is the current one: those of the state, or those just before the switch that closed it
+abbrev pub generations_at : Database → ℕ → Option TwoGenerations
+generations_at db number =
+    if number == (state_of db).generation then Some (generations_in db.catalog (state_of db))
+    else option_map (before_switch db.catalog) (find (λ c. c.number == number) (state_of db).closed)
 
 -- the current time
 abbrev pub now_in : Database → ℕ
@@ -166,7 +174,7 @@ abbrev pub place_of : Database → ℕ → Option ℕ
 place_of db slot = nth_item (write_places 1 db.history) slot
 
 -- a history is legal, and the slots, the generation, what is under way and the closed generations are those that it leads to
-pub record IsConsistent (limits : Limits) (history : List Entry) (G : TwoGenerations) (number : ℕ) (kept : List ClosedGeneration) : Type 0 where
+pub record IsConsistent (limits : Limits) (history : List Entry) (G : TwoGenerations) (number : ℕ) (kept : List KeptGeneration) : Type 0 where
   pub catalog : IsCatalog G.catalog
   pub fits : Fits limits
   pub legal : IsLegal G.catalog limits history
@@ -178,4 +186,4 @@ pub record IsConsistent (limits : Limits) (history : List Entry) (G : TwoGenerat
   pub slots : G.slots ≡ (after limits history).slots
   pub phase : G.phase ≡ (after limits history).phase
   pub generation : number ≡ (after limits history).generation
-  pub closed : kept ≡ (after limits history).closed
+  pub closed : kept ≡ map (kept_generation G.catalog) (after limits history).closed

@@ -1,10 +1,13 @@
 pub mod Limits
 pub mod State
+pub mod ClosedGenerations
 pub mod Errors
 pub mod RightAnswers
 pub mod History
 pub mod Database
+pub mod Causes
 pub mod Steps
 pub mod Transition
 pub mod Laws
 pub mod Pages
+pub mod Differences

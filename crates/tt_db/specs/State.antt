@@ -21,10 +21,11 @@ use Rattle.tt_db.specs.declared.outcome.Outcome.TheVariants.{Written, Begun, Ste
 use Rattle.tt_db.specs.declared.errors.DbError.{DbError}
 use Rattle.tt_db.specs.declared.errors.DbError.TheVariants as errors
 
--- a closed generation: its number, and the slots that it had at the switch
+-- a closed generation: its number, the slots that it had at the switch, and the edits of the repair that closed it
 pub record ClosedGeneration : Type 0 where
   pub number : ℕ
   pub slots : Slots
+  pub edits : List Edit
 
 -- the slots of the current generation, its number, how many events were accepted, what is under way, and the closed generations that
 -- are kept, the oldest first
@@ -137,8 +138,13 @@ refusal tables limits S events.Abort = first_refusal
 abbrev pub last_items : {X : Type 0} → ℕ → List X → List X
 last_items n items = drop (length items - n) items
 
+-- the edits of the repair under way. Without one there are none
+abbrev pub edits_of : Phase → List Edit
+edits_of Idle = []
+edits_of (Repairing edits n) = edits
+
 -- the closed generations and one more. The first are dropped while there are more than are kept
-abbrev pub with_closed : ℕ → List ClosedGeneration → ClosedGeneration → List ClosedGeneration
+abbrev pub with_closed : {X : Type 0} → ℕ → List X → X → List X
 with_closed keep closed c = last_items keep (closed ++ c ∷ [])
 
 -- the state after a switch: the current generation is closed, and the next one takes its place
@@ -147,7 +153,7 @@ switched_state limits S = record S {
   slots = slots_edited_by S.phase S.slots;
   generation = S.generation + 1;
   phase = Idle;
-  closed = with_closed limits.keep S.closed (record { number = S.generation; slots = S.slots });
+  closed = with_closed limits.keep S.closed (record { number = S.generation; slots = S.slots; edits = edits_of S.phase });
 }
 
 -- what an event that isn't refused changes in a state

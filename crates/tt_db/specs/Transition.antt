@@ -2,14 +2,14 @@
 use Rattle.std.specs.Prelude.{◌≡◌, ℕ, ◌+◌, ◌<◌, length, List, [], None}
 use Rattle.std.specs.List.{All}
 use Rattle.tt_values.specs.Check.{action_fault}
-use Rattle.tt_values.specs.RowWrites.{Slots}
 use Rattle.tt_generations.specs.Limits.{max_slots}
 use Rattle.tt_repair_laws.specs.Edits.{HasNoFault}
 use Rattle.tt_generations.specs.TwoGenerations.{TwoGenerations, Idle, with_action, with_repair, after_step, after_switch, after_abort, left_of, NamesSlot}
 use Rattle.tt_db.specs.declared.event.Event.{Event}
 use Rattle.tt_db.specs.declared.event.Event.TheVariants as events
 use Rattle.tt_db.specs.declared.outcome.Outcome.{Outcome}
-use Rattle.tt_db.specs.State.{State, ClosedGeneration, with_closed, outcome_of}
+use Rattle.tt_db.specs.State.{State, with_closed, outcome_of}
+use Rattle.tt_db.specs.ClosedGenerations.{KeptGeneration}
 
 -- the tables of two generations after an event
 abbrev pub generations_after : TwoGenerations → Event → TwoGenerations
@@ -27,10 +27,10 @@ number_after number events.Step = number
 number_after number events.Switch = number + 1
 number_after number events.Abort = number
 
--- the closed generations after an event: a switch closes the current one, of this number and these slots
-abbrev pub closed_after : ℕ → List ClosedGeneration → ℕ → Slots → Event → List ClosedGeneration
-closed_after keep closed number W events.Switch = with_closed keep closed (record { number = number; slots = W })
-closed_after keep closed number W event = closed
+-- the closed generations that are kept after an event: a switch closes the current one, of this number, and keeps these tables
+abbrev pub closed_after : ℕ → List KeptGeneration → ℕ → TwoGenerations → Event → List KeptGeneration
+closed_after keep closed number G events.Switch = with_closed keep closed (record { number = number; generations = G })
+closed_after keep closed number G event = closed
 
 -- a state with the tables of two generations, before any event is counted or any generation is closed
 abbrev pub state_with : TwoGenerations → ℕ → State

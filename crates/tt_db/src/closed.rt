@@ -1,7 +1,8 @@
 //! Closed generations: those that a switch has replaced, and that stay readable.
 ghost use Rattle.std.specs.Prelude.{◌≡◌, ◌==◌, find, IfOk};
 ghost use Rattle.std.specs.Option.{option_copied, option_map};
-ghost use Rattle.tt_db.specs.State.{last_items, with_closed, oldest_of};
+ghost use Rattle.tt_db.specs.State.{last_items, with_closed};
+ghost use Rattle.tt_db.specs.ClosedGenerations.{oldest_kept};
 
 use std::alloc::{AllocError, Global};
 use std::marker::Model;
@@ -17,11 +18,11 @@ pub(crate) struct ClosedGeneration {
 }
 
 impl Model for ClosedGeneration {
-    ghost use Rattle.tt_db.specs.State.{ClosedGeneration};
+    ghost use Rattle.tt_db.specs.ClosedGenerations.{KeptGeneration};
 
-    ghost Value = { ClosedGeneration };
+    ghost Value = { KeptGeneration };
 
-    ghost view = { λ c. record { number = c.number; slots = c.generations.slots } };
+    ghost view = { λ c. record { number = c.number; generations = c.generations } };
 }
 
 impl ClosedGeneration {
@@ -32,7 +33,7 @@ impl ClosedGeneration {
     }
 
     fn generations(&self) -> &Generations
-        ensures { result.now.slots ≡ self.now.slots }
+        ensures { result.now ≡ self.now.generations }
     {
         &self.generations
     }
@@ -59,7 +60,7 @@ pub(crate) fn with_closed(
     generations: &Generations,
 ) -> Result<PagedLog<ClosedGeneration>, AllocError>
     ensures { IfOk result (λ log. log ≡ with_closed keep closed.now
-        (record { number = number; slots = generations.now.slots })) }
+        (record { number = number; generations = generations.now })) }
 {
     let Some(others) = keep.checked_sub(1) else {
         return Ok(PagedLog::new(alloc));
@@ -95,7 +96,7 @@ fn last_of(
 
 /// The number of the oldest generation that can be read, where the current one has this number.
 pub(crate) fn oldest_of(closed: &PagedLog<ClosedGeneration>, current: u64) -> u64
-    ensures { result ≡ oldest_of closed.now current }
+    ensures { result ≡ oldest_kept closed.now current }
 {
     match closed.get(0) {
         Some(oldest) => oldest.number(),
@@ -105,8 +106,8 @@ pub(crate) fn oldest_of(closed: &PagedLog<ClosedGeneration>, current: u64) -> u6
 
 /// The closed generation of a number, as the current one of two, if it is kept.
 pub(crate) fn closed_of(closed: &PagedLog<ClosedGeneration>, number: u64) -> Option<&Generations>
-    ensures { option_map (λ g. g.slots) (option_copied result)
-        ≡ option_map (λ c. c.slots) (find (λ c. c.number == number) closed.now) }
+    ensures { option_copied result
+        ≡ option_map (λ c. c.generations) (find (λ c. c.number == number) closed.now) }
 {
     for position in 0..closed.len() {
         let Some(generation) = closed.get(position) else {

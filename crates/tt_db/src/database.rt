@@ -6,10 +6,12 @@ ghost use Rattle.tt_generations.specs.TwoGenerations.{no_slots, done_of, is_repa
 ghost use Rattle.tt_db.specs.Limits.{Fits, max_limits};
 ghost use Rattle.tt_db.specs.Errors.{refusal_of_error};
 ghost use Rattle.tt_db.specs.State.{IsLegal, full_at, slots_in, slots_left};
-ghost use Rattle.tt_db.specs.Database.{state_of, now_in, oldest_in, with_entry, refusal_of, outcome_for, right_answer, right_answer_at, right_answer_in, right_preview_of, right_preview_at_of, answer_for, preview_for, preview_at_for, slot_of, next_slot_of, repair_of, repair_worker_of, current_rows_of, ShowsNextRows, dirty_rows_in, row_in, MissesNoSlot, ShowsCurrent, nth_item, place_of};
+ghost use Rattle.tt_db.specs.Database.{state_of, now_in, oldest_in, with_entry, refusal_of, outcome_for, generations_at, right_answer, right_answer_at, right_answer_in, right_preview_of, right_preview_at_of, answer_for, preview_for, preview_at_for, slot_of, next_slot_of, repair_of, repair_worker_of, current_rows_of, ShowsNextRows, dirty_rows_in, row_in, MissesNoSlot, ShowsCurrent, nth_item, place_of};
 ghost use Rattle.tt_db.specs.RightAnswers.{Answers, RowsHaveRisingKeys};
 ghost use Rattle.tt_db.specs.Transition.{Allows, IsTransition, closed_after};
 
+mod causes;
+mod differences;
 mod kinds;
 mod page;
 mod steps;
@@ -524,8 +526,9 @@ impl Db {
 
     /// A generation that can be read, as the current one of two.
     fn generations_of(&self, number: u64) -> Option<&Generations>
-        ensures { option_map (λ g. g.slots) (option_copied result)
+        ensures slots { option_map (λ g. g.slots) (option_copied result)
             ≡ slots_in (state_of self.now) number }
+        ensures generations { option_copied result ≡ generations_at self.now number }
     {
         if number == self.parts.generation {
             Some(&self.parts.generations)
@@ -640,7 +643,7 @@ impl Parts {
         ensures transition { IfOk result (IsTransition self.old.generations self.old.generation
             entry.event self.new.generations self.new.generation) }
         ensures closed { OnOk result (self.new.closed ≡ closed_after self.old.limits.keep
-            self.old.closed self.old.generation self.old.generations.slots entry.event) }
+            self.old.closed self.old.generation self.old.generations entry.event) }
         ensures catalog { self.new.generations.catalog ≡ self.old.generations.catalog }
     {
         self.close_by(&entry.event)?;
@@ -667,7 +670,7 @@ impl Parts {
     /// Closes the current generation where the event is a switch.
     fn close_by(&mut self, event: &Event) -> Result<(), AllocError>
         ensures closed { OnOk result (self.new.closed ≡ closed_after self.old.limits.keep
-            self.old.closed self.old.generation self.old.generations.slots event.now) }
+            self.old.closed self.old.generation self.old.generations event.now) }
         ensures others { self.new ≡ record self.old { closed = self.new.closed } }
     {
         match event {

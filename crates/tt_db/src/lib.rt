@@ -19,7 +19,9 @@ pub use errors::{DbError, ReadError};
 pub use event::{Entry, Event};
 pub use limits::Limits;
 pub use outcome::{Outcome, StepOutcome, StepsMade, SwitchOutcome, WriteOutcome};
-pub use tt_generations::{Edit, FirstRows, MAX_SLOTS, Progress, Slot, Slots};
+pub use tt_generations::{
+    Cause, Edit, FirstChanges, FirstRows, MAX_SLOTS, Progress, RowChange, Slot, Slots,
+};
 
 /// The largest limit of entries.
 pub const MAX_EVENTS: u64 = 4_000_000;

@@ -9,6 +9,8 @@ pub mod UnsplitLemmas
 pub mod ReexecutionLemmas
 pub mod EditsLemmas
 pub mod NumbersLemmas
+pub mod SinceLemmas
+pub mod LeastRowLemmas
 pub mod RepairLemmas
 pub mod KeptSlotsLemmas
 pub mod SlotsLemmas
@@ -16,3 +18,5 @@ pub mod BothSidesLemmas
 pub mod RepairStepsLemmas
 pub mod GenerationsLemmas
 pub mod RunLemmas
+pub mod SlotCausesLemmas
+pub mod DifferencesLemmas

@@ -13,3 +13,5 @@ pub mod EditsByNumber
 pub mod Repair
 pub mod Generations
 pub mod Pages
+pub mod SlotCauses
+pub mod RowChanges

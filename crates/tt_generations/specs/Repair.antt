@@ -1,5 +1,5 @@
 -- One step of a repair: whether the next slot is due, and what its re-execution leaves.
-use Rattle.std.specs.Prelude.{◌≡◌, ℕ, zero, suc, ◌-◌, ◌+◌, pos, Bool, true, false, ◌||◌, if◌then◌else◌, List, [], ◌∷◌, ◌++◌, fold, slice_set, Option, None, Some, is_some}
+use Rattle.std.specs.Prelude.{◌≡◌, ℕ, zero, suc, pred, ◌-◌, ◌+◌, pos, Bool, true, false, ◌||◌, if◌then◌else◌, List, [], ◌∷◌, ◌++◌, fold, slice_set, Option, None, Some, is_some}
 use Rattle.std.specs.List.{All, list_any}
 use Rattle.std.specs.Ordering.{int_cmp}
 use Rattle.std.specs.FinMap.Entries as sorted
@@ -12,7 +12,8 @@ use Rattle.tt_values.specs.RowWrites.{slot_replies}
 use Rattle.tt_versions.specs.Sides.{next_of}
 use Rattle.tt_parts.specs.Dirty.{DirtySet, DirtyTables, SameMembers, columns_in, has_row, with_row}
 use Rattle.tt_repair_laws.specs.Due.{may_read_dirty, slot_rows_touched, slot_rows_matched, with_row_of}
-use Rattle.tt_causes.specs.Numbers.{GotDirtyAt}
+use Rattle.tt_causes.specs.Causes.{Cause, Edited}
+use Rattle.tt_causes.specs.Numbers.{GotDirtyAt, cause_by_numbers}
 use Rattle.tt_generations.specs.declared.slot.KeptSlot.{KeptSlot}
 use Rattle.tt_generations.specs.declared.edits.Replacement.{Replacement}
 use Rattle.tt_generations.specs.declared.repair.Repair.{Repair}
@@ -41,6 +42,17 @@ next_replacement r = sorted.find int_cmp (pos (r.done + 1)) r.replacements
 abbrev pub is_kept_due : Repair → KeptSlot → Bool
 is_kept_due r kept = is_some (next_replacement r) || is_kept_affected r.dirty kept.rows kept.slot.action
 
+-- the action of a slot. That of a cancelled one has no writes
+abbrev pub as_action : Option Action → Action
+as_action None = action_of []
+as_action (Some action) = action
+
+-- the cause of the slot of a number, counted from 1, of which this is kept, if it was re-executed
+abbrev pub kept_cause : Repair → ℕ → KeptSlot → Option Cause
+kept_cause r number kept =
+    if is_some (sorted.find int_cmp (pos number) r.replacements) then Some Edited
+    else cause_by_numbers r.dirty.catalog r.dirty.since kept.rows (as_action kept.slot.action).writes (pred number)
+
 -- of the next slots, of which these are kept and there are at most this number, how many come before the first that is due
 abbrev pub undue_front : ℕ → Repair → List KeptSlot → ℕ
 undue_front zero r slots = 0
@@ -55,11 +67,6 @@ replaced_by (Some replacement) action = replacement.action
 -- the action that the repair gives the next slot, of which this is kept
 abbrev pub next_action : Repair → KeptSlot → Option Action
 next_action r kept = replaced_by (next_replacement r) kept.slot.action
-
--- the action of a slot. That of a cancelled one has no writes
-abbrev pub as_action : Option Action → Action
-as_action None = action_of []
-as_action (Some action) = action
 
 -- a list is these rows, or these rows twice in a row
 abbrev pub MayRepeat : List RowId → List RowId → Type 0

@@ -17,6 +17,8 @@ ghost use Rattle.tt_generations.specs.TwoGenerations.{no_slots, with_action, wit
 ghost use Rattle.tt_generations.specs.Runs.{after_steps, undue_run, is_last_due};
 ghost use Rattle.tt_generations.specs.Generations.{phase_of, generations_of, AreGenerations};
 
+mod causes;
+mod differences;
 mod page;
 
 use crate::action_run::ActionRun;

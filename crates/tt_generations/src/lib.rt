@@ -5,6 +5,8 @@
 mod action_run;
 mod affected;
 mod boxed_repair;
+mod cause;
+mod causes;
 mod edits;
 mod effect;
 mod first_rows;
@@ -12,14 +14,18 @@ mod generations;
 mod progress;
 mod reexecution;
 mod repair;
+mod row_change;
 mod row_ids;
 mod rows;
+mod since;
 mod slot;
 mod slots;
 
+pub use cause::Cause;
 pub use first_rows::FirstRows;
 pub use generations::Generations;
 pub use progress::Progress;
+pub use row_change::{FirstChanges, RowChange};
 pub use slot::Slot;
 pub use slots::Slots;
 pub use tt_repair_laws::Edit;

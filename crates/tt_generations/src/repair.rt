@@ -1,6 +1,6 @@
 //! A repair under way: its edits, how far it is, what is dirty, and the slots of the next
 //! generation.
-ghost use Rattle.std.specs.Prelude.{◌≡◌, ◌<◌, ◌≤◌, ◌+◌, [], ◌∷◌, ◌++◌, length, slice_set, not, IsTrue, IsFalse, IfOk, OnOk};
+ghost use Rattle.std.specs.Prelude.{◌≡◌, ◌<◌, ◌≤◌, ◌+◌, [], ◌∷◌, ◌++◌, length, option_map, slice_set, not, IsTrue, IsFalse, IfOk, OnOk};
 ghost use Rattle.std.specs.List.{All};
 ghost use Rattle.std.specs.Option.{option_copied};
 ghost use Rattle.tt_parts.specs.Dirty.{SameMembers, NumbersAgree, nothing_dirty, nothing_since};
@@ -10,9 +10,12 @@ ghost use Rattle.tt_generations.specs.Limits.{max_slots};
 ghost use Rattle.tt_generations.specs.KeptSlots.{IsAccepted};
 ghost use Rattle.tt_generations.specs.EditsByNumber.{HasEdits};
 ghost use Rattle.tt_generations.specs.Reexecution.{ShowsFewBefore};
-ghost use Rattle.tt_generations.specs.Repair.{HasKeysIfAny, is_kept_affected, is_kept_due, undue_front, next_replacement, replaced_by, next_action, as_action, MayRepeat, with_rows_shown, HasDoneDueSlot, ReexecutesSlot, DoesSlot};
+ghost use Rattle.tt_generations.specs.SlotCauses.{cause_told};
+ghost use Rattle.tt_generations.specs.Repair.{HasKeysIfAny, kept_cause, is_kept_affected, is_kept_due, undue_front, next_replacement, replaced_by, next_action, as_action, MayRepeat, with_rows_shown, HasDoneDueSlot, ReexecutesSlot, DoesSlot};
 
 use crate::affected::is_affected;
+use crate::cause::Cause;
+use crate::causes::cause_of_affected;
 use crate::edits::{Replacement, replacements_of};
 use crate::reexecution::Reexecution;
 use crate::row_ids::are_same;
@@ -165,6 +168,21 @@ impl Repair {
         ensures { IfOk result (λ action. action ≡ next_action self.now kept.now) }
     {
         replaced_action(self.next_replacement(), kept)
+    }
+
+    /// Why the repair re-executed the slot of a number, counted from 1, which is this one in the
+    /// current generation. None where it didn't.
+    pub(crate) fn cause<'a>(&self, number: u64, kept: &'a KeptSlot) -> Option<Cause<'a>>
+        requires counted { 0 < number }
+        requires room { number ≤ max_slots }
+        requires keyed { HasKeysIfAny kept.now.slot.action }
+        ensures { option_map cause_told result ≡ kept_cause self.now number kept.entry.now }
+    {
+        if self.replacements.get(number as i64).is_some() {
+            return Some(Cause::Edited);
+        }
+        let (rows, writes) = (kept.rows.as_slice(), writes_of(&kept.slot.action));
+        cause_of_affected(&self.dirty, rows, writes, number - 1)
     }
 
     /// Does the next slot, which is this one in the current generation, if it isn't due. Returns

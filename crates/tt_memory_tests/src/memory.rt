@@ -1,6 +1,7 @@
 //! A table of accounts, and the calls of each library on it.
 mod advancing;
 mod database;
+mod differences;
 mod looks;
 mod marks;
 mod pages;

@@ -122,6 +122,13 @@ impl Dirty {
         }
     }
 
+    /// The columns of the table at a position, and none where there is no table.
+    pub fn columns(&self, table: u16) -> &[Column]
+        ensures { result.now ≡ columns_in self.now.catalog table }
+    {
+        columns_in(self.catalog.get(), table)
+    }
+
     /// Whether the row with the key is dirty. Allocates nothing.
     pub fn has_row(&self, table: u16, key: i64) -> bool
         ensures { result ≡ has_row self.now.dirty table key }

@@ -18,4 +18,4 @@ mod statement_reads;
 pub use dirty::Dirty;
 pub use partition::{Partition, Reads};
 pub use parts::parts_of;
-pub use statement_reads::reads_of;
+pub use statement_reads::{equates_partition, reads_of};

@@ -83,8 +83,9 @@ fn equated_partitions(
     Ok(partitions)
 }
 
-/// Whether the condition is an equality on a partition column.
-pub(crate) fn equates_partition(columns: &[Column], equal: &Equal) -> bool
+/// Whether a condition fixes the value of a partition column of the table with these columns: it is
+/// an equality, and it is on such a column.
+pub fn equates_partition(columns: &[Column], equal: &Equal) -> bool
     ensures { result ≡ equates_partition columns.now equal.now }
 {
     equal.equates() && is_partition_position(columns, equal.column)

@@ -27,9 +27,9 @@ use Rattle.tt_requests.specs.declared.request.Request.{Request}
 use Rattle.tt_requests.specs.Kinds.{kind_of}
 use Rattle.tt_requests.specs.Told.{named_time, named_generation}
 use Rattle.tt_requests.specs.Edits.{cancel, replace, edit, edits}
-use Rattle.tt_requests.specs.Reads.{page, read, preview}
+use Rattle.tt_requests.specs.Reads.{page, slot_page, read, preview}
 use Rattle.tt_requests.specs.Questions.{worker_number, span, row_named, slots, changes_named, changes_asked, changes}
-use Rattle.tt_requests.specs.Requests.{one_write, several_writes, begin, max_steps, forget, only_true, bare, command_of, command, members_of_request}
+use Rattle.tt_requests.specs.Requests.{one_write, several_writes, begin, max_steps, why, forget, only_true, bare, command_of, command, members_of_request}
 use Rattle.tt_requests.specs.Requests as requests
 use Rattle.tt_requests.specs.Judged.{AreJudgedEdits, IsJudged, RequestsAreJudged}
 use Rattle.tt_requests.proofs.StepBackLemmas.{ok_same, step, with_path-ok, either-ok, or_refuse-ok, within_limit-ok, member-ok, each-ok}
@@ -158,6 +158,15 @@ forget-judged tables v asked e =
     let known = step (no_members_at contexts.Request (codes "forget" ∷ []) v) _ asked time.rest in
     subst (IsJudged tables) (ok_same known.rest) tt
 
+why-judged : (tables : Tables) → Judges tables why
+unfolding why
+why-judged tables v asked e =
+    let is_true = step (member (codes "why") only_true v) _ asked e in
+    let generation = step (optional (codes "in") named_generation v) _ asked is_true.rest in
+    let wanted = step (slot_page v) _ asked generation.rest in
+    let known = step (no_members_at contexts.Request (codes "after" ∷ codes "in" ∷ codes "most" ∷ codes "why" ∷ []) v) _ asked wanted.rest in
+    subst (IsJudged tables) (ok_same known.rest) tt
+
 bare-judged : (tables : Tables) (name : List ℕ) (only : Command) → IsJudged tables only → Judges tables (bare name only)
 unfolding bare
 bare-judged tables name only judged v asked e =
@@ -215,6 +224,7 @@ command_of-judged version tables kinds.Status v asked e = bare-judged tables (co
 command_of-judged version tables kinds.Slots v asked e = slots-judged tables v asked e
 command_of-judged version tables kinds.Changes v asked e = changes-judged tables v asked e
 command_of-judged version tables kinds.Tables v asked e = bare-judged tables (codes "tables") commands.Tables tt v asked e
+command_of-judged version tables kinds.Why v asked e = why-judged tables v asked e
 command_of-judged version tables kinds.Forget v asked e = forget-judged tables v asked e
 
 command-judged : (version : Version) (tables : Tables) → Judges tables (command version tables)

@@ -79,6 +79,7 @@ command_of-same version tables kinds.Status v = λ t e. e
 command_of-same version tables kinds.Slots v = λ t e. e
 command_of-same version tables kinds.Changes v = λ t e. e
 command_of-same version tables kinds.Tables v = λ t e. e
+command_of-same version tables kinds.Why v = λ t e. e
 command_of-same version tables kinds.Forget v = λ t e. e
 
 command-same : (version : Version) (tables : Tables) (v : Data) → ReadsTheSame (command version tables v) (command newest_version tables v)

@@ -26,9 +26,9 @@ use Rattle.tt_requests.specs.declared.request.Request.{Request}
 use Rattle.tt_requests.specs.Kinds.{kind_of}
 use Rattle.tt_requests.specs.Told.{named_time, named_generation}
 use Rattle.tt_requests.specs.Edits.{edits}
-use Rattle.tt_requests.specs.Reads.{page, read, preview}
+use Rattle.tt_requests.specs.Reads.{page, slot_page, read, preview}
 use Rattle.tt_requests.specs.Questions.{worker_number, span, row_named, slots, changes_asked, changes}
-use Rattle.tt_requests.specs.Requests.{one_write, several_writes, begin, max_steps, end_of_repair, finish, abort, forget, only_true, bare, command_of, command, members_of_request, request_of}
+use Rattle.tt_requests.specs.Requests.{one_write, several_writes, begin, max_steps, end_of_repair, finish, abort, why, forget, only_true, bare, command_of, command, members_of_request, request_of}
 use Rattle.tt_requests.specs.Requests as requests
 use Rattle.tt_requests.specs.declared.session_line.SessionLine.{SessionLine}
 use Rattle.tt_requests.specs.declared.session_line.SessionLine.TheVariants as lines
@@ -160,6 +160,15 @@ forget-none v asked e =
     let known = step (no_members_at contexts.Request (codes "forget" ∷ []) v) _ asked time.rest in
     none-at (codes "forget" ∷ []) refl v known.value known.is
 
+why-none : HasNone why
+unfolding why
+why-none v asked e =
+    let is_true = step (member (codes "why") only_true v) _ asked e in
+    let generation = step (optional (codes "in") named_generation v) _ asked is_true.rest in
+    let wanted = step (slot_page v) _ asked generation.rest in
+    let known = step (no_members_at contexts.Request (codes "after" ∷ codes "in" ∷ codes "most" ∷ codes "why" ∷ []) v) _ asked wanted.rest in
+    none-at (codes "after" ∷ codes "in" ∷ codes "most" ∷ codes "why" ∷ []) refl v known.value known.is
+
 bare-none : (name : List ℕ) (only : Command) → is_one_of (codes "if" ∷ codes "worker" ∷ name ∷ []) (codes "version") ≡ false → HasNone (bare name only)
 unfolding bare
 bare-none name only unknown v asked e =
@@ -200,6 +209,7 @@ command_of-none version tables kinds.Status v asked e = bare-none (codes "status
 command_of-none version tables kinds.Slots v asked e = slots-none tables v asked e
 command_of-none version tables kinds.Changes v asked e = changes-none v asked e
 command_of-none version tables kinds.Tables v asked e = bare-none (codes "tables") commands.Tables refl v asked e
+command_of-none version tables kinds.Why v asked e = why-none v asked e
 command_of-none version tables kinds.Forget v asked e = forget-none v asked e
 
 command-none : (version : Version) (tables : Tables) → HasNone (command version tables)

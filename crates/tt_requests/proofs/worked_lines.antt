@@ -19,7 +19,8 @@ use Rattle.tt_grammar.specs.Actions.{action}
 use Rattle.tt_requests.specs.Opening.{declaration}
 use Rattle.tt_requests.specs.LogOpening.{ground_numbering, members_of_log_opening, log_opening_of}
 use Rattle.tt_requests.specs.GroundAction.{ground_action_of}
-use Rattle.tt_requests.specs.Requests.{step, end_of_repair, finish, abort, forget, only_true, bare, members_of_request, request_of}
+use Rattle.tt_requests.specs.Reads.{slot_page}
+use Rattle.tt_requests.specs.Requests.{step, end_of_repair, finish, abort, why, forget, only_true, bare, members_of_request, request_of}
 use Rattle.tt_requests.specs.declared.session_line.SessionLine.TheVariants as lines
 use Rattle.tt_requests.specs.SessionLine.{session_line_of}
 
@@ -80,6 +81,44 @@ repair_of_no_worker = (refl, refl, refl, refl)
 status_and_forget : request_of Two [] (value_of_line (codes "{\"status\":true,\"forget\":1}")) ≡ Err (At (codes "$") (codes "unknown member \"forget\""))
 unfolding is_utf8 chars encode_utf8 lex content short_escape punctuate word after_number json.value json.items json.members scan_numeral number_of value_of_json value_of_line bare only_true members_of_request
 status_and_forget = refl
+
+-- why slots were re-executed by the repair under way, and by the one that closed a generation
+why_read : (request_of Two [] (value_of_line (codes "{\"why\":true}"))
+    ≡ Ok (record { worker = 1; expected = None; command = commands.Why None (record { after = None; most = None }) }))
+    × (request_of Two [] (value_of_line (codes "{\"why\":true,\"in\":0}"))
+    ≡ Ok (record { worker = 1; expected = None; command = commands.Why (Some (record { number = 0 })) (record { after = None; most = None }) }))
+unfolding is_utf8 chars encode_utf8 lex content short_escape punctuate word after_number json.value json.items json.members scan_numeral number_of value_of_json value_of_line slot_page why only_true members_of_request
+why_read = (refl, refl)
+
+-- a page of them: the slots behind one, which may be 0, and so many
+why_page : (request_of Two [] (value_of_line (codes "{\"most\":100000,\"after\":7,\"why\":true}"))
+    ≡ Ok (record { worker = 1; expected = None; command = commands.Why None (record { after = Some (record { number = 7 }); most = Some 100000 }) }))
+    × (request_of Two [] (value_of_line (codes "{\"why\":true,\"in\":2,\"after\":0}"))
+    ≡ Ok (record { worker = 1; expected = None; command = commands.Why (Some (record { number = 2 })) (record { after = Some (record { number = 0 }); most = None }) }))
+unfolding is_utf8 chars encode_utf8 lex content short_escape punctuate word after_number json.value json.items json.members scan_numeral number_of value_of_json value_of_line slot_page why only_true members_of_request
+why_page = (refl, refl)
+
+-- its value comes first, then the generation, the slot, how many, and an unknown member
+why_faulty : (request_of Two [] (value_of_line (codes "{\"why\":false,\"in\":-1}")) ≡ Err (At (codes "$.why") (codes "out of range")))
+    × (request_of Two [] (value_of_line (codes "{\"why\":true,\"after\":-1,\"in\":-1}")) ≡ Err (At (codes "$.in") (codes "wrong type")))
+    × (request_of Two [] (value_of_line (codes "{\"why\":true,\"after\":-1,\"most\":0}")) ≡ Err (At (codes "$.after") (codes "wrong type")))
+    × (request_of Two [] (value_of_line (codes "{\"why\":true,\"at\":1,\"most\":0}")) ≡ Err (At (codes "$.most") (codes "out of range")))
+    × (request_of Two [] (value_of_line (codes "{\"why\":true,\"most\":100001}")) ≡ Err (At (codes "$.most") (codes "out of range")))
+    × (request_of Two [] (value_of_line (codes "{\"why\":true,\"of\":1,\"at\":1}")) ≡ Err (At (codes "$") (codes "unknown member \"at\"")))
+unfolding is_utf8 chars encode_utf8 lex content short_escape punctuate word after_number json.value json.items json.members scan_numeral number_of value_of_json value_of_line slot_page why only_true members_of_request
+why_faulty = (refl, refl, refl, refl, refl, refl)
+
+-- a kind comes before those behind it
+why_among_kinds : (request_of Two [] (value_of_line (codes "{\"why\":true,\"tables\":true}")) ≡ Err (At (codes "$") (codes "unknown member \"why\"")))
+    × (request_of Two [] (value_of_line (codes "{\"forget\":1,\"why\":true}")) ≡ Err (At (codes "$") (codes "unknown member \"forget\"")))
+unfolding is_utf8 chars encode_utf8 lex content short_escape punctuate word after_number json.value json.items json.members scan_numeral number_of value_of_json value_of_line slot_page why bare only_true members_of_request
+why_among_kinds = (refl, refl)
+
+-- a request of no kind
+no_kind_read : request_of Two [] (value_of_line (codes "{}"))
+    ≡ Err (At (codes "$") (codes "missing one of insert, update, delete, select, preview, do, begin, step, finish, abort, status, slots, changes, tables, why, forget"))
+unfolding is_utf8 chars encode_utf8 lex content short_escape punctuate word after_number json.value json.items json.members scan_numeral number_of value_of_json value_of_line members_of_request
+no_kind_read = refl
 
 -- the opening of a log without tables
 log_opening_read : log_opening_of (value_of_line (codes "{\"version\":2,\"tables\":[],\"ground\":{\"time\":7,\"generation\":1,\"slots\":2}}"))

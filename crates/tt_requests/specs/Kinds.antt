@@ -5,7 +5,7 @@ use Rattle.tt_grammar.specs.declared.fault.DocFault.{DocFault}
 use Rattle.tt_grammar.specs.Fault.{or_refuse}
 use Rattle.tt_grammar.specs.Decoder.{has}
 use Rattle.tt_requests.specs.declared.kinds.RequestKind.{RequestKind}
-use Rattle.tt_requests.specs.declared.kinds.RequestKind.TheVariants.{Insert, Update, Delete, Select, Preview, Do, Begin, Step, Finish, Abort, Status, Slots, Changes, Tables, Forget}
+use Rattle.tt_requests.specs.declared.kinds.RequestKind.TheVariants.{Insert, Update, Delete, Select, Preview, Do, Begin, Step, Finish, Abort, Status, Slots, Changes, Tables, Why, Forget}
 
 -- each kind with the member that names it, in the order in which they are looked for
 abbrev pub kinds : List (List ℕ × RequestKind)
@@ -24,6 +24,7 @@ kinds =
     ∷ (codes "slots", Slots)
     ∷ (codes "changes", Changes)
     ∷ (codes "tables", Tables)
+    ∷ (codes "why", Why)
     ∷ (codes "forget", Forget)
     ∷ []
 

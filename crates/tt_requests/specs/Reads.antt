@@ -1,4 +1,4 @@
--- The selects and previews of a session, which may ask for one page of their rows.
+-- The selects and previews of a session, which may ask for one page of their rows; and pages.
 use Rattle.std.specs.Prelude.{ℕ, [], ◌∷◌, Result, Ok, codes}
 use Rattle.serde_json.specs.Data.{Data}
 use Rattle.tt_values.specs.declared.statement.Select.{Select}
@@ -14,9 +14,10 @@ use Rattle.tt_grammar.specs.Statements.{checked_statement, conditions, no_member
 use Rattle.tt_requests.specs.declared.request.Command.{Command}
 use Rattle.tt_requests.specs.declared.request.Command.TheVariants as commands
 use Rattle.tt_requests.specs.declared.request.Page.{Page}
+use Rattle.tt_requests.specs.declared.request.SlotPage.{SlotPage}
 use Rattle.tt_requests.specs.Told.{named_time, named_generation}
 
--- the largest number of rows that a page may ask for
+-- the largest number of rows, or of re-executed slots, that a page may ask for
 abbrev pub max_page : ℕ
 max_page = 100000
 
@@ -24,6 +25,13 @@ max_page = 100000
 unfoldable pub page : Data → Result Page DocFault
 page v = do
   after ← optional (codes "after") int v
+  most ← optional (codes "most") (count_within 1 max_page) v
+  Ok (record { after = after; most = most })
+
+-- a page of re-executed slots: the slot behind which it begins, and how many slots it has at most, each of which may be left out
+unfoldable pub slot_page : Data → Result SlotPage DocFault
+slot_page v = do
+  after ← optional (codes "after") named_time v
   most ← optional (codes "most") (count_within 1 max_page) v
   Ok (record { after = after; most = most })
 

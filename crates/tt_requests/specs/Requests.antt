@@ -18,9 +18,9 @@ use Rattle.tt_requests.specs.declared.request.Command.{Command}
 use Rattle.tt_requests.specs.declared.request.Command.TheVariants as commands
 use Rattle.tt_requests.specs.declared.request.Request.{Request}
 use Rattle.tt_requests.specs.Kinds.{kind_of}
-use Rattle.tt_requests.specs.Told.{named_time}
+use Rattle.tt_requests.specs.Told.{named_time, named_generation}
 use Rattle.tt_requests.specs.Edits.{edits}
-use Rattle.tt_requests.specs.Reads.{read, preview}
+use Rattle.tt_requests.specs.Reads.{slot_page, read, preview}
 use Rattle.tt_requests.specs.Questions.{worker_number, slots, changes}
 
 -- a write of its own, as an action of one, which isn't whole
@@ -94,6 +94,15 @@ bare name command v = do
   _ ← no_members_at contexts.Request (name ∷ []) v
   Ok command
 
+-- why slots were re-executed: the generation that the repair closed, and the page. All but the name may be left out
+unfoldable pub why : Data → Result Command DocFault
+why v = do
+  _ ← member (codes "why") only_true v
+  generation ← optional (codes "in") named_generation v
+  page ← slot_page v
+  _ ← no_members_at contexts.Request (codes "after" ∷ codes "in" ∷ codes "most" ∷ codes "why" ∷ []) v
+  Ok (commands.Why generation page)
+
 -- the command of an object of this kind
 abbrev pub command_of : Version → Tables → RequestKind → Data → Result Command DocFault
 command_of version tables kinds.Insert v = one_write (insert tables contexts.Request v)
@@ -110,6 +119,7 @@ command_of version tables kinds.Status v = bare (codes "status") commands.Status
 command_of version tables kinds.Slots v = slots tables v
 command_of version tables kinds.Changes v = changes v
 command_of version tables kinds.Tables v = bare (codes "tables") commands.Tables v
+command_of version tables kinds.Why v = why v
 command_of version tables kinds.Forget v = forget v
 
 -- the command of an object, by the first of its kinds

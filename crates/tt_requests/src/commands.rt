@@ -2,15 +2,15 @@
 ghost use Rattle.std.specs.Prelude.{Ok};
 ghost use Rattle.tt_json.specs.Tape.{IsValue, value_at};
 ghost use Rattle.tt_grammar.specs.Fault.{Gives};
-ghost use Rattle.tt_requests.specs.Requests.{one_write, several_writes, begin, step, end_of_repair, finish, abort, forget, only_true, bare, command_of, command};
+ghost use Rattle.tt_requests.specs.Requests.{one_write, several_writes, begin, step, end_of_repair, finish, abort, why, forget, only_true, bare, command_of, command};
 
 use crate::MAX_STEPS;
 use crate::edits::EditsDecoder;
 use crate::kinds::RequestKind;
 use crate::questions::{WORKER, changes, slots};
-use crate::reads::{preview, read};
+use crate::reads::{preview, read, slot_page};
 use crate::request::{Command, ToldEdits};
-use crate::told::ToldTimeDecoder;
+use crate::told::{ToldGenerationDecoder, ToldTimeDecoder};
 use json::Tape;
 use std::alloc::Global;
 use tt_grammar::DocFault;
@@ -75,6 +75,7 @@ fn command_of<V: JsonValue>(
         RequestKind::Slots => slots(alloc, catalog, value),
         RequestKind::Changes => changes(alloc, value),
         RequestKind::Tables => bare(alloc, "tables", Command::Tables, value),
+        RequestKind::Why => why(alloc, value),
         RequestKind::Forget => forget(alloc, value),
     }
 }
@@ -154,6 +155,21 @@ fn end_of_repair<V: JsonValue>(
     let of = optional(alloc, value, "of", &WORKER)?;
     no_members_but(alloc, value, &["if", "worker", "of", name])?;
     Ok(of)
+}
+
+#[tactic(auto, unfolding(crate::specs::Requests::why))]
+fn why<V: JsonValue>(alloc: Global, value: &V) -> Result<Command, DocFault>
+    ensures { Gives result (why (V.json value.now)) }
+{
+    member(alloc, value, "why", &OnlyTrueDecoder)?;
+    let generation = optional(alloc, value, "in", &ToldGenerationDecoder)?;
+    let page = slot_page(alloc, value)?;
+    no_members_but(
+        alloc,
+        value,
+        &["if", "worker", "after", "in", "most", "why"],
+    )?;
+    Ok(Command::Why { generation, page })
 }
 
 #[tactic(auto, unfolding(crate::specs::Requests::forget))]

@@ -4,10 +4,10 @@ use std::alloc::Global;
 use tt_grammar::DocFault;
 
 const NO_KIND: &str =
-    "missing one of insert, update, delete, select, preview, do, begin, step, finish, abort, status, slots, changes, tables, forget";
+    "missing one of insert, update, delete, select, preview, do, begin, step, finish, abort, status, slots, changes, tables, why, forget";
 
 /// Each kind with the member that names it, in the order in which they are looked for.
-static KINDS: [(&str, RequestKind); 15] = [
+static KINDS: [(&str, RequestKind); 16] = [
     ("insert", RequestKind::Insert),
     ("update", RequestKind::Update),
     ("delete", RequestKind::Delete),
@@ -22,6 +22,7 @@ static KINDS: [(&str, RequestKind); 15] = [
     ("slots", RequestKind::Slots),
     ("changes", RequestKind::Changes),
     ("tables", RequestKind::Tables),
+    ("why", RequestKind::Why),
     ("forget", RequestKind::Forget),
 ];
 
@@ -42,6 +43,7 @@ pub(crate) enum RequestKind {
     Slots,
     Changes,
     Tables,
+    Why,
     Forget,
 }
 

@@ -1,9 +1,9 @@
-//! Reading of selects and previews, which may ask for one page of their rows.
+//! Reading of selects and previews, which may ask for one page of their rows, and of pages.
 ghost use Rattle.tt_grammar.specs.Fault.{Gives};
-ghost use Rattle.tt_requests.specs.Reads.{page, read, preview};
+ghost use Rattle.tt_requests.specs.Reads.{page, slot_page, read, preview};
 
 use crate::MAX_PAGE;
-use crate::request::{Command, Page};
+use crate::request::{Command, Page, SlotPage};
 use crate::told::{ToldGenerationDecoder, ToldTimeDecoder};
 use std::alloc::Global;
 use tt_grammar::DocFault;
@@ -79,4 +79,14 @@ fn page<V: JsonValue>(alloc: Global, value: &V) -> Result<Page, DocFault>
     let after = optional(alloc, value, "after", &IntDecoder)?;
     let most = optional(alloc, value, "most", &MOST)?;
     Ok(Page { after, most })
+}
+
+/// The page of re-executed slots of an object.
+#[tactic(auto, unfolding(crate::specs::Reads::slot_page))]
+pub(crate) fn slot_page<V: JsonValue>(alloc: Global, value: &V) -> Result<SlotPage, DocFault>
+    ensures { Gives result (slot_page (V.json value.now)) }
+{
+    let after = optional(alloc, value, "after", &ToldTimeDecoder)?;
+    let most = optional(alloc, value, "most", &MOST)?;
+    Ok(SlotPage { after, most })
 }

@@ -83,6 +83,12 @@ pub enum Command {
     NextChanges,
     /// The tables, and how much is kept.
     Tables,
+    /// Why slots were re-executed.
+    Why {
+        /// By the repair that closed this generation, or by the one under way where none is given.
+        generation: Option<ToldGeneration>,
+        page: SlotPage,
+    },
     /// What lies before a time is forgotten.
     Forget(ToldTime),
 }
@@ -109,6 +115,7 @@ impl Command {
             Command::Changes => true,
             Command::NextChanges => true,
             Command::Tables => true,
+            Command::Why { .. } => true,
         }
     }
 
@@ -147,6 +154,15 @@ pub struct Page {
     /// The rows with greater keys than this, where it is given.
     pub after: Option<i64>,
     /// The first rows, this many, from 1 to [`MAX_PAGE`](crate::MAX_PAGE), where it is given.
+    pub most: Option<u32>,
+}
+
+/// Which of the re-executed slots are asked for.
+#[derive(Clone, Copy, Debug, PartialEq, Eq)]
+pub struct SlotPage {
+    /// The slots behind this one, where it is given.
+    pub after: Option<ToldTime>,
+    /// The first slots, this many, from 1 to [`MAX_PAGE`](crate::MAX_PAGE), where it is given.
     pub most: Option<u32>,
 }
 

@@ -15,17 +15,21 @@ use Rattle.tt_records.specs.declared.record.Record.{Record}
 use Rattle.tt_requests.specs.declared.request.Command.{Command}
 use Rattle.tt_requests.specs.declared.request.Command.TheVariants as commands
 use Rattle.tt_requests.specs.declared.request.Page.{Page}
+use Rattle.tt_requests.specs.declared.request.SlotPage.{SlotPage}
 use Rattle.tt_requests.specs.declared.told.ToldTime.{ToldTime}
 use Rattle.tt_requests.specs.declared.told.ToldGeneration.{ToldGeneration}
 use Rattle.tt_requests.specs.Numbers.{Numbering, own_time, own_generation}
 use Rattle.tt_requests.specs.declared.request.Request.{Request}
 use Rattle.tt_answers.specs.declared.answer.Refusal.{Refusal}
+use Rattle.tt_answers.specs.declared.answer.Answer.{Answer}
 use Rattle.tt_answers.specs.declared.answer.Answer.TheVariants as answers
 use Rattle.tt_session.specs.declared.session.Session.TheVariants.{Open}
 use Rattle.tt_commands.specs.Answers.{Answered}
 use Rattle.tt_commands.specs.Commands.{carried_out, moved_to, outcome_of_request, unless_moved}
 use Rattle.tt_requests.specs.Asked.{asks_read_only, is_read_only, repair_worker_told}
 use Rattle.tt_commands.specs.Reading.{read, previewed_by, selected_by}
+use Rattle.tt_commands.specs.AskedRepairs.{asked_repair, answer_of}
+use Rattle.tt_commands.specs.CauseEntries.{causes_answer, why}
 use Rattle.tt_commands.specs.ToldRequests.{forgotten_in, asks_for_forgotten, read_at, read_in, read_as_told, missing_if_idle, unless_missing}
 use Rattle.tt_requests.specs.ToldEdits.{own_edit}
 use Rattle.tt_commands.specs.Changes.{forgotten_by}
@@ -124,6 +128,13 @@ pub previewed-stays : (session : OpenSession) (page : Page) (right : Result Repl
 previewed-stays session page (Err error) = refl
 previewed-stays session page (Ok reply) = refl
 
+pub answer-stays : {X : Type 0} (session : OpenSession) (answer : X → Answer) (asked : Result X Refusal) → outcome_base (base_of session) (answer_of session answer asked) ≡ base_of session
+answer-stays session answer (Ok x) = refl
+answer-stays session answer (Err refusal) = refl
+
+pub why-stays : (session : OpenSession) (generation : Option ToldGeneration) (page : SlotPage) → outcome_base (base_of session) (why session generation page) ≡ base_of session
+why-stays session generation page = answer-stays session (causes_answer session page) (asked_repair session generation)
+
 pub missing-goes : (base : Base) (missing : Option ToldTime) (outcome : Result Answered Refusal) → Goes base (outcome_base base outcome) → Goes base (outcome_base base (unless_missing missing outcome))
 missing-goes base None outcome goes = goes
 missing-goes base (Some slot) outcome goes = inl refl
@@ -160,6 +171,7 @@ carried-goes session worker (commands.Slots from to by row) = inl refl
 carried-goes session worker commands.Changes = inl refl
 carried-goes session worker commands.NextChanges = refused-goes (base_of session) (unless_repairing (state_in session).phase) _ (inl refl)
 carried-goes session worker commands.Tables = inl refl
+carried-goes session worker (commands.Why generation page) = inl (why-stays session generation page)
 carried-goes session worker (commands.Forget time) = forget-goes session time
 
 pub moved-goes : (base : Base) (now : Option ℕ) (outcome : Result Answered Refusal) → Goes base (outcome_base base outcome) → Goes base (outcome_base base (unless_moved now outcome))
@@ -218,6 +230,7 @@ module _ (base : Base) (v w : Bool) (r q : List Record) (m l n k : ℕ) where
   carried-same worker commands.Changes = refl
   carried-same worker commands.NextChanges = refused-same base (unless_repairing (state_in one).phase) _ _ refl
   carried-same worker commands.Tables = refl
+  carried-same worker (commands.Why generation page) = why-stays one generation page ∙ sym (why-stays other generation page)
   carried-same worker (commands.Forget time) = forget-same base (forget_refusal one time) _ _ (forgotten-same (forgetting_of one time))
 
   pub moved-same : (now : Option ℕ) (a b : Result Answered Refusal) → outcome_base base a ≡ outcome_base base b → outcome_base base (unless_moved now a) ≡ outcome_base base (unless_moved now b)
@@ -287,6 +300,7 @@ carried-stays session worker (commands.Slots from to by row) reads = refl
 carried-stays session worker commands.Changes reads = refl
 carried-stays session worker commands.NextChanges reads = refused-stays (base_of session) (unless_repairing (state_in session).phase) _ refl
 carried-stays session worker commands.Tables reads = refl
+carried-stays session worker (commands.Why generation page) reads = why-stays session generation page
 carried-stays session worker (commands.Forget time) reads = cc
 
 pub request-stays : (session : OpenSession) (asked : Result Request DocFault) → asks_read_only asked ≡ true → request_base session asked ≡ base_of session

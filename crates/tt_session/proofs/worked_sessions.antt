@@ -6,3 +6,4 @@ mod Faults
 mod Repairs
 mod Whole
 mod Room
+mod Causes

@@ -1,8 +1,10 @@
 ghost use Rattle.std.specs.Prelude.{◌≡◌, ◌+◌, ◌-◌, [], length, Ok, IfOk, IfErr, IfSome, OnErr, IsTrue, IsFalse, ◌≤◌, ◌++◌, vec_len, vec_capacity};
-ghost use Rattle.std.specs.Option.{option_copied};
+ghost use Rattle.std.specs.Option.{option_copied, option_map};
 ghost use mathlib.Core.List.{IsPrefix};
 ghost use Rattle.tt_generations.specs.TwoGenerations.{done_of};
+ghost use Rattle.tt_generations.specs.SlotCauses.{cause_told};
 ghost use Rattle.tt_db.specs.Database.{state_of, now_in, nth_item, repair_of, right_answer, right_answer_at, right_answer_in, right_preview_of};
+ghost use Rattle.tt_db.specs.Causes.{cause_of, cause_in_of};
 ghost use Rattle.tt_db.specs.State.{after, IsLegal};
 ghost use Rattle.tt_store.specs.History.{places_of};
 ghost use Rattle.tt_store.specs.Calls.{events_of, IsInWay, numbers_from};
@@ -21,7 +23,7 @@ use left_right::reader::Reader;
 use std::alloc::{AllocError, Global};
 use std::marker::Model;
 use std::sync::ledger::{Book, Share};
-use tt_db::{Db, Entry, Progress, ReadError};
+use tt_db::{Cause, Db, Entry, Progress, ReadError};
 use tt_values::{Reply, Select, Shared, check_select};
 
 /// A worker of a store. It has seen a front, which is a beginning of the one history and only
@@ -142,6 +144,25 @@ impl<L: Naming> Worker<L> {
         ensures { result ≡ repair_of (database_at L.tables L.limits self.now.seen) }
     {
         self.seen.db().repair()
+    }
+
+    /// Of the slots that the repair has done, why it re-executed the one of a number, counted from
+    /// 1, in the last state that it has seen. None where it didn't, and where none is under way.
+    pub fn cause(&self, number: u64) -> Option<Cause<'_>>
+        ensures { option_map cause_told result
+            ≡ cause_of (database_at L.tables L.limits self.now.seen) number }
+    {
+        self.seen.db().cause(number)
+    }
+
+    /// Why the repair that closed a generation re-executed the slot of a number, counted from 1, in
+    /// the last state that it has seen; for the current generation as [`cause`](Worker::cause).
+    /// None where it didn't, where there is no such slot, and for a generation that can't be read.
+    pub fn cause_in(&self, generation: u64, number: u64) -> Option<Cause<'_>>
+        ensures { option_map cause_told result
+            ≡ cause_in_of (database_at L.tables L.limits self.now.seen) generation number }
+    {
+        self.seen.db().cause_in(generation, number)
     }
 
     /// The rows that match now, by rising key, and the current time. They are right at a front that

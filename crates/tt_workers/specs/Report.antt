@@ -1,12 +1,12 @@
 -- The report of a document whose calls are made in threads: what holds of its records, its repair and its history, and its text.
-use Rattle.std.specs.Prelude.{◌≡◌, ℕ, ◌+◌, ◌≤◌, ◌==◌, Bool, List, [], ◌∷◌, ◌++◌, length, take, map, All, Option, None, Some, if◌then◌else◌}
+use Rattle.std.specs.Prelude.{◌≡◌, ℕ, ◌+◌, ◌-◌, ◌≤◌, ◌==◌, Bool, List, [], ◌∷◌, ◌++◌, length, take, map, All, Option, None, Some, if◌then◌else◌}
 use Rattle.tt_db.specs.declared.event.Event.TheVariants.{Switch}
 use Rattle.tt_db.specs.declared.event.Entry.{Entry}
 use Rattle.tt_db.specs.declared.outcome.Outcome.TheVariants.{Switched}
 use Rattle.tt_db.specs.declared.limits.Limits.{Limits}
 use Rattle.tt_db.specs.Limits.{usual_limits}
 use Rattle.tt_db.specs.State.{after, outcome_of}
-use Rattle.tt_db.specs.Database.{state_of}
+use Rattle.tt_db.specs.Database.{Database, state_of}
 use Rattle.tt_records.specs.declared.record.Record.{Record}
 use Rattle.tt_repair.specs.declared.repaired.Repaired.{Repaired}
 use Rattle.tt_records.specs.Changes.{changes_of}
@@ -18,6 +18,8 @@ use Rattle.tt_document.specs.declared.document.Plan.{Plan}
 use Rattle.tt_document.specs.declared.document.Call.{Call}
 use Rattle.tt_workload.specs.Records.{text_of_records, text_of_changes}
 use Rattle.tt_workload.specs.History.{entries_of, history_of, edit_of_slot, administrator}
+use Rattle.tt_workload.specs.declared.options.Options.{Options}
+use Rattle.tt_workload.specs.CauseLines.{redone_lines_if}
 use Rattle.tt_workload.specs.Report.{repair_text, closed_lines_if, last_lines}
 use Rattle.tt_workers.specs.declared.report.Report.{Report}
 use Rattle.tt_workers.specs.Calls.{made_by, seen_after, record_at}
@@ -86,14 +88,16 @@ pub record IsReportOf (document : Document) (report : Report) : Type 0 where
   pub everyone : All (IsOfWorker (administrator document)) report.db.history
   pub changes : report.changes.items ≡ changes_of report.db.catalog (state_of report.db) report.records.items
 
--- the line of a repair, if there was one
-abbrev pub repair_line_if : Option Repaired → List ℕ
-repair_line_if None = []
-repair_line_if (Some r) = repair_text r.generation r.slots r.rerun
+-- the lines of a repair on a later database, if there was one: its own, and one for each slot that it re-executed where these are asked for.
+-- It closed the generation before the one that it switched to
+abbrev pub repair_lines_if : Bool → Database → Option Repaired → List ℕ
+repair_lines_if why db None = []
+repair_lines_if why db (Some r) = repair_text r.generation r.slots r.rerun ++ redone_lines_if why db (r.generation - 1)
 
--- the text of a report: a line for each call, that of the repair, one for each changed reply, those of the closed generations where these
+-- the text of a report: a line for each call, those of the repair, one for each changed reply, those of the closed generations where these
 -- are asked for, one for each table, and the last one
-abbrev pub text_of_report : Bool → Report → List ℕ
-text_of_report closed report =
+abbrev pub text_of_report : Options → Report → List ℕ
+text_of_report options report =
     text_of_records report.records.items
-    ++ (repair_line_if report.repaired ++ (text_of_changes report.changes.items ++ (closed_lines_if closed report.db ++ last_lines report.db)))
+    ++ (repair_lines_if options.why report.db report.repaired
+    ++ (text_of_changes report.changes.items ++ (closed_lines_if options.closed report.db ++ last_lines report.db)))

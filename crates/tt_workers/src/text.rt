@@ -1,28 +1,49 @@
 //! The text of a report.
-ghost use Rattle.std.specs.Prelude.{◌≡◌, IfOk, IfErr};
-ghost use Rattle.tt_workers.specs.Report.{text_of_report};
+ghost use Rattle.std.specs.Prelude.{◌≡◌, ◌++◌, OnOk, IfOk, IfErr};
+ghost use Rattle.tt_workers.specs.Report.{repair_lines_if, text_of_report};
 
 use crate::report::Report;
-use std::alloc::Global;
-use tt_workload::{RunFault, push_changes, push_end_of_run, push_records, push_repair};
+use std::alloc::{AllocError, Global};
+use tt_db::Db;
+use tt_repair::Repaired;
+use tt_workload::{
+    Options, RunFault, push_changes, push_end_of_run, push_records, push_redone_if, push_repair,
+};
 
-/// All lines of a report: one for each call, those of the repair, those of the closed generations
-/// that are kept if these are asked for, those of all tables, and the last line.
-pub fn text_of_report(alloc: Global, report: &Report, closed: bool) -> Result<Vec<u8>, RunFault>
-    ensures text { IfOk result (λ text. text.items ≡ text_of_report closed report.now) }
+/// All lines of a report: one for each call, those of the repair, with its causes if these are
+/// asked for, those of the closed generations that are kept if these are, those of all tables, and
+/// the last line.
+pub fn text_of_report(
+    alloc: Global,
+    report: &Report,
+    options: &Options,
+) -> Result<Vec<u8>, RunFault>
+    ensures text { IfOk result (λ text. text.items ≡ text_of_report options.now report.now) }
     ensures fault { IfErr result (λ e. e ≡ RunFault.Memory) }
 {
     let mut out = Vec::new(alloc);
+    let db = report.db.get();
     push_records(&mut out, &report.records)?;
-    if let Some(repaired) = &report.repaired {
-        push_repair(
-            &mut out,
-            repaired.generation,
-            repaired.slots,
-            repaired.rerun,
-        )?;
-    }
+    push_repair_if(&mut out, db, report.repaired, options.why)?;
     push_changes(&mut out, &report.changes)?;
-    push_end_of_run(alloc, &mut out, report.db.get(), closed)?;
+    push_end_of_run(alloc, &mut out, db, options.closed)?;
     Ok(out)
+}
+
+/// Pushes the line of a repair, if there was one, and one for each slot that it re-executed, if
+/// these are asked for.
+fn push_repair_if(
+    out: &mut Vec<u8>,
+    db: &Db,
+    repaired: Option<Repaired>,
+    why: bool,
+) -> Result<(), AllocError>
+    ensures { OnOk result (out.new.items
+        ≡ out.old.items ++ repair_lines_if why db.now repaired) }
+{
+    if let Some(repaired) = repaired {
+        push_repair(out, repaired.generation, repaired.slots, repaired.rerun)?;
+        push_redone_if(out, db, repaired.generation.saturating_sub(1), why)?;
+    }
+    Ok(())
 }

@@ -110,6 +110,7 @@ fn report_in_rounds<R: Threads + Wait + Abort + Sync, G: Gate + Copy + Drop + Se
         batch: 2,
         rounds,
         closed: false,
+        why: false,
     };
     match run_workers(rt, alloc, document, &options, gate) {
         Ok(report) => report,
@@ -119,7 +120,7 @@ fn report_in_rounds<R: Threads + Wait + Abort + Sync, G: Gate + Copy + Drop + Se
 
 /// The report has this text.
 fn prints(rt: &impl Abort, alloc: Global, report: &Report, text: &str) {
-    match text_of_report(alloc, report, false) {
+    match text_of_report(alloc, report, &Options::usual()) {
         Ok(lines) => assert!(rt; lines.as_slice() == text.as_bytes()),
         Err(_) => panic!(rt; "a text"),
     }
@@ -127,7 +128,7 @@ fn prints(rt: &impl Abort, alloc: Global, report: &Report, text: &str) {
 
 /// The report's text ends with this text.
 fn ends(rt: &impl Abort, alloc: Global, report: &Report, text: &str) {
-    match text_of_report(alloc, report, false) {
+    match text_of_report(alloc, report, &Options::usual()) {
         Ok(lines) => assert!(rt; lines.as_slice().ends_with(text.as_bytes())),
         Err(_) => panic!(rt; "a text"),
     }

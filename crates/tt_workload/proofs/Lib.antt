@@ -2,6 +2,7 @@ pub mod SlotLemmas
 pub mod RepairLemmas
 pub mod BeginLemmas
 pub mod ClosedLemmas
+pub mod CauseLineLemmas
 pub mod RepairReportLemmas
 pub mod WholeReportLemmas
 pub mod ReportLemmas

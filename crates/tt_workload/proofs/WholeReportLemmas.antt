@@ -27,19 +27,20 @@ repaired-database batch document plan records db db_2 is same after =
     ∙ ap (λ rs. after_switch (document.workers + 1) batch rs (after_calls document) plan) same
 
 -- the lines of all calls, and those of the repair
-pub repaired-lines : (batch : ℕ) (document : Document) (plan : Plan) (records : List Record) (db : Database) (old out out_2 : List ℕ)
+pub repaired-lines : (options : Options) (document : Document) (plan : Plan) (records : List Record) (db : Database) (old out out_2 : List ℕ)
     → db ≡ after_calls document → records ≡ records_of_calls document → out ≡ old ++ text_of_records (records_of_calls document)
-    → out_2 ≡ out ++ (text_of_records (records_meanwhile (document.workers + 1) batch (length records + 1) (after_begin (document.workers + 1) records db plan) plan.meanwhile)
-    ++ repair_lines (document.workers + 1) batch records db plan)
-    → out_2 ≡ old ++ (text_of_records (records_if batch document (Some plan)) ++ repair_lines_if batch document (Some plan))
-repaired-lines batch document plan records db old out out_2 is same calls lines =
+    → out_2 ≡ out ++ (text_of_records (records_meanwhile (document.workers + 1) options.batch (length records + 1) (after_begin (document.workers + 1) records db plan) plan.meanwhile)
+    ++ repair_lines options.why (document.workers + 1) options.batch records db plan)
+    → out_2 ≡ old ++ (text_of_records (records_if options.batch document (Some plan)) ++ repair_lines_if options document (Some plan))
+repaired-lines options document plan records db old out out_2 is same calls lines =
     let worker = document.workers + 1 in
+    let batch = options.batch in
     let first = records_of_calls document in
     let rest : Database → List Record → List ℕ = λ (d : Database) rs.
-    text_of_records (records_meanwhile worker batch (length rs + 1) (after_begin worker rs d plan) plan.meanwhile) ++ repair_lines worker batch rs d plan in
+    text_of_records (records_meanwhile worker batch (length rs + 1) (after_begin worker rs d plan) plan.meanwhile) ++ repair_lines options.why worker batch rs d plan in
     let start = after_calls document in
     let meanwhile = records_meanwhile worker batch (length first + 1) (after_begin worker first start plan) plan.meanwhile in
-    let repair = repair_lines worker batch first start plan in
+    let repair = repair_lines options.why worker batch first start plan in
     lines ∙ ap (λ o. o ++ rest db records) calls
     ∙ ap (λ (d : Database). (old ++ text_of_records first) ++ rest d records) is
     ∙ ap (λ rs. (old ++ text_of_records first) ++ rest start rs) same
@@ -58,12 +59,12 @@ if_ok (Err e) f h = h
 
 -- the whole report
 pub report_is : (options : Options) (document : Document) (db : Database) (none out all : List ℕ) → none ≡ [] → db ≡ database_after options.batch document
-    → out ≡ none ++ (text_of_records (records_if options.batch document document.repair) ++ repair_lines_if options.batch document document.repair)
+    → out ≡ none ++ (text_of_records (records_if options.batch document document.repair) ++ repair_lines_if options document document.repair)
     → all ≡ out ++ (closed_lines_if options.closed db ++ last_lines db) → all ≡ report_of options document
 report_is options document db none out all empty is lines ended =
     let ends : Database → List ℕ = λ (d : Database). closed_lines_if options.closed d ++ last_lines d in
     let calls = text_of_records (records_if options.batch document document.repair) in
-    let repair = repair_lines_if options.batch document document.repair in
+    let repair = repair_lines_if options document document.repair in
     ended ∙ ap (λ o. o ++ ends db) (lines ∙ ap (λ o. o ++ (calls ++ repair)) empty)
     ∙ ap (λ (d : Database). (calls ++ repair) ++ ends d) is
     ∙ append_assoc calls repair (ends (database_after options.batch document))

@@ -5,5 +5,6 @@ pub mod Printing
 pub mod Records
 pub mod History
 pub mod Room
+pub mod CauseLines
 pub mod Report
 pub mod Run

@@ -1,5 +1,5 @@
 -- The report of a document, in bytes, and the database that its calls leave.
-use Rattle.std.specs.Prelude.{ℕ, ◌+◌, List, [], ◌∷◌, ◌++◌, length, Bool, true, false, Option, Some, None, codes}
+use Rattle.std.specs.Prelude.{ℕ, ◌+◌, ◌-◌, List, [], ◌∷◌, ◌++◌, length, Bool, true, false, Option, Some, None, codes}
 use Rattle.std.specs.Fmt.{decimal}
 use Rattle.tt_values.specs.declared.statement.Select.{Select}
 use Rattle.tt_values.specs.declared.reply.Reply.{Reply}
@@ -18,6 +18,7 @@ use Rattle.tt_document.specs.declared.document.Plan.{Plan}
 use Rattle.tt_workload.specs.declared.options.Options.{Options}
 use Rattle.tt_workload.specs.Printing.{reply_text}
 use Rattle.tt_workload.specs.Records.{text_of_records, text_of_changes}
+use Rattle.tt_workload.specs.CauseLines.{redone_lines_if}
 use Rattle.tt_workload.specs.History.{after_calls, records_of_calls, before_switch, after_switch, with_records_meanwhile, administrator, database_if, records_if}
 
 -- the line of a repair, with what its switch answered: the generation, the slots, and how many of them were re-executed
@@ -38,17 +39,26 @@ repair_line db = outcome_text (outcome_for db Switch)
 abbrev pub changed_lines : Database → List Record → List ℕ
 changed_lines db records = text_of_changes (changes_of db.catalog (state_of db) records)
 
--- the lines of a repair: its own, and one for each changed reply
-abbrev pub repair_lines : ℕ → ℕ → List Record → Database → Plan → List ℕ
-repair_lines worker batch records db plan =
+-- the generation that the last switch closed
+abbrev pub closed_by_switch : Database → ℕ
+closed_by_switch db = (state_of db).generation - 1
+
+-- the lines behind that of a repair, on the database after its switch: one for each slot that it re-executed where these are asked for, and
+-- one for each changed reply
+abbrev pub lines_after_switch : Bool → Database → List Record → List ℕ
+lines_after_switch why db records = redone_lines_if why db (closed_by_switch db) ++ changed_lines db records
+
+-- the lines of a repair: its own, and those behind it
+abbrev pub repair_lines : Bool → ℕ → ℕ → List Record → Database → Plan → List ℕ
+repair_lines why worker batch records db plan =
     repair_line (before_switch worker batch records db plan)
-    ++ changed_lines (after_switch worker batch records db plan) (with_records_meanwhile worker batch records db plan)
+    ++ lines_after_switch why (after_switch worker batch records db plan) (with_records_meanwhile worker batch records db plan)
 
 -- the lines of the repair of a document, with or without one
-abbrev pub repair_lines_if : ℕ → Document → Option Plan → List ℕ
-repair_lines_if batch document None = []
-repair_lines_if batch document (Some plan) =
-    repair_lines (administrator document) batch (records_of_calls document) (after_calls document) plan
+abbrev pub repair_lines_if : Options → Document → Option Plan → List ℕ
+repair_lines_if options document None = []
+repair_lines_if options document (Some plan) =
+    repair_lines options.why (administrator document) options.batch (records_of_calls document) (after_calls document) plan
 
 -- a select of all rows of a table
 abbrev pub all_rows : ℕ → Select
@@ -116,7 +126,7 @@ abbrev pub report_of : Options → Document → List ℕ
 report_of options document =
     let last = database_if options.batch document document.repair in
     text_of_records (records_if options.batch document document.repair)
-    ++ (repair_lines_if options.batch document document.repair ++ (closed_lines_if options.closed last ++ last_lines last))
+    ++ (repair_lines_if options document document.repair ++ (closed_lines_if options.closed last ++ last_lines last))
 
 -- the database after the calls of a document, and its repair
 abbrev pub database_after : ℕ → Document → Database

@@ -3,6 +3,7 @@
 #![tactic(auto)]
 
 mod calls;
+mod causes;
 mod closed;
 mod ends;
 mod options;
@@ -13,6 +14,7 @@ mod report;
 mod run;
 mod run_fault;
 
+pub use causes::push_redone_if;
 pub use ends::{read_document, write_text};
 pub use options::Options;
 pub use record_text::{push_changes, push_records, text_of, text_of_change};

@@ -10,13 +10,15 @@ pub struct Options {
     pub rounds: u32,
     /// Whether the closed generations that are kept are printed.
     pub closed: bool,
+    /// Whether the slots that the repair re-executed are printed, each with its cause.
+    pub why: bool,
 }
 
 impl Options {
     ghost use Rattle.std.specs.Prelude.{◌↔◌, IsTrue};
     ghost use Rattle.tt_workload.specs.Options.{usual, AreWithin};
 
-    /// The options where none is given: batch 16, rounds 8, no closed generation.
+    /// The options where none is given: batch 16, rounds 8, no closed generation, no causes.
     pub const fn usual() -> Options
         ensures { result ≡ usual }
     {
@@ -24,6 +26,7 @@ impl Options {
             batch: 16,
             rounds: 8,
             closed: false,
+            why: false,
         }
     }
 

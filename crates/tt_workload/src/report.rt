@@ -7,9 +7,10 @@ ghost use Rattle.tt_document.specs.Document.{IsValidCall, IsValidPlan, IsValidDo
 ghost use Rattle.tt_workload.specs.Records.{text_of_records};
 ghost use Rattle.tt_workload.specs.History.{edit_of_slot, after_begin, after_switch, records_meanwhile, records_if};
 ghost use Rattle.tt_workload.specs.Room.{AreAccepted, IsBefore};
-ghost use Rattle.tt_workload.specs.Report.{all_rows, table_text, table_line, table_lines, end_text, end_line, changed_lines, repair_lines, repair_lines_if, closed_lines_if, last_lines, report_of, database_after};
+ghost use Rattle.tt_workload.specs.Report.{all_rows, table_text, table_line, table_lines, end_text, end_line, changed_lines, closed_by_switch, lines_after_switch, repair_lines, repair_lines_if, closed_lines_if, last_lines, report_of, database_after};
 
 use crate::calls::make_calls;
+use crate::causes::push_redone_if;
 use crate::closed::push_closed_if;
 use crate::options::Options;
 use crate::printing::push_reply;
@@ -121,8 +122,35 @@ fn push_changed(
     Ok(())
 }
 
+/// The generation that the last switch closed.
+fn closed_by_switch(db: &Db) -> u64
+    ensures { result ≡ closed_by_switch db.now }
+{
+    db.generation().saturating_sub(1)
+}
+
+/// Pushes the lines behind that of a repair, after its switch: one for each slot that it
+/// re-executed, if these are asked for, and one for each record whose call is answered differently
+/// now.
+fn push_after_switch(
+    alloc: Global,
+    out: &mut Vec<u8>,
+    db: &Db,
+    records: &[Record],
+    why: bool,
+) -> Result<(), RunFault>
+    ensures text { OnOk result (out.new.items
+        ≡ out.old.items ++ lines_after_switch why db.now records.now) }
+    ensures err { IfErr result (λ e. e ≡ RunFault.Memory) }
+{
+    push_redone_if(out, db, closed_by_switch(db), why)?;
+    push_changed(alloc, out, db, records)?;
+    Ok(())
+}
+
 /// Carries out the repair of a document, and pushes the lines of the calls that are made meanwhile
-/// and those of the repair. Returns the database after its switch.
+/// and those of the repair, with its causes if these are asked for. Returns the database after its
+/// switch.
 fn run_repair(
     alloc: Global,
     out: &mut Vec<u8>,
@@ -130,6 +158,7 @@ fn run_repair(
     db: Db,
     administrator: Administrator,
     plan: Plan,
+    why: bool,
 ) -> Result<Db, RunFault>
     requires begins { refusal_of db (Event.Begin (map (edit_of_slot records.items) plan.edits))
         ≡ None }
@@ -141,7 +170,7 @@ fn run_repair(
         ++ (text_of_records (records_meanwhile administrator.worker administrator.batch
         (length records.items + 1) (after_begin administrator.worker records.items db plan)
         plan.meanwhile)
-        ++ repair_lines administrator.worker administrator.batch records.items db plan)) }
+        ++ repair_lines why administrator.worker administrator.batch records.items db plan)) }
     ensures state { IfOk result (λ last. last
         ≡ after_switch administrator.worker administrator.batch records.items db plan) }
     ensures err { IfErr result (λ e. e ≡ RunFault.Memory) }
@@ -155,7 +184,7 @@ fn run_repair(
     begin(&mut db, administrator.worker, edits)?;
     make_meanwhile(alloc, out, &mut records, &mut db, administrator, calls)?;
     finish(out, &mut db, administrator.worker, all)?;
-    push_changed(alloc, out, &db, &records)?;
+    push_after_switch(alloc, out, &db, &records, why)?;
     Ok(db)
 }
 
@@ -165,13 +194,13 @@ fn run_document(
     alloc: Global,
     out: &mut Vec<u8>,
     document: Document,
-    batch: u32,
+    options: &Options,
 ) -> Result<Db, RunFault>
     requires { IsValidDocument document }
     ensures lines { OnOk result (out.new.items ≡ out.old.items
-        ++ (text_of_records (records_if batch document document.repair)
-        ++ repair_lines_if batch document document.repair)) }
-    ensures database { IfOk result (λ db. db ≡ database_after batch document) }
+        ++ (text_of_records (records_if options.now.batch document document.repair)
+        ++ repair_lines_if options.now document document.repair)) }
+    ensures database { IfOk result (λ db. db ≡ database_after options.now.batch document) }
     ensures err { IfErr result (λ e. e ≡ RunFault.Memory) }
 {
     let Document {
@@ -188,9 +217,9 @@ fn run_document(
         Some(plan) => {
             let administrator = Administrator {
                 worker: workers + 1,
-                batch,
+                batch: options.batch,
             };
-            run_repair(alloc, out, records, db, administrator, plan)
+            run_repair(alloc, out, records, db, administrator, plan, options.why)
         }
         None => Ok(db),
     }
@@ -208,7 +237,7 @@ pub(crate) fn report_of(
     ensures err { IfErr result (λ e. e ≡ RunFault.Memory) }
 {
     let mut out = Vec::new(alloc);
-    let db = run_document(alloc, &mut out, document, options.batch)?;
+    let db = run_document(alloc, &mut out, document, options)?;
     push_end_of_run(alloc, &mut out, &db, options.closed)?;
     Ok((out, db))
 }

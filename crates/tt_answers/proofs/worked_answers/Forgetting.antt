@@ -1,5 +1,5 @@
 -- Answers of a session that has forgotten what lies before the time 3, in its generation 2: one slot of its database is the ground.
-use Rattle.std.specs.Prelude.{◌≡◌, pos, [], ◌∷◌, ◌++◌, None, Some, codes, refl}
+use Rattle.std.specs.Prelude.{◌≡◌, pos, true, [], ◌∷◌, ◌++◌, None, Some, codes, refl}
 use Rattle.std.specs.Fmt.{digits}
 use Rattle.tt_requests.specs.Numbers.{Numbering}
 use Rattle.tt_values.specs.declared.reply.Reply.TheVariants as replies
@@ -11,6 +11,7 @@ use Rattle.tt_records.specs.declared.changed.After.TheVariants as afters
 use Rattle.tt_grammar.proofs.worked_texts.Accounts.{accounts, account}
 use Rattle.tt_answers.specs.declared.answer.Refusal.TheVariants as refusals
 use Rattle.tt_answers.specs.declared.answer.Place.TheVariants as places
+use Rattle.tt_answers.specs.declared.answer.SlotCause.TheVariants as causes
 use Rattle.tt_answers.specs.declared.answer.Answer.TheVariants as answers
 use Rattle.tt_answers.specs.AnswerText.{opening_text, call_text}
 
@@ -122,3 +123,11 @@ later = refl
 moved : call_text accounts behind 24 (answers.Refused (refusals.Moved 4)) ≡ codes "{\"call\":24,\"refused\":\"moved\",\"now\":6}\n"
 unfolding digits
 moved = refl
+
+-- why slots were re-executed
+explained : call_text accounts behind 22 (answers.Causes 4 (
+    record { slot = 2; cause = causes.Edited } ∷ record { slot = 4; cause = causes.Wrote (record { table = 0; key = pos 1 }) 2 } ∷ []) (Some true))
+    ≡ (codes "{\"call\":22,\"done\":6,\"redone\":[{\"slot\":4,\"because\":\"edited\"},"
+    ++ codes "{\"slot\":6,\"because\":\"wrote\",\"table\":\"acct\",\"key\":1,\"since\":4}],\"more\":true}\n")
+unfolding digits
+explained = refl

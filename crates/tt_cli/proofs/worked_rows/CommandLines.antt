@@ -6,13 +6,13 @@ use Rattle.clap.specs.declared.error.kind.ErrorKind.TheVariants.{MissingRequired
 use Rattle.clap.proofs.OnLiterals.{clap_on_literals}
 use Rattle.tt_workload.specs.declared.options.Options.{Options}
 use Rattle.tt_cli.specs.declared.command_line.Cli.TheVariants as commands
-use Rattle.tt_cli.specs.CommandLine.{fault_of_words, IsCommandOf, IsBatchOf, IsRoundsOf, IsClosedOf}
+use Rattle.tt_cli.specs.CommandLine.{fault_of_words, IsCommandOf, IsBatchOf, IsRoundsOf, IsClosedOf, IsWhyOf}
 
 -- the words of a command line, behind the program's name
 abbrev line : List Text → List Text
 line words = codes "timetravel" ∷ words
 
--- `run` without options: a batch of 16, 8 rounds, and no closed generations in the report
+-- `run` without options: a batch of 16, 8 rounds, and neither closed generations nor causes in the report
 abbrev run_alone : List Text
 run_alone = line (codes "run" ∷ [])
 
@@ -35,6 +35,22 @@ rounds_of_run n is = is
 closed_of_run : (given : Bool) → IsClosedOf run_alone given → given ≡ false
 unfolding IsClosedOf clap_on_literals
 closed_of_run given is = is
+
+why_of_run : (given : Bool) → IsWhyOf run_alone given → given ≡ false
+unfolding IsWhyOf clap_on_literals
+why_of_run given is = is
+
+-- `--why` asks for causes alone
+abbrev replay_why : List Text
+replay_why = line (codes "replay" ∷ codes "--why" ∷ [])
+
+why_of_replay : (given : Bool) → IsWhyOf replay_why given → given ≡ true
+unfolding IsWhyOf clap_on_literals
+why_of_replay given is = is
+
+closed_of_replay : (given : Bool) → IsClosedOf replay_why given → given ≡ false
+unfolding IsClosedOf clap_on_literals
+closed_of_replay given is = is
 
 -- `replay` without options, which takes no rounds
 abbrev replay_alone : List Text

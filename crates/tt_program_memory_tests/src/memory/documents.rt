@@ -122,6 +122,7 @@ fn a_document_is_run_alone(rt: HostRuntime) {
         batch: 2,
         rounds: 8,
         closed: false,
+        why: false,
     };
     let (mut first, mut second) = (REPAIRED.as_bytes(), REPAIRED.as_bytes());
     let mut writer = Cursor::new([0u8; 512]);

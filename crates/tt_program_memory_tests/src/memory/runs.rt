@@ -56,6 +56,7 @@ fn runs<T: Threads + Wait + Abort + Sync>(rt: &T, alloc: Global, document: &Docu
         batch: 2,
         rounds: 1,
         closed: false,
+        why: false,
     };
     mark(alloc);
     let report = run_workers(rt, alloc, document, &options, NoGate);

@@ -85,7 +85,7 @@ answers_transcript =
     ∷ codes "{\"call\":22,\"time\":4,\"generation\":1,\"oldest\":0,\"entries\":9,\"repair\":null}"
     ∷ codes "{\"call\":23,\"fault\":{\"path\":\"$\",\"cause\":\"unknown member \\\"x\\\\n\\\"\"}}"
     ∷ (codes "{\"call\":24,\"fault\":{\"path\":\"$\",\"cause\":\"missing one of insert, update, delete, select, preview, do, begin, step, finish,"
-    ++ codes " abort, status, slots, changes, tables, forget\"}}")
+    ++ codes " abort, status, slots, changes, tables, why, forget\"}}")
     ∷ []
 
 transcript : printed lines_transcript ≡ answers (opened ∷ answers_transcript)

@@ -12,6 +12,7 @@ fn one_byte_at_a_time(rt: HostRuntime) {
             batch: 0,
             rounds: 0,
             closed: false,
+            why: false,
         }
         .fits()
     );

@@ -2,7 +2,7 @@ use Rattle.std.proofs.Common.{None, Some, [], ◌≡◌, ◌≢◌, ◌∙◌, a
 use Rattle.clap.specs.Words.{App, HasKind, app_of, fault_of}
 use Rattle.tt_cli.specs.declared.command_line.Cli.TheVariants as commands
 use Rattle.tt_cli.specs.CommandLine.{command_line}
-use Rattle.tt_cli.proofs.CommandLemmas.{never_without, path_is, has_kind, has_log, has_session, name_as, batch_is, batch_read, closed_is, command_is, enters_one, existing_is, faultless_as, faultless_on, faultless_without, faulty, has_options, is_replay, is_simple_command, never_none, rounds_are, rounds_read}
+use Rattle.tt_cli.proofs.CommandLemmas.{never_without, path_is, has_kind, has_log, has_session, name_as, batch_is, batch_read, closed_is, why_is, command_is, enters_one, existing_is, faultless_as, faultless_on, faultless_without, faulty, has_options, is_replay, is_simple_command, never_none, rounds_are, rounds_read}
 use Rattle.tt_cli.proofs.NumberLemmas.{ReadsRounds}
 use Rattle.tt_cli.proofs.command_line.command_of.Goals as goal
 
@@ -177,6 +177,7 @@ returns-then-eq-3 c =
       within = record { some_batch = omega arith; batch = omega arith; rounds = most };
       batch = batch_is words c.in_ok-matches.matches enters c.get_one.result c.in-Some-get_one.batch batch is;
       closed = closed_is words c.in_ok-matches.matches enters has inner found c.get_flag-closed.result c.get_flag-closed.ensures.value c.get_flag-closed.ensures.other;
+      why = why_is words c.in_ok-matches.matches enters has inner found c.get_flag-why.result c.get_flag-why.ensures.value c.get_flag-why.ensures.other;
       rounds = rounds_are words c.in_ok-matches.matches enters c.unwrap_or-rounds.result rounds;
     }
 
@@ -208,5 +209,6 @@ returns c =
       within = record { some_batch = omega arith; batch = omega arith; rounds = most };
       batch = batch_is words c.in_ok-matches.matches enters c.get_one.result c.in-Some-get_one.batch batch is;
       closed = closed_is words c.in_ok-matches.matches enters has inner found c.get_flag-closed.result c.get_flag-closed.ensures.value c.get_flag-closed.ensures.other;
+      why = why_is words c.in_ok-matches.matches enters has inner found c.get_flag-why.result c.get_flag-why.ensures.value c.get_flag-why.ensures.other;
       rounds = rounds_are words c.in_ok-matches.matches enters c.unwrap_or-rounds.result rounds;
     }

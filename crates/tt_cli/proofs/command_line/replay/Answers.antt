@@ -2,7 +2,7 @@ use Rattle.std.proofs.Common.{ap, ap₂, codes, ◌≡◌, ◌∙◌}
 use Rattle.std.proofs.lemmas.Result.{IfOk-weaker}
 use Rattle.clap.specs.Words.{Rule, app_of, new_app, with_rule}
 use Rattle.clap.specs.Simple.{app_of_fields}
-use Rattle.tt_cli.specs.CommandLine.{batch}
+use Rattle.tt_cli.specs.CommandLine.{batch, closed}
 use Rattle.tt_cli.proofs.BuildLemmas.{simple_is_local}
 use Rattle.tt_cli.proofs.command_line.replay.Goals as goal
 
@@ -12,6 +12,8 @@ returns c =
     ap app_of_fields c.after_help.ensures ∙ (ap app_of_fields c.about.ensures ∙ c.new.ensures.app) in
     let batch_is : app_of c.in_ok-arg.field-0 ≡ with_rule (new_app (codes "replay")) batch =
     c.in_ok-arg.ensures.shape (simple_is_local c.batch.result (ap (λ (a : Rule). a.is_simple) c.batch.ensures)) ∙ ap₂ with_rule described_is c.batch.ensures in
-    IfOk-weaker c.arg-2.result _ _
-    (λ r h. h.shape (simple_is_local c.closed.result (ap (λ (a : Rule). a.is_simple) c.closed.ensures)) ∙ ap₂ with_rule batch_is c.closed.ensures)
-    c.arg-2.ensures
+    let closed_is : app_of c.in_ok-arg-2.field-0 ≡ with_rule (with_rule (new_app (codes "replay")) batch) closed =
+    c.in_ok-arg-2.ensures.shape (simple_is_local c.closed.result (ap (λ (a : Rule). a.is_simple) c.closed.ensures)) ∙ ap₂ with_rule batch_is c.closed.ensures in
+    IfOk-weaker c.arg-3.result _ _
+    (λ r h. h.shape (simple_is_local c.why.result (ap (λ (a : Rule). a.is_simple) c.why.ensures)) ∙ ap₂ with_rule closed_is c.why.ensures)
+    c.arg-3.ensures

@@ -2,7 +2,7 @@
 use Rattle.std.proofs.Common.{◌≡◌, ◌==◌, true, false, slice_get, Some, option_map, sym, ap, ◌∙◌, arith}
 use Rattle.std.proofs.lemmas.Bool.Decides.{nat_tests}
 use Rattle.std.specs.Option.{option_copied}
-use Rattle.tt_db.specs.State.{ClosedGeneration}
+use Rattle.tt_db.specs.ClosedGenerations.{KeptGeneration}
 use Rattle.tt_db.proofs.ClosedLemmas.{find-passes, find-fails}
 use Rattle.tt_db.proofs.closed.closed_of.Goals as goal
 
@@ -14,7 +14,7 @@ returns-then-number c =
     let number : x.number ≡ c.args.number = sym c.number.ensures ∙ c.if-number.true in
     let passes : (x.number == c.args.number) ≡ true = grind (arith, nat_tests) in
     ap Some c.generations.ensures
-    ∙ ap (option_map (λ (g : ClosedGeneration). g.slots)) (sym (c.loop-position.invariant ∙ find-passes (λ g. g.number == c.args.number) closed c.loop-position.position x at passes))
+    ∙ ap (option_map (λ (g : KeptGeneration). g.generations)) (sym (c.loop-position.invariant ∙ find-passes (λ g. g.number == c.args.number) closed c.loop-position.position x at passes))
 
 pub loop-position-preserved : goal.loop-position-preserved
 loop-position-preserved c =

@@ -99,8 +99,8 @@ returns-in-Some-clause-lines c =
     let records = records-kept document plan c.new-records.result.items _ c.is_some-are_kept.result c.new-db.result c.into_vec.result.items c.in-Some.is c.is_some-are_kept.ensures c.new-records.ensures.items new c.into_vec.ensures c.in_ok-db.ensures.records in
     let calls = lines-of_calls document c.args.out.now.items c.make_calls.new.out.items c.new-db.result c.into_vec.result.items new c.into_vec.ensures c.in_ok-db.ensures.lines in
     on_ok c.run_repair.result
-    (λ lines. subst (λ (p : Option Plan). c.run_repair.new.out.items ≡ c.args.out.now.items ++ (text_of_records (records_if c.args.batch document p) ++ repair_lines_if c.args.batch document p)) (sym c.in-Some.is)
-    (repaired-lines c.args.batch document plan _ c.in_ok-db.db c.args.out.now.items c.make_calls.new.out.items c.run_repair.new.out.items state records calls lines))
+    (λ lines. subst (λ (p : Option Plan). c.run_repair.new.out.items ≡ c.args.out.now.items ++ (text_of_records (records_if c.args.options.now.batch document p) ++ repair_lines_if c.args.options.now document p)) (sym c.in-Some.is)
+    (repaired-lines c.args.options.now document plan _ c.in_ok-db.db c.args.out.now.items c.make_calls.new.out.items c.run_repair.new.out.items state records calls lines))
     c.run_repair.ensures.lines
 
 pub returns-in-Some-clause-database : goal.returns-in-Some-clause-database
@@ -111,7 +111,7 @@ returns-in-Some-clause-database c =
     let state = database-after_calls document c.new-db.result c.in_ok-db.db c.into_vec.result.items new c.in_ok-db.ensures.state c.into_vec.ensures in
     let records = records-kept document plan c.new-records.result.items _ c.is_some-are_kept.result c.new-db.result c.into_vec.result.items c.in-Some.is c.is_some-are_kept.ensures c.new-records.ensures.items new c.into_vec.ensures c.in_ok-db.ensures.records in
     if_ok c.run_repair.result
-    (λ last is. subst (λ (p : Option Plan). last ≡ database_if c.args.batch document p) (sym c.in-Some.is) (repaired-database c.args.batch document plan _ c.in_ok-db.db last state records is))
+    (λ last is. subst (λ (p : Option Plan). last ≡ database_if c.args.options.now.batch document p) (sym c.in-Some.is) (repaired-database c.args.options.now.batch document plan _ c.in_ok-db.db last state records is))
     c.run_repair.ensures.state
 
 pub returns-in-None-clause-lines : goal.returns-in-None-clause-lines
@@ -119,5 +119,5 @@ returns-in-None-clause-lines c =
     let document = c.args.document in
     let new = new-database document c.new-db.result _ _ c.new-db.ensures c.into_arc.ensures c.usual.ensures in
     let calls = lines-of_calls document c.args.out.now.items c.make_calls.new.out.items c.new-db.result c.into_vec.result.items new c.into_vec.ensures c.in_ok-db.ensures.lines in
-    subst (λ (p : Option Plan). c.make_calls.new.out.items ≡ c.args.out.now.items ++ (text_of_records (records_if c.args.batch document p) ++ repair_lines_if c.args.batch document p)) (sym c.in-None.is)
+    subst (λ (p : Option Plan). c.make_calls.new.out.items ≡ c.args.out.now.items ++ (text_of_records (records_if c.args.options.now.batch document p) ++ repair_lines_if c.args.options.now document p)) (sym c.in-None.is)
     (calls ∙ ap (λ ls. c.args.out.now.items ++ ls) (sym (append-nil (text_of_records (records_of_calls document)))))

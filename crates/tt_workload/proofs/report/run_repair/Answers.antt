@@ -17,16 +17,16 @@ begin-requires c =
     let edits_are = c.in_ok-edits.ensures ∙ ap (λ rs. map (edit_of_slot rs) c.as_slice.result.now) c.deref.ensures.value ∙ ap (map (edit_of_slot c.args.records.items)) c.as_slice.ensures in
     subst (λ es. refusal_of c.args.db (events.Begin es) ≡ None) (sym edits_are) c.requires.begins
 
-pub returns-in_err-push_changed-clause-err : goal.returns-in_err-push_changed-clause-err
-returns-in_err-push_changed-clause-err c =
-    let gives = c.from_residual-in_err-push_changed in
-    is_memory gives.result (subst (λ (fault : RunFault). IsErrAnd gives.result (λ e. e ≡ fault)) c.in_err-push_changed.ensures.err gives.ensures.1)
+pub returns-in_err-push_after_switch-clause-err : goal.returns-in_err-push_after_switch-clause-err
+returns-in_err-push_after_switch-clause-err c =
+    let gives = c.from_residual-in_err-push_after_switch in
+    is_memory gives.result (subst (λ (fault : RunFault). IsErrAnd gives.result (λ e. e ≡ fault)) c.in_err-push_after_switch.ensures.err gives.ensures.1)
 
 pub returns-clause-lines : goal.returns-clause-lines
 returns-clause-lines c =
     let edits_are = c.in_ok-edits.ensures ∙ ap (λ rs. map (edit_of_slot rs) c.as_slice.result.now) c.deref.ensures.value ∙ ap (map (edit_of_slot c.args.records.items)) c.as_slice.ensures in
-    repair-pieces c.args.administrator.worker c.args.administrator.batch c.args.records.items c.make_meanwhile.new.records.items c.args.plan c.in_ok-edits.edits
-    c.args.db c.begin.new.db c.make_meanwhile.new.db c.finish.new.db c.args.out.now.items c.make_meanwhile.new.out.items c.finish.new.out.items c.push_changed.new.out.items
+    repair-pieces c.args.why c.args.administrator.worker c.args.administrator.batch c.args.records.items c.make_meanwhile.new.records.items c.args.plan c.in_ok-edits.edits
+    c.args.db c.begin.new.db c.make_meanwhile.new.db c.finish.new.db c.args.out.now.items c.make_meanwhile.new.out.items c.finish.new.out.items c.push_after_switch.new.out.items
     (record { edits_are = edits_are; begun_is = c.in_ok-begin.ensures.state; steps_are = search rules; last_is = c.in_ok-finish.ensures.state })
     (record { all_are = search rules; calls_are = search rules; line_is = c.in_ok-finish.ensures.line; changed_are = search rules })
 

@@ -14,7 +14,7 @@ use Rattle.tt_db.proofs.database.Db.page_in.Goals as goal
 
 slots_are : (c : goal.In-Ok) → slots_in (after c.self.inside.parts.limits c.self.inside.parts.history) c.args.generation ≡ Some c.in-Some.generations.now.slots
 slots_are c =
-    ap (λ (d : Database). slots_in (state_of d) c.args.generation) c.self.view_is ∙ sym c.generations_of.ensures
+    ap (λ (d : Database). slots_in (state_of d) c.args.generation) c.self.view_is ∙ sym c.generations_of.ensures.slots
     ∙ ap (λ r. option_map (λ (G : TwoGenerations). G.slots) (option_copied r)) c.in-Some.is
 
 page_is : (c : goal.In-Ok) → c.in-Ok.page ≡ first_rows c.args.after c.args.most (rows_in (answer_of c.args.select.now (content_of c.in-Some.generations.now.slots c.args.time)))

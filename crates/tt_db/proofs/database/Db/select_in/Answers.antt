@@ -13,7 +13,7 @@ returns-in-Ok-clause-keyed c =
     let db = c.self.inside.parts in
     let W = c.in-Some.generations.now.slots in
     let is : slots_in (after db.limits db.history) c.args.generation ≡ Some W =
-    ap (λ (d : Database). slots_in (state_of d) c.args.generation) c.self.view_is ∙ sym c.generations_of.ensures
+    ap (λ (d : Database). slots_in (state_of d) c.args.generation) c.self.view_is ∙ sym c.generations_of.ensures.slots
     ∙ ap (λ r. option_map (λ (G : TwoGenerations). G.slots) (option_copied r)) c.in-Some.is in
     subst RowsHaveRisingKeys (sym c.in-Ok.ensures)
     (RowsHaveRisingKeys-in db.generations.catalog db.limits db.history c.args.generation W c.args.select.now c.args.time c.self.invariant.catalog c.self.invariant.legal is)

@@ -1,0 +1,58 @@
+-- The lines of the slots that a repair re-executed, each with its cause.
+use Rattle.std.specs.Prelude.{ℕ, Bool, true, false, List, [], ◌++◌, length, Option, None, Some, unwrap_or, codes}
+use Rattle.std.specs.List.{flat_map, range_with_len}
+use Rattle.std.specs.Option.{option_map}
+use Rattle.std.specs.Fmt.{decimal, signed_decimal}
+use Rattle.tt_values.specs.declared.row_id.RowId.{RowId}
+use Rattle.tt_values.specs.Tables.{Tables}
+use Rattle.tt_parts.specs.declared.partition.Partition.{Partition}
+use Rattle.tt_causes.specs.Causes.{Cause, Edited, Wrote, Names, Reads, Scans}
+use Rattle.tt_db.specs.State.{slots_in}
+use Rattle.tt_db.specs.Database.{Database, state_of}
+use Rattle.tt_db.specs.Causes.{cause_in_of}
+use Rattle.tt_grammar.specs.Printing.{value_text}
+use Rattle.tt_grammar.specs.WriteText.{table_name, column_name}
+
+-- a row: the name of its table, and its key
+abbrev pub row_name : Tables → RowId → List ℕ
+row_name tables r = table_name tables r.table ++ (codes " " ++ signed_decimal r.key)
+
+-- a partition: the name of its table, that of its column, and the value
+abbrev pub partition_name : Tables → Partition → List ℕ
+partition_name tables p =
+    table_name tables p.table ++ (codes " " ++ (column_name tables p.table p.column ++ (codes " " ++ value_text p.value)))
+
+-- the end of a line that names something dirty: the slot that it got dirty with
+abbrev pub since_text : ℕ → List ℕ
+since_text since = codes " since " ++ (decimal since ++ codes "\n")
+
+-- the rest of the line of a re-executed slot: its cause
+abbrev pub cause_text : Tables → Cause → List ℕ
+cause_text tables Edited = codes " edited\n"
+cause_text tables (Wrote r since) = codes " wrote " ++ (row_name tables r ++ since_text since)
+cause_text tables (Names r since) = codes " names " ++ (row_name tables r ++ since_text since)
+cause_text tables (Reads p since) = codes " reads " ++ (partition_name tables p ++ since_text since)
+cause_text tables (Scans table since) = codes " scans " ++ (table_name tables table ++ since_text since)
+
+-- the line of a slot with its cause. One that wasn't re-executed has none
+abbrev pub redone_line : Tables → ℕ → Option Cause → List ℕ
+redone_line tables slot None = []
+redone_line tables slot (Some cause) = codes "redone slot " ++ (decimal slot ++ cause_text tables cause)
+
+-- the lines of so many slots, from this one on, by the repair that closed a generation
+abbrev pub redone_lines_from : Database → ℕ → ℕ → ℕ → List ℕ
+redone_lines_from db generation slot count =
+    flat_map (λ t. redone_line db.catalog t (cause_in_of db generation t)) (range_with_len slot count)
+
+-- how many slots a generation has. One that can't be read has none
+abbrev pub slot_count : Database → ℕ → ℕ
+slot_count db generation = unwrap_or (option_map length (slots_in (state_of db) generation)) 0
+
+-- the lines of the slots that were re-executed by the repair that closed a generation
+abbrev pub redone_lines : Database → ℕ → List ℕ
+redone_lines db generation = redone_lines_from db generation 1 (slot_count db generation)
+
+-- the same, where they are asked for
+abbrev pub redone_lines_if : Bool → Database → ℕ → List ℕ
+redone_lines_if false db generation = []
+redone_lines_if true db generation = redone_lines db generation
