@@ -269,6 +269,15 @@ def do(writes: Iterable[Write], *, whole: bool = False) -> DoRequest:
     return request
 
 
+def _bound(request: SelectRequest | PreviewRequest | WhyRequest, after: int | None,
+           most: int | None) -> None:
+    """Asks for one page of what is told."""
+    if after is not None:
+        request["after"] = after
+    if most is not None:
+        request["most"] = most
+
+
 def select(table: str, where: Where = (), *, at: int | None = None, generation: int | None = None,
            after: int | None = None, most: int | None = None) -> SelectRequest:
     """The rows that match, now or at a time."""
@@ -277,10 +286,7 @@ def select(table: str, where: Where = (), *, at: int | None = None, generation: 
         request["at"] = at
     if generation is not None:
         request["in"] = generation
-    if after is not None:
-        request["after"] = after
-    if most is not None:
-        request["most"] = most
+    _bound(request, after, most)
     return request
 
 
@@ -288,10 +294,7 @@ def preview(table: str, where: Where = (), *, after: int | None = None,
             most: int | None = None) -> PreviewRequest:
     """The rows that match, as the repair under way has rebuilt them so far."""
     request: PreviewRequest = {"preview": table, "where": pairs(where)}
-    if after is not None:
-        request["after"] = after
-    if most is not None:
-        request["most"] = most
+    _bound(request, after, most)
     return request
 
 
@@ -335,10 +338,7 @@ def why(generation: int | None, after: int | None, most: int | None) -> WhyReque
     request: WhyRequest = {"why": True}
     if generation is not None:
         request["in"] = generation
-    if after is not None:
-        request["after"] = after
-    if most is not None:
-        request["most"] = most
+    _bound(request, after, most)
     return request
 
 
